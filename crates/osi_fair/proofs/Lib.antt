@@ -33,7 +33,13 @@ pub mod while_no_class_is_selected
 pub mod what_lasts_at_the_tap
 pub mod which_requests_are_put
 pub mod a_request_of_a_whole_end_is_new
+pub mod left_selects_no_class
+pub mod class_0_stays_selected
 pub mod how_a_calling_end_asks
+pub mod what_an_end_puts_in_class_zero
+pub mod what_an_end_does_in_class_zero
+pub mod a_dt_of_class_zero_passes
+pub mod a_calling_end_goes_on_in_class_zero
 pub mod how_requests_go_on
 pub mod no_request_is_blamed
 pub mod what_stays_of_each_connection
@@ -44,8 +50,6 @@ pub mod each_connection_has_its_line
 pub mod no_two_open_connections_have_one_peer
 pub mod a_unit_of_a_whole_end_passes
 pub mod a_dc_for_a_stray_dr_passes
-pub mod left_selects_no_class
-pub mod class_0_stays_selected
 pub mod what_becomes_of_a_connection
 pub mod a_dr_for_what_is_gone
 pub mod what_has_come_with_one_unit_more
@@ -57,8 +61,9 @@ pub mod what_a_unit_leaves_at_a_calling_end
 pub mod a_whole_end_takes_a_unit
 pub mod a_whole_end_makes_a_call
 pub mod the_end_is_judged_as_the_other_side_is
-pub mod a_plain_calling_end_is_fair
+pub mod a_calling_end_is_fair_in_class_2
 pub mod a_whole_end_ends
+pub mod a_calling_end_is_fair
 pub mod a_packet_is_events
 pub mod a_piece_is_events
 pub mod units_by_their_place
@@ -78,8 +83,6 @@ pub mod a_unit_comes_to_a_called_end
 pub mod what_comes_to_a_called_end
 pub mod a_dc_for_what_is_gone_passes
 pub mod a_called_end_is_fair
-pub mod what_an_end_puts_in_class_zero
-pub mod what_a_called_end_does_in_class_zero
 pub mod a_called_end_selects_class_zero
 pub mod a_called_end_is_judged_as_the_other_side_is
 pub mod what_comes_to_an_end_of_class_zero

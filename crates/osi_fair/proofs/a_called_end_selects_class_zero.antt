@@ -19,7 +19,7 @@ use Rattle.osi_rules.specs.Traffic.{State as Traffic, packet_begins}
 use Rattle.osi_fair.specs.Putting.{put_by, put_for}
 use Rattle.osi_fair.specs.Wholes.{MayCall, Whole}
 use Rattle.osi_fair.proofs.each_connection_of_a_called_end.{Asked}
-use Rattle.osi_fair.proofs.what_a_called_end_does_in_class_zero.{IsInZero, zero_calls, zero_takes}
+use Rattle.osi_fair.proofs.what_an_end_does_in_class_zero.{IsInZero, zero_calls, zero_takes}
 use Rattle.osi_fair.proofs.what_holds_of_a_line.{is_there}
 use Rattle.osi_fair.proofs.what_holds_of_one_item.{after_map}
 

@@ -32,7 +32,7 @@ use Rattle.osi_fair.specs.Wholes.{Whole}
 use Rattle.osi_fair.proofs.a_called_end_answers_a_cr.{Place, is_accepted, is_refused as refuses_it, place}
 use Rattle.osi_fair.proofs.a_called_end_selects_class_zero.{Selecting}
 use Rattle.osi_fair.proofs.all_are_judged_unless_one_broke.{IsJudged}
-use Rattle.osi_fair.proofs.what_a_called_end_does_in_class_zero.{IsInZero, talks as goes_on}
+use Rattle.osi_fair.proofs.what_an_end_does_in_class_zero.{IsInZero, talks as goes_on}
 use Rattle.osi_fair.proofs.what_holds_of_one_item.{HoldsOfEach}
 use Rattle.osi_fair.specs.Naming.{HoldsOfOne}
 use Rattle.osi_fair.specs.Lines.{opened_half}
@@ -651,13 +651,9 @@ module _ (local : Local) (w : Whole) (f : Called local w) (c : IsCalled local w.
       live_none = rows_none s.given s.live (c.none_given z.none) c.orderly.rise c.orderly.up_to
 
       zero_end : IsInZero (unit_octets z.size - 3) (accepts Zero z.size z.x s) 0 []
-      zero_end = record {
-        caller = c.caller;
-        class = refl;
-        row = goes_on (s.given + 1) z.x.source (opened_link Zero z.size s.local z.x.credit)
-            (ap (λ (l : Rows Live). l ++ (s.given + 1, linked z.x.source (opened_link Zero z.size s.local z.x.credit)) ∷ []) live_none)
-            (record { flow = refl; size = refl }) refl;
-      }
+      zero_end = goes_on (s.given + 1) z.x.source (opened_link Zero z.size s.local z.x.credit) refl
+          (ap (λ (l : Rows Live). l ++ (s.given + 1, linked z.x.source (opened_link Zero z.size s.local z.x.credit)) ∷ []) live_none)
+          (record { flow = refl; size = refl }) refl
 
       selecting : Selecting local (After t (put_for u s))
       selecting = record {

@@ -5,43 +5,39 @@ use Rattle.std.proofs.Common.{option_map, IfSome, Option, Some, None, inl, inr, 
 use Rattle.std.specs.Prelude.{◌&&◌, ◌||◌, ◌==◌, not, min, position, slice_get}
 use Rattle.std.specs.List.{list_any, position_or_len}
 use Rattle.std.proofs.Math.Nat.{pow-le-pow_right}
-use Rattle.std.proofs.lemmas.Bool.{eq-eqb, eqb-true, le-leb}
+use Rattle.std.proofs.lemmas.Bool.{eq-eqb}
 use Rattle.osi_tpdu.specs.Limits.{size_code}
 use Rattle.osi_tpdu.specs.Value.{Value, Connect, request, confirm, disconnect, disconnected, data0, data2, acknowledge, error}
 use Rattle.osi_class.specs.Limits.{longest_tsdu}
 use Rattle.osi_class.specs.Negotiation.{accept, keeps_flow_control, proposes, proposes_zero_alone, refuse, selected_by, selected_size}
-use Rattle.osi_class.specs.declared.terms.Class.{Class}
 use Rattle.osi_class.specs.declared.terms.Class.TheVariants.{Two, Zero}
 use Rattle.osi_class.specs.declared.terms.Local.{Local}
 use Rattle.osi_carrier.specs.Negotiation.{acceptance, unit_octets}
 use Rattle.osi_rules.specs.declared.connections.Connection.{Connection}
 use Rattle.osi_rules.specs.declared.courses.Course.{Course}
 use Rattle.osi_rules.specs.declared.directions.Direction.TheVariants.{Left, Right}
-use Rattle.osi_rules.specs.declared.findings.Finding.{Finding}
-use Rattle.osi_rules.specs.declared.findings.Finding.TheVariants.{Kept, NotJudged}
+use Rattle.osi_rules.specs.declared.findings.Finding.TheVariants.{Kept}
 use Rattle.osi_rules.specs.declared.halves.Half.{Half}
 use Rattle.osi_rules.specs.declared.halves.Phase.{Phase}
 use Rattle.osi_rules.specs.declared.halves.Phase.TheVariants.{Silent, Open, Refused, Closing, Closed}
 use Rattle.osi_rules.specs.declared.routes.Route.TheVariants.{Named}
-use Rattle.osi_rules.specs.Reaches.{is_applied, reach_of}
-use Rattle.osi_rules.specs.Rows.{data0_tests, fits_size}
 use Rattle.osi_rules.specs.Sides.{is_closed, is_closing, is_live, is_named, is_open, is_over, is_over_by, is_refused, is_silent, uses}
-use Rattle.osi_rules.specs.Traffic.{Outcome, at_found, at_place, begun_after, connection_after, course_after, found, found_on, is_stopped}
-use Rattle.osi_rules.specs.Traffic.{none_told, one_told, reached, route, route_in, routed, sent_on, silent_half, takes, uses_source}
+use Rattle.osi_rules.specs.Traffic.{course_after, found, found_on, is_stopped}
+use Rattle.osi_rules.specs.Traffic.{route, sent_on, silent_half, takes, uses_source}
 use Rattle.osi_fair.specs.Lines.{opened_half}
 use Rattle.osi_fair.specs.Wholes.{Whole}
+use Rattle.osi_fair.proofs.a_dt_of_class_zero_passes.{begun_so, dt_conns, dt_course, dt_kept, only_first}
 use Rattle.osi_fair.proofs.a_right_unit_is_not_blamed.{first_there, is_first}
 use Rattle.osi_fair.proofs.all_are_judged_unless_one_broke.{IsJudged}
 use Rattle.osi_fair.proofs.each_connection_of_a_called_end.{Asked}
 use Rattle.osi_fair.proofs.how_a_connection_opens.{zero_right}
-use Rattle.osi_fair.proofs.how_a_unit_of_right_passes.{and_false, any_none, conns_kept, course_kept, differ, finding_kept, is_both}
+use Rattle.osi_fair.proofs.how_a_unit_of_right_passes.{and_false, any_none, conns_kept, course_kept, finding_kept, is_both}
 use Rattle.osi_fair.proofs.how_a_unit_of_right_passes.{judged_so, name_so, route_confirm, unequal, use_so}
-use Rattle.osi_fair.proofs.what_a_called_end_does_in_class_zero.{IsInZero, row_next, row_puts}
+use Rattle.osi_fair.proofs.what_an_end_does_in_class_zero.{IsInZero, zero_next, zero_puts}
 use Rattle.osi_fair.proofs.what_a_link_does.{begun_by}
 use Rattle.osi_fair.proofs.what_an_end_puts_in_class_zero.{PutsData}
 use Rattle.osi_fair.proofs.what_holds_of_a_line.{is_there}
 use Rattle.osi_fair.proofs.what_holds_of_one_item.{HoldsOfEach, first_true}
-use Rattle.osi_fair.proofs.what_is_right_passes_each_test.{is_right}
 use Rattle.osi_fair.proofs.what_keeps_names_apart.{AreApart}
 use Rattle.osi_fair.proofs.while_no_class_is_selected.{after_change, set_there}
 use Rattle.osi_fair.proofs.a_called_end_selects_class_zero.{Selected, Selecting}
@@ -53,9 +49,6 @@ first_is u v xs ys e = cc
 
 rest_is : (u v : Value) (xs ys : List Value) → u ∷ xs ≡ v ∷ ys → xs ≡ ys
 rest_is u v xs ys e = cc
-
-unlike : (q p : ℕ) → (q == p) ≡ false → q ≡ p → ⊥
-unlike q p h e = differ (q == p) (ap (λ (x : ℕ). x == p) e ∙ eq-eqb p p refl) h
 
 refused_over : (p k : Phase) → is_refused p ≡ true →
     (is_refused p || (is_refused k || (is_closed p || (is_closing p && (is_closing k || is_closed k))))) ≡ true
@@ -88,24 +81,9 @@ not_false : (b : Bool) → b ≡ false → not b ≡ true
 not_false true h = cc
 not_false false h = refl
 
-not_true : (b : Bool) → not b ≡ true → b ≡ true → ⊥
-not_true true h k = cc
-not_true false h k = cc
-
 and_not : (a b : Bool) → b ≡ false → (a && b) ≡ false
 and_not true b h = h
 and_not false b h = refl
-
--- the unit of class 0 that fits
-fits_by : (size : Option ℕ) (limit octets : ℕ) → IfSome size (λ most. limit + 3 ≤ most) → octets ≤ limit → fits_size size
-    (octets + 3) ≡ true
-fits_by None limit octets h k = refl
-fits_by (Some most) limit octets h k = le-leb (octets + 3) most (omega arith)
-
-begun_so : (half : Half) (end : Bool) (octets : ℕ) → half.begun + octets ≤ longest_tsdu → begun_after half end octets ≡ begun_by
-    half.begun end octets
-begun_so half true octets h = refl
-begun_so half false octets h = omega arith
 
 zero_chosen : (a b z : Bool) (s size : Option ℕ) →
     (if a then accept Two s else (if b then accept Zero s else (if z then refuse 0 else refuse 130))) ≡ accept Zero size → s ≡ size
@@ -239,50 +217,27 @@ module _ (local : Local) (w : Whole) (apart : AreApart w.tap.connections) (judge
         not_false (is_over Right f.c) (and_not f.c.is_judged (is_over_by f.c.right f.c.seen_by_right)
         (open_live f.c.right.phase f.c.seen_by_right.phase f.c.left.phase f.up f.there s.right_knows.refused))
 
-    first_by : (q : ℕ) (e : Connection) (b : Bool) → (q == f.p) ≡ b → slice_get all q ≡ Some e → is_live Right e ≡ true → q ≡ f.p
-    first_by q e true h at live = eqb-true q f.p h
-    first_by q e false h at live = absurd (not_true (is_over Right e) live (is_both e.is_judged (is_over_by e.right e.seen_by_right)
-        (judged q e at) (refused_over e.right.phase e.seen_by_right.phase (f.others q e at (unlike q f.p h)))))
-
-    only_first : position (is_live Right) all ≡ Some f.p
-    only_first =
-        let q = position_or_len (is_live Right) all in
-        let first = is_first (is_live Right) all f.p f.c f.at live_at in
-        let (e, there) = first_there (is_live Right) all f.p q f.c first in
-        first ∙ ap (λ (i : ℕ). Some i) (first_by q e (q == f.p) refl there (first_true (is_live Right) all q e first there))
+    only : position (is_live Right) all ≡ Some f.p
+    only = only_first Right all f.p f.c f.at live_at (λ q e at other. is_both e.is_judged (is_over_by e.right e.seen_by_right)
+        (judged q e at) (refused_over e.right.phase e.seen_by_right.phase (f.others q e at other)))
 
     module _ (end : Bool) (user : List ℕ) (is : u ≡ data0 end user)
         (puts : (length user ≤ f.limit) × (f.c.right.begun + length user ≤ longest_tsdu)
         × PutsData f.limit (λ b. Unit {0}) (begun_by f.c.right.begun end (length user)) rest) where
-      dt_takes : takes Right (data0 end user) w.tap ≡ one_told Right f.p f.c (data0 end user) w.tap
-      dt_takes =
-          ap (λ (b : Bool). if b then none_told Right NotJudged w.tap
-          else routed Right (data0 end user) w.tap (route Right w.tap.course (data0 end user))) right
-          ∙ ap (λ (k : Option Class). routed Right (data0 end user) w.tap (route_in k Right (is_stopped Left w.tap.course)
-          (data0 end user)))
-          f.class
-          ∙ ap (λ (q : Option ℕ). at_place Right (data0 end user) w.tap q) only_first
-          ∙ ap (λ (o : Option Connection). at_found Right (data0 end user) w.tap f.p o) f.at
-
-      dt_kept : found_on Right w.tap f.c (data0 end user) ≡ Kept
-      dt_kept = judged_so f.c.is_judged (found Right w.tap.course false f.c (data0 end user)) Kept (judged f.p f.c f.at)
-          (is_right (data0_tests Right f.c (length user)) (
-            le-leb (f.c.right.begun + length user) longest_tsdu puts.1,
-            (fits_by f.c.size f.limit (length user) f.fits puts.0, tt),
-          ))
-
       abbrev dt_next : Connection
       dt_next = sent_on Right (data0 end user) f.c
 
-      dt_conns : (takes Right u w.tap).state.connections ≡ set all f.p dt_next
-      dt_conns = ap (λ (v : Value). (takes Right v w.tap).state.connections) is ∙ ap (λ (o : Outcome). o.state.connections) dt_takes
-          ∙ ap (λ (k : Finding). set all f.p (connection_after Right (data0 end user) (is_applied k) (reach_of w.tap.course.class k) f.c))
-          dt_kept
+      fine : (takes Right u w.tap).told.finding ≡ Kept
+      fine = ap (λ (v : Value). (takes Right v w.tap).told.finding) is
+          ∙ dt_kept Right w.tap f.p f.c f.at (judged f.p f.c f.at) right f.class only f.limit f.fits end user puts.0 puts.1
 
-      dt_course : (takes Right u w.tap).state.course ≡ w.tap.course
-      dt_course = ap (λ (v : Value). (takes Right v w.tap).state.course) is ∙ ap (λ (o : Outcome). o.state.course) dt_takes
-          ∙ ap (λ (k : Finding). reached Right (reach_of w.tap.course.class k) (course_after Right f.c (data0 end user) (is_applied k)
-          w.tap.course)) dt_kept
+      conns : (takes Right u w.tap).state.connections ≡ set all f.p dt_next
+      conns = ap (λ (v : Value). (takes Right v w.tap).state.connections) is
+          ∙ dt_conns Right w.tap f.p f.c f.at (judged f.p f.c f.at) right f.class only f.limit f.fits end user puts.0 puts.1
+
+      course : (takes Right u w.tap).state.course ≡ w.tap.course
+      course = ap (λ (v : Value). (takes Right v w.tap).state.course) is
+          ∙ dt_course Right w.tap f.p f.c f.at (judged f.p f.c f.at) right f.class only f.limit f.fits end user puts.0 puts.1
 
       apart_of : {A : Type 0} (i : ℕ) (e : Connection) → ((i ≡ f.p) × (e ≡ dt_next)) ⊎ ((i ≡ f.p → ⊥) × (slice_get all i ≡ Some e)) →
           (i ≡ f.p → ⊥) → (slice_get all i ≡ Some e → A) → A
@@ -291,27 +246,23 @@ module _ (local : Local) (w : Whole) (apart : AreApart w.tap.connections) (judge
 
       dt_passes : IsFine × Selected passed
       dt_passes = (
-        ap (λ (v : Value). (takes Right v w.tap).told.finding) is ∙ ap (λ (o : Outcome). o.told.finding) dt_takes ∙ dt_kept,
+        fine,
         record {
           p = f.p;
           c = dt_next;
           limit = f.limit;
-          at = ap (λ (l : List Connection). slice_get l f.p) dt_conns ∙ set_there all f.p dt_next f.c f.at;
+          at = ap (λ (l : List Connection). slice_get l f.p) conns ∙ set_there all f.p dt_next f.c f.at;
           up = f.up;
           there = f.there;
-          class = ap (λ (k : Course). k.class) dt_course ∙ f.class;
-          class_seen = subst (λ (k : Course). (k.class_seen ≡ None) ⊎ (k.class_seen ≡ Some Zero)) (sym dt_course) f.class_seen;
+          class = ap (λ (k : Course). k.class) course ∙ f.class;
+          class_seen = subst (λ (k : Course). (k.class_seen ≡ None) ⊎ (k.class_seen ≡ Some Zero)) (sym course) f.class_seen;
           fits = f.fits;
           others = λ i e at other.
-              apart_of i e (after_change all f.p i dt_next e (ap (λ (l : List Connection). slice_get l i) (sym dt_conns) ∙ at)) other
+              apart_of i e (after_change all f.p i dt_next e (ap (λ (l : List Connection). slice_get l i) (sym conns) ∙ at)) other
               (λ there. f.others i e there other);
-          end = record {
-            caller = f.end.caller;
-            class = f.end.class;
-            row = row_next f.limit w.end f.c.right.begun dt_next.right.begun w.put rest
-                (λ e h. subst (λ (b : ℕ). PutsData f.limit e b rest) (sym (begun_so f.c.right end (length user) puts.1))
-                (subst (PutsData f.limit e f.c.right.begun) (put ∙ ap (λ (v : Value). v ∷ rest) is) h).2) f.end.row;
-          };
+          end = zero_next f.limit w.end f.c.right.begun dt_next.right.begun w.put rest
+              (λ e h. subst (λ (b : ℕ). PutsData f.limit e b rest) (sym (begun_so f.c.right end (length user) puts.1))
+              (subst (PutsData f.limit e f.c.right.begun) (put ∙ ap (λ (v : Value). v ∷ rest) is) h).2) f.end;
         },
       )
 
@@ -327,4 +278,4 @@ module _ (local : Local) (w : Whole) (apart : AreApart w.tap.connections) (judge
 
     pub selected_passes : IsFine × Selected passed
     selected_passes = dt_by u refl (subst (PutsData f.limit (λ b. Unit {0}) f.c.right.begun) put
-        (row_puts f.limit w.end f.c.right.begun w.put f.end.row))
+        (zero_puts f.limit w.end f.c.right.begun w.put f.end))

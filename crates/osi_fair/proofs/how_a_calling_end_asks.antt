@@ -1,29 +1,23 @@
--- What a calling end does while no class is selected, and in class 0: it asks for one connection, and for no other.
+-- What a calling end does while no class is selected: it asks for one connection, and for no other.
 -- For the law on requests.
 use Rattle.std.proofs.Common.{◌≡◌, ◌∙◌, ℕ, ◌+◌, Bool, true, false, List, [], ◌∷◌, ◌++◌, refl, sym, ap, subst}
-use Rattle.std.proofs.Common.{Option, Some, None, Result, Ok, Err, if◌then◌else◌, is_some, inl, inr, ◌⊎◌}
-use Rattle.std.specs.Prelude.{◌&&◌, ◌==◌, not}
+use Rattle.std.proofs.Common.{Option, Some, None, if◌then◌else◌, is_some}
+use Rattle.std.specs.Prelude.{◌==◌, not}
 use Rattle.std.proofs.lemmas.Bool.{eq-eqb}
 use Rattle.osi_tpdu.specs.Value.{Value, Connect, request, confirm, disconnect, disconnected, data0, data2, acknowledge, error}
-use Rattle.osi_class.specs.Link.{Standing, taken, with_tsdu}
-use Rattle.osi_class.specs.declared.faults.LinkFault.{LinkFault}
+use Rattle.osi_class.specs.Link.{Standing}
 use Rattle.osi_class.specs.declared.terms.Class.{Class}
-use Rattle.osi_class.specs.declared.terms.Class.TheVariants.{Two, Zero}
-use Rattle.osi_carrier.specs.Calls.{class_error, closed_on, closes as closes_in, link_of, may_connect, open_link}
-use Rattle.osi_carrier.specs.Calls.{or_else, room_error, sent, sent_all, sent_on}
-use Rattle.osi_carrier.specs.Negotiation.{agreed_size, confirmed, opened_link, proposal, proposal_by, proposes_two, proposes_zero}
-use Rattle.osi_carrier.specs.Negotiation.{selects_expedited}
-use Rattle.osi_carrier.specs.Pump.{pumped}
-use Rattle.osi_carrier.specs.React.{before_class, breaks as breaks_in, handed_out, in_class, in_zero, leaves, opens, react_by, taking}
-use Rattle.osi_carrier.specs.React.{to_connection}
-use Rattle.osi_carrier.specs.React.{to_linked, to_only}
+use Rattle.osi_carrier.specs.Calls.{class_error, closed_on, link_of, may_connect, open_link, or_else, room_error, sent, sent_all, sent_on}
+use Rattle.osi_carrier.specs.Negotiation.{proposal, proposal_by, proposes_two}
+use Rattle.osi_carrier.specs.React.{before_class, in_class, react_by, to_connection}
 unfoldable use Rattle.osi_carrier.specs.React.{react}
-use Rattle.osi_carrier.specs.Rows.{Rows, put, value_at, without}
+use Rattle.osi_carrier.specs.Rows.{Rows, value_at, without}
 use Rattle.osi_carrier.specs.Runs.{UserCall, breaks, closes, connects, sends, sends_all, user as by_user, user_does}
-use Rattle.osi_carrier.specs.State.{Connection, State, asked, ends, linked}
+use Rattle.osi_carrier.specs.State.{Connection, State, asked, ends}
 use Rattle.osi_carrier.specs.declared.ends.EndReason.{EndReason}
 use Rattle.osi_carrier.specs.declared.faults.OpenError.{OpenError}
-use Rattle.osi_carrier.specs.declared.faults.OpenError.TheVariants.{Ended, Negotiating, NotCaller, OneConnection}
+use Rattle.osi_carrier.specs.declared.faults.OpenError.TheVariants.{Ended, Negotiating, NotCaller}
+use Rattle.osi_rules.specs.Rows.{offers_two}
 use Rattle.osi_fair.specs.Asking.{asks_with}
 use Rattle.osi_fair.specs.Putting.{put_at, put_before, put_by, put_closing, put_for, put_in, put_sent, put_together}
 use Rattle.osi_fair.specs.Wholes.{MayCall}
@@ -59,7 +53,7 @@ pub record Puts (P : State → Type 0) (unit : Value) (s : State) : Type 0 where
   pub put : put_for unit s ≡ []
   pub after : P (react unit s)
 
-puts : (P : State → Type 0) (rows : Rows Connection) (unit : Value) (s : State) → IsCalling rows s → put_before true unit s ≡ [] →
+pub puts : (P : State → Type 0) (rows : Rows Connection) (unit : Value) (s : State) → IsCalling rows s → put_before true unit s ≡ [] →
     P (before_class true unit s) → Puts P unit s
 puts P rows unit s is none h = record { put = put_is rows unit s is ∙ none; after = subst P (sym (react_is rows unit s is)) h }
 
@@ -81,74 +75,8 @@ over_takes unit s h = (
   ap (λ (b : Bool). if b then [] else put_in s.class unit s) h,
 )
 
--- ---- class 0
+-- ---- its CR is refused
 
--- its one connection is open
-pub record InZero (s : State) : Type 0 where
-  pub caller : s.is_caller ≡ true
-  pub class : s.class ≡ Some Zero
-  pub r : ℕ
-  pub peer : ℕ
-  pub link : Standing
-  pub live : s.live ≡ (r, linked peer link) ∷ []
-
--- the end is over, or class 0 holds: it asks for nothing more
-pub data Rests (s : State) : Type 0 where
-  over : IsOver s → Rests s
-  zero : InZero s → Rests s
-
--- ---- the answer to its CR
-
-put_one : (n r : ℕ) (old new : Connection) (b : Bool) → (r == n) ≡ b → b ≡ true → put n new ((r, old) ∷ []) ≡ (r, new) ∷ []
-put_one n r old new true e h = ap (λ (b : Bool). if b then (r, new) ∷ [] else (r, old) ∷ put n new []) e
-put_one n r old new false e h = cc
-
-opens_zero : (n r : ℕ) (x : Connect) (s : State) → (r == n) ≡ true → IsCalling (one r) s → InZero (opens n x (Some Zero) s)
-opens_zero n r x s e is =
-    let link = opened_link Zero (agreed_size x.parameters.size s.local) s.local x.credit in
-    record {
-      caller = is.caller;
-      class = refl;
-      r = r;
-      peer = x.source;
-      link = link;
-      live = ap (λ (rows : Rows Connection). put n (linked x.source link) rows) is.live
-          ∙ put_one n r asked (linked x.source link) true e refl;
-    }
-
--- it opens the connection in class 2, or asks for nothing more
-opens_by : (a b z : Bool) (n r : ℕ) (x : Connect) (s : State) → (r == n) ≡ true → IsCalling (one r) s →
-    Rests (opens n x (if a && b then Some Two else (if z then Some Zero else None)) s) ⊎ (a ≡ true)
-opens_by true b z n r x s e is = inr refl
-opens_by false b true n r x s e is = inl (zero (opens_zero n r x s e is))
-opens_by false b false n r x s e is = inl (over refl)
-
-opens_so : (n r : ℕ) (x : Connect) (s : State) → (r == n) ≡ true → IsCalling (one r) s →
-    Rests (opens n x (confirmed x s.local s.class) s) ⊎ ((x.class == 2) ≡ true)
-opens_so n r x s e is =
-    opens_by (x.class == 2) (proposes_two s.local && not (selects_expedited x.parameters.additional))
-    ((x.class == 0) && proposes_zero s.local s.class) n r x s e is
-
-abbrev pub AfterCc : Connect → State → Type 0
-AfterCc x s = Rests s ⊎ ((x.class == 2) ≡ true)
-
-to_one : (n r : ℕ) (x : Connect) (s : State) (b : Bool) → (r == n) ≡ b → IsCalling (one r) s →
-    AfterCc x (to_connection n (if b then Some asked else None) (confirm n x) s)
-to_one n r x s true e is = opens_so n r x s e is
-to_one n r x s false e is = inl (over refl)
-
-puts_none : (n : ℕ) (x : Connect) (held : Option Class) (b : Bool) → put_at n (if b then Some asked else None) (confirm n x) held ≡ []
-puts_none n x held true = refl
-puts_none n x held false = refl
-
-pub confirm_takes : (n r : ℕ) (x : Connect) (s : State) → IsCalling (one r) s → Puts (AfterCc x) (confirm n x) s
-confirm_takes n r x s is =
-    puts (AfterCc x) (one r) (confirm n x) s is
-    (ap (λ (rows : Rows Connection). put_at n (value_at n rows) (confirm n x) s.class) is.live ∙ puts_none n x s.class (r == n))
-    (subst (λ (rows : Rows Connection). AfterCc x (to_connection n (value_at n rows) (confirm n x) s)) (sym is.live)
-    (to_one n r x s (r == n) refl is))
-
--- a refusal
 value_one : (r : ℕ) (s : State) → IsCalling (one r) s → value_at r s.live ≡ Some asked
 value_one r s is = ap (λ (rows : Rows Connection). value_at r rows) is.live
     ∙ ap (λ (b : Bool). if◌then◌else◌ {A = Option Connection} b (Some asked) None) (eq-eqb r r refl)
@@ -157,23 +85,27 @@ gone_one : (r : ℕ) (s : State) → IsCalling (one r) s → without r s.live �
 gone_one r s is = ap (λ (rows : Rows Connection). without r rows) is.live
     ∙ ap (λ (b : Bool). if◌then◌else◌ {A = Rows Connection} b [] ((r, asked) ∷ [])) (eq-eqb r r refl)
 
+-- it may ask again
+abbrev pub Again : State → State → Type 0
+Again s t = IsCalling [] t × (t.local ≡ s.local)
+
 refused_takes : (r : ℕ) (unit : Value) (s : State) → IsCalling (one r) s →
     put_before true unit s ≡ put_at r (value_at r s.live) unit s.class →
     put_at r (Some asked) unit s.class ≡ [] → before_class true unit s ≡ to_connection r (value_at r s.live) unit s →
-    IsCalling [] (to_connection r (Some asked) unit s) → Puts (IsCalling []) unit s
+    Again s (to_connection r (Some asked) unit s) → Puts (Again s) unit s
 refused_takes r unit s is a none b h =
-    puts (IsCalling []) (one r) unit s is
+    puts (Again s) (one r) unit s is
     (a ∙ ap (λ (o : Option Connection). put_at r o unit s.class) (value_one r s is) ∙ none)
-    (subst (IsCalling []) (sym (b ∙ ap (λ (o : Option Connection). to_connection r o unit s) (value_one r s is))) h)
+    (subst (Again s) (sym (b ∙ ap (λ (o : Option Connection). to_connection r o unit s) (value_one r s is))) h)
 
-pub refusal_takes : (r : ℕ) (unit : Value) (s : State) → IsRefusal r unit → IsCalling (one r) s → Puts (IsCalling []) unit s
+pub refusal_takes : (r : ℕ) (unit : Value) (s : State) → IsRefusal r unit → IsCalling (one r) s → Puts (Again s) unit s
 refusal_takes r (request c) s h is = absurd h
 refusal_takes r (confirm destination c) s h is = absurd h
 refusal_takes r (disconnect destination source reason user) s e is =
     refused_takes r (disconnect destination source reason user) s is
     (ap (λ (n : ℕ). put_at n (value_at n s.live) (disconnect destination source reason user) s.class) e) refl
     (ap (λ (n : ℕ). to_connection n (value_at n s.live) (disconnect destination source reason user) s) e)
-    (record { lasts = is.lasts; caller = is.caller; class = is.class; live = gone_one r s is })
+    (record { lasts = is.lasts; caller = is.caller; class = is.class; live = gone_one r s is }, refl)
 refusal_takes r (disconnected destination source) s h is = absurd h
 refusal_takes r (data0 end user) s h is = absurd h
 refusal_takes r (data2 destination number end user) s h is = absurd h
@@ -182,81 +114,7 @@ refusal_takes r (error destination cause) s e is =
     refused_takes r (error destination cause) s is
     (ap (λ (n : ℕ). put_at n (value_at n s.live) (error destination cause) s.class) e) refl
     (ap (λ (n : ℕ). to_connection n (value_at n s.live) (error destination cause) s) e)
-    (record { lasts = is.lasts; caller = is.caller; class = is.class; live = gone_one r s is })
-
--- ---- a unit in class 0
-
-put_linked_one : (n r peer : ℕ) (link : Standing) (q : ℕ) (new : Standing) (b : Bool) → (r == n) ≡ b →
-    (p : ℕ) × (l : Standing) × (put n (linked q new) ((r, linked peer link) ∷ []) ≡ (r, linked p l) ∷ [])
-put_linked_one n r peer link q new true e =
-    (q, new, ap (λ (b : Bool). if b then (r, linked q new) ∷ [] else (r, linked peer link) ∷ put n (linked q new) []) e)
-put_linked_one n r peer link q new false e =
-    (peer, link, ap (λ (b : Bool). if b then (r, linked q new) ∷ [] else (r, linked peer link) ∷ put n (linked q new) []) e)
-
--- the link has moved on
-moved_zero : (n q : ℕ) (new : Standing) (s t : State) → InZero s → t.is_caller ≡ s.is_caller → t.class ≡ s.class →
-    t.live ≡ put n (linked q new) s.live → InZero t
-moved_zero n q new s t z caller class live =
-    let (p, l, e) = put_linked_one n z.r z.peer z.link q new (z.r == n) refl in
-    record {
-      caller = caller ∙ z.caller;
-      class = class ∙ z.class;
-      r = z.r;
-      peer = p;
-      link = l;
-      live = live ∙ ap (λ (rows : Rows Connection). put n (linked q new) rows) z.live ∙ e;
-    }
-
-zero_taking : (n q : ℕ) (result : Result Standing LinkFault) (s : State) → InZero s → Rests (taking n q result s)
-zero_taking n q (Ok link) s z = zero (moved_zero n q (pumped (handed_out link)) s (taking n q (Ok link) s) z refl refl refl)
-zero_taking n q (Err fault) s z =
-    over (ap (λ (k : Option Class). is_some (breaks_in n q fault k s).ended) z.class)
-
-zero_linked : (n q : ℕ) (link : Standing) (unit : Value) (s : State) → InZero s → Rests (to_linked n q link unit s)
-zero_linked n q link (request c) s z = zero_taking n q (taken link (request c)) s z
-zero_linked n q link (confirm destination c) s z = zero_taking n q (taken link (confirm destination c)) s z
-zero_linked n q link (disconnect destination source reason user) s z =
-    over (ap (λ (k : Option Class). is_some (leaves n q reason k s).ended) z.class)
-zero_linked n q link (disconnected destination source) s z = zero_taking n q (taken link (disconnected destination source)) s z
-zero_linked n q link (data0 end user) s z = zero_taking n q (taken link (data0 end user)) s z
-zero_linked n q link (data2 destination number end user) s z = zero_taking n q (taken link (data2 destination number end user)) s z
-zero_linked n q link (acknowledge credit destination number) s z = zero_taking n q (taken link (acknowledge credit destination number)) s z
-zero_linked n q link (error destination cause) s z = zero_taking n q (taken link (error destination cause)) s z
-
-zero_unit : (unit : Value) (s : State) → InZero s → Rests (in_zero true unit s)
-zero_unit (request c) s z = over refl
-zero_unit (confirm destination c) s z =
-    subst (λ (rows : Rows Connection). Rests (to_only rows (confirm destination c) s)) (sym z.live)
-    (zero_linked z.r z.peer z.link (confirm destination c) s z)
-zero_unit (disconnect destination source reason user) s z =
-    subst (λ (rows : Rows Connection). Rests (to_only rows (disconnect destination source reason user) s)) (sym z.live)
-    (zero_linked z.r z.peer z.link (disconnect destination source reason user) s z)
-zero_unit (disconnected destination source) s z =
-    subst (λ (rows : Rows Connection). Rests (to_only rows (disconnected destination source) s)) (sym z.live)
-    (zero_linked z.r z.peer z.link (disconnected destination source) s z)
-zero_unit (data0 end user) s z =
-    subst (λ (rows : Rows Connection). Rests (to_only rows (data0 end user) s)) (sym z.live)
-    (zero_linked z.r z.peer z.link (data0 end user) s z)
-zero_unit (data2 destination number end user) s z =
-    subst (λ (rows : Rows Connection). Rests (to_only rows (data2 destination number end user) s)) (sym z.live)
-    (zero_linked z.r z.peer z.link (data2 destination number end user) s z)
-zero_unit (acknowledge credit destination number) s z =
-    subst (λ (rows : Rows Connection). Rests (to_only rows (acknowledge credit destination number) s)) (sym z.live)
-    (zero_linked z.r z.peer z.link (acknowledge credit destination number) s z)
-zero_unit (error destination cause) s z =
-    subst (λ (rows : Rows Connection). Rests (to_only rows (error destination cause) s)) (sym z.live)
-    (zero_linked z.r z.peer z.link (error destination cause) s z)
-
-zero_by : (b : Bool) (unit : Value) (s : State) → InZero s → is_some s.ended ≡ b → Rests (react_by b unit s)
-zero_by true unit s z e = over e
-zero_by false unit s z e =
-    subst (λ (k : Option Class). Rests (in_class k unit s)) (sym z.class)
-    (subst (λ (b : Bool). Rests (in_zero b unit s)) (sym z.caller) (zero_unit unit s z))
-
-pub rests_takes : (unit : Value) (s : State) → Rests s → Rests (react unit s)
-unfolding react
-rests_takes unit s (over h) = subst Rests (sym (over_takes unit s h).0) (over h)
-rests_takes unit s (zero z) = zero_by (is_some s.ended) unit s z refl
+    (record { lasts = is.lasts; caller = is.caller; class = is.class; live = gone_one r s is }, refl)
 
 -- ---- a call
 
@@ -268,7 +126,7 @@ error_of true true e room h = cc
 error_of true false None room h = (refl, refl)
 error_of true false (Some e) room h = cc
 
-may_so : (s : State) → may_connect s ≡ None → (is_some s.ended ≡ false) × (class_error s.class s.live ≡ None)
+pub may_so : (s : State) → may_connect s ≡ None → (is_some s.ended ≡ false) × (class_error s.class s.live ≡ None)
 may_so s h = error_of s.is_caller (is_some s.ended) (class_error s.class s.live) (room_error s) h
 
 never : {A : Type 0} (e : OpenError) (o : Option OpenError) → o ≡ Some e → o ≡ None → A
@@ -349,12 +207,19 @@ one_calls r call s is may =
 -- an end without a connection may ask for one
 pub data Calls (call : UserCall) (s : State) : Type 0 where
   idles : Idle call s → Calls call s
-  asks_one : (x : Connect) → put_by call s ≡ request x ∷ [] → IsCalling (one x.source) (user_does call s) → Calls call s
+  asks_one : (x : Connect) → put_by call s ≡ request x ∷ [] → IsCalling (one x.source) (user_does call s) →
+      (user_does call s).local ≡ s.local → (offers_two x ≡ true → s.local.class2 ≡ true) → Calls call s
 
 proposed : (two : Bool) (s : State) (calling called : Option (List ℕ)) →
     (proposal_by two s.local s.class calling called (s.given + 1)).source ≡ s.given + 1
 proposed true s calling called = refl
 proposed false s calling called = refl
+
+-- class 2 is offered only if the end has it
+offered : (two : Bool) (s : State) (calling called : Option (List ℕ)) →
+    offers_two (proposal_by two s.local s.class calling called (s.given + 1)) ≡ true → two ≡ true
+offered true s calling called h = refl
+offered false s calling called h = cc
 
 none_calls_by : (call : UserCall) (s : State) → IsCalling [] s → NoneOpen s → MayCall call s → Calls call s
 none_calls_by (connects calling called) s is none may =
@@ -365,7 +230,7 @@ none_calls_by (connects calling called) s is none may =
       class = is.class;
       live = ap (λ (rows : Rows Connection). rows ++ (s.given + 1, asked) ∷ []) is.live
           ∙ ap (λ (r : ℕ). one r) (sym (proposed (proposes_two s.local) s calling called));
-    })
+    }) refl (offered s.local.class2 s calling called)
 none_calls_by (sends r tsdu) s is none may = idles (sends_none r tsdu s none)
 none_calls_by (sends_all r tsdus) s is none may = idles (all_sends_none r tsdus s none)
 none_calls_by (closes r reason) s is none may = idles (closes_none r reason s none)
@@ -373,35 +238,3 @@ none_calls_by (breaks reason) s is none may = idles (breaks_none reason s)
 
 pub none_calls : (call : UserCall) (s : State) → IsCalling [] s → MayCall call s → Calls call s
 none_calls call s is may = none_calls_by call s is (none_by [] s is (λ q. refl)) may
-
--- ---- a call in class 0
-
-zero_sent : (r : ℕ) (tsdu : List ℕ) (o : Option (ℕ × Standing)) (s : State) → InZero s → InZero (sent_on r tsdu o s)
-zero_sent r tsdu None s z = z
-zero_sent r tsdu (Some (peer, link)) s z =
-    moved_zero r peer (pumped (with_tsdu link tsdu)) s (sent_on r tsdu (Some (peer, link)) s) z refl refl refl
-
-zero_all : (r : ℕ) (tsdus : List (List ℕ)) (s : State) → InZero s → InZero (sent_all r tsdus s)
-zero_all r [] s z = z
-zero_all r (tsdu ∷ tsdus) s z = zero_all r tsdus (sent r tsdu s) (zero_sent r tsdu (open_link r s) s z)
-
-zero_closed : (r reason : ℕ) (o : Option (ℕ × Standing)) (s : State) → InZero s → Rests (closed_on r reason o s)
-zero_closed r reason None s z = zero z
-zero_closed r reason (Some (peer, link)) s z =
-    over (ap (λ (k : Option Class). is_some (closes_in r peer reason k s).ended) z.class)
-
-zero_calls : (call : UserCall) (s : State) → InZero s → MayCall call s → Rests (user_does call s) × (asks_with (by_user call) s ≡ [])
-zero_calls (connects calling called) s z may =
-    never OneConnection (class_error s.class s.live) (ap (λ (k : Option Class). class_error k s.live) z.class) (may_so s may).1
-zero_calls (sends r tsdu) s z may = (zero (zero_sent r tsdu (open_link r s) s z), refl)
-zero_calls (sends_all r tsdus) s z may = (zero (zero_all r tsdus s z), refl)
-zero_calls (closes r reason) s z may = (zero_closed r reason (open_link r s) s z, refl)
-zero_calls (breaks reason) s z may = (over (ended_over (is_some s.ended) reason s refl), refl)
-
-idle_rests : (call : UserCall) (s : State) → IsOver s → Idle call s → Rests (user_does call s) × (asks_with (by_user call) s ≡ [])
-idle_rests call s h (same e put none) = (over (ap (λ (t : State). is_some t.ended) e ∙ h), none)
-idle_rests call s h (broke over_now put none) = (over over_now, none)
-
-pub rests_calls : (call : UserCall) (s : State) → Rests s → MayCall call s → Rests (user_does call s) × (asks_with (by_user call) s ≡ [])
-rests_calls call s (over h) may = idle_rests call s h (over_calls call s h may)
-rests_calls call s (zero z) may = zero_calls call s z may

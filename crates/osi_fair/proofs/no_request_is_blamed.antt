@@ -1,6 +1,6 @@
 -- No CR of a whole calling end is blamed, whatever happens.
 -- For the law of that name.
-use Rattle.std.proofs.Common.{◌≡◌, ◌∙◌, Bool, true, false, List, [], ◌∷◌, refl, sym, ap, subst, arith}
+use Rattle.std.proofs.Common.{◌≡◌, ◌∙◌, ℕ, Bool, true, false, List, [], ◌∷◌, refl, sym, subst, arith}
 use Rattle.std.proofs.Common.{◌⊎◌}
 use Rattle.osi_tpdu.specs.Value.{Value, Connect, request}
 use Rattle.osi_class.specs.declared.terms.Local.{Local}
@@ -17,9 +17,11 @@ use Rattle.osi_fair.specs.Wholes.{passes_rubbish}
 use Rattle.osi_fair.proofs.a_new_reference_is_not_in_use.{Passed, asked_finding, asked_is, tests_pass}
 use Rattle.osi_fair.proofs.a_reference_names_one_connection.{no_item}
 use Rattle.osi_fair.proofs.a_request_of_a_whole_end_is_new.{IsUnused, Newer, next_unused, still_newer}
-use Rattle.osi_fair.proofs.how_requests_go_on.{Stage, answered, asks, calm_passes, known, quiet, refused, rests, still_staged, waits}
+use Rattle.osi_fair.proofs.how_requests_go_on.{Stage, answered, asks, calm_passes, ended, known, quiet, refused, still_staged, waits}
+use Rattle.osi_fair.proofs.how_requests_go_on.{zero}
+use Rattle.osi_fair.proofs.what_an_end_does_in_class_zero.{anyhow, zero_puts}
+use Rattle.osi_fair.proofs.what_an_end_puts_in_class_zero.{PutsData}
 use Rattle.osi_fair.proofs.what_lasts_at_the_tap.{lasts_passing}
-use Rattle.osi_fair.proofs.which_requests_are_put.{asked_among}
 use Rattle.osi_fair.proofs.while_no_class_is_selected.{AllOver, GoesOn, calm_tap}
 
 -- ---- left was judged before
@@ -35,25 +37,25 @@ went_on passes_rubbish w new is h = (lasts_passing (rubbish Right) w.tap).left (
 
 -- ---- a run
 
-pub record Holds (w : Whole) : Type 0 where
+pub record Holds (local : Local) (w : Whole) : Type 0 where
   pub newer : Newer w
-  pub stage : GoesOn w.tap → Stage w
+  pub stage : GoesOn w.tap → Stage local w
 
-pub holds_next : (event : Event) (w new : Whole) → Happens Left event w new → Holds w → Holds new
-holds_next event w new h a = record {
+pub holds_next : (local : Local) (event : Event) (w new : Whole) → Happens Left event w new → Holds local w → Holds local new
+holds_next local event w new h a = record {
   newer = still_newer event w new h a.newer;
-  stage = λ goes. still_staged event w new h goes a.newer (a.stage (went_on event w new h goes));
+  stage = λ goes. still_staged local event w new h goes a.newer (a.stage (went_on event w new h goes));
 }
 
-holds_all : (events : List Event) (w new : Whole) → HappenAlong Left w events new → Holds w → Holds new
-holds_all [] w new e a = subst Holds (sym e) a
-holds_all (event ∷ events) w new (mid, first, more) a = holds_all events mid new more (holds_next event w mid first a)
+holds_all : (local : Local) (events : List Event) (w new : Whole) → HappenAlong Left w events new → Holds local w → Holds local new
+holds_all local [] w new e a = subst (Holds local) (sym e) a
+holds_all local (event ∷ events) w new (mid, first, more) a = holds_all local events mid new more (holds_next local event w mid first a)
 
-pub holds_first : (local : Local) → Holds (begin true local)
+pub holds_first : (local : Local) → Holds local (begin true local)
 holds_first local = record {
   newer = record { last = 0; below = λ i c at. no_item i c at; rise = tt; up = tt; given = omega arith };
   stage = λ goes.
-      quiet (record { lasts = refl; caller = refl; class = refl; live = refl }) refl refl [] false refl (λ i c at. no_item i c at) tt;
+      quiet (record { lasts = refl; caller = refl; class = refl; live = refl }, refl) refl refl [] false refl (λ i c at. no_item i c at) tt;
 }
 
 -- ---- the CR that is passing
@@ -64,8 +66,8 @@ IsRightCr x s = Passed (takes Left (request x) s).told.finding
 some_cr : {A : Type 0} (w : Whole) (x : Connect) (rest : List Value) → w.put ≡ request x ∷ rest → w.put ≡ [] → A
 some_cr w x rest e none = absurd (cc (sym e ∙ none))
 
-no_cr : {A : Type 0} (x : Connect) (rest put : List Value) → put ≡ request x ∷ rest → asked_among put ≡ [] → A
-no_cr x rest put e none = absurd (cc (sym (ap asked_among e) ∙ none))
+no_cr : {A : Type 0} (x : Connect) (rest : List Value) (limit begun : ℕ) → PutsData limit anyhow begun (request x ∷ rest) → A
+no_cr x rest limit begun puts = absurd puts
 
 while_calm : (x : Connect) (w : Whole) (cs : List Connection) (strays : Bool) (rest : List Value) → w.put ≡ request x ∷ rest → Newer w →
     w.tap ≡ calm_tap cs strays → AllOver cs → IsRightCr x w.tap
@@ -75,18 +77,21 @@ while_calm x w cs strays rest e newer tap all =
     subst (λ (t : Traffic). IsRightCr x t) (sym tap)
     (subst (λ (f : Finding). Passed f) (sym (asked_finding tests x (calm_tap cs strays))) (calm_passes x cs strays all unused))
 
-pub is_right : (x : Connect) (rest : List Value) (w : Whole) → w.put ≡ request x ∷ rest → w.begun ≡ true → GoesOn w.tap → Newer w →
-    Stage w →
-    IsRightCr x w.tap
-is_right x rest w e begun goes newer (rests none r) = no_cr x rest w.put e none
-is_right x rest w e begun goes newer (quiet is none not_begun cs strays tap done dcs) = some_cr w x rest e none
-is_right x rest w e begun goes newer (asks y put is cs strays tap done dcs all) =
+pub is_right : (local : Local) (x : Connect) (rest : List Value) (w : Whole) → w.put ≡ request x ∷ rest → w.begun ≡ true →
+    GoesOn w.tap → Newer w → Stage local w → IsRightCr x w.tap
+is_right local x rest w e begun goes newer (ended none h) = some_cr w x rest e none
+is_right local x rest w e begun goes newer (quiet is none not_begun cs strays tap done dcs) = some_cr w x rest e none
+is_right local x rest w e begun goes newer (asks y put is offers cs strays tap done dcs all) =
     while_calm x w cs strays rest e newer tap (all begun)
-is_right x rest w e begun goes newer (waits r is none not_begun cs strays tap p waiting dcs) = some_cr w x rest e none
-is_right x rest w e begun goes newer (refused r is none not_begun cs strays tap done dcs v more coming are refusal too) =
+is_right local x rest w e begun goes newer (waits r is none not_begun cs strays tap p o offers waiting dcs) = some_cr w x rest e none
+is_right local x rest w e begun goes newer (refused r is none not_begun cs strays tap done dcs v more coming are refusal too) =
     some_cr w x rest e none
-is_right x rest w e begun goes newer (answered r is none not_begun dcs n y more coming are two) = some_cr w x rest e none
-is_right x rest w e begun goes newer (known two seen) =
+is_right local x rest w e begun goes newer (answered r is none not_begun dcs n y more coming are class after so z) =
+    some_cr w x rest e none
+is_right local x rest w e begun goes newer (zero z) =
+    no_cr x rest z.tap.limit z.tap.c.left.begun
+    (subst (PutsData z.tap.limit anyhow z.tap.c.left.begun) e (zero_puts z.tap.limit w.end z.tap.c.left.begun w.put z.goes))
+is_right local x rest w e begun goes newer (known two seen has) =
     let unused = next_unused x rest w e newer in
     subst (λ (f : Finding). Passed f) (sym (asked_is x w.tap goes (seen begun)))
     (tests_pass w.tap x (seen begun) unused.used unused.judged)
@@ -95,5 +100,5 @@ pub request_right : (local : Local) (events : List Event) (w : Whole) (x : Conne
     HappenAlong Left (begin true local) events w → w.begun ≡ true → w.put ≡ request x ∷ rest → is_stopped Left w.tap.course ≡ false →
     ((takes Left (request x) w.tap).told.finding ≡ Kept) ⊎ ((takes Left (request x) w.tap).told.finding ≡ TooMany)
 request_right local events w x rest along begun put goes =
-    let h = holds_all events (begin true local) w along (holds_first local) in
-    is_right x rest w put begun goes h.newer (h.stage goes)
+    let h = holds_all local events (begin true local) w along (holds_first local) in
+    is_right local x rest w put begun goes h.newer (h.stage goes)

@@ -32,7 +32,7 @@ use Rattle.osi_fair.proofs.all_are_judged_unless_one_broke.{IsJudged}
 use Rattle.osi_fair.proofs.each_connection_of_a_called_end.{Asked}
 use Rattle.osi_fair.proofs.how_a_unit_of_right_passes.{differ}
 use Rattle.osi_fair.proofs.left_selects_no_class.{left_class}
-use Rattle.osi_fair.proofs.what_a_called_end_does_in_class_zero.{IsInZero}
+use Rattle.osi_fair.proofs.what_an_end_does_in_class_zero.{IsInZero}
 use Rattle.osi_fair.proofs.what_comes_to_a_called_end.{open_over}
 use Rattle.osi_fair.proofs.what_holds_of_a_line.{is_there}
 use Rattle.osi_fair.proofs.what_holds_of_one_item.{HoldsOfEach}

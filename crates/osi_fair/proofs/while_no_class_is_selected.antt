@@ -7,6 +7,7 @@ use Rattle.std.proofs.lemmas.Bool.{eqb-true, eq-eqb}
 use Rattle.std.proofs.lemmas.Option.{slice_get-map}
 use Rattle.osi_tpdu.specs.Value.{Value, Connect, request, confirm, disconnect, disconnected, data0, data2, acknowledge, error}
 use Rattle.osi_rules.specs.declared.connections.Connection.{Connection}
+use Rattle.osi_rules.specs.declared.connections.Offer.{Offer}
 use Rattle.osi_rules.specs.declared.courses.Course.{Course}
 use Rattle.osi_rules.specs.declared.directions.Direction.{Direction}
 use Rattle.osi_rules.specs.declared.directions.Direction.TheVariants.{Left, Right}
@@ -17,12 +18,12 @@ use Rattle.osi_rules.specs.declared.findings.Reach.TheVariants as reach
 use Rattle.osi_rules.specs.declared.findings.Rule.TheVariants as rule
 use Rattle.osi_rules.specs.declared.halves.Half.{Half}
 use Rattle.osi_rules.specs.declared.halves.Phase.{Phase}
-use Rattle.osi_rules.specs.declared.halves.Phase.TheVariants.{Silent}
+use Rattle.osi_rules.specs.declared.halves.Phase.TheVariants.{Open, Silent}
 use Rattle.osi_rules.specs.Reaches.{is_applied, reach_of}
 use Rattle.osi_rules.specs.Rows.{first_failed, code_named, is_due, is_inside, is_offered}
 use Rattle.osi_rules.specs.Sides.{begins, is_closed, is_closing, is_free, is_named, is_open, is_over, is_over_by, is_refused, is_silent}
 use Rattle.osi_rules.specs.Traffic.{Outcome, State, asked_by, asks_by, at_found, at_place, class_of, closing_phase, connection_after}
-use Rattle.osi_rules.specs.Traffic.{course_after, found, found_on, placed, reached, takes, unnamed_told, uses_source}
+use Rattle.osi_rules.specs.Traffic.{course_after, found, found_on, offer_of, placed, reached, sent_on, takes, unnamed_told, uses_source}
 use Rattle.osi_fair.proofs.what_holds_of_one_item.{HoldsOfEach, after_add, after_map, after_set, first_true}
 use Rattle.osi_fair.proofs.when_a_connection_has_a_name.{three}
 use Rattle.osi_fair.proofs.a_right_unit_is_not_blamed.{first_there}
@@ -132,12 +133,12 @@ not_named : (over rest : Bool) → over ≡ true → (not over && rest) ≡ true
 not_named true rest h k = cc
 not_named false rest h k = cc
 
-over_done : (c : Connection) → IsDone c → is_over Right c ≡ true
+pub over_done : (c : Connection) → IsDone c → is_over Right c ≡ true
 over_done c (j, h) = both c.is_judged (is_over_by c.right c.seen_by_right) j (or_first (is_refused c.right.phase)
     (is_refused c.seen_by_right.phase || (is_closed c.right.phase
     || (is_closing c.right.phase && (is_closing c.seen_by_right.phase || is_closed c.seen_by_right.phase)))) h)
 
-done_not_named : (c : Connection) (n : ℕ) → IsDone c → is_named Right n c ≡ true → ⊥
+pub done_not_named : (c : Connection) (n : ℕ) → IsDone c → is_named Right n c ≡ true → ⊥
 done_not_named c n h k = not_named (is_over Right c) (not (is_silent c.seen_by_right.phase) && (c.seen_by_right.reference == n))
     (over_done c h) k
 
@@ -184,12 +185,16 @@ module _ (cs : List Connection) (strays : Bool) where
 
 -- ---- one waits for an answer
 
--- the connection at this place, whose CR has this reference, waits, and all others are refused
-pub record Waits (r p : ℕ) (cs : List Connection) : Type 0 where
+-- the connection at this place, whose CR has this reference and offers this, waits, and all others are refused
+pub record Waits (r p : ℕ) (o : Offer) (cs : List Connection) : Type 0 where
   pub c : Connection
   pub at : slice_get cs p ≡ Some c
   pub judged : c.is_judged ≡ true
   pub silent : c.right.phase ≡ Silent
+  pub up : c.left.phase ≡ Open
+  pub none : c.left.begun ≡ 0
+  pub unseen : c.seen_by_left.phase ≡ Silent
+  pub offer : c.offer ≡ o
   pub reference : c.left.reference ≡ r
   pub known : is_silent c.seen_by_right.phase ≡ false → c.seen_by_right.reference ≡ r
   pub others : (i : ℕ) (e : Connection) → slice_get cs i ≡ Some e → (i ≡ p → ⊥) → IsDone e
@@ -207,10 +212,10 @@ known_named over known n r k h =
     sym (eqb-true known.reference n e) ∙ k b
 
 -- what a unit names is the one that waits
-waits_by : (r p : ℕ) (cs : List Connection) (w : Waits r p cs) (n q : ℕ) (e : Connection) (b : Bool) → (q == p) ≡ b →
+waits_by : (r p : ℕ) (o : Offer) (cs : List Connection) (w : Waits r p o cs) (n q : ℕ) (e : Connection) (b : Bool) → (q == p) ≡ b →
     slice_get cs q ≡ Some e → is_named Right n e ≡ true → (q ≡ p) × (n ≡ r) × (e ≡ w.c)
-waits_by r p cs w n q e false b at named = absurd (done_not_named e n (w.others q e at (unlike q p b)) named)
-waits_by r p cs w n q e true b at named =
+waits_by r p o cs w n q e false b at named = absurd (done_not_named e n (w.others q e at (unlike q p b)) named)
+waits_by r p o cs w n q e true b at named =
     let same = eqb-true q p b in
     let is : e ≡ w.c = item_is w.c e (sym w.at ∙ ap (λ (i : ℕ). slice_get cs i) (sym same) ∙ at) in (
       same,
@@ -235,17 +240,26 @@ begun_done : (d : Direction) (c : Connection) → IsDone c → IsDone (begins d 
 begun_done Left c h = h
 begun_done Right c h = h
 
+begins_offer : (d : Direction) (c : Connection) → (begins d c).offer ≡ c.offer
+begins_offer Left c = refl
+begins_offer Right c = refl
+
+begins_unseen : (d : Direction) (c : Connection) → c.right.phase ≡ Silent → c.seen_by_left.phase ≡ Silent →
+    (begins d c).seen_by_left.phase ≡ Silent
+begins_unseen Left c h k = h
+begins_unseen Right c h k = k
+
 begins_known : (d : Direction) (r : ℕ) (c : Connection) → c.left.reference ≡ r →
     (is_silent c.seen_by_right.phase ≡ false → c.seen_by_right.reference ≡ r) →
     is_silent (begins d c).seen_by_right.phase ≡ false → (begins d c).seen_by_right.reference ≡ r
 begins_known Left r c e k h = k h
 begins_known Right r c e k h = e
 
-waits_named : (r p : ℕ) (cs : List Connection) (w : Waits r p cs) (n q : ℕ) → position (is_named Right n) cs ≡ Some q →
+waits_named : (r p : ℕ) (o : Offer) (cs : List Connection) (w : Waits r p o cs) (n q : ℕ) → position (is_named Right n) cs ≡ Some q →
     (q ≡ p) × (n ≡ r)
-waits_named r p cs w n q h =
+waits_named r p o cs w n q h =
     let (e, at, named) = named_where cs n q h in
-    let (same, is, so) = waits_by r p cs w n q e (q == p) refl at named in (same, is)
+    let (same, is, so) = waits_by r p o cs w n q e (q == p) refl at named in (same, is)
 
 -- a DR or an ER that refuses the connection with this reference
 abbrev pub IsRefusal : ℕ → Value → Type 0
@@ -258,12 +272,27 @@ IsRefusal r (data2 destination number end user) = ⊥
 IsRefusal r (acknowledge credit destination number) = ⊥
 IsRefusal r (error destination cause) = destination ≡ r
 
--- a CC selects a class, a refusal leaves none that waits, and a DC changes nothing
-pub data Answer (r p : ℕ) (cs : List Connection) (strays : Bool) (v : Value) (s : State) : Type 0 where
-  confirms : (destination : ℕ) (x : Connect) → v ≡ confirm destination x → s.course.class ≡ Some (class_of x) → Answer r p cs strays v s
+-- after the CC for the connection at this place
+abbrev pub confirmed_tap : (p destination : ℕ) → Connect → Connection → List Connection → Bool → State
+confirmed_tap p destination x c cs strays = record {
+  connections = set cs p (sent_on Right (confirm destination x) c);
+  course = record {
+    class = Some (class_of x);
+    class_seen = None;
+    strays = strays;
+    loose = false;
+    left_stopped = false;
+    right_stopped = false;
+  };
+}
+
+-- a CC selects a class that is offered, a refusal leaves none that waits, and a DC changes nothing
+pub data Answer (r p : ℕ) (o : Offer) (cs : List Connection) (strays : Bool) (v : Value) (s : State) : Type 0 where
+  confirms : (destination : ℕ) (x : Connect) → v ≡ confirm destination x → (c : Connection) → slice_get cs p ≡ Some c →
+      s ≡ confirmed_tap p destination x c cs strays → is_offered o None x ≡ true → is_inside x ≡ true → Answer r p o cs strays v s
   refuses : IsRefusal r v → (after : List Connection) (more : Bool) → s ≡ calm_tap after more → HoldsOfEach IsDone after →
-      Answer r p cs strays v s
-  says_nothing : OnlyDc v cs strays s → Answer r p cs strays v s
+      Answer r p o cs strays v s
+  says_nothing : OnlyDc v cs strays s → Answer r p o cs strays v s
 
 -- the state after a unit for the connection at this place, by what is found of it
 abbrev by_finding : (p : ℕ) → Connection → List Connection → Bool → Value → Finding → State
@@ -272,31 +301,38 @@ by_finding p c cs strays v f = record {
   course = reached Right (reach_of None f) (course_after Right c v (is_applied f) (calm strays));
 }
 
+-- it is taken, and is an answer that the CR allows; or nothing more is judged
+abbrev Confirms : (offered inside : Bool) → Finding → Type 0
+Confirms offered inside f =
+    ((is_applied f ≡ true) × (reach_of None f ≡ reach.Nothing) × (offered ≡ true) × (inside ≡ true)) ⊎ (reach_of None f ≡ reach.Everything)
+
 confirm_or : (a b i u l : Bool) →
-    (is_applied (first_failed ((a, Broke rule.WrongForm) ∷ (b, Broke rule.BadAnswer) ∷ (i, Outside) ∷ (u, Broke rule.ReferenceInUse)
-    ∷ (l, Broke rule.LargerSize) ∷ [])) ≡ true)
-    ⊎ (reach_of None (first_failed ((a, Broke rule.WrongForm) ∷ (b, Broke rule.BadAnswer) ∷ (i, Outside)
-    ∷ (u, Broke rule.ReferenceInUse) ∷ (l, Broke rule.LargerSize) ∷ [])) ≡ reach.Everything)
+    Confirms b i (first_failed ((a, Broke rule.WrongForm) ∷ (b, Broke rule.BadAnswer) ∷ (i, Outside) ∷ (u, Broke rule.ReferenceInUse)
+    ∷ (l, Broke rule.LargerSize) ∷ []))
 confirm_or false b i u l = inr refl
 confirm_or true false i u l = inr refl
 confirm_or true true false u l = inr refl
 confirm_or true true true false l = inr refl
-confirm_or true true true true false = inl refl
-confirm_or true true true true true = inl refl
+confirm_or true true true true false = inl (refl, refl, refl, refl)
+confirm_or true true true true true = inl (refl, refl, refl, refl)
 
-reached_class : (how_far : Reach) (course : Course) → (reached Right how_far course).class ≡ course.class
-reached_class reach.Nothing c = refl
-reached_class reach.Connection c = refl
-reached_class reach.Side c = refl
-reached_class reach.Everything c = refl
+-- by whether it is taken, and how far it reaches
+abbrev by_reach : (p destination : ℕ) → Connect → Connection → List Connection → (strays applied : Bool) → Reach → State
+by_reach p destination x c cs strays applied far = record {
+  connections = set cs p (connection_after Right (confirm destination x) applied far c);
+  course = reached Right far (course_after Right c (confirm destination x) applied (calm strays));
+}
 
-confirmed_by : (p destination : ℕ) (x : Connect) (c : Connection) (cs : List Connection) (strays : Bool) (f : Finding) →
-    (is_applied f ≡ true) ⊎ (reach_of None f ≡ reach.Everything) → GoesOn (by_finding p c cs strays (confirm destination x) f) →
-    (by_finding p c cs strays (confirm destination x) f).course.class ≡ Some (class_of x)
-confirmed_by p destination x c cs strays f (inl e) h =
-    reached_class (reach_of None f) (course_after Right c (confirm destination x) (is_applied f) (calm strays))
-    ∙ ap (λ (b : Bool). (course_after Right c (confirm destination x) b (calm strays)).class) e
-confirmed_by p destination x c cs strays f (inr e) h =
+confirmed_by : (p destination : ℕ) (x : Connect) (c : Connection) (cs : List Connection) (strays offered inside : Bool) (f : Finding) →
+    Confirms offered inside f → GoesOn (by_finding p c cs strays (confirm destination x) f) →
+    (by_finding p c cs strays (confirm destination x) f ≡ confirmed_tap p destination x c cs strays) × (offered ≡ true) × (inside ≡ true)
+confirmed_by p destination x c cs strays offered inside f (inl (applied, far, a, b)) h = (
+  ap (λ (y : Bool). by_reach p destination x c cs strays y (reach_of None f)) applied
+      ∙ ap (λ (y : Reach). by_reach p destination x c cs strays true y) far,
+  a,
+  b,
+)
+confirmed_by p destination x c cs strays offered inside f (inr e) h =
     let stopped = ap (λ (r : Reach). (reached Right r (course_after Right c (confirm destination x) (is_applied f)
     (calm strays))).left_stopped) e in
     absurd (differ (by_finding p c cs strays (confirm destination x) f).course.left_stopped stopped h)
@@ -309,7 +345,7 @@ judged_same : (j : Bool) (f : Finding) → j ≡ true → (if j then f else NotJ
 judged_same true f h = refl
 judged_same false f h = cc
 
-module _ (r p : ℕ) (cs : List Connection) (strays : Bool) (w : Waits r p cs) where
+module _ (r p : ℕ) (o : Offer) (cs : List Connection) (strays : Bool) (w : Waits r p o cs) where
   abbrev t : State
   t = calm_tap cs strays
 
@@ -324,14 +360,16 @@ module _ (r p : ℕ) (cs : List Connection) (strays : Bool) (w : Waits r p cs) w
 
   to_confirm : (destination : ℕ) (x : Connect) →
       GoesOn (by_finding p c cs strays (confirm destination x) (finding (confirm destination x))) →
-      Answer r p cs strays (confirm destination x) (by_finding p c cs strays (confirm destination x) (finding (confirm destination x)))
+      Answer r p o cs strays (confirm destination x) (by_finding p c cs strays (confirm destination x) (finding (confirm destination x)))
   to_confirm destination x h =
       let tests = confirm_or (is_silent c.right.phase) (is_offered c.offer None x) (is_inside x) (not (uses_source Right cs
       (confirm destination x))) (nat_le (code_named x.parameters.size) c.offer.size_code) in
       let is = judged_same c.is_judged (found Right (calm strays) (uses_source Right cs (confirm destination x)) c (confirm destination x))
       w.judged in
-      let so = subst (λ (f : Finding). (is_applied f ≡ true) ⊎ (reach_of None f ≡ reach.Everything)) (sym is) tests in
-      confirms destination x refl (confirmed_by p destination x c cs strays (finding (confirm destination x)) so h)
+      let so = subst (λ (f : Finding). Confirms (is_offered c.offer None x) (is_inside x) f) (sym is) tests in
+      let (after, offered, inside) = confirmed_by p destination x c cs strays (is_offered c.offer None x) (is_inside x)
+      (finding (confirm destination x)) so h in
+      confirms destination x refl c w.at after (ap (λ (y : Offer). is_offered y None x) (sym w.offer) ∙ offered) inside
 
   refused_one : (new e : Connection) (i : ℕ) → IsDone new →
       ((i ≡ p) × (e ≡ new)) ⊎ ((i ≡ p → ⊥) × (slice_get cs i ≡ Some e)) → IsDone e
@@ -347,14 +385,14 @@ module _ (r p : ℕ) (cs : List Connection) (strays : Bool) (w : Waits r p cs) w
 
   refusing : (v : Value) → IsRefusal r v → (f : Finding) → f ≡ Kept → (more : Bool) →
       by_finding p c cs strays v Kept ≡ calm_tap (set cs p (connection_after Right v true reach.Nothing c)) more →
-      IsDone (connection_after Right v true reach.Nothing c) → Answer r p cs strays v (by_finding p c cs strays v f)
+      IsDone (connection_after Right v true reach.Nothing c) → Answer r p o cs strays v (by_finding p c cs strays v f)
   refusing v is f kept more so done =
       refuses is (set cs p (connection_after Right v true reach.Nothing c)) more
       (ap (λ (g : Finding). by_finding p c cs strays v g) kept ∙ so)
       (refused_all (connection_after Right v true reach.Nothing c) done)
 
   to_disconnect : (destination source reason : ℕ) (user : List ℕ) → destination ≡ r →
-      Answer r p cs strays (disconnect destination source reason user)
+      Answer r p o cs strays (disconnect destination source reason user)
       (by_finding p c cs strays (disconnect destination source reason user) (finding (disconnect destination source reason user)))
   to_disconnect destination source reason user e =
       let v = disconnect destination source reason user in
@@ -366,7 +404,7 @@ module _ (r p : ℕ) (cs : List Connection) (strays : Bool) (w : Waits r p cs) w
       (w.judged, ap (λ (b : Bool). is_refused (closing_phase b c.right).phase) silent_so)
 
   to_error : (destination cause : ℕ) → destination ≡ r →
-      Answer r p cs strays (error destination cause)
+      Answer r p o cs strays (error destination cause)
       (by_finding p c cs strays (error destination cause) (finding (error destination cause)))
   to_error destination cause e =
       let v = error destination cause in
@@ -397,7 +435,7 @@ module _ (r p : ℕ) (cs : List Connection) (strays : Bool) (w : Waits r p cs) w
 
   to_dc : (destination source : ℕ) →
       GoesOn (by_finding p c cs strays (disconnected destination source) (finding (disconnected destination source))) →
-      Answer r p cs strays (disconnected destination source)
+      Answer r p o cs strays (disconnected destination source)
       (by_finding p c cs strays (disconnected destination source) (finding (disconnected destination source)))
   to_dc destination source h =
       let v = disconnected destination source in
@@ -405,13 +443,13 @@ module _ (r p : ℕ) (cs : List Connection) (strays : Bool) (w : Waits r p cs) w
       says_nothing (tt, dc_after destination source strays (finding v) (is ∙ dc_found (is_due Right c source) strays (not_due source)) h)
 
   abbrev Answers : Value → State → Type 0
-  Answers v after = GoesOn after → Answer r p cs strays v after
+  Answers v after = GoesOn after → Answer r p o cs strays v after
 
-  at_named : (v : Value) (n : ℕ) (o : Option ℕ) → position (is_named Right n) cs ≡ o →
-      (n ≡ r → Answers v (by_finding p c cs strays v (finding v))) → Answers v (at_place Right v t o).state
+  at_named : (v : Value) (n : ℕ) (q : Option ℕ) → position (is_named Right n) cs ≡ q →
+      (n ≡ r → Answers v (by_finding p c cs strays v (finding v))) → Answers v (at_place Right v t q).state
   at_named v n None e k h = says_nothing (for_none cs strays v h)
   at_named v n (Some q) e k h =
-      let (same, is) = waits_named r p cs w n q e in
+      let (same, is) = waits_named r p o cs w n q e in
       let there : at_place Right v t (Some q) ≡ at_found Right v t p (Some c) =
       ap (λ (i : ℕ). at_found Right v t i (slice_get cs i)) same ∙ ap (λ (e : Option Connection). at_found Right v t p e) w.at in
       subst (λ (o : Outcome). Answers v o.state) (sym there) (k is) h
@@ -437,12 +475,16 @@ module _ (r p : ℕ) (cs : List Connection) (strays : Bool) (w : Waits r p cs) w
 pub done_begins : (d : Direction) (cs : List Connection) → HoldsOfEach IsDone cs → HoldsOfEach IsDone (map (begins d) cs)
 done_begins d cs h i e at = let (x, was, is) = after_map (begins d) cs i e at in subst IsDone (sym is) (begun_done d x (h i x was))
 
-pub waits_begins : (d : Direction) (r p : ℕ) (cs : List Connection) → Waits r p cs → Waits r p (map (begins d) cs)
-waits_begins d r p cs w = record {
+pub waits_begins : (d : Direction) (r p : ℕ) (o : Offer) (cs : List Connection) → Waits r p o cs → Waits r p o (map (begins d) cs)
+waits_begins d r p o cs w = record {
   c = begins d w.c;
   at = slice_get-map (begins d) cs p ∙ ap (λ (o : Option Connection). option_map (begins d) o) w.at;
   judged = begins_judged d w.c ∙ w.judged;
   silent = ap (λ (h : Half). h.phase) (begins_right d w.c) ∙ w.silent;
+  up = ap (λ (h : Half). h.phase) (begins_left d w.c) ∙ w.up;
+  none = ap (λ (h : Half). h.begun) (begins_left d w.c) ∙ w.none;
+  unseen = begins_unseen d w.c w.silent w.unseen;
+  offer = begins_offer d w.c ∙ w.offer;
   reference = ap (λ (h : Half). h.reference) (begins_left d w.c) ∙ w.reference;
   known = begins_known d r w.c w.reference w.known;
   others = λ i e at other.
@@ -471,12 +513,16 @@ free_where [] q h = absurd (cc)
 free_where (c ∷ cs) q h = first_there is_free (c ∷ cs) q q c h
 
 asked_waits : (x : Connect) (cs : List Connection) (p : ℕ) → slice_get cs p ≡ Some (asked_by x) →
-    ((i : ℕ) (e : Connection) → slice_get cs i ≡ Some e → (i ≡ p → ⊥) → IsDone e) → Waits x.source p cs
+    ((i : ℕ) (e : Connection) → slice_get cs i ≡ Some e → (i ≡ p → ⊥) → IsDone e) → Waits x.source p (offer_of x) cs
 asked_waits x cs p at others = record {
   c = asked_by x;
   at = at;
   judged = refl;
   silent = refl;
+  up = refl;
+  none = refl;
+  unseen = refl;
+  offer = refl;
   reference = refl;
   known = λ h. absurd (cc h);
   others = others;
@@ -488,7 +534,7 @@ another cs q i new e done other (inl (same, is)) = absurd (other same)
 another cs q i new e done other (inr at) = done i e at
 
 placed_waits : (x : Connect) (cs : List Connection) (o : Option ℕ) → position is_free cs ≡ o → HoldsOfEach IsDone cs →
-    (p : ℕ) × Waits x.source p (placed (asked_by x) cs o)
+    (p : ℕ) × Waits x.source p (offer_of x) (placed (asked_by x) cs o)
 placed_waits x cs None e done = (
   length cs,
   asked_waits x (cs ++ asked_by x ∷ []) (length cs) (added_there cs (asked_by x))
@@ -502,17 +548,17 @@ placed_waits x cs (Some q) e done =
     )
 
 -- a CR has passed, and waits for its answer
-pub record Asked (r : ℕ) (strays : Bool) (s : State) : Type 0 where
+pub record Asked (x : Connect) (strays : Bool) (s : State) : Type 0 where
   pub after : List Connection
   pub is : s ≡ calm_tap after strays
   pub place : ℕ
-  pub waits : Waits r place after
+  pub waits : Waits x.source place (offer_of x) after
 
 pub asks_passed : (x : Connect) (cs : List Connection) (strays : Bool) (f : Finding) → (f ≡ Kept) ⊎ (f ≡ TooMany) → HoldsOfEach IsDone cs →
-    GoesOn (asks_by Left f x (calm_tap cs strays)).state → Asked x.source strays (asks_by Left f x (calm_tap cs strays)).state
+    GoesOn (asks_by Left f x (calm_tap cs strays)).state → Asked x strays (asks_by Left f x (calm_tap cs strays)).state
 asks_passed x cs strays f (inl e) done h =
     let (p, waits) = placed_waits x cs (position is_free cs) refl done in
-    subst (λ (g : Finding). Asked x.source strays (asks_by Left g x (calm_tap cs strays)).state) (sym e)
+    subst (λ (g : Finding). Asked x strays (asks_by Left g x (calm_tap cs strays)).state) (sym e)
     (record { after = placed (asked_by x) cs (position is_free cs); is = refl; place = p; waits = waits })
 asks_passed x cs strays f (inr e) done h =
     absurd (differ (asks_by Left f x (calm_tap cs strays)).state.course.left_stopped

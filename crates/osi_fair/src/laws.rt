@@ -262,23 +262,15 @@ pub fn a_dr_for_what_is_gone_closed_nothing()
         w.tap.course.loose ≡ false → w.tap.course.strays ≡ true }
 {}
 
-/// A whole calling end is fair in class 2. Take any run of an end that offers this class: any calls of its user, whatever units
-/// the other side sends, however many connections, and a tap anywhere between the two ends. Then each unit of the end that passes
-/// is right, or it is a CR and there are more connections than the rules look at, or it is a DC that is not judged, since a DR has
-/// passed that closed nothing. This holds as long as the other side is judged, and no connection has lost its judgement because
-/// that side broke a rule: for an end that offers class 2 alone (`alone`), and for one that offers class 0 too as long as no CC has
-/// selected class 0 (`either`).
+/// A whole calling end is fair. Take any run of it, whatever classes it offers: any calls of its user, whatever units the other side
+/// sends, however many connections, memory that runs out at any time, and a tap anywhere between the two ends. Then each unit of
+/// the end that passes is right: a CR, and what it puts on an open connection of either class; or it is a CR and there are more
+/// connections than the rules look at, or it is a DC that is not judged, since a DR has passed that closed nothing. This holds as
+/// long as the other side is judged, and no connection has lost its judgement because that side broke a rule.
 pub fn a_calling_end_is_fair()
-    ensures alone { (local : Local) (events : List Event) (w : Whole) (unit : Value) (rest : List Value) →
-        local.class0 ≡ false → local.class2 ≡ true → HappenAlong Direction.Left (begin true local) events w → w.begun ≡ true →
-        w.put ≡ unit ∷ rest → is_stopped Direction.Right w.tap.course ≡ false → w.tap.course.loose ≡ false →
-        ((takes Direction.Left unit w.tap).told.finding ≡ Finding.Kept)
-        ⊎ (((takes Direction.Left unit w.tap).told.finding ≡ Finding.TooMany)
-        ⊎ (((takes Direction.Left unit w.tap).told.finding ≡ Finding.NotJudged) × (w.tap.course.strays ≡ true))) }
-    ensures either { (local : Local) (events : List Event) (w : Whole) (unit : Value) (rest : List Value) →
-        local.class2 ≡ true → HappenAlong Direction.Left (begin true local) events w → w.begun ≡ true →
-        w.put ≡ unit ∷ rest → w.tap.course.class ≢ Some Zero → is_stopped Direction.Right w.tap.course ≡ false →
-        w.tap.course.loose ≡ false →
+    ensures { (local : Local) (events : List Event) (w : Whole) (unit : Value) (rest : List Value) →
+        HappenAlong Direction.Left (begin true local) events w → w.begun ≡ true → w.put ≡ unit ∷ rest →
+        is_stopped Direction.Right w.tap.course ≡ false → w.tap.course.loose ≡ false →
         ((takes Direction.Left unit w.tap).told.finding ≡ Finding.Kept)
         ⊎ (((takes Direction.Left unit w.tap).told.finding ≡ Finding.TooMany)
         ⊎ (((takes Direction.Left unit w.tap).told.finding ≡ Finding.NotJudged) × (w.tap.course.strays ≡ true))) }

@@ -1,5 +1,5 @@
-//! Why the rules of transport never blame an end of this library in class 2. The crate has definitions and laws; nothing here
-//! runs.
+//! Why the rules of transport never blame an end of this library, in class 2 and in class 0. The crate has definitions and laws;
+//! nothing here runs.
 //!
 //! It joins two crates that know nothing of each other: `osi_rules`, which says of each transport unit that passes a tap
 //! whether its sender was right to send it, and `osi_carrier`, which is the transport of an end. `osi_honest` has the like for
@@ -38,11 +38,12 @@
 //!   happen to it. The units that it puts (`specs/Putting`) are what it writes: [`laws::what_a_carrier_puts`]. In any run of a
 //!   calling end no CR is blamed, as long as it is judged: [`laws::no_request_is_blamed`]. If it offers class 2 alone, a DR
 //!   that it takes for a reference which is gone closed nothing at the tap, so the DC with which it answers is not blamed:
-//!   [`laws::a_dr_for_what_is_gone_closed_nothing`]. And no unit of it that passes is blamed, of whatever connection, until the
-//!   other side breaks a rule: [`laws::a_calling_end_is_fair`]. That holds too if it offers class 0, until a CC selects that.
-//!   There each connection that is open at the tap has its line, and each line its place. What a carrier does with a packet,
-//!   with or without enough memory, and what its user does, is such events, and so is what it does with a piece of its stream:
-//!   [`laws::a_packet_is_events`].
+//!   [`laws::a_dr_for_what_is_gone_closed_nothing`]. And no unit of it that passes is blamed, of whatever connection and whatever
+//!   classes it offers, until the other side breaks a rule: [`laws::a_calling_end_is_fair`]. In class 2 each connection that is
+//!   open at the tap has its line, and each line its place. After a CC that selects class 0 has passed, the end puts nothing until
+//!   it takes that CC, since its CR is answered only then; after that it puts DTs alone, on its one connection. What a carrier does
+//!   with a packet, with or without enough memory, and what its user does, is such events, and so is what it does with a piece of
+//!   its stream: [`laws::a_packet_is_events`].
 //! - **A DC for a DR that closed nothing** has for its DST-REF whatever SRC-REF that DR had, maybe that of another open connection.
 //!   The rules don't take it for the answer on that connection, since its SRC-REF is not the reference that the end gave there:
 //!   references rise, so the one that is gone is given to no later connection. And a DC of the other side that answers nothing is
@@ -52,8 +53,8 @@
 //!   closed nothing has none, and is not taken for the answer on another connection: its SRC-REF is a reference that the end has
 //!   closed, and the unit which closed that one passes first. After a CC for class 0 it puts DTs alone.
 //!
-//! What is not here: a calling end once class 0 is selected; and what the tap reads of the octets that an end writes. So the
-//! theorem on a whole end of class 2, as `osi_honest` has it for class 0, doesn't follow yet.
+//! What is not here: what the tap reads of the octets that an end writes. So the theorem on the octets of a whole end, as
+//! `osi_honest` has it for sessions of class 0, doesn't follow yet.
 #![tactic(auto)]
 
 pub mod laws;

@@ -1,8 +1,8 @@
--- A called end that has selected class 0 takes a unit, or its user makes a call: it goes on with DTs alone, or ends.
--- For the law on a whole called end.
+-- An end of class 0 takes a unit, or its user makes a call: it goes on with DTs alone, or ends.
+-- For the laws on whole ends.
 use Rattle.std.proofs.Common.{◌≡◌, ◌∙◌, ◌≤◌, ℕ, Bool, true, false, List, [], ◌∷◌, ◌++◌, length, refl, sym, ap, subst, Option, Some}
 use Rattle.std.proofs.Common.{None, Result, Ok, Err, is_some, if◌then◌else◌, append_assoc}
-use Rattle.std.specs.Prelude.{◌==◌, not}
+use Rattle.std.specs.Prelude.{◌==◌}
 use Rattle.std.specs.List.{AllByRecursion}
 use Rattle.std.proofs.lemmas.Bool.{eq-eqb, eqb-true}
 use Rattle.std.proofs.lemmas.List.{append-nil}
@@ -14,8 +14,7 @@ use Rattle.osi_class.specs.Link.{Standing, taken, taken_by, with_joined, with_ts
 use Rattle.osi_class.specs.declared.faults.LinkFault.{LinkFault}
 use Rattle.osi_class.specs.declared.terms.Class.{Class}
 use Rattle.osi_class.specs.declared.terms.Class.TheVariants.{Zero}
-use Rattle.osi_carrier.specs.Calls.{class_error, closed_on, closes as closes_in, link_of, open_link, or_else, room_error, sent, sent_all}
-use Rattle.osi_carrier.specs.Calls.{sent_on}
+use Rattle.osi_carrier.specs.Calls.{class_error, closed_on, closes as closes_in, link_of, may_connect, open_link, sent, sent_all, sent_on}
 use Rattle.osi_carrier.specs.Pump.{pumped, written_by}
 use Rattle.osi_carrier.specs.React.{breaks as breaks_in, handed_out, in_class, in_zero, leaves, react_by, taking, to_linked, to_only}
 unfoldable use Rattle.osi_carrier.specs.React.{react}
@@ -24,10 +23,11 @@ use Rattle.osi_carrier.specs.Runs.{UserCall, breaks, closes as closes_call, conn
 use Rattle.osi_carrier.specs.State.{State, Connection as Live, asked, closing, ends as ends_as, linked}
 use Rattle.osi_carrier.specs.declared.ends.EndReason.{EndReason}
 use Rattle.osi_carrier.specs.declared.faults.OpenError.{OpenError}
-use Rattle.osi_carrier.specs.declared.faults.OpenError.TheVariants.{Ended, NotCaller}
+use Rattle.osi_carrier.specs.declared.faults.OpenError.TheVariants.{OneConnection}
 use Rattle.osi_fair.specs.Putting.{put_by, put_closing, put_for, put_in, put_in_zero, put_linked, put_only, put_sent, put_taking}
 use Rattle.osi_fair.specs.Putting.{put_together}
 use Rattle.osi_fair.specs.Wholes.{MayCall}
+use Rattle.osi_fair.proofs.how_a_calling_end_asks.{may_so}
 use Rattle.osi_fair.proofs.what_a_link_does.{HaveRoom, room_more}
 use Rattle.osi_fair.proofs.what_an_end_puts_in_class_zero.{IsPlain, PutsData, drained_gives, drained_plain, puts_more, puts_still}
 
@@ -37,30 +37,28 @@ anyhow b = Unit {0}
 -- ---- the end
 
 -- it has its one connection open, or has ended
-pub data Row (limit : ℕ) (s : State) (begun : ℕ) (units : List Value) : Type 0 where
-  talks : (r peer : ℕ) (link : Standing) → s.live ≡ (r, linked peer link) ∷ [] → IsPlain limit link →
-      PutsData limit (λ b. HaveRoom b link.ends.unsent) begun units → Row limit s begun units
-  over : is_some s.ended ≡ true → PutsData limit anyhow begun units → Row limit s begun units
+pub data IsInZero (limit : ℕ) (s : State) (begun : ℕ) (units : List Value) : Type 0 where
+  talks : (r peer : ℕ) (link : Standing) → s.class ≡ Some Zero → s.live ≡ (r, linked peer link) ∷ [] → IsPlain limit link →
+      PutsData limit (λ b. HaveRoom b link.ends.unsent) begun units → IsInZero limit s begun units
+  over : is_some s.ended ≡ true → PutsData limit anyhow begun units → IsInZero limit s begun units
 
-pub record IsInZero (limit : ℕ) (s : State) (begun : ℕ) (units : List Value) : Type 0 where
-  pub caller : s.is_caller ≡ false
-  pub class : s.class ≡ Some Zero
-  pub row : Row limit s begun units
-
-pub row_puts : (limit : ℕ) (s : State) (begun : ℕ) (units : List Value) → Row limit s begun units → PutsData limit anyhow begun units
-row_puts limit s begun units (talks r peer link live plain puts) =
+pub zero_puts : (limit : ℕ) (s : State) (begun : ℕ) (units : List Value) → IsInZero limit s begun units → PutsData limit anyhow begun units
+zero_puts limit s begun units (talks r peer link class live plain puts) =
     puts_still limit (λ b. HaveRoom b link.ends.unsent) anyhow (λ b h. tt) begun units puts
-row_puts limit s begun units (over gone puts) = puts
+zero_puts limit s begun units (over gone puts) = puts
 
 -- after some units have passed, whatever the tap knows then
-pub row_next : (limit : ℕ) (s : State) (a b : ℕ) (xs ys : List Value) → ((e : ℕ → Type 0) → PutsData limit e a xs → PutsData limit e b ys) →
-    Row limit s a xs → Row limit s b ys
-row_next limit s a b xs ys h (talks r peer link live plain puts) =
-    talks r peer link live plain (h (λ i. HaveRoom i link.ends.unsent) puts)
-row_next limit s a b xs ys h (over gone puts) = over gone (h anyhow puts)
+pub zero_next : (limit : ℕ) (s : State) (a b : ℕ) (xs ys : List Value) →
+    ((e : ℕ → Type 0) → PutsData limit e a xs → PutsData limit e b ys) → IsInZero limit s a xs → IsInZero limit s b ys
+zero_next limit s a b xs ys h (talks r peer link class live plain puts) =
+    talks r peer link class live plain (h (λ i. HaveRoom i link.ends.unsent) puts)
+zero_next limit s a b xs ys h (over gone puts) = over gone (h anyhow puts)
 
-no_end : {A : Type 0} (o : Option EndReason) → is_some o ≡ true → o ≡ None → A
-no_end o h e = absurd (cc)
+differ : {A : Type 0} (b : Bool) → b ≡ true → b ≡ false → A
+differ b h k = absurd (cc)
+
+no_error : {A : Type 0} (e : OpenError) (o : Option OpenError) → o ≡ Some e → o ≡ None → A
+no_error e o h k = absurd (cc)
 
 no_result : {A : Type 0} (fault : LinkFault) (r : Result Standing LinkFault) (link : Standing) → r ≡ Err fault → r ≡ Ok link → A
 no_result fault r link e h = absurd (cc)
@@ -129,10 +127,11 @@ takes_plain limit link after u plain e =
 
 -- all that a link gives is put
 gives_so : (limit peer r : ℕ) (mid : Standing) (t : State) (begun : ℕ) (units : List Value) (old : Standing) → IsPlain limit mid →
-    ((b : ℕ) → HaveRoom b old.ends.unsent → HaveRoom b mid.ends.unsent) → t.live ≡ (r, linked peer (pumped mid)) ∷ [] →
-    PutsData limit (λ b. HaveRoom b old.ends.unsent) begun units → Row limit t begun (units ++ written_by peer mid)
-gives_so limit peer r mid t begun units old plain room live puts =
-    talks r peer (pumped mid) live (drained_plain limit mid plain)
+    ((b : ℕ) → HaveRoom b old.ends.unsent → HaveRoom b mid.ends.unsent) → t.class ≡ Some Zero →
+    t.live ≡ (r, linked peer (pumped mid)) ∷ [] → PutsData limit (λ b. HaveRoom b old.ends.unsent) begun units →
+    IsInZero limit t begun (units ++ written_by peer mid)
+gives_so limit peer r mid t begun units old plain room class live puts =
+    talks r peer (pumped mid) class live (drained_plain limit mid plain)
     (puts_more limit (λ b. HaveRoom b old.ends.unsent) (λ b. HaveRoom b (pumped mid).ends.unsent) (written_by peer mid)
     (λ b h. (drained_gives peer limit b mid plain (room b h)).1) begun units puts)
 
@@ -146,46 +145,38 @@ module _ (limit : ℕ) (s : State) (begun : ℕ) (units : List Value) (z : IsInZ
       (subst (λ (l : List Value). Goes s l) (sym none) (subst (λ (l : List Value). IsInZero limit s begun l) (sym (append-nil units)) z))
 
   -- it ends
-  ends_so : (t : State) (more : List Value) → more ≡ [] → t.is_caller ≡ s.is_caller → t.class ≡ s.class → is_some t.ended ≡ true →
-      Goes t more
-  ends_so t more none caller class gone = subst (λ (l : List Value). Goes t l) (sym none)
-      (subst (λ (l : List Value). IsInZero limit t begun l) (sym (append-nil units)) (record {
-        caller = caller ∙ z.caller;
-        class = class ∙ z.class;
-        row = over gone (row_puts limit s begun units z.row);
-      }))
+  ends_so : (t : State) (more : List Value) → more ≡ [] → is_some t.ended ≡ true → Goes t more
+  ends_so t more none gone = subst (λ (l : List Value). Goes t l) (sym none)
+      (subst (λ (l : List Value). IsInZero limit t begun l) (sym (append-nil units)) (over gone (zero_puts limit s begun units z)))
 
   -- the connection goes on
-  pumps_so : (t : State) (more : List Value) (r peer : ℕ) (old mid : Standing) → t.is_caller ≡ s.is_caller → t.class ≡ s.class →
+  pumps_so : (t : State) (more : List Value) (r peer : ℕ) (old mid : Standing) → t.class ≡ Some Zero →
       IsPlain limit mid → ((b : ℕ) → HaveRoom b old.ends.unsent → HaveRoom b mid.ends.unsent) →
       t.live ≡ (r, linked peer (pumped mid)) ∷ [] → PutsData limit (λ b. HaveRoom b old.ends.unsent) begun units →
       more ≡ written_by peer mid → Goes t more
-  pumps_so t more r peer old mid caller class plain room live puts is = subst (λ (l : List Value). Goes t l) (sym is) (record {
-    caller = caller ∙ z.caller;
-    class = class ∙ z.class;
-    row = gives_so limit peer r mid t begun units old plain room live puts;
-  })
+  pumps_so t more r peer old mid class plain room live puts is = subst (λ (l : List Value). Goes t l) (sym is)
+      (gives_so limit peer r mid t begun units old plain room class live puts)
 
   -- ---- it takes a unit
 
-  module _ (r peer : ℕ) (link : Standing) (live : s.live ≡ (r, linked peer link) ∷ []) (plain : IsPlain limit link)
-      (puts : PutsData limit (λ b. HaveRoom b link.ends.unsent) begun units) where
+  module _ (r peer : ℕ) (link : Standing) (class : s.class ≡ Some Zero) (live : s.live ≡ (r, linked peer link) ∷ [])
+      (plain : IsPlain limit link) (puts : PutsData limit (λ b. HaveRoom b link.ends.unsent) begun units) where
     taking_goes : (u : Value) (result : Result Standing LinkFault) → taken link u ≡ result →
         Goes (taking r peer result s) (put_taking r peer result s.class)
     taking_goes u (Ok after) e =
         let a = takes_plain limit link after u plain e in
-        pumps_so (taking r peer (Ok after) s) (put_taking r peer (Ok after) s.class) r peer link (handed_out after) refl refl
+        pumps_so (taking r peer (Ok after) s) (put_taking r peer (Ok after) s.class) r peer link (handed_out after) class
         (record { flow = a.flow; size = a.limit ∙ plain.size }) (λ b h. subst (HaveRoom b) (sym a.unsent) h)
         (ap (λ (l : Rows Live). put r (linked peer (pumped (handed_out after))) l) live
         ∙ put_one r (linked peer (pumped (handed_out after))) (linked peer link)) puts refl
     taking_goes u (Err fault) e =
-        subst (λ (k : Option Class). Goes (breaks_in r peer fault k s) (put_taking r peer (Err fault) k)) (sym z.class)
-        (ends_so (breaks_in r peer fault (Some Zero) s) [] refl refl refl refl)
+        subst (λ (k : Option Class). Goes (breaks_in r peer fault k s) (put_taking r peer (Err fault) k)) (sym class)
+        (ends_so (breaks_in r peer fault (Some Zero) s) [] refl refl)
 
     linked_goes : (u : Value) → Goes (to_linked r peer link u s) (put_linked r peer link u s.class)
     linked_goes (disconnect destination source reason user) =
         subst (λ (k : Option Class). Goes (leaves r peer reason k s) (put_linked r peer link (disconnect destination source reason user) k))
-        (sym z.class) (ends_so (leaves r peer reason (Some Zero) s) [] refl refl refl refl)
+        (sym class) (ends_so (leaves r peer reason (Some Zero) s) [] refl refl)
     linked_goes (request x) = taking_goes (request x) (taken link (request x)) refl
     linked_goes (confirm destination x) = taking_goes (confirm destination x) (taken link (confirm destination x)) refl
     linked_goes (disconnected destination source) = taking_goes (disconnected destination source)
@@ -197,38 +188,54 @@ module _ (limit : ℕ) (s : State) (begun : ℕ) (units : List Value) (z : IsInZ
         taking_goes (acknowledge credit destination number) (taken link (acknowledge credit destination number)) refl
     linked_goes (error destination cause) = taking_goes (error destination cause) (taken link (error destination cause)) refl
 
-  by_row : (u : Value) → s.ended ≡ None → Row limit s begun units → Goes (to_only s.live u s) (put_only s.live u s)
-  by_row u was (over gone puts) = no_end s.ended gone was
-  by_row u was (talks r peer link live plain puts) =
-      subst (λ (l : Rows Live). Goes (to_only l u s) (put_only l u s)) (sym live) (linked_goes r peer link live plain puts u)
+    only_goes : (u : Value) → Goes (to_only s.live u s) (put_only s.live u s)
+    only_goes u = subst (λ (l : Rows Live). Goes (to_only l u s) (put_only l u s)) (sym live) (linked_goes u)
 
-  in_zero_goes : (u : Value) → s.ended ≡ None → (b : Bool) → b ≡ false → Goes (in_zero b u s) (put_in_zero b u s)
-  in_zero_goes u was true e = absurd (cc e)
-  in_zero_goes u was false e = by_row u was z.row
+    -- a calling end takes no CR
+    in_zero_goes : (is_caller : Bool) (u : Value) → Goes (in_zero is_caller u s) (put_in_zero is_caller u s)
+    in_zero_goes false u = only_goes u
+    in_zero_goes true (request x) = ends_so (in_zero true (request x) s) [] refl refl
+    in_zero_goes true (confirm destination x) = only_goes (confirm destination x)
+    in_zero_goes true (disconnect destination source reason user) = only_goes (disconnect destination source reason user)
+    in_zero_goes true (disconnected destination source) = only_goes (disconnected destination source)
+    in_zero_goes true (data0 end user) = only_goes (data0 end user)
+    in_zero_goes true (data2 destination number end user) = only_goes (data2 destination number end user)
+    in_zero_goes true (acknowledge credit destination number) = only_goes (acknowledge credit destination number)
+    in_zero_goes true (error destination cause) = only_goes (error destination cause)
 
-  by_end : (u : Value) (o : Option EndReason) → s.ended ≡ o → Goes (react_by (is_some o) u s) (if is_some o then [] else put_in s.class u s)
-  by_end u None e = subst (λ (k : Option Class). Goes (in_class k u s) (put_in k u s)) (sym z.class) (in_zero_goes u e s.is_caller z.caller)
-  by_end u (Some reason) e = same_so s [] refl refl
+    by_end : (u : Value) (b : Bool) → Goes (react_by b u s) (if b then [] else put_in s.class u s)
+    by_end u false = subst (λ (k : Option Class). Goes (in_class k u s) (put_in k u s)) (sym class) (in_zero_goes s.is_caller u)
+    by_end u true = same_so s [] refl refl
+
+  by_row : (u : Value) → IsInZero limit s begun units → Goes (react_by (is_some s.ended) u s) (if is_some s.ended then [] else put_in s.class
+      u s)
+  by_row u (talks r peer link class live plain puts) = by_end r peer link class live plain puts u (is_some s.ended)
+  by_row u (over gone puts) =
+      subst (λ (b : Bool). Goes (react_by b u s) (if b then [] else put_in s.class u s)) (sym gone) (same_so s [] refl refl)
 
   pub zero_takes : (u : Value) → Goes (react u s) (put_for u s)
   unfolding react
-  zero_takes u = by_end u s.ended refl
+  zero_takes u = by_row u z
 
   -- ---- its user makes a call
 
-  closes_goes : (r reason : ℕ) (o : Option (ℕ × Standing)) → Goes (closed_on r reason o s) (put_closing r reason o s.class)
-  closes_goes r reason None = same_so s [] refl refl
-  closes_goes r reason (Some (peer, link)) =
-      subst (λ (k : Option Class). Goes (closes_in r peer reason k s) (put_closing r reason (Some (peer, link)) k)) (sym z.class)
-      (ends_so (closes_in r peer reason (Some Zero) s) [] refl refl refl refl)
+  closes_goes : (r reason : ℕ) (o : Option (ℕ × Standing)) → open_link r s ≡ o → IsInZero limit s begun units →
+      Goes (closed_on r reason o s) (put_closing r reason o s.class)
+  closes_goes r reason None e row = same_so s [] refl refl
+  closes_goes r reason (Some (peer, link)) e (over gone puts) = open_not r peer link s gone e
+  closes_goes r reason (Some (peer, link)) e (talks q p k class live plain puts) =
+      subst (λ (k : Option Class). Goes (closes_in r peer reason k s) (put_closing r reason (Some (peer, link)) k)) (sym class)
+      (ends_so (closes_in r peer reason (Some Zero) s) [] refl refl)
 
   breaks_goes : (reason : EndReason) (b : Bool) → Goes (if b then s else ends_as reason s) []
   breaks_goes reason true = same_so s [] refl refl
-  breaks_goes reason false = ends_so (ends_as reason s) [] refl refl refl refl
+  breaks_goes reason false = ends_so (ends_as reason s) [] refl refl
 
-  may_not : {A : Type 0} (b : Bool) (o : Option OpenError) → b ≡ false → (if not b then Some NotCaller else o) ≡ None → A
-  may_not true o h e = absurd (cc h)
-  may_not false o h e = absurd (cc e)
+  -- it asks for no other connection
+  may_not : {A : Type 0} → may_connect s ≡ None → IsInZero limit s begun units → A
+  may_not may (over gone puts) = differ (is_some s.ended) gone (may_so s may).0
+  may_not may (talks r peer link class live plain puts) =
+      no_error OneConnection (class_error s.class s.live) (ap (λ (k : Option Class). class_error k s.live) class) (may_so s may).1
 
   -- a TSDU is sent
   row_is : (q r : ℕ) (y : Live) (b : Bool) → (q == r) ≡ b → (o : Option Live) → (if b then Some y else None) ≡ o → (p : ℕ) (k : Standing) →
@@ -239,17 +246,16 @@ module _ (limit : ℕ) (s : State) (begun : ℕ) (units : List Value) (z : IsInZ
   row_is q r y true e (Some (closing i)) is p k h = absurd (cc h)
   row_is q r y false e o is p k h = none_so o is p k h
 
-  sends_goes : (r : ℕ) (tsdu : List ℕ) (o : Option (ℕ × Standing)) → open_link r s ≡ o → length tsdu ≤ longest_tsdu → Row limit s begun
-      units →
-      Goes (sent_on r tsdu o s) (put_sent tsdu o)
+  sends_goes : (r : ℕ) (tsdu : List ℕ) (o : Option (ℕ × Standing)) → open_link r s ≡ o → length tsdu ≤ longest_tsdu →
+      IsInZero limit s begun units → Goes (sent_on r tsdu o s) (put_sent tsdu o)
   sends_goes r tsdu None e short row = same_so s [] refl refl
   sends_goes r tsdu (Some (p, k)) e short (over gone puts) = open_not r p k s gone e
-  sends_goes r tsdu (Some (p, k)) e short (talks q peer link live plain puts) =
+  sends_goes r tsdu (Some (p, k)) e short (talks q peer link class live plain puts) =
       let h = ended_not (is_some s.ended) (value_at r s.live) p k e in
       let (same, row) = row_is q r (linked peer link) (q == r) refl (value_at r ((q, linked peer link) ∷ [])) refl p k
       (ap (λ (l : Rows Live). link_of (value_at r l)) (sym live) ∙ h) in
       let (peer_is, link_is) = pair_so peer p link k row in
-      pumps_so (sent_on r tsdu (Some (p, k)) s) (put_sent tsdu (Some (p, k))) r p link (with_tsdu k tsdu) refl refl
+      pumps_so (sent_on r tsdu (Some (p, k)) s) (put_sent tsdu (Some (p, k))) r p link (with_tsdu k tsdu) class
       (record {
         flow = ap (λ (x : Standing). x.flow) (sym link_is) ∙ plain.flow;
         size = ap (λ (x : Standing). x.ends.limit) (sym link_is)
@@ -261,7 +267,7 @@ module _ (limit : ℕ) (s : State) (begun : ℕ) (units : List Value) (z : IsInZ
 
 pub zero_sends : (limit : ℕ) (s : State) (begun : ℕ) (units : List Value) (r : ℕ) (tsdu : List ℕ) → IsInZero limit s begun units →
     length tsdu ≤ longest_tsdu → IsInZero limit (sent r tsdu s) begun (units ++ put_sent tsdu (open_link r s))
-zero_sends limit s begun units r tsdu z short = sends_goes limit s begun units z r tsdu (open_link r s) refl short z.row
+zero_sends limit s begun units r tsdu z short = sends_goes limit s begun units z r tsdu (open_link r s) refl short z
 
 zero_all : (limit : ℕ) (s : State) (begun : ℕ) (units : List Value) (r : ℕ) (tsdus : List (List ℕ)) → IsInZero limit s begun units →
     AllByRecursion (λ (tsdu : List ℕ). length tsdu ≤ longest_tsdu) tsdus →
@@ -276,10 +282,8 @@ zero_all limit s begun units r (tsdu ∷ tsdus) z (short, more) =
 pub zero_calls : (limit : ℕ) (s : State) (begun : ℕ) (units : List Value) (call : UserCall) → IsInZero limit s begun units → MayCall call
     s →
     IsInZero limit (user_does call s) begun (units ++ put_by call s)
-zero_calls limit s begun units (connects calling called) z may =
-    may_not limit s begun units z s.is_caller (if is_some s.ended then Some Ended else or_else (class_error s.class s.live) (room_error s))
-    z.caller may
+zero_calls limit s begun units (connects calling called) z may = may_not limit s begun units z may z
 zero_calls limit s begun units (sends r tsdu) z may = zero_sends limit s begun units r tsdu z may
 zero_calls limit s begun units (sends_all r tsdus) z may = zero_all limit s begun units r tsdus z may
-zero_calls limit s begun units (closes_call r reason) z may = closes_goes limit s begun units z r reason (open_link r s)
+zero_calls limit s begun units (closes_call r reason) z may = closes_goes limit s begun units z r reason (open_link r s) refl z
 zero_calls limit s begun units (breaks reason) z may = breaks_goes limit s begun units z reason (is_some s.ended)

@@ -51,15 +51,15 @@ differ b h k = absurd (cc)
 
 -- ---- all that holds
 
-record Joined (local : Local) (w : Whole) : Type 0 where
-  staged : Staged w
-  kept : Kept_so w
-  orderly : IsOrderly w.end
-  local_is : IsClear w.tap.course → w.end.local ≡ local
-  followed : IsClear w.tap.course → Followed local w
+pub record Joined (local : Local) (w : Whole) : Type 0 where
+  pub staged : Staged local w
+  pub kept : Kept_so w
+  pub orderly : IsOrderly w.end
+  pub local_is : IsClear w.tap.course → w.end.local ≡ local
+  pub followed : IsClear w.tap.course → Followed local w
   -- class 0 is selected only if it was offered
-  never : local.class0 ≡ false → w.tap.course.loose ≡ false → w.tap.course.right_stopped ≡ false → w.tap.course.class ≡ Some Zero → ⊥
-  judged : (w.tap.course.class ≡ Some Zero → ⊥) → w.tap.course.loose ≡ false → w.tap.course.right_stopped ≡ false →
+  pub never : local.class0 ≡ false → w.tap.course.loose ≡ false → w.tap.course.right_stopped ≡ false → w.tap.course.class ≡ Some Zero → ⊥
+  pub judged : (w.tap.course.class ≡ Some Zero → ⊥) → w.tap.course.loose ≡ false → w.tap.course.right_stopped ≡ false →
       w.tap.course.left_stopped ≡ false
 
 orderly_calls : (call : UserCall) (s : State) → MayCall call s → IsOrderly s → IsOrderly (user_does call s)
@@ -157,11 +157,11 @@ module _ (local : Local) (w : Whole) (j : Joined local w) where
 -- ---- the unit that is passing
 
 -- It is right, or a CR and there are too many connections, or a DC that is not judged, since a DR has closed nothing.
-abbrev IsFine : Whole → Value → Type 0
+abbrev pub IsFine : Whole → Value → Type 0
 IsFine w v = ((takes Left v w.tap).told.finding ≡ Kept) ⊎ (((takes Left v w.tap).told.finding ≡ TooMany)
     ⊎ (((takes Left v w.tap).told.finding ≡ NotJudged) × (w.tap.course.strays ≡ true)))
 
-fine_request : (w : Whole) (v : Value) →
+pub fine_request : (w : Whole) (v : Value) →
     ((takes Left v w.tap).told.finding ≡ Kept) ⊎ ((takes Left v w.tap).told.finding ≡ TooMany) → IsFine w v
 fine_request w v (inl e) = inl e
 fine_request w v (inr e) = inr (inl e)
@@ -171,11 +171,11 @@ fine_dc : (w : Whole) (v : Value) → w.tap.course.strays ≡ true →
 fine_dc w v strays (inl e) = inl e
 fine_dc w v strays (inr e) = inr (inr (e, strays))
 
-fine_by : (local : Local) (w : Whole) (v : Value) (rest : List Value) → Joined local w → w.put ≡ v ∷ rest → w.begun ≡ true →
+pub fine_by : (local : Local) (w : Whole) (v : Value) (rest : List Value) → Joined local w → w.put ≡ v ∷ rest → w.begun ≡ true →
     IsClear w.tap.course → IsOwned w.tap v → IsFine w v
 fine_by local w v rest j e begun firm (asking x is) =
     subst (λ (u : Value). IsFine w u) (sym is)
-    (fine_request w (request x) (is_right x rest w (e ∙ ap (λ (u : Value). u ∷ rest) is) begun firm.sure.left j.staged.newer
+    (fine_request w (request x) (is_right local x rest w (e ∙ ap (λ (u : Value). u ∷ rest) is) begun firm.sure.left j.staged.newer
     (j.staged.stage firm.sure.left)))
 fine_by local w v rest j e begun firm (of p c at tracked own) =
     inl (own_kept local w (j.followed firm) j.kept.sane firm.sure.firm v rest p c e begun firm.sure.left at tracked own)
@@ -184,7 +184,7 @@ fine_by local w v rest j e begun firm (stray m source is strays) =
     (dc_found local w (j.followed firm) j.kept.sane firm.sure.firm m source rest (e ∙ ap (λ (u : Value). u ∷ rest) is) begun firm.sure.left
     (dc_passing local w j m source strays firm)))
 
-mild_of : (w : Whole) (v : Value) → IsFine w v → IsMild (takes Left v w.tap).told.finding
+pub mild_of : (w : Whole) (v : Value) → IsFine w v → IsMild (takes Left v w.tap).told.finding
 mild_of w v (inl e) = inl e
 mild_of w v (inr (inl e)) = inr (inl e)
 mild_of w v (inr (inr (e, strays))) = inr (inr e)
@@ -242,11 +242,11 @@ rubbish_never local w j none firm right zero =
     let l = lasts_passing (rubbish Right) w.tap in
     j.never none (l.firm firm) (l.right right) (sym (reached_class Right (refused_reach Right w.tap) w.tap.course) ∙ zero)
 
-next_joined : (local : Local) (event : Event) (w new : Whole) → Happens Left event w new → Joined local w → Joined local new
+pub next_joined : (local : Local) (event : Event) (w new : Whole) → Happens Left event w new → Joined local w → Joined local new
 next_joined local arrives w new (u, coming, is) j =
     let after = record w { end = react u w.end; put = w.put ++ put_for u w.end; coming = new.coming } in
     subst (Joined local) (sym is) (record {
-      staged = holds_next arrives w after (u, coming, refl) j.staged;
+      staged = holds_next local arrives w after (u, coming, refl) j.staged;
       kept = next_holds arrives w after (u, coming, refl) j.kept;
       orderly = orderly_unit u w.end j.orderly;
       local_is = λ clear. (unit_after u w.end (j.kept.offers clear)
@@ -259,7 +259,7 @@ next_joined local arrives w new (u, coming, is) j =
 next_joined local (calls call) w new (may, is) j =
     let after = record w { end = user_does call w.end; put = w.put ++ put_by call w.end } in
     subst (Joined local) (sym is) (record {
-      staged = holds_next (calls call) w after (may, refl) j.staged;
+      staged = holds_next local (calls call) w after (may, refl) j.staged;
       kept = next_holds (calls call) w after (may, refl) j.kept;
       orderly = orderly_calls call w.end may j.orderly;
       local_is = λ clear. (call_after call w.end (j.kept.offers clear)).local ∙ j.local_is clear;
@@ -270,7 +270,7 @@ next_joined local (calls call) w new (may, is) j =
 next_joined local begins_own w new (some, not_begun, is) j =
     let after = record w { begun = true; tap = packet_begins Left w.tap } in
     subst (Joined local) (sym is) (record {
-      staged = holds_next begins_own w after (some, not_begun, refl) j.staged;
+      staged = holds_next local begins_own w after (some, not_begun, refl) j.staged;
       kept = next_holds begins_own w after (some, not_begun, refl) j.kept;
       orderly = j.orderly;
       local_is = λ clear. j.local_is (before_clear (packet Left) w.tap clear);
@@ -284,7 +284,7 @@ next_joined local passes_own w new (v, put, begun, is) j =
     let after = record w { put = new.put; begun = false; tap = (takes Left v w.tap).state } in
     let kept = next_holds passes_own w after (v, put, begun, refl) j.kept in
     subst (Joined local) (sym is) (record {
-      staged = holds_next passes_own w after (v, put, begun, refl) j.staged;
+      staged = holds_next local passes_own w after (v, put, begun, refl) j.staged;
       kept = kept;
       orderly = j.orderly;
       local_is = λ clear. j.local_is (before_clear (passing Left v) w.tap clear);
@@ -298,7 +298,7 @@ next_joined local passes_own w new (v, put, begun, is) j =
 next_joined local begins_other w new is j =
     let after = record w { tap = packet_begins Right w.tap } in
     subst (Joined local) (sym is) (record {
-      staged = holds_next begins_other w after refl j.staged;
+      staged = holds_next local begins_other w after refl j.staged;
       kept = next_holds begins_other w after refl j.kept;
       orderly = j.orderly;
       local_is = λ clear. j.local_is (before_clear (packet Right) w.tap clear);
@@ -309,7 +309,7 @@ next_joined local begins_other w new is j =
 next_joined local (passes_other v) w new (ranges, is) j =
     let after = record w { tap = (takes Right v w.tap).state; coming = w.coming ++ v ∷ [] } in
     subst (Joined local) (sym is) (record {
-      staged = holds_next (passes_other v) w after (ranges, refl) j.staged;
+      staged = holds_next local (passes_other v) w after (ranges, refl) j.staged;
       kept = next_holds (passes_other v) w after (ranges, refl) j.kept;
       orderly = j.orderly;
       local_is = λ clear. j.local_is (before_clear (passing Right v) w.tap clear);
@@ -320,7 +320,7 @@ next_joined local (passes_other v) w new (ranges, is) j =
 next_joined local passes_rubbish w new is j =
     let after = record w { tap = passes (rubbish Right) w.tap } in
     subst (Joined local) (sym is) (record {
-      staged = holds_next passes_rubbish w after refl j.staged;
+      staged = holds_next local passes_rubbish w after refl j.staged;
       kept = next_holds passes_rubbish w after refl j.kept;
       orderly = j.orderly;
       local_is = λ clear. j.local_is (before_clear (rubbish Right) w.tap clear);
@@ -334,7 +334,7 @@ all_joined local [] w new e j = subst (Joined local) (sym e) j
 all_joined local (event ∷ events) w new (mid, first, more) j =
     all_joined local events mid new more (next_joined local event w mid first j)
 
-first_joined : (local : Local) → local.class2 ≡ true → Joined local (begin true local)
+pub first_joined : (local : Local) → local.class2 ≡ true → Joined local (begin true local)
 first_joined local two = record {
   staged = holds_first local;
   kept = first_holds local two;
@@ -359,32 +359,6 @@ first_joined local two = record {
   };
   judged = λ two firm right. refl;
 }
-
-pub clear_fair : (local : Local) (events : List Event) (w : Whole) (v : Value) (rest : List Value) →
-    local.class2 ≡ true → HappenAlong Left (begin true local) events w → w.begun ≡ true → w.put ≡ v ∷ rest →
-    (w.tap.course.class ≡ Some Zero → ⊥) → is_stopped Right w.tap.course ≡ false → w.tap.course.loose ≡ false →
-    ((takes Left v w.tap).told.finding ≡ Kept) ⊎ (((takes Left v w.tap).told.finding ≡ TooMany)
-    ⊎ (((takes Left v w.tap).told.finding ≡ NotJudged) × (w.tap.course.strays ≡ true)))
-clear_fair local events w v rest two along begun e none right firm =
-    let j = all_joined local events (begin true local) w along (first_joined local two) in
-    let clear = clear_by w.tap.course j.judged none firm right in
-    fine_by local w v rest j e begun clear (subst (AllByRecursion (IsOwned w.tap)) e (j.followed clear).owned).0
-
--- class 0 is not selected if it was not offered
-never_selected : (local : Local) (events : List Event) (w : Whole) → local.class0 ≡ false → local.class2 ≡ true →
-    HappenAlong Left (begin true local) events w → is_stopped Right w.tap.course ≡ false → w.tap.course.loose ≡ false →
-    w.tap.course.class ≡ Some Zero → ⊥
-never_selected local events w no_zero two along right firm =
-    let j = all_joined local events (begin true local) w along (first_joined local two) in
-    j.never no_zero firm right
-
-pub plain_fair : (local : Local) (events : List Event) (w : Whole) (v : Value) (rest : List Value) → local.class0 ≡ false →
-    local.class2 ≡ true → HappenAlong Left (begin true local) events w → w.begun ≡ true → w.put ≡ v ∷ rest →
-    is_stopped Right w.tap.course ≡ false → w.tap.course.loose ≡ false →
-    ((takes Left v w.tap).told.finding ≡ Kept) ⊎ (((takes Left v w.tap).told.finding ≡ TooMany)
-    ⊎ (((takes Left v w.tap).told.finding ≡ NotJudged) × (w.tap.course.strays ≡ true)))
-plain_fair local events w v rest no_zero two along begun e right firm =
-    clear_fair local events w v rest two along begun e (never_selected local events w no_zero two along right firm) right firm
 
 pub gone : (local : Local) (events : List Event) (w : Whole) (n source reason : ℕ) (user : List ℕ) (more : List Value) →
     local.class0 ≡ false → local.class2 ≡ true → HappenAlong Left (begin true local) events w →

@@ -1,0 +1,551 @@
+-- A calling end in class 0: what holds once the CC has passed that selects it, as the end takes that CC, as it goes on, and as units
+-- pass. For the laws on whole calling ends.
+use Rattle.std.proofs.Common.{◌≡◌, ◌∙◌, ◌≤◌, ◌+◌, ◌-◌, ◌^◌, ℕ, Bool, true, false, List, [], ◌∷◌, ◌++◌, set, refl, sym, ap, subst, arith}
+use Rattle.std.proofs.Common.{option_map, IfSome, Option, Some, None, inl, inr, ◌⊎◌, if◌then◌else◌, length}
+use Rattle.std.specs.Prelude.{◌&&◌, ◌||◌, ◌==◌, not, min, position, slice_get}
+use Rattle.std.proofs.Math.Nat.{pow-le-pow_right}
+use Rattle.std.proofs.lemmas.Bool.{eqb-true}
+use Rattle.std.proofs.lemmas.Option.{slice_get-map}
+use Rattle.osi_tpdu.specs.Limits.{size_code}
+use Rattle.osi_tpdu.specs.Value.{Value, Connect, IsConnect, request, confirm, disconnect, disconnected, data0, data2, acknowledge, error}
+use Rattle.osi_class.specs.Limits.{longest_tsdu}
+use Rattle.osi_class.specs.declared.terms.Class.{Class}
+use Rattle.osi_class.specs.declared.terms.Class.TheVariants.{Two, Zero}
+use Rattle.osi_class.specs.declared.terms.Local.{Local}
+use Rattle.osi_carrier.specs.Negotiation.{agreed_size, opened_link, proposes_two, proposes_zero, selects_expedited, unit_octets}
+use Rattle.osi_carrier.specs.React.{opens, react, to_connection}
+use Rattle.osi_carrier.specs.Rows.{Rows, put, value_at}
+use Rattle.osi_carrier.specs.Runs.{UserCall, user_does}
+use Rattle.osi_carrier.specs.State.{State, Connection as Live, asked, linked}
+use Rattle.osi_rules.specs.declared.connections.Connection.{Connection}
+use Rattle.osi_rules.specs.declared.connections.Offer.{Offer}
+use Rattle.osi_rules.specs.declared.courses.Course.{Course}
+use Rattle.osi_rules.specs.declared.directions.Direction.TheVariants.{Left, Right}
+use Rattle.osi_rules.specs.declared.findings.Finding.{Finding}
+use Rattle.osi_rules.specs.declared.findings.Finding.TheVariants.{Broke, Kept, NotJudged, Outside, TooMany}
+use Rattle.osi_rules.specs.declared.findings.Reach.{Reach}
+use Rattle.osi_rules.specs.declared.findings.Reach.TheVariants as reach
+use Rattle.osi_rules.specs.declared.findings.Rule.TheVariants as rule
+use Rattle.osi_rules.specs.declared.halves.Half.{Half}
+use Rattle.osi_rules.specs.declared.halves.Phase.{Phase}
+use Rattle.osi_rules.specs.declared.halves.Phase.TheVariants.{Silent, Open, Refused, Closing, Closed}
+use Rattle.osi_rules.specs.Reaches.{is_applied, passes_over, reach_of, reach_past}
+use Rattle.osi_rules.specs.Sides.{begins, is_closed, is_closing, is_live, is_named, is_open, is_over, is_over_by, is_refused, is_silent}
+use Rattle.osi_rules.specs.Traffic.{Outcome, State as Traffic, at_found, at_place, class_for, class_of, connection_after, course_after}
+use Rattle.osi_rules.specs.Traffic.{course_after_none, found_on, is_stopped, judged_on, none_told, one_told, packet_begins, reached, refused}
+use Rattle.osi_rules.specs.Traffic.{refused_reach, route_in, route_zero, routed, sent_on, takes, unnamed, unnamed_told}
+use Rattle.osi_fair.specs.Naming.{rubbish, unit as passing}
+use Rattle.osi_fair.specs.Putting.{put_at, put_by, put_for}
+use Rattle.osi_fair.specs.Wholes.{MayCall}
+use Rattle.osi_fair.proofs.a_dt_of_class_zero_passes.{begun_so, dt_conns, dt_course, dt_kept, only_first, unlike}
+use Rattle.osi_fair.proofs.a_refused_request_waits_no_more.{refused_over}
+use Rattle.osi_fair.proofs.class_0_stays_selected.{zero_stays}
+use Rattle.osi_fair.proofs.how_a_calling_end_asks.{IsCalling, Puts, one, puts}
+use Rattle.osi_fair.proofs.how_a_unit_of_right_passes.{differ}
+use Rattle.osi_fair.proofs.what_a_link_does.{begun_by}
+use Rattle.osi_fair.proofs.what_an_end_does_in_class_zero.{IsInZero, over, talks, zero_calls, zero_next, zero_puts, zero_takes}
+use Rattle.osi_fair.proofs.what_an_end_puts_in_class_zero.{PutsData}
+use Rattle.osi_fair.proofs.what_holds_of_one_item.{after_map, first_true}
+use Rattle.osi_fair.proofs.while_no_class_is_selected.{IsDone, Waits, after_change, confirmed_tap, over_done}
+use Rattle.osi_fair.proofs.while_no_class_is_selected.{set_there}
+
+-- ---- what holds
+
+-- At the tap: the connection at this place is open for left, and a unit of left may have so many octets; all others are refused. If
+-- a packet of left has begun, left knows that.
+pub record ZeroTap (begun : Bool) (s : Traffic) : Type 0 where
+  pub p : ℕ
+  pub c : Connection
+  pub limit : ℕ
+  pub at : slice_get s.connections p ≡ Some c
+  pub judged : c.is_judged ≡ true
+  pub up : is_open c.left.phase ≡ true
+  pub there : is_refused c.right.phase ≡ false
+  pub unseen : is_refused c.seen_by_left.phase ≡ false
+  pub fits : IfSome c.size (λ most. limit + 3 ≤ most)
+  pub class : s.course.class ≡ Some Zero
+  pub class_seen : begun ≡ true → s.course.class_seen ≡ Some Zero
+  pub others : (i : ℕ) (e : Connection) → slice_get s.connections i ≡ Some e → (i ≡ p → ⊥) → IsDone e
+  pub gone : begun ≡ true → (i : ℕ) (e : Connection) → slice_get s.connections i ≡ Some e → (i ≡ p → ⊥) → is_over Left e ≡ true
+
+-- the end, the units that it has put, and the tap
+pub record IsZeroed (end : State) (units : List Value) (begun : Bool) (s : Traffic) : Type 0 where
+  pub tap : ZeroTap begun s
+  pub goes : IsInZero tap.limit end tap.c.left.begun units
+
+-- ---- the end takes the CC
+
+put_one : (n r : ℕ) (old new : Live) (b : Bool) → (r == n) ≡ b → b ≡ true → put n new ((r, old) ∷ []) ≡ (r, new) ∷ []
+put_one n r old new true e h = ap (λ (b : Bool). if b then (r, new) ∷ [] else (r, old) ∷ put n new []) e
+put_one n r old new false e h = cc
+
+-- the most octets of a DT
+abbrev pub limit_of : Connect → State → ℕ
+limit_of x s = unit_octets (agreed_size x.parameters.size s.local) - 3
+
+opens_by : (n r : ℕ) (x : Connect) (s : State) → (r == n) ≡ true → IsCalling (one r) s → (two zero : Bool) → two ≡ false →
+    IsInZero (limit_of x s) (opens n x (if two then Some Two else (if zero then Some Zero else None)) s) 0 []
+opens_by n r x s e is true zero h = absurd (cc h)
+opens_by n r x s e is false false h = over refl tt
+opens_by n r x s e is false true h =
+    let link = opened_link Zero (agreed_size x.parameters.size s.local) s.local x.credit in
+    talks r x.source link refl
+    (ap (λ (rows : Rows Live). put n (linked x.source link) rows) is.live ∙ put_one n r asked (linked x.source link) true e refl)
+    (record { flow = refl; size = refl }) refl
+
+no_two : (b two : Bool) → b ≡ false → (b && two) ≡ false
+no_two true two h = cc
+no_two false two h = refl
+
+to_one : (n r : ℕ) (x : Connect) (s : State) (b : Bool) → (r == n) ≡ b → IsCalling (one r) s → (x.class == 2) ≡ false →
+    IsInZero (limit_of x s) (to_connection n (if b then Some asked else None) (confirm n x) s) 0 []
+to_one n r x s true e is zero =
+    opens_by n r x s e is ((x.class == 2) && (proposes_two s.local && not (selects_expedited x.parameters.additional)))
+    ((x.class == 0) && proposes_zero s.local s.class)
+    (no_two (x.class == 2) (proposes_two s.local && not (selects_expedited x.parameters.additional)) zero)
+to_one n r x s false e is zero = over refl tt
+
+puts_none : (n : ℕ) (x : Connect) (held : Option Class) (b : Bool) → put_at n (if b then Some asked else None) (confirm n x) held ≡ []
+puts_none n x held true = refl
+puts_none n x held false = refl
+
+-- it puts nothing, and its one connection is open, or it ends
+pub confirm_takes : (n r : ℕ) (x : Connect) (s : State) → IsCalling (one r) s → (x.class == 2) ≡ false →
+    Puts (λ t. IsInZero (limit_of x s) t 0 []) (confirm n x) s
+confirm_takes n r x s is zero =
+    puts (λ t. IsInZero (limit_of x s) t 0 []) (one r) (confirm n x) s is
+    (ap (λ (rows : Rows Live). put_at n (value_at n rows) (confirm n x) s.class) is.live ∙ puts_none n x s.class (r == n))
+    (subst (λ (rows : Rows Live). IsInZero (limit_of x s) (to_connection n (value_at n rows) (confirm n x) s) 0 []) (sym is.live)
+    (to_one n r x s (r == n) refl is zero))
+
+-- ---- the CC passes
+
+least : (a b : ℕ) → 7 ≤ a → 7 ≤ b → 7 ≤ min a b
+least a b h k = omega arith
+
+least_up : (a b : ℕ) → min a b ≤ a
+least_up a b = omega arith
+
+-- a size above the proposed one is read as that
+fits_agreed : (o : Option ℕ) (local : Local) → IfSome o (λ code. (7 ≤ code) × (code ≤ 13)) →
+    IfSome (option_map (λ code. 2 ^ code) o) (λ most. (unit_octets (agreed_size o local) - 3) + 3 ≤ most)
+fits_agreed None local h = tt
+fits_agreed (Some code) local h =
+    let n = size_code local.size in
+    let up : 7 ≤ min code n = least code n h.0 local.size.at_least in
+    let low : 2 ^ 7 ≤ 2 ^ (min code n) = pow-le-pow_right {n = 2} (omega arith) up in
+    let high : 2 ^ (min code n) ≤ 2 ^ code = pow-le-pow_right {n = 2} (omega arith) (least_up code n) in
+    omega arith
+
+class_zero : (x : Connect) → (x.class == 2) ≡ false → Some (class_of x) ≡ Some Zero
+class_zero x e = ap (λ (b : Bool). Some (if b then Two else Zero)) e
+
+other_one : {A : Type 0} (cs : List Connection) (p i : ℕ) (new e : Connection) →
+    ((i ≡ p) × (e ≡ new)) ⊎ ((i ≡ p → ⊥) × (slice_get cs i ≡ Some e)) → (i ≡ p → ⊥) → (slice_get cs i ≡ Some e → A) → A
+other_one cs p i new e (inl (same, so)) other k = absurd (other same)
+other_one cs p i new e (inr (not_p, there)) other k = k there
+
+pub confirmed_so : (n r p : ℕ) (o : Offer) (x : Connect) (cs : List Connection) (strays : Bool) (end : State) → (w : Waits r p o cs) →
+    IsConnect x → IsCalling (one r) end → (x.class == 2) ≡ false →
+    IsZeroed (react (confirm n x) end) [] false (confirmed_tap p n x w.c cs strays)
+confirmed_so n r p o x cs strays end w range is zero =
+    let new = sent_on Right (confirm n x) w.c in
+    record {
+      tap = record {
+        p = p;
+        c = new;
+        limit = limit_of x end;
+        at = set_there cs p new w.c w.at;
+        judged = w.judged;
+        up = ap is_open w.up;
+        there = refl;
+        unseen = ap is_refused w.unseen;
+        fits = fits_agreed x.parameters.size end.local range.parameters.size;
+        class = class_zero x zero;
+        class_seen = λ h. differ false h refl;
+        others = λ i e at other.
+            other_one cs p i new e (after_change cs p i new e at) other (λ there. w.others i e there other);
+        gone = λ h. differ false h refl;
+      };
+      goes = subst (λ (b : ℕ). IsInZero (limit_of x end) (react (confirm n x) end) b []) (sym w.none)
+          (confirm_takes n r x end is zero).after;
+    }
+
+-- ---- the end takes a unit, and its user makes a call
+
+module _ (end : State) (units : List Value) (begun : Bool) (s : Traffic) (f : IsZeroed end units begun s) where
+  pub zeroed_takes : (u : Value) → IsZeroed (react u end) (units ++ put_for u end) begun s
+  zeroed_takes u = record { tap = f.tap; goes = zero_takes f.tap.limit end f.tap.c.left.begun units f.goes u }
+
+  pub zeroed_calls : (call : UserCall) → MayCall call end → IsZeroed (user_does call end) (units ++ put_by call end) begun s
+  zeroed_calls call may = record { tap = f.tap; goes = zero_calls f.tap.limit end f.tap.c.left.begun units call f.goes may }
+
+  -- ---- a packet begins
+
+  pub zeroed_begins : IsZeroed end units true (packet_begins Left s)
+  zeroed_begins = record {
+    tap = record {
+      p = f.tap.p;
+      c = begins Left f.tap.c;
+      limit = f.tap.limit;
+      at = slice_get-map (begins Left) s.connections f.tap.p ∙ ap (λ (o : Option Connection). option_map (begins Left) o) f.tap.at;
+      judged = f.tap.judged;
+      up = f.tap.up;
+      there = f.tap.there;
+      unseen = f.tap.there;
+      fits = f.tap.fits;
+      class = f.tap.class;
+      class_seen = λ h. f.tap.class;
+      others = λ i e at other.
+          let (y, was, is) = after_map (begins Left) s.connections i e at in subst IsDone (sym is) (f.tap.others i y was other);
+      gone = λ h i e at other.
+          let (y, was, is) = after_map (begins Left) s.connections i e at in
+          let (j, refused) = f.tap.others i y was other in
+          subst (λ (z : Connection). is_over Left z ≡ true) (sym is) (refused_over y j refused);
+    };
+    goes = f.goes;
+  }
+
+  pub zeroed_elsewhere : IsZeroed end units begun (packet_begins Right s)
+  zeroed_elsewhere = record {
+    tap = record {
+      p = f.tap.p;
+      c = begins Right f.tap.c;
+      limit = f.tap.limit;
+      at = slice_get-map (begins Right) s.connections f.tap.p ∙ ap (λ (o : Option Connection). option_map (begins Right) o) f.tap.at;
+      judged = f.tap.judged;
+      up = f.tap.up;
+      there = f.tap.there;
+      unseen = f.tap.unseen;
+      fits = f.tap.fits;
+      class = f.tap.class;
+      class_seen = f.tap.class_seen;
+      others = λ i e at other.
+          let (y, was, is) = after_map (begins Right) s.connections i e at in subst IsDone (sym is) (f.tap.others i y was other);
+      gone = λ h i e at other.
+          let (y, was, is) = after_map (begins Right) s.connections i e at in
+          subst (λ (z : Connection). is_over Left z ≡ true) (sym is) (f.tap.gone h i y was other);
+    };
+    goes = f.goes;
+  }
+
+-- ---- a DT of the end passes
+
+live_by : (p k : Phase) → is_open p ≡ true → is_refused k ≡ false →
+    (is_refused p || (is_refused k || (is_closed p || (is_closing p && (is_closing k || is_closed k))))) ≡ false
+live_by Open Refused h g = cc
+live_by Open Silent h g = refl
+live_by Open Open h g = refl
+live_by Open Closing h g = refl
+live_by Open Closed h g = refl
+live_by Silent k h g = cc
+live_by Refused k h g = cc
+live_by Closing k h g = cc
+live_by Closed k h g = cc
+
+not_both : (a b : Bool) → b ≡ false → not (a && b) ≡ true
+not_both true b h = ap not h
+not_both false b h = refl
+
+module _ (end : State) (s : Traffic) (u : Value) (rest : List Value) (left : s.course.left_stopped ≡ false)
+    (f : IsZeroed end (u ∷ rest) true s) where
+  abbrev t : ZeroTap true s
+  t = f.tap
+
+  live_at : is_live Left t.c ≡ true
+  live_at = not_both t.c.is_judged (is_over_by t.c.left t.c.seen_by_left) (live_by t.c.left.phase t.c.seen_by_left.phase t.up t.unseen)
+
+  only : position (is_live Left) s.connections ≡ Some t.p
+  only = only_first Left s.connections t.p t.c t.at live_at (λ q e at other. t.gone refl q e at other)
+
+  abbrev Passes : Type 0
+  Passes = ((takes Left u s).told.finding ≡ Kept) × IsZeroed end rest false (takes Left u s).state
+
+  module _ (last : Bool) (user : List ℕ) (is : u ≡ data0 last user)
+      (puts : (length user ≤ t.limit) × (t.c.left.begun + length user ≤ longest_tsdu)
+      × PutsData t.limit (λ b. Unit {0}) (begun_by t.c.left.begun last (length user)) rest) where
+    abbrev new : Connection
+    new = sent_on Left (data0 last user) t.c
+
+    fine : (takes Left u s).told.finding ≡ Kept
+    fine = ap (λ (v : Value). (takes Left v s).told.finding) is
+        ∙ dt_kept Left s t.p t.c t.at t.judged left (t.class_seen refl) only t.limit t.fits last user puts.0 puts.1
+
+    conns : (takes Left u s).state.connections ≡ set s.connections t.p new
+    conns = ap (λ (v : Value). (takes Left v s).state.connections) is
+        ∙ dt_conns Left s t.p t.c t.at t.judged left (t.class_seen refl) only t.limit t.fits last user puts.0 puts.1
+
+    course : (takes Left u s).state.course ≡ s.course
+    course = ap (λ (v : Value). (takes Left v s).state.course) is
+        ∙ dt_course Left s t.p t.c t.at t.judged left (t.class_seen refl) only t.limit t.fits last user puts.0 puts.1
+
+    dt_passes : Passes
+    dt_passes = (
+      fine,
+      record {
+        tap = record {
+          p = t.p;
+          c = new;
+          limit = t.limit;
+          at = ap (λ (l : List Connection). slice_get l t.p) conns ∙ set_there s.connections t.p new t.c t.at;
+          judged = t.judged;
+          up = t.up;
+          there = t.there;
+          unseen = t.unseen;
+          fits = t.fits;
+          class = ap (λ (k : Course). k.class) course ∙ t.class;
+          class_seen = λ h. differ false h refl;
+          others = λ i e at other.
+              other_one s.connections t.p i new e
+              (after_change s.connections t.p i new e (ap (λ (l : List Connection). slice_get l i) (sym conns) ∙ at)) other
+              (λ there. t.others i e there other);
+          gone = λ h. differ false h refl;
+        };
+        goes = zero_next t.limit end t.c.left.begun new.left.begun (u ∷ rest) rest
+            (λ e h. subst (λ (b : ℕ). PutsData t.limit e b rest) (sym (begun_so t.c.left last (length user) puts.1))
+            (subst (PutsData t.limit e t.c.left.begun) (ap (λ (v : Value). v ∷ rest) is) h).2) f.goes;
+      },
+    )
+
+  dt_by : (v : Value) → u ≡ v → PutsData t.limit (λ b. Unit {0}) t.c.left.begun (v ∷ rest) → Passes
+  dt_by (data0 last user) e puts = dt_passes last user e puts
+  dt_by (request x) e puts = absurd puts
+  dt_by (confirm destination x) e puts = absurd puts
+  dt_by (disconnect destination source reason user) e puts = absurd puts
+  dt_by (disconnected destination source) e puts = absurd puts
+  dt_by (data2 destination number last user) e puts = absurd puts
+  dt_by (acknowledge credit destination number) e puts = absurd puts
+  dt_by (error destination cause) e puts = absurd puts
+
+  pub zeroed_passes : Passes
+  zeroed_passes = dt_by u refl (zero_puts t.limit end t.c.left.begun (u ∷ rest) f.goes)
+
+-- ---- a unit of the other side passes
+
+-- a DT, or a DC: of its connection nothing changes but what right has sent
+abbrev IsOnly : Value → Type 0
+IsOnly (data0 end user) = Unit {0}
+IsOnly (disconnected destination source) = Unit {0}
+IsOnly (request x) = ⊥
+IsOnly (confirm destination x) = ⊥
+IsOnly (disconnect destination source reason user) = ⊥
+IsOnly (data2 destination number end user) = ⊥
+IsOnly (acknowledge credit destination number) = ⊥
+IsOnly (error destination cause) = ⊥
+
+record Still (c n : Connection) : Type 0 where
+  left : n.left ≡ c.left
+  seen : n.seen_by_left ≡ c.seen_by_left
+  judged : n.is_judged ≡ c.is_judged
+  size : n.size ≡ c.size
+  there : is_refused n.right.phase ≡ false
+
+still_self : (c : Connection) → is_refused c.right.phase ≡ false → Still c c
+still_self c h = record { left = refl; seen = refl; judged = refl; size = refl; there = h }
+
+still_sent : (v : Value) → IsOnly v → (c : Connection) → is_refused c.right.phase ≡ false → Still c (sent_on Right v c)
+still_sent (data0 end user) k c h = record { left = refl; seen = refl; judged = refl; size = refl; there = h }
+still_sent (disconnected destination source) k c h = record { left = refl; seen = refl; judged = refl; size = refl; there = refl }
+still_sent (request x) k c h = absurd k
+still_sent (confirm destination x) k c h = absurd k
+still_sent (disconnect destination source reason user) k c h = absurd k
+still_sent (data2 destination number end user) k c h = absurd k
+still_sent (acknowledge credit destination number) k c h = absurd k
+still_sent (error destination cause) k c h = absurd k
+
+-- in class 0 no connection loses its judgement
+past_side : (b : Bool) (c : Connection) → judged_on (reach_past b reach.Side) c ≡ c
+past_side true c = refl
+past_side false c = refl
+
+zero_far : (f : Finding) (c : Connection) → judged_on (reach_of (Some Zero) f) c ≡ c
+zero_far Kept c = refl
+zero_far NotJudged c = refl
+zero_far Outside c = refl
+zero_far TooMany c = refl
+zero_far (Broke r) c = past_side (passes_over r) c
+
+still_after : (v : Value) → IsOnly v → (applied : Bool) (k : Option Class) (f : Finding) (c : Connection) → k ≡ Some Zero →
+    is_refused c.right.phase ≡ false → Still c (connection_after Right v applied (reach_of k f) c)
+still_after v plain true k f c e h =
+    subst (Still c) (sym (ap (λ (j : Option Class). judged_on (reach_of j f) (sent_on Right v c)) e ∙ zero_far f (sent_on Right v c)))
+    (still_sent v plain c h)
+still_after v plain false k f c e h =
+    subst (Still c) (sym (ap (λ (j : Option Class). judged_on (reach_of j f) c) e ∙ zero_far f c)) (still_self c h)
+
+reached_seen : (r : Reach) (c : Course) → (reached Right r c).class_seen ≡ c.class_seen
+reached_seen reach.Nothing c = refl
+reached_seen reach.Connection c = refl
+reached_seen reach.Side c = refl
+reached_seen reach.Everything c = refl
+
+after_seen : (v : Value) → IsOnly v → (c : Connection) (b : Bool) (o : Course) →
+    (course_after Right c v b o).class_seen ≡ o.class_seen
+after_seen (data0 end user) k c b o = refl
+after_seen (disconnected destination source) k c b o = refl
+after_seen (request x) k c b o = absurd k
+after_seen (confirm destination x) k c b o = absurd k
+after_seen (disconnect destination source reason user) k c b o = absurd k
+after_seen (data2 destination number end user) k c b o = absurd k
+after_seen (acknowledge credit destination number) k c b o = absurd k
+after_seen (error destination cause) k c b o = absurd k
+
+none_same : (v : Value) → IsOnly v → (o : Course) → course_after_none v o ≡ o
+none_same (data0 end user) k o = refl
+none_same (disconnected destination source) k o = refl
+none_same (request x) k o = absurd k
+none_same (confirm destination x) k o = absurd k
+none_same (disconnect destination source reason user) k o = absurd k
+none_same (data2 destination number end user) k o = absurd k
+none_same (acknowledge credit destination number) k o = absurd k
+none_same (error destination cause) k o = absurd k
+
+live_not_over : (b : Bool) → not b ≡ true → b ≡ true → ⊥
+live_not_over true h k = cc
+live_not_over false h k = cc
+
+item_is : {X : Type 0} (x y : X) (o : Option X) → o ≡ Some x → o ≡ Some y → x ≡ y
+item_is x y o h k = cc
+
+module _ (end : State) (units : List Value) (begun : Bool) (s : Traffic) (f : IsZeroed end units begun s) where
+  abbrev z : ZeroTap begun s
+  z = f.tap
+
+  -- it is for no connection, and changes nothing that counts
+  same_conns : (after : Traffic) → after.connections ≡ s.connections → after.course.class ≡ Some Zero →
+      after.course.class_seen ≡ s.course.class_seen → IsZeroed end units begun after
+  same_conns after same class seen = record {
+    tap = record {
+      p = z.p;
+      c = z.c;
+      limit = z.limit;
+      at = ap (λ (l : List Connection). slice_get l z.p) same ∙ z.at;
+      judged = z.judged;
+      up = z.up;
+      there = z.there;
+      unseen = z.unseen;
+      fits = z.fits;
+      class = class;
+      class_seen = λ h. seen ∙ z.class_seen h;
+      others = λ i e at other. z.others i e (ap (λ (l : List Connection). slice_get l i) (sym same) ∙ at) other;
+      gone = λ h i e at other. z.gone h i e (ap (λ (l : List Connection). slice_get l i) (sym same) ∙ at) other;
+    };
+    goes = f.goes;
+  }
+
+  abbrev After : Value → Outcome → Type 0
+  After v o = o.state.course.class ≡ Some Zero → IsZeroed end units begun o.state
+
+  to_none : (v : Value) (g : Finding) → After v (none_told Right g s)
+  to_none v g class =
+      same_conns (none_told Right g s).state refl class (reached_seen (reach_of (class_for Right s.course) g) s.course)
+
+  module _ (v : Value) (only : IsOnly v) where
+    to_unnamed : After v (unnamed_told Right v s)
+    to_unnamed class =
+        let course = course_after_none v s.course in
+        same_conns (unnamed_told Right v s).state refl class
+        (reached_seen (reach_of (class_for Right course) (unnamed s.course v)) course
+        ∙ ap (λ (k : Course). k.class_seen) (none_same v only s.course))
+
+    abbrev applied : Bool
+    applied = is_applied (found_on Right s z.c v)
+
+    abbrev far : Reach
+    far = reach_of (class_for Right s.course) (found_on Right s z.c v)
+
+    abbrev next : Connection
+    next = connection_after Right v applied far z.c
+
+    still : Still z.c next
+    still = still_after v only applied (class_for Right s.course) (found_on Right s z.c v) z.c z.class z.there
+
+    apart_of : {A : Type 0} (i : ℕ) (e : Connection) → slice_get (set s.connections z.p next) i ≡ Some e → (i ≡ z.p → ⊥) →
+        (slice_get s.connections i ≡ Some e → A) → A
+    apart_of i e at other k = other_one s.connections z.p i next e (after_change s.connections z.p i next e at) other k
+
+    to_it : After v (one_told Right z.p z.c v s)
+    to_it class = record {
+      tap = record {
+        p = z.p;
+        c = next;
+        limit = z.limit;
+        at = set_there s.connections z.p next z.c z.at;
+        judged = still.judged ∙ z.judged;
+        up = ap (λ (h : Half). is_open h.phase) still.left ∙ z.up;
+        there = still.there;
+        unseen = ap (λ (h : Half). is_refused h.phase) still.seen ∙ z.unseen;
+        fits = subst (λ (o : Option ℕ). IfSome o (λ most. z.limit + 3 ≤ most)) (sym still.size) z.fits;
+        class = class;
+        class_seen = λ h.
+            reached_seen far (course_after Right z.c v applied s.course) ∙ after_seen v only z.c applied s.course ∙ z.class_seen h;
+        others = λ i e at other. apart_of i e at other (λ there. z.others i e there other);
+        gone = λ h i e at other. apart_of i e at other (λ there. z.gone h i e there other);
+      };
+      goes = subst (λ (h : Half). IsInZero z.limit end h.begun units) (sym still.left) f.goes;
+    }
+
+    -- a unit is for a connection that is not over
+    to_one_by : (q : ℕ) (e : Connection) (b : Bool) → (q == z.p) ≡ b → slice_get s.connections q ≡ Some e →
+        (is_over Right e ≡ true → ⊥) → After v (one_told Right q e v s)
+    to_one_by q e true h at lives =
+        let same = eqb-true q z.p h in
+        let is : e ≡ z.c = item_is e z.c (slice_get s.connections q) at (ap (λ (i : ℕ). slice_get s.connections i) same ∙ z.at) in
+        subst (λ (i : ℕ). After v (one_told Right i e v s)) (sym same)
+        (subst (λ (y : Connection). After v (one_told Right z.p y v s)) (sym is) to_it)
+    to_one_by q e false h at lives = absurd (lives (over_done e (z.others q e at (unlike q z.p h))))
+
+    at_item : (q : ℕ) (o : Option Connection) → slice_get s.connections q ≡ o →
+        ((e : Connection) → slice_get s.connections q ≡ Some e → is_over Right e ≡ true → ⊥) → After v (at_found Right v s q o)
+    at_item q None e lives = to_unnamed
+    at_item q (Some y) e lives = to_one_by q y (q == z.p) refl e (lives y e)
+
+    named_live : (over rest : Bool) → (not over && rest) ≡ true → over ≡ true → ⊥
+    named_live true rest h k = cc
+    named_live false rest h k = cc
+
+    at_name : (n : ℕ) (o : Option ℕ) → position (is_named Right n) s.connections ≡ o → After v (at_place Right v s o)
+    at_name n None e = to_unnamed
+    at_name n (Some q) e =
+        at_item q (slice_get s.connections q) refl
+        (λ y at gone. named_live (is_over Right y) (not (is_silent y.seen_by_right.phase) && (y.seen_by_right.reference == n))
+        (first_true (is_named Right n) s.connections q y e at) gone)
+
+    at_live : (o : Option ℕ) → position (is_live Right) s.connections ≡ o → After v (at_place Right v s o)
+    at_live None e = to_unnamed
+    at_live (Some q) e =
+        at_item q (slice_get s.connections q) refl
+        (λ y at gone. live_not_over (is_over Right y) (first_true (is_live Right) s.connections q y e at) gone)
+
+  zero_comes : (v : Value) (b : Bool) → After v (routed Right v s (route_zero Right b v))
+  zero_comes (request x) true = to_none (request x) (Broke rule.UnexpectedUnit)
+  zero_comes (request x) false = to_none (request x) (Broke rule.UnexpectedUnit)
+  zero_comes (confirm destination x) true = to_none (confirm destination x) (Broke rule.WrongForm)
+  zero_comes (confirm destination x) false = to_none (confirm destination x) (Broke rule.WrongForm)
+  zero_comes (disconnect destination source reason user) true = to_none (disconnect destination source reason user) (Broke rule.WrongForm)
+  zero_comes (disconnect destination source reason user) false = to_none (disconnect destination source reason user) (Broke rule.WrongForm)
+  zero_comes (disconnected destination source) true =
+      at_name (disconnected destination source) tt destination (position (is_named Right destination) s.connections) refl
+  zero_comes (disconnected destination source) false =
+      at_name (disconnected destination source) tt destination (position (is_named Right destination) s.connections) refl
+  zero_comes (data0 last user) true = at_live (data0 last user) tt (position (is_live Right) s.connections) refl
+  zero_comes (data0 last user) false = at_live (data0 last user) tt (position (is_live Right) s.connections) refl
+  zero_comes (data2 destination number last user) true = to_none (data2 destination number last user) (Broke rule.WrongForm)
+  zero_comes (data2 destination number last user) false = to_none (data2 destination number last user) (Broke rule.WrongForm)
+  zero_comes (acknowledge credit destination number) true = to_none (acknowledge credit destination number) (Broke rule.WrongForm)
+  zero_comes (acknowledge credit destination number) false = to_none (acknowledge credit destination number) (Broke rule.WrongForm)
+  zero_comes (error destination cause) true = to_none (error destination cause) Kept
+  zero_comes (error destination cause) false = to_none (error destination cause) (Broke rule.WrongForm)
+
+  comes_by : (stopped : Bool) (v : Value) (k : Option Class) → k ≡ Some Zero →
+      After v (if stopped then none_told Right NotJudged s else routed Right v s (route_in k Right (is_stopped Left s.course) v))
+  comes_by true v k e = to_none v NotJudged
+  comes_by false v (Some Zero) e = zero_comes v (is_stopped Left s.course)
+  comes_by false v (Some Two) e = absurd (cc e)
+  comes_by false v None e = absurd (cc e)
+
+  pub zeroed_comes : (v : Value) → IsZeroed end units begun (takes Right v s).state
+  zeroed_comes v = comes_by (is_stopped Right s.course) v s.course.class z.class (zero_stays (passing Right v) s z.class)
+
+  pub zeroed_refused : IsZeroed end units begun (refused Right s)
+  zeroed_refused = same_conns (refused Right s) refl (zero_stays (rubbish Right) s z.class) (reached_seen (refused_reach Right s) s.course)

@@ -1,0 +1,115 @@
+-- A whole calling end is fair as long as the other side has broken no rule, whatever classes it offers: by its stages.
+-- For the law of that name.
+use Rattle.std.proofs.Common.{◌≡◌, ◌∙◌, true, false, List, [], ◌∷◌, refl, sym, subst, Some, inl, ◌⊎◌}
+use Rattle.std.specs.List.{AllByRecursion}
+use Rattle.osi_tpdu.specs.Value.{Value, request}
+use Rattle.osi_class.specs.declared.terms.Class.TheVariants.{Two}
+use Rattle.osi_class.specs.declared.terms.Local.{Local}
+use Rattle.osi_rules.specs.declared.courses.Course.{Course}
+use Rattle.osi_rules.specs.declared.directions.Direction.TheVariants.{Left, Right}
+use Rattle.osi_rules.specs.declared.findings.Finding.TheVariants.{Kept, NotJudged, TooMany}
+use Rattle.osi_rules.specs.Traffic.{is_stopped, takes}
+use Rattle.osi_fair.specs.Naming.{passes, rubbish, unit as passing}
+use Rattle.osi_fair.specs.Wholes.{Event, HappenAlong, Happens, Whole, arrives, begin, begins_other, begins_own, calls, passes_other}
+use Rattle.osi_fair.specs.Wholes.{passes_own, passes_rubbish}
+use Rattle.osi_fair.proofs.a_calling_end_goes_on_in_class_zero.{IsZeroed, zeroed_passes}
+use Rattle.osi_fair.proofs.a_calling_end_is_fair_in_class_2.{IsFine, Joined, fine_by, fine_request, first_joined, mild_of, next_joined}
+use Rattle.osi_fair.proofs.each_connection_has_its_line.{IsOwned}
+use Rattle.osi_fair.proofs.how_requests_go_on.{Stage, answered, asks, ended, known, quiet, refused, waits, zero}
+use Rattle.osi_fair.proofs.no_request_is_blamed.{Holds as Staged, holds_first, holds_next, is_right}
+use Rattle.osi_fair.proofs.the_end_is_judged_as_the_other_side_is.{other_judged, own_judged, rubbish_judged}
+use Rattle.osi_fair.proofs.what_lasts_at_the_tap.{lasts_passing}
+use Rattle.osi_fair.proofs.what_the_other_side_closes.{IsClear}
+
+-- as long as the other side is judged, the end is
+abbrev IsJudged : Course → Type 0
+IsJudged c = c.loose ≡ false → c.right_stopped ≡ false → c.left_stopped ≡ false
+
+record Stands (local : Local) (w : Whole) : Type 0 where
+  staged : Staged local w
+  two : local.class2 ≡ true → Joined local w
+  judged : IsJudged w.tap.course
+
+-- ---- the unit that is passing
+
+none_put : {A : Type 0} (v : Value) (rest put : List Value) → put ≡ v ∷ rest → put ≡ [] → A
+none_put v rest put e none = absurd (cc (sym e ∙ none))
+
+first_of : (u v : Value) (xs ys : List Value) → u ∷ xs ≡ v ∷ ys → v ≡ u
+first_of u v xs ys e = cc
+
+clear_two : (c : Course) → c.class ≡ Some Two → c.loose ≡ false → c.left_stopped ≡ false → c.right_stopped ≡ false → IsClear c
+clear_two c two firm left right =
+    record { sure = record { firm = firm; left = left; right = right }; two = λ zero. cc (sym two ∙ zero) }
+
+module _ (local : Local) (w : Whole) (v : Value) (rest : List Value) (j : Stands local w) (e : w.put ≡ v ∷ rest) (begun : w.begun ≡ true)
+    (firm : w.tap.course.loose ≡ false) (right : w.tap.course.right_stopped ≡ false) where
+  left : w.tap.course.left_stopped ≡ false
+  left = j.judged firm right
+
+  by_stage : Stage local w → IsFine w v
+  by_stage (ended none h) = none_put v rest w.put e none
+  by_stage (quiet is none not_begun cs strays tap done dcs) = none_put v rest w.put e none
+  by_stage (asks x put is offers cs strays tap done dcs all) =
+      let same = first_of v (request x) rest [] (sym e ∙ put) in
+      subst (λ (u : Value). IsFine w u) same (fine_request w (request x) (is_right local x [] w put begun left j.staged.newer
+      (j.staged.stage left)))
+  by_stage (waits r is none not_begun cs strays tap p o offers waiting dcs) = none_put v rest w.put e none
+  by_stage (refused r is none not_begun cs strays tap done dcs u more coming are refusal too) = none_put v rest w.put e none
+  by_stage (answered r is none not_begun dcs n x more coming are class after so z) = none_put v rest w.put e none
+  by_stage (zero z) = inl (zeroed_passes w.end w.tap v rest left
+      (subst (λ (l : List Value). IsZeroed w.end l true w.tap) e
+      (subst (λ b. IsZeroed w.end w.put b w.tap) begun z))).0
+  by_stage (known two seen has) =
+      let t = j.two has in
+      let clear = clear_two w.tap.course two firm left right in
+      fine_by local w v rest t e begun clear (subst (AllByRecursion (IsOwned w.tap)) e (t.followed clear).owned).0
+
+  is_fine : IsFine w v
+  is_fine = by_stage (j.staged.stage left)
+
+-- ---- whatever happens
+
+own_stays : (local : Local) (w : Whole) (v : Value) (rest : List Value) → Stands local w → w.put ≡ v ∷ rest → w.begun ≡ true →
+    IsJudged (takes Left v w.tap).state.course
+own_stays local w v rest j e begun firm right =
+    let l = lasts_passing (passing Left v) w.tap in
+    own_judged v w.tap (mild_of w v (is_fine local w v rest j e begun (l.firm firm) (l.right right))) (j.judged (l.firm firm) (l.right right))
+    right
+
+other_stays : (local : Local) (w : Whole) (v : Value) → Stands local w → IsJudged (takes Right v w.tap).state.course
+other_stays local w v j firm right =
+    let l = lasts_passing (passing Right v) w.tap in other_judged v w.tap (j.judged (l.firm firm) (l.right right)) right
+
+rubbish_stays : (local : Local) (w : Whole) → Stands local w → IsJudged (passes (rubbish Right) w.tap).course
+rubbish_stays local w j firm right =
+    let l = lasts_passing (rubbish Right) w.tap in rubbish_judged w.tap (j.judged (l.firm firm) (l.right right)) right
+
+next_judged : (local : Local) (event : Event) (w new : Whole) → Happens Left event w new → Stands local w → IsJudged new.tap.course
+next_judged local arrives w new (u, coming, is) j = subst (λ (x : Whole). IsJudged x.tap.course) (sym is) j.judged
+next_judged local (calls call) w new (may, is) j = subst (λ (x : Whole). IsJudged x.tap.course) (sym is) j.judged
+next_judged local begins_own w new (some, not_begun, is) j = subst (λ (x : Whole). IsJudged x.tap.course) (sym is) j.judged
+next_judged local passes_own w new (v, put, begun, is) j =
+    subst (λ (x : Whole). IsJudged x.tap.course) (sym is) (own_stays local w v new.put j put begun)
+next_judged local begins_other w new is j = subst (λ (x : Whole). IsJudged x.tap.course) (sym is) j.judged
+next_judged local (passes_other v) w new (ranges, is) j =
+    subst (λ (x : Whole). IsJudged x.tap.course) (sym is) (other_stays local w v j)
+next_judged local passes_rubbish w new is j = subst (λ (x : Whole). IsJudged x.tap.course) (sym is) (rubbish_stays local w j)
+
+all_stand : (local : Local) (events : List Event) (w new : Whole) → HappenAlong Left w events new → Stands local w → Stands local new
+all_stand local [] w new e j = subst (Stands local) (sym e) j
+all_stand local (event ∷ events) w new (mid, first, more) j = all_stand local events mid new more (record {
+  staged = holds_next local event w mid first j.staged;
+  two = λ has. next_joined local event w mid first (j.two has);
+  judged = next_judged local event w mid first j;
+})
+
+first_stands : (local : Local) → Stands local (begin true local)
+first_stands local = record { staged = holds_first local; two = λ has. first_joined local has; judged = λ firm right. refl }
+
+pub calling_fair : (local : Local) (events : List Event) (w : Whole) (v : Value) (rest : List Value) →
+    HappenAlong Left (begin true local) events w → w.begun ≡ true → w.put ≡ v ∷ rest → is_stopped Right w.tap.course ≡ false →
+    w.tap.course.loose ≡ false → ((takes Left v w.tap).told.finding ≡ Kept) ⊎ (((takes Left v w.tap).told.finding ≡ TooMany)
+    ⊎ (((takes Left v w.tap).told.finding ≡ NotJudged) × (w.tap.course.strays ≡ true)))
+calling_fair local events w v rest along begun e right firm =
+    is_fine local w v rest (all_stand local events (begin true local) w along (first_stands local)) e begun firm right

@@ -1,0 +1,20 @@
+-- The map of these proofs, in reading order.
+-- a capture is steps
+pub mod what_the_first_octets_are
+pub mod turns_are_taken_late
+pub mod what_each_turn_does
+pub mod what_an_octet_does
+pub mod a_capture_is_steps
+-- the first break of transport at a tap
+pub mod what_a_unit_leaves_at_a_tap
+pub mod what_passes_keeps_a_claim
+-- steps are events of a whole end
+pub mod what_waits_changes_nothing
+pub mod what_a_carrier_puts_can_be_written
+pub mod what_packets_and_short_tsdus_keep_a_turn_keeps
+pub mod a_carrier_does_events
+pub mod what_is_put_is_what_is_written
+pub mod steps_are_events
+-- so the end has not broken a rule first
+pub mod the_first_break_is_not_of_an_end
+pub mod no_unit_of_a_whole_end_is_a_break

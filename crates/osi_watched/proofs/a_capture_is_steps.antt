@@ -1,0 +1,517 @@
+-- A capture of an end is steps of the end and of the tap: octet by octet, with each turn of the end as late as can be.
+-- For the law that a capture of an end is steps.
+use Rattle.std.proofs.Common.{◌≡◌, ◌≢◌, ◌∙◌, refl, sym, ap, subst, ℕ, ◌<◌, ◌≤◌, ◌⊎◌, inl, inr, Bool, true, false, List, [], ◌∷◌}
+use Rattle.std.proofs.Common.{◌++◌, length, Option, Some, None, is_some, Result, Ok, Err, append_assoc, arith}
+use Rattle.std.specs.List.{AllByRecursion}
+use Rattle.std.proofs.lemmas.List.{append-nil, length-append}
+use Rattle.osi_tpkt.specs.Octets.{IsOctets}
+use Rattle.osi_tpkt.specs.Packet.{packet_of}
+use Rattle.osi_tpkt.specs.Stream.{ArePackets, Ending, EndsAt}
+use Rattle.osi_tpkt.proofs.a_stream_is_cut_in_one_way.{end_no_packet, some_cut}
+use Rattle.osi_tpkt.proofs.lists_of_octets_stay_octets.{octets_append, octets_cons, octets_left, octets_nil, octets_right}
+use Rattle.osi_tpdu.specs.Packet.{units_of}
+use Rattle.osi_tpdu.specs.Value.{Value, acknowledge, confirm, data0, data2, disconnect, disconnected, error, request, user_data}
+use Rattle.osi_tpdu.specs.Writing.{written, written_header}
+use Rattle.osi_tpdu.specs.declared.faults.TpduFault.{TpduFault}
+use Rattle.osi_class.specs.declared.terms.Local.{Local}
+use Rattle.osi_carrier.specs.State.{packets}
+use Rattle.osi_carrier.specs.declared.ends.EndReason.{EndReason}
+use Rattle.osi_judge.specs.declared.directions.Direction.{Direction}
+use Rattle.osi_judge.specs.declared.directions.Direction.TheVariants.{Left, Right}
+use Rattle.osi_judge.specs.Captures.{Capture, Passed, of, other}
+use Rattle.osi_stack.specs.State.{Holding}
+use Rattle.osi_honest.specs.Courses.{ContinuesAlong, Deeds}
+use Rattle.osi_honest.specs.Seeing.{IsFresh, IsSeen}
+use Rattle.osi_honest.specs.Turns.{Run, Turn}
+use Rattle.osi_honest.proofs.class_0.what_a_packet_does_in_class_0.{AllProper}
+use Rattle.osi_honest.proofs.class_0.what_class_0_writes_of_a_tsdu.{packets_joined}
+use Rattle.osi_honest.proofs.class_0.what_packets_do_in_class_0.{never_lasts}
+use Rattle.osi_honest.proofs.reading.all_that_an_end_puts_can_be_read.{run_to_read}
+use Rattle.osi_honest.proofs.reading.two_readings_of_a_stream_agree.{packets_on, packets_then}
+use Rattle.osi_honest.proofs.reading.what_is_written_is_read_again.{CanBeWritten, read_again}
+use Rattle.osi_tap.specs.declared.marks.Cause.{Cause}
+use Rattle.osi_tap.specs.declared.marks.Cause.TheVariants.{BadPacket, BadUnit}
+use Rattle.osi_tap.specs.Courses.{Course, is_break, packet_by, packet_passes, units_pass, unread}
+use Rattle.osi_tap.specs.Streams.{Front, partial, faulty, whole, front_of, Streamed, advanced, ended, gathered}
+use Rattle.osi_tap.specs.Tapping.{State, after, octet_passes, stream_of, with_stream}
+use Rattle.osi_tap.specs.Tapping as tapping
+use Rattle.osi_watched.specs.Joint.{Joint, Step, Steps, StepsAlong, TakesTurn}
+use Rattle.osi_watched.specs.Joint as joints
+use Rattle.osi_watched.specs.Joint.Step.{turns, begins_own, passes_own, begins_other, passes_other}
+use Rattle.osi_watched.specs.Passing.{AreOctets, ComesBySteps, IsOctet, TurnsBad}
+use Rattle.osi_watched.proofs.turns_are_taken_late.{Follows, all_passed, other_passes, own_passes, seen_follows, turn_taken}
+use Rattle.osi_watched.proofs.what_an_octet_does.{begins, passes_so, same_course}
+use Rattle.osi_watched.proofs.what_each_turn_does.{Does, DoesAlong, all_done}
+use Rattle.osi_watched.proofs.what_the_first_octets_are.{own_front, packets_octets, used_first, whole_front, whole_packet}
+
+-- ---- what the rest of a capture comes to, from a state of the tap and of the end on
+
+record Stops (d : Direction) (capture : Capture) (s : State) (c : Course) : Type 0 where
+  front : Capture
+  back : Capture
+  parts : capture ≡ front ++ back
+  at : ℕ
+  cause : Cause
+  bad : is_break cause ≡ true
+  unreadable : (after front s).course ≡ unread (other d) at cause c
+
+record Comes (d : Direction) (capture : Capture) (s : State) (j : Joint) : Type 0 where
+  steps : List Step
+  last : Joint
+  along : StepsAlong d j steps last
+  all : ((after capture s).course ≡ last.course) ⊎ Stops d capture s last.course
+
+step_first : (d : Direction) (capture : Capture) (s : State) (step : Step) (j mid : Joint) → Steps d step j mid →
+    Comes d capture s mid → Comes d capture s j
+step_first d capture s step j mid does c = record {
+  steps = step ∷ c.steps;
+  last = c.last;
+  along = (mid, does, c.along);
+  all = c.all;
+}
+
+octet_first : (d : Direction) (o : Passed) (capture : Capture) (s : State) (j : Joint) → Comes d capture (octet_passes o s) j →
+    Comes d (o ∷ capture) s j
+octet_first d o capture s j c = record { steps = c.steps; last = c.last; along = c.along; all = by c.all }
+  where
+    by : ((after capture (octet_passes o s)).course ≡ c.last.course) ⊎ Stops d capture (octet_passes o s) c.last.course →
+        ((after (o ∷ capture) s).course ≡ c.last.course) ⊎ Stops d (o ∷ capture) s c.last.course
+    by (inl e) = inl e
+    by (inr k) = inr (record {
+      front = o ∷ k.front;
+      back = k.back;
+      parts = ap (λ (l : Capture). o ∷ l) k.parts;
+      at = k.at;
+      cause = k.cause;
+      bad = k.bad;
+      unreadable = k.unreadable;
+    })
+
+-- ---- how the end stands to what has passed
+
+abbrev has_begun : List ℕ → Bool
+has_begun [] = false
+has_begun (octet ∷ held) = true
+
+-- The octets of the current packet that passed, and those that are still to pass, are the packets that were put.
+record OwnStands (held still : List ℕ) (put : List Value) (begun : Bool) : Type 0 where
+  octets : IsOctets held
+  part : front_of held ≡ partial
+  all : held ++ still ≡ packets put
+  begun_so : begun ≡ has_begun held
+  can : AllByRecursion CanBeWritten put
+
+-- What the end holds, and what passed and is not used, are the packets that are coming, and the octets of the current one.
+record OtherStands (held ahead : List ℕ) (h : Holding) (coming : List (List ℕ)) : Type 0 where
+  octets : IsOctets held
+  part : front_of held ≡ partial
+  cut : h.end.carrier.ended ≡ None → ArePackets coming (h.held.octets ++ ahead) held
+
+record Stands (d : Direction) (s : State) (j : Joint) (still ahead : List ℕ) : Type 0 where
+  course : s.course ≡ j.course
+  own_reads : (stream_of d s).spent ≡ false
+  other_reads : (stream_of (other d) s).spent ≡ false
+  own : OwnStands (stream_of d s).held still j.put j.begun
+  others : OtherStands (stream_of (other d) s).held ahead j.holding j.coming
+
+own_moved : (d : Direction) (g : Streamed) (s : State) (c : Course) (j : Joint) (still ahead : List ℕ) → c ≡ j.course → g.spent ≡ false →
+    (stream_of (other d) s).spent ≡ false → OwnStands g.held still j.put j.begun →
+    OtherStands (stream_of (other d) s).held ahead j.holding j.coming → Stands d (with_stream d g (record s { course = c })) j still ahead
+own_moved Left g s c j still ahead course own_reads other_reads own others =
+    record { course = course; own_reads = own_reads; other_reads = other_reads; own = own; others = others }
+own_moved Right g s c j still ahead course own_reads other_reads own others =
+    record { course = course; own_reads = own_reads; other_reads = other_reads; own = own; others = others }
+
+other_moved : (d : Direction) (g : Streamed) (s : State) (c : Course) (j : Joint) (still ahead : List ℕ) → c ≡ j.course →
+    (stream_of d s).spent ≡ false → g.spent ≡ false → OwnStands (stream_of d s).held still j.put j.begun →
+    OtherStands g.held ahead j.holding j.coming → Stands d (with_stream (other d) g (record s { course = c })) j still ahead
+other_moved Left g s c j still ahead course own_reads other_reads own others =
+    record { course = course; own_reads = own_reads; other_reads = other_reads; own = own; others = others }
+other_moved Right g s c j still ahead course own_reads other_reads own others =
+    record { course = course; own_reads = own_reads; other_reads = other_reads; own = own; others = others }
+
+one_octet : (held : List ℕ) (x : ℕ) → IsOctets held → x < 256 → IsOctets (held ++ x ∷ [])
+one_octet held x octets small = octets_append held (x ∷ []) octets (octets_cons x [] small octets_nil)
+
+-- ---- an octet of the end
+
+some_header : (v : Value) → 2 ≤ length (written_header v)
+some_header (request c) = omega arith
+some_header (confirm destination c) = omega arith
+some_header (disconnect destination source reason user) = omega arith
+some_header (disconnected destination source) = omega arith
+some_header (data0 last octets) = omega arith
+some_header (data2 destination number last octets) = omega arith
+some_header (acknowledge credit destination number) = omega arith
+some_header (error destination cause) = omega arith
+
+some_octets : (v : Value) → 3 ≤ length (written v)
+some_octets v =
+    let header = some_header v in
+    let sum = length-append (written_header v) (user_data v) in
+    omega arith
+
+never_none : (held still : List ℕ) (x : ℕ) → held ++ x ∷ still ≡ [] → ⊥
+never_none [] still x e = cc
+never_none (o ∷ held) still x e = cc
+
+first_put : (held still : List ℕ) (x : ℕ) (put : List Value) → held ++ x ∷ still ≡ packets put →
+    (v : Value) × (vs : List Value) × (put ≡ v ∷ vs)
+first_put held still x [] e = absurd (never_none held still x e)
+first_put held still x (v ∷ vs) e = (v, vs, refl)
+
+begun_now : (held : List ℕ) (x : ℕ) → true ≡ has_begun (held ++ x ∷ [])
+begun_now [] x = refl
+begun_now (o ∷ held) x = refl
+
+-- the packet begins, unless some of its octets have passed
+own_begins : (d : Direction) (capture : Capture) (s : State) (held : List ℕ) (j : Joint) → j.begun ≡ has_begun held → j.put ≢ [] →
+    Comes d capture s (record j { begun = true; course = begins d held j.course }) → Comes d capture s j
+own_begins d capture s [] j is some c =
+    step_first d capture s begins_own j (record j { begun = true; course = begins d [] j.course }) (some, is, refl) c
+own_begins d capture s (o ∷ held) j is some c = subst (λ (b : Bool). Comes d capture s (record j { begun = b })) (sym is) c
+
+module _ (d : Direction) (x : ℕ) (capture : Capture) (s : State) (j : Joint) (still ahead : List ℕ) (small : x < 256)
+    (st : Stands d s j (x ∷ still) ahead)
+    (on : (s2 : State) (j2 : Joint) → j2.holding ≡ j.holding → Stands d s2 j2 still ahead → Comes d capture s2 j2) where
+  abbrev own_held : List ℕ
+  own_held = (stream_of d s).held
+
+  abbrev own_now : Streamed
+  own_now = gathered (x ∷ []) (stream_of d s)
+
+  abbrev own_joint : Joint
+  own_joint = record j { begun = true; course = begins d own_held j.course }
+
+  abbrev own_course : Course
+  own_course = begins d own_held s.course
+
+  own_goes_on : front_of (own_held ++ x ∷ []) ≡ partial → Comes d (of d x ∷ capture) s own_joint
+  own_goes_on part =
+      let next : State = with_stream d own_now (record s { course = own_course }) in
+      let own : OwnStands (own_held ++ x ∷ []) still j.put true = record {
+        octets = one_octet own_held x st.own.octets small;
+        part = part;
+        all = append_assoc own_held (x ∷ []) still ∙ st.own.all;
+        begun_so = begun_now own_held x;
+        can = st.own.can;
+      } in
+      octet_first d (of d x) capture s own_joint
+      (subst (λ (t : State). Comes d capture t own_joint) (sym (passes_so d x s partial st.own_reads part))
+      (on next own_joint refl (own_moved d own_now s own_course own_joint still ahead (ap (begins d own_held) st.course) st.own_reads
+      st.other_reads own st.others)))
+
+  own_ends : (v : Value) (vs : List Value) → j.put ≡ v ∷ vs → own_held ++ x ∷ [] ≡ packet_of (written v) → still ≡ packets vs →
+      Comes d (of d x ∷ capture) s own_joint
+  own_ends v vs is same rest =
+      let can = subst (AllByRecursion CanBeWritten) is st.own.can in
+      let octets : IsOctets (written v) = octets_right (3 ∷ 0 ∷ _ ∷ _ ∷ []) (written v)
+      (subst IsOctets same (one_octet own_held x st.own.octets small)) in
+      let read = read_again v can.0 octets in
+      let front : front_of (own_held ++ x ∷ []) ≡ whole (written v) = ap front_of (same ∙ sym (append-nil (packet_of (written v))))
+      ∙ whole_front (written v) [] (some_octets v) in
+      let at = own_now.at in
+      let after_it : Course = packet_passes d at (written v) own_course in
+      let last : Joint = record own_joint { put = vs; begun = false; course = units_pass d at (v ∷ []) own_joint.course } in
+      let course : after_it ≡ last.course = ap (λ (r : Result (List Value) TpduFault). packet_by d at r own_course) read
+      ∙ ap (λ (c : Course). units_pass d at (v ∷ []) (begins d own_held c)) st.course in
+      let own : OwnStands [] still vs false =
+      record { octets = octets_nil; part = refl; all = rest; begun_so = refl; can = can.1 } in
+      let next : State = with_stream d (advanced own_now) (record s { course = after_it }) in
+      step_first d (of d x ∷ capture) s (passes_own at v) own_joint last (read, octets, is, refl, refl)
+      (octet_first d (of d x) capture s last
+      (subst (λ (t : State). Comes d capture t last) (sym (passes_so d x s (whole (written v)) st.own_reads front))
+      (on next last refl (own_moved d (advanced own_now) s after_it last still ahead course st.own_reads st.other_reads own st.others))))
+
+  own_octet : Comes d (of d x ∷ capture) s j
+  own_octet =
+      let p = first_put own_held still x j.put st.own.all in
+      own_begins d (of d x ∷ capture) s own_held j st.own.begun_so
+      (λ none. let both : p.0 ∷ p.1 ≡ [] = sym p.2 ∙ none in cc)
+      (elim (own_front own_held (written p.0) (packets p.1) still x st.own.part (st.own.all ∙ ap packets p.2) (some_octets p.0)) [
+        | inl part ↦ own_goes_on part
+        | inr k ↦ own_ends p.0 p.1 p.2 k.0 k.1
+      ])
+
+-- ---- an octet of the other side
+
+other_begins : (d : Direction) (capture : Capture) (s : State) (held : List ℕ) (j : Joint) →
+    Comes d capture s (record j { course = begins (other d) held j.course }) → Comes d capture s j
+other_begins d capture s [] j c =
+    step_first d capture s begins_other j (record j { course = begins (other d) [] j.course }) refl c
+other_begins d capture s (o ∷ held) j c = c
+
+module _ (d : Direction) (x : ℕ) (capture : Capture) (s : State) (j : Joint) (still ahead : List ℕ) (small : x < 256)
+    (st : Stands d s j still ahead)
+    (on : (s2 : State) (j2 : Joint) → j2.holding ≡ j.holding → Stands d s2 j2 still (ahead ++ x ∷ []) → Comes d capture s2 j2) where
+  abbrev other_held : List ℕ
+  other_held = (stream_of (other d) s).held
+
+  abbrev other_now : Streamed
+  other_now = gathered (x ∷ []) (stream_of (other d) s)
+
+  abbrev other_joint : Joint
+  other_joint = record j { course = begins (other d) other_held j.course }
+
+  abbrev other_course : Course
+  other_course = begins (other d) other_held s.course
+
+  more_passed : (us : List (List ℕ)) (r : List ℕ) → ArePackets us ((j.holding.held.octets ++ ahead) ++ x ∷ []) r →
+      ArePackets us (j.holding.held.octets ++ (ahead ++ x ∷ [])) r
+  more_passed us r p = subst (λ (l : List ℕ). ArePackets us l r) (append_assoc j.holding.held.octets ahead (x ∷ [])) p
+
+  other_goes_on : front_of (other_held ++ x ∷ []) ≡ partial → Comes d (of (other d) x ∷ capture) s other_joint
+  other_goes_on part =
+      let next : State = with_stream (other d) other_now (record s { course = other_course }) in
+      let others : OtherStands (other_held ++ x ∷ []) (ahead ++ x ∷ []) j.holding j.coming = record {
+        octets = one_octet other_held x st.others.octets small;
+        part = part;
+        cut = λ lasts. more_passed j.coming (other_held ++ x ∷ [])
+            (packets_on j.coming (j.holding.held.octets ++ ahead) other_held (x ∷ []) (st.others.cut lasts));
+      } in
+      octet_first d (of (other d) x) capture s other_joint
+      (subst (λ (t : State). Comes d capture t other_joint) (sym (passes_so (other d) x s partial st.other_reads part))
+      (on next other_joint refl (other_moved d other_now s other_course other_joint still (ahead ++ x ∷ [])
+      (ap (begins (other d) other_held) st.course) st.own_reads st.other_reads st.own others)))
+
+  other_stops : (t : Streamed) (cause : Cause) → is_break cause ≡ true →
+      octet_passes (of (other d) x) s ≡ with_stream (other d) t (record s { course = unread (other d) other_now.at cause other_course }) →
+      Comes d (of (other d) x ∷ capture) s other_joint
+  other_stops t cause bad is = record {
+    steps = [];
+    last = other_joint;
+    along = refl;
+    all = inr (record {
+      front = of (other d) x ∷ [];
+      back = capture;
+      parts = refl;
+      at = other_now.at;
+      cause = cause;
+      bad = bad;
+      unreadable = ap (λ (z : State). z.course) is
+          ∙ same_course (other d) t (record s { course = unread (other d) other_now.at cause other_course })
+          ∙ ap (λ (c : Course). unread (other d) other_now.at cause (begins (other d) other_held c)) st.course;
+    });
+  }
+
+  other_ends : (u : List ℕ) → front_of (other_held ++ x ∷ []) ≡ whole u → (r : Result (List Value) TpduFault) → units_of u ≡ r →
+      Comes d (of (other d) x ∷ capture) s other_joint
+  other_ends u front (Err fault) is =
+      other_stops (advanced other_now) (BadUnit fault) refl (passes_so (other d) x s (whole u) st.other_reads front
+      ∙ ap (λ (r : Result (List Value) TpduFault). with_stream (other d) (advanced other_now)
+      (record s { course = packet_by (other d) other_now.at r other_course })) is)
+  other_ends u front (Ok units) is =
+      let packet = whole_packet other_held u x (one_octet other_held x st.others.octets small) st.others.part front in
+      let after_it : Course = packet_passes (other d) other_now.at u other_course in
+      let last : Joint = record other_joint {
+        course = units_pass (other d) other_now.at units other_joint.course;
+        coming = j.coming ++ u ∷ [];
+      } in
+      let course : after_it ≡ last.course = ap (λ (r : Result (List Value) TpduFault). packet_by (other d) other_now.at r other_course) is
+      ∙ ap (λ (c : Course). units_pass (other d) other_now.at units (begins (other d) other_held c)) st.course in
+      let octets : IsOctets u = octets_right (_ ∷ _ ∷ _ ∷ _ ∷ []) u (subst IsOctets packet.spelled packet.octets) in
+      let others : OtherStands [] (ahead ++ x ∷ []) j.holding (j.coming ++ u ∷ []) = record {
+        octets = octets_nil;
+        part = refl;
+        cut = λ lasts. more_passed (j.coming ++ u ∷ []) []
+            (packets_then j.coming (u ∷ []) (j.holding.held.octets ++ ahead) other_held (x ∷ []) [] (st.others.cut lasts)
+            (other_held ++ x ∷ [], [], packet, sym (append-nil (other_held ++ x ∷ [])), refl));
+      } in
+      let next : State = with_stream (other d) (advanced other_now) (record s { course = after_it }) in
+      step_first d (of (other d) x ∷ capture) s (passes_other other_now.at u units) other_joint last (octets, is, refl)
+      (octet_first d (of (other d) x) capture s last
+      (subst (λ (t : State). Comes d capture t last) (sym (passes_so (other d) x s (whole u) st.other_reads front))
+      (on next last refl (other_moved d (advanced other_now) s after_it last still (ahead ++ x ∷ []) course st.own_reads st.other_reads st.own
+      others))))
+
+  other_octet : Comes d (of (other d) x ∷ capture) s j
+  other_octet = other_begins d (of (other d) x ∷ capture) s other_held j (by (front_of (other_held ++ x ∷ [])) refl)
+    where
+      by : (f : Front) → front_of (other_held ++ x ∷ []) ≡ f → Comes d (of (other d) x ∷ capture) s other_joint
+      by partial is = other_goes_on is
+      by (faulty fault) is =
+          other_stops (ended other_now) (BadPacket fault) refl (passes_so (other d) x s (faulty fault) st.other_reads is)
+      by (whole u) is = other_ends u is (units_of u) refl
+
+-- ---- a turn
+
+can_more : (some others : List Value) → AllByRecursion CanBeWritten some → AllByRecursion CanBeWritten others →
+    AllByRecursion CanBeWritten (some ++ others)
+can_more [] others a b = b
+can_more (v ∷ some) others a b = (a.0, can_more some others a.1 b)
+
+none_more : (at : ℕ) (r : List ℕ) (e : Ending) → EndsAt at r e → (more : List (List ℕ)) (last : List ℕ) → ArePackets more r last → more ≡ []
+none_more at r e ends [] last h = refl
+none_more at r e ends (u ∷ more) last h = absurd (end_no_packet at r e ends u h.0 h.1 h.2 h.3)
+
+-- the packets that a turn uses of those that have passed, and the others
+record Uses (held ahead : List ℕ) (coming : List (List ℕ)) (old : Holding) (turn : Turn) (new : Holding) : Type 0 where
+  used : List (List ℕ)
+  later : List (List ℕ)
+  parts : coming ≡ used ++ later
+  rest : List ℕ
+  cut : old.end.carrier.ended ≡ None → ArePackets used (old.held.octets ++ turn.used) rest
+  kept : new.end.carrier.ended ≡ None → rest ≡ new.held.octets
+  all : old.end.carrier.ended ≡ None → new.end.carrier.ended ≢ None →
+      (more : List (List ℕ)) (last : List ℕ) → ArePackets more rest last → more ≡ []
+  left : new.end.carrier.ended ≡ None → ArePackets later (new.held.octets ++ ahead) held
+
+module _ (held ahead : List ℕ) (coming : List (List ℕ)) (old : Holding) (turn : Turn) (new : Holding) (does : Does old turn new)
+    (st : OtherStands held (turn.used ++ ahead) old coming) where
+  abbrev octets_in : List ℕ
+  octets_in = old.held.octets ++ turn.used
+
+  passed : old.end.carrier.ended ≡ None → ArePackets coming (octets_in ++ ahead) held
+  passed lasts =
+      subst (λ (l : List ℕ). ArePackets coming l held) (sym (append_assoc old.held.octets turn.used ahead)) (st.cut lasts)
+
+  not_both : (o : Option EndReason) (e : EndReason) → o ≡ Some e → o ≡ None → ⊥
+  not_both o e some none = cc
+
+  uses : (was is : Option EndReason) → old.end.carrier.ended ≡ was → new.end.carrier.ended ≡ is → Uses held ahead coming old turn new
+  uses (Some e) is was now = record {
+    used = [];
+    later = coming;
+    parts = refl;
+    rest = new.held.octets;
+    cut = λ lasts. absurd (not_both old.end.carrier.ended e was lasts);
+    kept = λ lasts. refl;
+    all = λ lasts over more last h. absurd (not_both old.end.carrier.ended e was lasts);
+    left = λ lasts. absurd (never_lasts new.end.carrier.ended (does.over (ap is_some was)) lasts);
+  }
+  uses None None was now =
+      let p = used_first does.used coming octets_in ahead does.rest held (passed was) does.cut st.part in
+      record {
+        used = does.used;
+        later = p.0;
+        parts = p.1;
+        rest = does.rest;
+        cut = λ lasts. does.cut;
+        kept = does.held;
+        all = λ lasts over more last h. absurd (over now);
+        left = λ lasts. subst (λ (l : List ℕ). ArePackets p.0 (l ++ ahead) held) (does.held lasts) p.2;
+      }
+  uses None (Some e) was now =
+      let octets = octets_left octets_in ahead (packets_octets coming (octets_in ++ ahead) held (passed was) st.octets) in
+      let k = some_cut octets_in octets in
+      let p = used_first k.0 coming octets_in ahead k.2.0 held (passed was) k.2.1 st.part in
+      record {
+        used = k.0;
+        later = p.0;
+        parts = p.1;
+        rest = k.2.0;
+        cut = λ lasts. k.2.1;
+        kept = λ lasts. absurd (not_both new.end.carrier.ended e now lasts);
+        all = λ lasts over more last h. none_more _ k.2.0 k.1 k.2.2 more last h;
+        left = λ lasts. absurd (not_both new.end.carrier.ended e now lasts);
+      }
+
+-- the end and the tap after a turn
+record Turned (d : Direction) (s : State) (j : Joint) (turn : Turn) (new : Holding) (still ahead : List ℕ) : Type 0 where
+  later : Joint
+  takes : TakesTurn turn j later
+  holding : later.holding ≡ new
+  stands : Stands d s later (still ++ turn.put) ahead
+
+turned : (d : Direction) (s : State) (j : Joint) (turn : Turn) (new : Holding) (still ahead : List ℕ) → Does j.holding turn new →
+    Stands d s j still (turn.used ++ ahead) → Turned d s j turn new still ahead
+turned d s j turn new still ahead does st =
+    let theirs = (stream_of (other d) s).held in
+    let mine = (stream_of d s).held in
+    let u = uses theirs ahead j.coming j.holding turn new does st.others j.holding.end.carrier.ended new.end.carrier.ended refl refl in
+    let both : (mine ++ still) ++ turn.put ≡ packets j.put ++ packets does.units = (λ i. st.own.all i ++ does.written i) in
+    record {
+      later = record j { holding = new; put = j.put ++ does.units; coming = u.later };
+      takes = record {
+        takes = does.takes;
+        units = does.units;
+        written = does.written;
+        put = refl;
+        used = u.used;
+        coming = u.parts;
+        rest = u.rest;
+        cut = u.cut;
+        held = u.kept;
+        all = u.all;
+        begun = refl;
+        course = refl;
+      };
+      holding = refl;
+      stands = record {
+        course = st.course;
+        own_reads = st.own_reads;
+        other_reads = st.other_reads;
+        own = record {
+          octets = st.own.octets;
+          part = st.own.part;
+          all = sym (append_assoc mine still turn.put) ∙ both ∙ sym (packets_joined j.put does.units);
+          begun_so = st.own.begun_so;
+          can = can_more j.put does.units st.own.can does.can;
+        };
+        others = record { octets = st.others.octets; part = st.others.part; cut = u.left };
+      };
+    }
+
+-- ---- all of the capture
+
+along_steps : (d : Direction) (still ahead : List ℕ) (capture : Capture) (turns_left : List Turn) →
+    Follows d still ahead capture turns_left → (s : State) (j : Joint) → AreOctets capture → DoesAlong j.holding turns_left →
+    Stands d s j still ahead → Comes d capture s j
+along_steps d _ _ _ _ (all_passed still ahead left) s j octets does st =
+    record { steps = []; last = j; along = refl; all = inl st.course }
+along_steps d _ _ _ _ (own_passes x o all still ahead capture left is front more) s j octets does st =
+    let small : x < 256 = subst IsOctet is octets.0 in
+    subst (λ (p : Passed). Comes d (p ∷ capture) s j) (sym is)
+    (own_octet d x capture s j still ahead small (subst (λ (l : List ℕ). Stands d s j l ahead) front st)
+    (λ s2 j2 same st2. along_steps d still ahead capture left more s2 j2 octets.1
+    (subst (λ (h : Holding). DoesAlong h left) (sym same) does) st2))
+along_steps d _ _ _ _ (other_passes x o still ahead capture left is more) s j octets does st =
+    let small : x < 256 = subst IsOctet is octets.0 in
+    subst (λ (p : Passed). Comes d (p ∷ capture) s j) (sym is)
+    (other_octet d x capture s j still ahead small st
+    (λ s2 j2 same st2. along_steps d still (ahead ++ x ∷ []) capture left more s2 j2 octets.1
+    (subst (λ (h : Holding). DoesAlong h left) (sym same) does) st2))
+along_steps d _ _ _ _ (turn_taken turn still all ahead capture left is more) s j octets does st =
+    let k = turned d s j turn does.0 still ahead does.1 (subst (λ (l : List ℕ). Stands d s j still l) is st) in
+    step_first d capture s (turns turn) j k.later k.takes
+    (along_steps d (still ++ turn.put) ahead capture left more s k.later octets
+    (subst (λ (h : Holding). DoesAlong h left) (sym k.holding) does.2) k.stands)
+
+stands_first : (d : Direction) (h : Holding) → h.held.octets ≡ [] → Stands d tapping.begin (joints.begin h) [] []
+stands_first Left h none = record {
+  course = refl;
+  own_reads = refl;
+  other_reads = refl;
+  own = record { octets = octets_nil; part = refl; all = refl; begun_so = refl; can = tt };
+  others = record { octets = octets_nil; part = refl; cut = λ lasts. append-nil h.held.octets ∙ none };
+}
+stands_first Right h none = record {
+  course = refl;
+  own_reads = refl;
+  other_reads = refl;
+  own = record { octets = octets_nil; part = refl; all = refl; begun_so = refl; can = tt };
+  others = record { octets = octets_nil; part = refl; cut = λ lasts. append-nil h.held.octets ∙ none };
+}
+
+pub capture_steps : AllProper → (r : ℕ) (deeds : Deeds) (d : Direction) (is_caller : Bool) (local : Local) (first end : Holding)
+    (turns_all : List Turn) (capture : Capture) → ContinuesAlong is_caller r deeds first turns_all end → IsFresh is_caller local first →
+    Run first turns_all end → AreOctets capture → IsSeen d turns_all capture → ComesBySteps d capture first
+capture_steps proper r deeds d is_caller local first end turns_all capture goes fresh run octets seen =
+    let read = run_to_read proper is_caller local first end turns_all fresh run in
+    let does = all_done is_caller r deeds turns_all first end goes read.units read.is read.written in
+    let c = along_steps d [] [] capture turns_all (seen_follows d turns_all capture seen) tapping.begin (joints.begin first) octets does
+    (stands_first d first fresh.held) in
+    record { steps = c.steps; last = c.last; along = c.along; all = by c.last.course c.all }
+  where
+    by : (c : Course) → ((after capture tapping.begin).course ≡ c) ⊎ Stops d capture tapping.begin c →
+        ((after capture tapping.begin).course ≡ c) ⊎ TurnsBad d capture c
+    by c (inl e) = inl e
+    by c (inr k) = inr (record {
+      front = k.front;
+      back = k.back;
+      parts = k.parts;
+      at = k.at;
+      cause = k.cause;
+      bad = k.bad;
+      unreadable = k.unreadable;
+    })

@@ -1,0 +1,28 @@
+-- No unit of a whole end is a break as it passes, as long as the other side is judged: what osi_fair says of it.
+-- For the law on the first break.
+use Rattle.std.proofs.Common.{◌≡◌, true, false, inl, inr, ◌⊎◌, sym, subst}
+use Rattle.osi_class.specs.declared.terms.Local.{Local}
+use Rattle.osi_rules.specs.declared.directions.Direction.TheVariants.{Left, Right}
+use Rattle.osi_rules.specs.declared.findings.Finding.{Finding}
+use Rattle.osi_rules.specs.declared.findings.Finding.TheVariants.{Kept, NotJudged, TooMany}
+use Rattle.osi_fair.specs.Wholes.{begin}
+use Rattle.osi_fair.proofs.a_called_end_is_fair.{called_fair}
+use Rattle.osi_fair.proofs.a_calling_end_is_fair.{calling_fair}
+use Rattle.osi_watched.proofs.the_first_break_is_not_of_an_end.{IsFairFrom, IsNoBreak}
+
+right_or_not_judged : {A : Type 0} (f : Finding) → (f ≡ Kept) ⊎ ((f ≡ NotJudged) × A) → IsNoBreak f
+right_or_not_judged f (inl is) = subst IsNoBreak (sym is) tt
+right_or_not_judged f (inr (is, strays)) = subst IsNoBreak (sym is) tt
+
+right_or_too_many : {A : Type 0} (f : Finding) → (f ≡ Kept) ⊎ ((f ≡ TooMany) ⊎ ((f ≡ NotJudged) × A)) → IsNoBreak f
+right_or_too_many f (inl is) = subst IsNoBreak (sym is) tt
+right_or_too_many f (inr (inl is)) = subst IsNoBreak (sym is) tt
+right_or_too_many f (inr (inr (is, strays))) = subst IsNoBreak (sym is) tt
+
+pub called_is_fair : (local : Local) → IsFairFrom Right (begin false local)
+called_is_fair local = λ events w unit rest along begun put judged firm.
+    right_or_not_judged _ (called_fair local events w unit rest along begun put judged firm)
+
+pub calling_is_fair : (local : Local) → IsFairFrom Left (begin true local)
+calling_is_fair local = λ events w unit rest along begun put judged firm.
+    right_or_too_many _ (calling_fair local events w unit rest along begun put judged firm)

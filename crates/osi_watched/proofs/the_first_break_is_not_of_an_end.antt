@@ -1,0 +1,207 @@
+-- The first break of transport at a tap is never of the side of an end, if no unit of a whole end is a break as long as the other
+-- side is judged.
+-- For the law on the first break.
+use Rattle.std.proofs.Common.{◌≡◌, ◌∙◌, ℕ, Bool, true, false, List, [], ◌∷◌, Option, Some, None, inl, inr, ◌⊎◌}
+use Rattle.std.proofs.Common.{refl, sym, ap, subst}
+use Rattle.osi_tpdu.specs.Value.{Value}
+use Rattle.osi_class.specs.declared.terms.Local.{Local}
+use Rattle.osi_judge.specs.Captures.{Capture, other}
+use Rattle.osi_judge.specs.declared.directions.Direction.{Direction}
+use Rattle.osi_judge.specs.declared.directions.Direction.TheVariants.{Left, Right}
+use Rattle.osi_rules.specs.declared.directions.Direction.{Direction as Way}
+use Rattle.osi_rules.specs.declared.findings.Finding.{Finding}
+use Rattle.osi_rules.specs.declared.findings.Finding.TheVariants.{Broke, Kept, NotJudged, Outside, TooMany}
+use Rattle.osi_rules.specs.Sides as sides
+use Rattle.osi_rules.specs.Traffic.{State as Traffic, is_stopped, takes}
+use Rattle.osi_fair.specs.Wholes.{Event, HappenAlong, Whole}
+use Rattle.osi_fair.specs.Wholes as wholes
+use Rattle.osi_honest.specs.Seeing.{IsFresh}
+use Rattle.osi_honest.proofs.class_0.what_a_packet_does_in_class_0.{AllProper}
+use Rattle.osi_stack.specs.State.{Holding}
+use Rattle.osi_tap.specs.declared.marks.First.{First}
+use Rattle.osi_tap.specs.Courses.{Course, packet_begins, unit_passes, units_pass, unread, way_of}
+use Rattle.osi_tap.specs.Tapping as tapping
+use Rattle.osi_tap.specs.Tapping.{after, comes_to}
+use Rattle.osi_watched.specs.Joint.{Joint, Step, Steps, StepsAlong, begin, begins_other, begins_own, passes_other, passes_own, turns}
+use Rattle.osi_watched.specs.Passing.{ComesBySteps, TurnsBad}
+use Rattle.osi_watched.proofs.steps_are_events.{IsFollowed, begin_followed, own_first, step_followed}
+use Rattle.osi_watched.proofs.what_a_unit_leaves_at_a_tap.{IsCalm, IsJudged, IsOver, Leaves, begins_calm, begins_over, unit_first}
+use Rattle.osi_watched.proofs.what_a_unit_leaves_at_a_tap.{unit_leaves, unit_over, unread_breaks, unread_first, unread_over}
+use Rattle.osi_watched.proofs.what_passes_keeps_a_claim.{IsClaim, after_join, after_kept}
+
+-- this is no break
+abbrev pub IsNoBreak : Finding → Type 0
+IsNoBreak Kept = Unit {0}
+IsNoBreak NotJudged = Unit {0}
+IsNoBreak TooMany = Unit {0}
+IsNoBreak (Broke rule) = ⊥
+IsNoBreak Outside = ⊥
+
+-- no unit of a whole end is a break as it passes, as long as the other side is judged and no connection has lost its judgement
+abbrev pub IsFairFrom : Way → Whole → Type 0
+IsFairFrom d first = (events : List Event) (w : Whole) (unit : Value) (rest : List Value) → HappenAlong d first events w →
+    w.begun ≡ true → w.put ≡ unit ∷ rest → is_stopped (sides.other d) w.tap.course ≡ false → w.tap.course.loose ≡ false →
+    IsNoBreak (takes d unit w.tap).told.finding
+
+-- ---- who broke a rule first
+
+-- nobody, or the other side
+abbrev pub IsNotFirst : Direction → Course → Type 0
+IsNotFirst d c = IsCalm c ⊎ ((f : First) × (c.first ≡ Some f) × (f.direction ≡ other d))
+
+no_break_so : (d : Direction) (at : ℕ) (v : Value) (c : Course) (f : Finding) (new : Course) → IsNoBreak f → Leaves d at v c f new →
+    IsCalm new
+no_break_so d at v c Kept new none leaves = leaves
+no_break_so d at v c NotJudged new none leaves = leaves
+no_break_so d at v c TooMany new none leaves = leaves
+no_break_so d at v c (Broke rule) new none leaves = absurd none
+no_break_so d at v c Outside new none leaves = absurd none
+
+any_so : (d : Direction) (at : ℕ) (v : Value) (c : Course) (f : Finding) (new : Course) → Leaves (other d) at v c f new → IsNotFirst d new
+any_so d at v c Kept new leaves = inl leaves
+any_so d at v c NotJudged new leaves = inl leaves
+any_so d at v c TooMany new leaves = inl leaves
+any_so d at v c (Broke rule) new leaves = inr leaves
+any_so d at v c Outside new leaves = inr leaves
+
+module _ (d : Direction) where
+  -- a unit of the other side
+  other_passes : (at : ℕ) (v : Value) (c : Course) → IsNotFirst d c → IsNotFirst d (unit_passes (other d) at v c)
+  other_passes at v c (inl calm) =
+      any_so d at v c (takes (way_of (other d)) v c.traffic).told.finding (unit_passes (other d) at v c) (unit_leaves (other d) at v c calm)
+  other_passes at v c (inr (f, is, of)) = inr (f, unit_first (other d) at v c f is, of)
+
+  others_pass : (at : ℕ) (units : List Value) (c : Course) → IsNotFirst d c → IsNotFirst d (units_pass (other d) at units c)
+  others_pass at [] c h = h
+  others_pass at (v ∷ units) c h = others_pass at units (unit_passes (other d) at v c) (other_passes at v c h)
+
+  -- a packet begins
+  begins_so : (e : Direction) (c : Course) → IsNotFirst d c → IsNotFirst d (packet_begins e c)
+  begins_so e c (inl calm) = inl (begins_calm e c calm)
+  begins_so e c (inr h) = inr h
+
+  -- the other side is judged
+  judged_so : (c : Course) → IsJudged c → is_stopped (sides.other (way_of d)) c.traffic.course ≡ false
+  judged_so c j = by d
+    where
+      by : (e : Direction) → is_stopped (sides.other (way_of e)) c.traffic.course ≡ false
+      by Left = j.right
+      by Right = j.left
+
+  module _ (proper : AllProper) (first : Whole) (fair : IsFairFrom (way_of d) first) where
+    own_passes : (old new : Joint) (at : ℕ) (unit : Value) → Steps d (passes_own at unit) old new → IsFollowed d first old →
+        IsNotFirst d old.course → IsNotFirst d (unit_passes d at unit old.course)
+    own_passes old new at unit (read, octets, put, begun, is) f (inr (g, told, of)) = inr (g, unit_first d at unit old.course g told, of)
+    own_passes old new at unit (read, octets, put, begun, is) f (inl calm) = inl (by calm.how)
+      where
+        by : IsJudged old.course ⊎ IsOver old.course → IsCalm (unit_passes d at unit old.course)
+        by (inl j) =
+            let s = own_first d first old new unit (read, octets, put) f in
+            let found = fair f.events f.whole unit s.rest f.along (f.begun ∙ begun) s.is
+            (ap (λ (t : Traffic). is_stopped (sides.other (way_of d)) t.course) f.tap ∙ judged_so old.course j)
+            (ap (λ (t : Traffic). t.course.loose) f.tap ∙ j.firm) in
+            no_break_so d at unit old.course (takes (way_of d) unit old.course.traffic).told.finding (unit_passes d at unit old.course)
+            (subst (λ (t : Traffic). IsNoBreak (takes (way_of d) unit t).told.finding) f.tap found)
+            (unit_leaves d at unit old.course calm)
+        by (inr over) =
+            let rest = unit_over d at unit old.course calm.none over in
+            record { none = rest.0; how = inr rest.1 }
+
+    step_so : (step : Step) (old new : Joint) → Steps d step old new → IsFollowed d first old → IsNotFirst d old.course →
+        IsNotFirst d new.course
+    step_so (turns turn) old new t f h = subst (IsNotFirst d) (sym t.course) h
+    step_so begins_own old new (some, none, is) f h =
+        subst (λ (j : Joint). IsNotFirst d j.course) (sym is) (begins_so d old.course h)
+    step_so (passes_own at unit) old new steps f h =
+        subst (λ (j : Joint). IsNotFirst d j.course) (sym steps.4) (own_passes old new at unit steps f h)
+    step_so begins_other old new is f h =
+        subst (λ (j : Joint). IsNotFirst d j.course) (sym is) (begins_so (other d) old.course h)
+    step_so (passes_other at packet units) old new (octets, read, is) f h =
+        subst (λ (j : Joint). IsNotFirst d j.course) (sym is) (others_pass at units old.course h)
+
+    along_so : (steps : List Step) (old new : Joint) → StepsAlong d old steps new → IsFollowed d first old → IsNotFirst d old.course →
+        IsNotFirst d new.course
+    along_so [] old new is f h = subst (λ (j : Joint). IsNotFirst d j.course) (sym is) h
+    along_so (step ∷ steps) old new (mid, one, more) f h =
+        along_so steps mid new more (step_followed d first proper step old mid one f) (step_so step old mid one f h)
+
+  -- ---- what the other side sends can't be read
+
+  first_claim : (f : First) → IsClaim (λ c. c.first ≡ Some f)
+  first_claim f = record {
+    begins = λ e c h. h;
+    passes = λ e at v c h. unit_first e at v c f h;
+    bad = λ e at k c h. unread_first e at k c f h;
+  }
+
+  over_claim : IsClaim (λ c. (c.first ≡ None) × IsOver c)
+  over_claim = record {
+    begins = λ e c h. (h.0, begins_over e c h.1);
+    passes = λ e at v c h. unit_over e at v c h.0 h.1;
+    bad = λ e at k c h. subst (λ (x : Course). (x.first ≡ None) × IsOver x) (sym (unread_over e at k c h.1)) h;
+  }
+
+  -- the first break of all, if there is one, is of the other side
+  abbrev pub IsOfOther : Course → Type 0
+  IsOfOther c = (f : First) → c.first ≡ Some f → f.direction ≡ other d
+
+  same_first : (f g : First) (o : Option First) → o ≡ Some f → o ≡ Some g → f ≡ g
+  same_first f g o e h = cc
+
+  still_other : (capture : Capture) (s : tapping.State) (g : First) → s.course.first ≡ Some g → g.direction ≡ other d →
+      IsOfOther (after capture s).course
+  still_other capture s g is of = λ f told.
+      let kept = after_kept (λ (c : Course). c.first ≡ Some g) (first_claim g) capture s is in
+      ap (λ (x : First). x.direction) (same_first f g (after capture s).course.first told kept) ∙ of
+
+  of_other : (c : Course) → IsNotFirst d c → IsOfOther c
+  of_other c (inl calm) = λ f told. let no : None ≡ Some f = sym calm.none ∙ told in absurd (cc)
+  of_other c (inr (g, is, of)) = λ f told. ap (λ (x : First). x.direction) (same_first f g c.first told is) ∙ of
+
+  bad_so : (capture : Capture) (c : Course) → TurnsBad d capture c → IsNotFirst d c → IsOfOther (comes_to capture).course
+  bad_so capture c t h =
+      let join = ap (λ (x : Capture). comes_to x) t.parts ∙ after_join t.front t.back tapping.begin in
+      subst (λ (s : tapping.State). IsOfOther s.course) (sym join) (by h)
+    where
+      s : tapping.State
+      s = comes_to t.front
+
+      is_first : (g : First) → (unread (other d) t.at t.cause c).first ≡ Some g → s.course.first ≡ Some g
+      is_first g e = ap (λ (x : Course). x.first) t.unreadable ∙ e
+
+      by_calm : IsCalm c → IsJudged c ⊎ IsOver c → IsOfOther (after t.back s).course
+      by_calm calm (inl j) =
+          let (g, told, of) = unread_breaks (other d) t.at t.cause c t.bad calm.none j in
+          still_other t.back s g (is_first g told) of
+      by_calm calm (inr over) =
+          let same : s.course ≡ c = t.unreadable ∙ unread_over (other d) t.at t.cause c over in
+          let kept = after_kept (λ (x : Course). (x.first ≡ None) × IsOver x) over_claim t.back s
+          (subst (λ (x : Course). (x.first ≡ None) × IsOver x) (sym same) (calm.none, over)) in
+          λ f told. let no : None ≡ Some f = sym kept.0 ∙ told in absurd (cc)
+
+      by : IsNotFirst d c → IsOfOther (after t.back s).course
+      by (inl calm) = by_calm calm calm.how
+      by (inr (g, told, of)) = still_other t.back s g (is_first g (unread_first (other d) t.at t.cause c g told)) of
+
+  pub first_other : AllProper → (is_caller : Bool) (local : Local) (h : Holding) (capture : Capture) → IsFresh is_caller local h →
+      IsFairFrom (way_of d) (wholes.begin is_caller local) → ComesBySteps d capture h → IsOfOther (comes_to capture).course
+  first_other proper is_caller local h capture fresh fair comes = by comes.all
+    where
+      last : IsNotFirst d comes.last.course
+      last =
+          along_so proper (wholes.begin is_caller local) fair comes.steps (begin h) comes.last comes.along
+          (begin_followed d is_caller local h fresh)
+          (inl (record { none = refl; how = inl (record { left = refl; right = refl; firm = refl; left_goes = refl; right_goes = refl }) }))
+
+      by : ((comes_to capture).course ≡ comes.last.course) ⊎ TurnsBad d capture comes.last.course → IsOfOther (comes_to capture).course
+      by (inl is) = subst IsOfOther (sym is) (of_other comes.last.course last)
+      by (inr bad) = bad_so capture comes.last.course bad last
+
+-- if it is neither of left nor of right, there is none
+none_by : (o : Option First) → ((f : First) → o ≡ Some f → f.direction ≡ Right) → ((f : First) → o ≡ Some f → f.direction ≡ Left) →
+    o ≡ None
+none_by None left right = refl
+none_by (Some f) left right = let no : Right ≡ Left = sym (left f refl) ∙ right f refl in absurd (cc)
+
+pub neither_first : (c : Course) → IsOfOther Left c → IsOfOther Right c → c.first ≡ None
+neither_first c left right = none_by c.first left right

@@ -1,0 +1,283 @@
+-- The units that a carrier puts as it takes a unit, and as its user makes a call, can be written, and its links stay numbered.
+-- For what a turn of an end does to its carrier.
+use Rattle.std.proofs.Common.{◌≡◌, ℕ, ◌+◌, ◌&&◌, ◌≤◌, min, Bool, true, false, if◌then◌else◌, List, [], ◌∷◌, ◌++◌, length}
+use Rattle.std.proofs.Common.{Option, Some, None, option_map, is_some, Result, Ok, Err, refl, subst, arith}
+use Rattle.std.specs.Prelude.{IfSome}
+use Rattle.std.specs.List.{AllByRecursion}
+use Rattle.osi_tpkt.specs.Octets.{IsOctets}
+use Rattle.osi_tpdu.specs.Limits.{size_code, tsap_octets}
+use Rattle.osi_tpdu.specs.Value.{Connect, HasFieldsInRange, IsConnect, Value, confirm, data0, disconnect, disconnected}
+use Rattle.osi_tpdu.specs.Value.{error, request}
+use Rattle.osi_tpdu.specs.declared.tsaps.Tsap.{Tsap}
+use Rattle.osi_class.specs.Link.{Standing, taken, with_tsdu}
+use Rattle.osi_class.specs.Negotiation.{accept, keeps_flow_control, proposes, proposes_zero_alone, refuse, selected_by, selected_size}
+use Rattle.osi_class.specs.declared.faults.LinkFault.{LinkFault}
+use Rattle.osi_class.specs.declared.terms.Class.{Class}
+use Rattle.osi_class.specs.declared.terms.Class.TheVariants.{Two, Zero}
+use Rattle.osi_class.specs.declared.terms.Local.{Local}
+use Rattle.osi_carrier.specs.Calls.{closed_on, closes as closes_in, closed_with, link_of, open_link, sent, sent_all, sent_on}
+use Rattle.osi_carrier.specs.Negotiation.{acceptance, agreed_size, confirmed, opened_link, proposes_two}
+use Rattle.osi_carrier.specs.Orderly.{connection_by}
+use Rattle.osi_carrier.specs.Pump.{pumped, written_by}
+use Rattle.osi_carrier.specs.React.{accepts, answers, before_class, breaks as breaks_in, denies, handed_out, has_peer, in_class, in_two}
+use Rattle.osi_carrier.specs.React.{in_zero, is_full, leaves, opens, pumps, react_by, taking, to_asked, to_closing, to_connection}
+use Rattle.osi_carrier.specs.React.{to_linked, to_only, to_reference, to_unknown}
+unfoldable use Rattle.osi_carrier.specs.React.{react}
+use Rattle.osi_carrier.specs.Rows.{Rows, value_at}
+use Rattle.osi_carrier.specs.Runs.{connects, user_does}
+use Rattle.osi_carrier.specs.State.{Connection, State, asked, closing, ends, linked}
+use Rattle.osi_carrier.specs.declared.ends.EndReason.{EndReason}
+use Rattle.osi_fair.specs.Putting.{put_at, put_before, put_by, put_closed, put_closing, put_for, put_for_selection}
+use Rattle.osi_fair.specs.Putting.{put_in, put_in_two, put_in_zero, put_leaving, put_linked, put_only, put_sent, put_taking, put_to}
+use Rattle.osi_fair.specs.Putting.{put_together, put_unknown, refusal}
+use Rattle.osi_honest.proofs.keeping.what_holds_of_each_connection_stays.{row_at, row_more, row_put, row_without}
+use Rattle.osi_honest.proofs.reading.all_that_an_end_puts_can_be_read.{AreNumbered, cr_by}
+use Rattle.osi_honest.proofs.reading.what_a_link_gives_can_be_written.{IsNumbered, gives_written, taken_numbered}
+use Rattle.osi_honest.proofs.reading.what_is_written_is_read_again.{CanBeWritten, IsPlain}
+
+-- these units can be written, and the links are numbered
+abbrev pub Fine : List Value → State → Type 0
+Fine units s = AllByRecursion CanBeWritten units × AreNumbered s.live
+
+-- ---- rows of links
+
+abbrev IsNumberedRow : Connection → Type 0
+IsNumberedRow asked = Unit {0}
+IsNumberedRow (linked peer link) = IsNumbered link.flow
+IsNumberedRow (closing peer) = Unit {0}
+
+link_opens : (class : Class) (size : Option ℕ) (local : Local) (credit : ℕ) → IsNumbered (opened_link class size local credit).flow
+link_opens Zero size local credit = tt
+link_opens Two size local credit = let most = local.window.at_most in (omega arith, omega arith)
+
+-- ---- a CC
+
+size_in_range : (o : Option ℕ) (local : Local) → IfSome o (λ code. (7 ≤ code) × (code ≤ 13)) →
+    IfSome (option_map (λ code. min code (size_code local.size)) o) (λ code. (7 ≤ code) × (code ≤ 13))
+size_in_range None local h = tt
+size_in_range (Some code) local h =
+    let least = local.size.at_least in
+    let most : code ≤ 13 = h.1 in
+    let some : 7 ≤ code = h.0 in
+    (omega arith, omega arith)
+
+selector_fits : (o : Option (List ℕ)) → IfSome o (λ s. (length s ≤ 32) × IsOctets s) → IfSome o (λ s. length s ≤ 32)
+selector_fits None h = tt
+selector_fits (Some s) h = h.0
+
+cc_plain : (class : Class) (size : Option ℕ) (c : Connect) (local : Local) (r : ℕ) → IsConnect c →
+    IfSome size (λ code. (7 ≤ code) × (code ≤ 13)) → IsPlain (acceptance class size c local r)
+cc_plain Zero size c local r h range = record {
+  credit = omega arith;
+  class = omega arith;
+  options = omega arith;
+  size = range;
+  calling = selector_fits c.parameters.calling h.parameters.calling;
+  called = selector_fits c.parameters.called h.parameters.called;
+  additional = tt;
+  alternative = tt;
+  user = refl;
+}
+cc_plain Two size c local r h range = record {
+  credit = let most = local.window.at_most in omega arith;
+  class = omega arith;
+  options = omega arith;
+  size = range;
+  calling = selector_fits c.parameters.calling h.parameters.calling;
+  called = selector_fits c.parameters.called h.parameters.called;
+  additional = omega arith;
+  alternative = tt;
+  user = refl;
+}
+
+module _ (s : State) (p : AreNumbered s.live) where
+  -- ---- a CR
+
+  accepted : (class : Class) (size : Option ℕ) (c : Connect) → IsConnect c → IfSome size (λ code. (7 ≤ code) × (code ≤ 13)) →
+      Fine (confirm c.source (acceptance class size c s.local (s.given + 1)) ∷ []) (accepts class size c s)
+  accepted class size c h range = (
+    (cc_plain class size c s.local (s.given + 1) h range, tt),
+    row_more IsNumberedRow (s.given + 1) (linked c.source (opened_link class size s.local c.credit)) s.live p
+        (link_opens class size s.local c.credit),
+  )
+
+  denied : (reason peer : ℕ) → Fine (refusal reason peer) (denies reason peer s)
+  denied reason peer = ((tt, tt), p)
+
+  by_selection : (a b d : Bool) (size : Option ℕ) (held : Option Class) (c : Connect) → IsConnect c →
+      IfSome size (λ code. (7 ≤ code) × (code ≤ 13)) →
+      Fine
+      (put_for_selection c
+      (if a then accept Two size else (if b then accept Zero size else (if d then refuse 0 else refuse 130))) held s)
+      (answers c
+      (if a then accept Two size else (if b then accept Zero size else (if d then refuse 0 else refuse 130))) held s)
+  by_selection true b d size held c h range = accepted Two size c h range
+  by_selection false true d size None c h range = accepted Zero size c h range
+  by_selection false true d size (Some class) c h range = denied 136 c.source
+  by_selection false false true size held c h range = denied 0 c.source
+  by_selection false false false size held c h range = denied 130 c.source
+
+  by_request : (c : Connect) (in_use full : Bool) → IsConnect c →
+      Fine
+      (if in_use then refusal 131 c.source
+      else (if full then refusal 1 c.source else put_for_selection c (selected_by c s.local) s.class s))
+      (if in_use then denies 131 c.source s
+      else (if full then denies 1 c.source s else answers c (selected_by c s.local) s.class s))
+  by_request c true full h = denied 131 c.source
+  by_request c false true h = denied 1 c.source
+  by_request c false false h =
+      by_selection (s.local.class2 && (proposes c 2 && keeps_flow_control c)) (s.local.class0 && proposes c 0) (proposes_zero_alone c)
+      (selected_size c s.local) s.class c h (size_in_range c.parameters.size s.local h.parameters.size)
+
+  -- ---- a unit of a connection
+
+  by_unknown : (unit : Value) → Fine (put_unknown unit) (to_unknown unit s)
+  by_unknown (disconnect destination source reason user) = ((tt, tt), p)
+  by_unknown (disconnected destination source) = (tt, p)
+  by_unknown unit = (tt, tt)
+
+  by_opens : (r : ℕ) (c : Connect) (class : Option Class) → Fine [] (opens r c class s)
+  by_opens r c None = (tt, tt)
+  by_opens r c (Some class) = (
+    tt,
+    row_put IsNumberedRow r (linked c.source (opened_link class (agreed_size c.parameters.size s.local) s.local c.credit)) s.live p
+        (link_opens class (agreed_size c.parameters.size s.local) s.local c.credit),
+  )
+
+  by_asked : (r : ℕ) (unit : Value) → Fine [] (to_asked r unit s)
+  by_asked r (confirm destination c) = by_opens r c (confirmed c s.local s.class)
+  by_asked r (disconnect destination source reason user) = (tt, row_without IsNumberedRow r s.live p)
+  by_asked r (error destination cause) = (tt, row_without IsNumberedRow r s.live p)
+  by_asked r (disconnected destination source) = (tt, p)
+  by_asked r unit = (tt, tt)
+
+  by_breaks : (r peer : ℕ) (fault : LinkFault) (held : Option Class) →
+      Fine (put_taking r peer (Err fault) held) (breaks_in r peer fault held s)
+  by_breaks r peer fault None = (tt, tt)
+  by_breaks r peer fault (Some Zero) = (tt, tt)
+  by_breaks r peer fault (Some Two) = ((tt, tt), row_put IsNumberedRow r (closing peer) s.live p tt)
+
+  pumps_so : (r peer : ℕ) (link : Standing) → IsNumbered link.flow → Fine (written_by peer link) (pumps r peer link s)
+  pumps_so r peer link numbered =
+      let all = gives_written peer link numbered in
+      (all.0, row_put IsNumberedRow r (linked peer (pumped link)) s.live p all.1)
+
+  by_taking : (r peer : ℕ) (link : Standing) (unit : Value) (result : Result Standing LinkFault) → IsNumbered link.flow →
+      taken link unit ≡ result → Fine (put_taking r peer result s.class) (taking r peer result s)
+  by_taking r peer link unit (Ok after) numbered e = pumps_so r peer (handed_out after) (taken_numbered link after unit numbered e)
+  by_taking r peer link unit (Err fault) numbered e = by_breaks r peer fault s.class
+
+  by_leaves : (r peer reason : ℕ) (held : Option Class) → Fine (put_leaving r peer held) (leaves r peer reason held s)
+  by_leaves r peer reason None = (tt, tt)
+  by_leaves r peer reason (Some Zero) = (tt, tt)
+  by_leaves r peer reason (Some Two) = ((tt, tt), row_without IsNumberedRow r s.live p)
+
+  by_linked : (r peer : ℕ) (link : Standing) (unit : Value) → IsNumbered link.flow →
+      Fine (put_linked r peer link unit s.class) (to_linked r peer link unit s)
+  by_linked r peer link (disconnect destination source reason user) numbered = by_leaves r peer reason s.class
+  by_linked r peer link unit numbered = by_taking r peer link unit (taken link unit) numbered refl
+
+  by_closing : (r : ℕ) (unit : Value) → Fine [] (to_closing r unit s)
+  by_closing r (disconnected destination source) = (tt, row_without IsNumberedRow r s.live p)
+  by_closing r (disconnect destination source reason user) = (tt, row_without IsNumberedRow r s.live p)
+  by_closing r unit = (tt, p)
+
+  by_connection : (r : ℕ) (at : Option Connection) (unit : Value) → ((x : Connection) → at ≡ Some x → IsNumberedRow x) →
+      Fine (put_at r at unit s.class) (to_connection r at unit s)
+  by_connection r None unit here = by_unknown unit
+  by_connection r (Some asked) unit here = by_asked r unit
+  by_connection r (Some (linked peer link)) unit here = by_linked r peer link unit (here (linked peer link) refl)
+  by_connection r (Some (closing peer)) unit here = by_closing r unit
+
+  by_reference : (r : ℕ) (unit : Value) → Fine (put_to (Some r) unit s) (to_reference r unit s)
+  by_reference r unit = by_connection r (value_at r s.live) unit (λ x e. row_at IsNumberedRow r x s.live p e)
+
+  -- ---- by class
+
+  by_before : (is_caller : Bool) (unit : Value) → HasFieldsInRange unit → Fine (put_before is_caller unit s) (before_class is_caller unit s)
+  by_before true (confirm destination c) range = by_reference destination (confirm destination c)
+  by_before true (disconnect destination source reason user) range = by_reference destination (disconnect destination source reason user)
+  by_before true (error destination cause) range = by_reference destination (error destination cause)
+  by_before false (request c) range = by_request c (has_peer c.source s.live) (is_full s) range
+  by_before is_caller unit range = (tt, tt)
+
+  by_only : (rows : Rows Connection) (unit : Value) → AreNumbered rows → Fine (put_only rows unit s) (to_only rows unit s)
+  by_only [] unit all = (tt, p)
+  by_only ((r, connection) ∷ rows) unit all =
+      by_connection r (Some connection) unit (λ x e. let same : connection ≡ x = cc in subst IsNumberedRow same all.0)
+
+  by_zero : (is_caller : Bool) (unit : Value) → Fine (put_in_zero is_caller unit s) (in_zero is_caller unit s)
+  by_zero true (request c) = (tt, tt)
+  by_zero is_caller unit = by_only s.live unit p
+
+  by_two : (is_caller : Bool) (unit : Value) → HasFieldsInRange unit → Fine (put_in_two is_caller unit s) (in_two is_caller unit s)
+  by_two true (request c) range = (tt, tt)
+  by_two false (request c) range = by_request c (has_peer c.source s.live) (is_full s) range
+  by_two is_caller (data0 end user) range = (tt, tt)
+  by_two is_caller unit range = by_reference (connection_by (Some Two) unit s) unit
+
+  by_class : (held : Option Class) (unit : Value) → HasFieldsInRange unit → Fine (put_in held unit s) (in_class held unit s)
+  by_class None unit range = by_before s.is_caller unit range
+  by_class (Some Zero) unit range = by_zero s.is_caller unit
+  by_class (Some Two) unit range = by_two s.is_caller unit range
+
+  by_end : (over : Bool) (unit : Value) → HasFieldsInRange unit →
+      Fine (if over then [] else put_in s.class unit s) (react_by over unit s)
+  by_end true unit range = (tt, p)
+  by_end false unit range = by_class s.class unit range
+
+  pub unit_fine : (unit : Value) → HasFieldsInRange unit → Fine (put_for unit s) (react unit s)
+  unfolding react
+  unit_fine unit range = by_end (is_some s.ended) unit range
+
+  -- ---- what a session sends, and a request
+
+  sent_fine : (r : ℕ) (tsdu : List ℕ) (over : Bool) (at : Option Connection) → ((x : Connection) → at ≡ Some x → IsNumberedRow x) →
+      Fine (put_sent tsdu (if over then None else link_of at)) (sent_on r tsdu (if over then None else link_of at) s)
+  sent_fine r tsdu true at here = (tt, p)
+  sent_fine r tsdu false None here = (tt, p)
+  sent_fine r tsdu false (Some asked) here = (tt, p)
+  sent_fine r tsdu false (Some (linked peer link)) here = pumps_so r peer (with_tsdu link tsdu) (here (linked peer link) refl)
+  sent_fine r tsdu false (Some (closing peer)) here = (tt, p)
+
+  closes_fine : (r peer reason : ℕ) (held : Option Class) → Fine (put_closed r reason peer held) (closes_in r peer reason held s)
+  closes_fine r peer reason None = ((tt, tt), row_put IsNumberedRow r (closing peer) s.live p tt)
+  closes_fine r peer reason (Some Zero) = (tt, tt)
+  closes_fine r peer reason (Some Two) = ((tt, tt), row_put IsNumberedRow r (closing peer) s.live p tt)
+
+  closed_by : (r reason : ℕ) (o : Option (ℕ × Standing)) → Fine (put_closing r reason o s.class) (closed_on r reason o s)
+  closed_by r reason None = (tt, p)
+  closed_by r reason (Some (peer, link)) = closes_fine r peer reason s.class
+
+  pub closed_fine : (r reason : ℕ) → Fine (put_closing r reason (open_link r s) s.class) (closed_with r reason s)
+  closed_fine r reason = closed_by r reason (open_link r s)
+
+  pub one_fine : (r : ℕ) (tsdu : List ℕ) → Fine (put_sent tsdu (open_link r s)) (sent r tsdu s)
+  one_fine r tsdu =
+      sent_fine r tsdu (is_some s.ended) (value_at r s.live) (λ x e. row_at IsNumberedRow r x s.live p e)
+
+  pub asks_fine : (calling called : Option Tsap) →
+      Fine (put_by (connects (option_map tsap_octets calling) (option_map tsap_octets called)) s)
+      (user_does (connects (option_map tsap_octets calling) (option_map tsap_octets called)) s)
+  asks_fine calling called = (
+    (cr_by (proposes_two s.local) s.local s.class calling called (s.given + 1), tt),
+    row_more IsNumberedRow (s.given + 1) asked s.live p tt,
+  )
+
+  pub over_fine : (reason : EndReason) (over : Bool) → Fine [] (if over then s else ends reason s)
+  over_fine reason true = (tt, p)
+  over_fine reason false = (tt, tt)
+
+pub all_more : (some others : List Value) → AllByRecursion CanBeWritten some → AllByRecursion CanBeWritten others →
+    AllByRecursion CanBeWritten (some ++ others)
+all_more [] others a b = b
+all_more (v ∷ some) others a b = (a.0, all_more some others a.1 b)
+
+-- several together
+pub together_fine : (r : ℕ) (tsdus : List (List ℕ)) (s : State) → AreNumbered s.live →
+    Fine (put_together r tsdus s) (sent_all r tsdus s)
+together_fine r [] s p = (tt, p)
+together_fine r (tsdu ∷ tsdus) s p =
+    let first = one_fine s p r tsdu in
+    let others = together_fine r tsdus (sent r tsdu s) first.1 in
+    (all_more (put_sent tsdu (open_link r s)) (put_together r tsdus (sent r tsdu s)) first.0 others.0, others.1)

@@ -1,0 +1,364 @@
+-- As long as no break was told as the first, both sides are judged and every connection is, or nobody is judged any more; and a
+-- unit leaves that so, unless it is a break.
+-- For the first break of transport.
+use Rattle.std.proofs.Common.{◌≡◌, ◌∙◌, ℕ, Bool, true, false, if◌then◌else◌, Option, Some, None, is_some, refl, sym, ap, subst}
+use Rattle.std.proofs.Common.{inl, inr, ◌⊎◌}
+use Rattle.std.specs.Prelude.{◌||◌, slice_get, position}
+use Rattle.osi_tpdu.specs.Value.{Value, Connect, request, confirm, disconnect, disconnected, data0, data2, acknowledge, error}
+use Rattle.osi_class.specs.declared.terms.Class.{Class}
+use Rattle.osi_judge.specs.declared.directions.Direction.{Direction as Side}
+use Rattle.osi_judge.specs.declared.directions.Direction.TheVariants as side
+use Rattle.osi_rules.specs.declared.connections.Connection.{Connection}
+use Rattle.osi_rules.specs.declared.courses.Course.{Course as Judging}
+use Rattle.osi_rules.specs.declared.directions.Direction.{Direction}
+use Rattle.osi_rules.specs.declared.directions.Direction.TheVariants.{Left, Right}
+use Rattle.osi_rules.specs.declared.findings.Finding.{Finding}
+use Rattle.osi_rules.specs.declared.findings.Finding.TheVariants.{Kept, Broke, Outside, TooMany, NotJudged}
+use Rattle.osi_rules.specs.declared.findings.Reach.{Reach}
+use Rattle.osi_rules.specs.declared.findings.Reach.TheVariants as reach
+use Rattle.osi_rules.specs.declared.findings.Told.{Told}
+use Rattle.osi_rules.specs.declared.routes.Route.{Route}
+use Rattle.osi_rules.specs.declared.routes.Route.TheVariants.{Asks, Named, Only, Unnamed}
+use Rattle.osi_rules.specs.Reaches.{reach_of, is_applied}
+use Rattle.osi_rules.specs.Rows.{first_failed}
+use Rattle.osi_rules.specs.Sides.{is_live, is_named}
+use Rattle.osi_rules.specs.Traffic.{State, Outcome, class_for, course_after, course_after_none, found_on, unnamed, none_told, one_told}
+use Rattle.osi_rules.specs.Traffic.{unnamed_told, at_found, at_place, asks_by, asks_of, request_tests, routed, route, is_stopped, takes}
+use Rattle.osi_rules.specs.Traffic as traffic
+use Rattle.osi_rules.proofs.a_stop_is_said.{stops_are_said, stops_last}
+use Rattle.osi_tap.specs.declared.marks.Cause.{Cause}
+use Rattle.osi_tap.specs.declared.marks.Cause.TheVariants as cause
+use Rattle.osi_tap.specs.declared.marks.First.{First}
+use Rattle.osi_tap.specs.declared.marks.Mark.{Mark}
+use Rattle.osi_tap.specs.declared.marks.Marks.{Marks}
+use Rattle.osi_tap.specs.Connections.{taken}
+use Rattle.osi_tap.specs.Courses.{Course, breaks, cause_of, changes, earlier, first_by, first_marked, first_of, halts, is_break, kind_of}
+use Rattle.osi_tap.specs.Courses.{marked, marks_of, moment_of, moved, noted_by, number_at, packet_begins, reached, unit_passes, unread}
+use Rattle.osi_tap.specs.Courses.{unread_mark, unread_moment, way_of}
+
+-- ---- what is found of a unit, and how far that reaches
+
+-- after a unit that is no break, all is as before; or nobody is judged any more
+abbrev Means : Finding → Reach → (loose old : Bool) → Type 0
+Means Kept how_far loose old = (how_far ≡ reach.Nothing) × (loose ≡ old)
+Means NotJudged how_far loose old = (how_far ≡ reach.Nothing) × (loose ≡ old)
+Means TooMany how_far loose old = how_far ≡ reach.Everything
+Means (Broke rule) how_far loose old = Unit {0}
+Means Outside how_far loose old = Unit {0}
+
+abbrev IsMeant : State → Outcome → Type 0
+IsMeant s o = Means o.told.finding o.told.reach o.state.course.loose s.course.loose
+
+reaches : (f : Finding) (d : Direction) (class : Option Class) (between : Judging) (old : Bool) → between.loose ≡ old →
+    Means f (reach_of class f) (traffic.reached d (reach_of class f) between).loose old
+reaches Kept d class between old same = (refl, same)
+reaches NotJudged d class between old same = (refl, same)
+reaches TooMany d class between old same = refl
+reaches (Broke rule) d class between old same = tt
+reaches Outside d class between old same = tt
+
+keeps_loose : (d : Direction) (c : Connection) (v : Value) (applied : Bool) (course : Judging) →
+    (course_after d c v applied course).loose ≡ course.loose
+keeps_loose d c (request r) applied course = refl
+keeps_loose d c (confirm destination r) true course = refl
+keeps_loose d c (confirm destination r) false course = refl
+keeps_loose d c (disconnect destination source reason user) applied course = refl
+keeps_loose d c (disconnected destination source) applied course = refl
+keeps_loose d c (data0 end user) applied course = refl
+keeps_loose d c (data2 destination number end user) applied course = refl
+keeps_loose d c (acknowledge credit destination number) applied course = refl
+keeps_loose d c (error destination cause) applied course = refl
+
+none_loose : (v : Value) (course : Judging) → (course_after_none v course).loose ≡ course.loose
+none_loose (request r) course = refl
+none_loose (confirm destination r) course = refl
+none_loose (disconnect destination source reason user) course = refl
+none_loose (disconnected destination source) course = refl
+none_loose (data0 end user) course = refl
+none_loose (data2 destination number end user) course = refl
+none_loose (acknowledge credit destination number) course = refl
+none_loose (error destination cause) course = refl
+
+to_none : (d : Direction) (f : Finding) (s : State) → IsMeant s (none_told d f s)
+to_none d f s = reaches f d (class_for d s.course) s.course s.course.loose refl
+
+to_unnamed : (d : Direction) (v : Value) (s : State) → IsMeant s (unnamed_told d v s)
+to_unnamed d v s =
+    let c = course_after_none v s.course in
+    reaches (unnamed s.course v) d (class_for d c) c s.course.loose (none_loose v s.course)
+
+to_one : (d : Direction) (place : ℕ) (c : Connection) (v : Value) (s : State) → IsMeant s (one_told d place c v s)
+to_one d place c v s =
+    let f = found_on d s c v in
+    reaches f d (class_for d s.course) (course_after d c v (is_applied f) s.course) s.course.loose
+    (keeps_loose d c v (is_applied f) s.course)
+
+at_one : (d : Direction) (v : Value) (s : State) (place : ℕ) (c : Option Connection) → IsMeant s (at_found d v s place c)
+at_one d v s place None = to_unnamed d v s
+at_one d v s place (Some c) = to_one d place c v s
+
+at_any : (d : Direction) (v : Value) (s : State) (place : Option ℕ) → IsMeant s (at_place d v s place)
+at_any d v s None = to_unnamed d v s
+at_any d v s (Some place) = at_one d v s place (slice_get s.connections place)
+
+asking : (d : Direction) (f : Finding) (c : Connect) (s : State) → IsMeant s (asks_by d f c s)
+asking d Kept c s = (refl, refl)
+asking d (Broke rule) c s = to_none d (Broke rule) s
+asking d Outside c s = to_none d Outside s
+asking d TooMany c s = to_none d TooMany s
+asking d NotJudged c s = to_none d NotJudged s
+
+asks : (d : Direction) (v : Value) (s : State) → IsMeant s (asks_of d v s)
+asks d (request c) s = asking d (first_failed (request_tests s c)) c s
+asks d v s = to_none d NotJudged s
+
+by_route : (d : Direction) (v : Value) (s : State) (r : Route) → IsMeant s (routed d v s r)
+by_route d v s Asks = asks d v s
+by_route d v s (Named reference) = at_any d v s (position (is_named d reference) s.connections)
+by_route d v s Only = at_any d v s (position (is_live d) s.connections)
+by_route d v s (Unnamed finding) = to_none d finding s
+
+if_judged : (b : Bool) (d : Direction) (v : Value) (s : State) (r : Route) →
+    IsMeant s (if b then none_told d NotJudged s else routed d v s r)
+if_judged true d v s r = to_none d NotJudged s
+if_judged false d v s r = by_route d v s r
+
+takes_means : (d : Direction) (v : Value) (s : State) → IsMeant s (takes d v s)
+takes_means d v s = if_judged (is_stopped d s.course) d v s (route d s.course v)
+
+-- ---- at the tap
+
+-- both sides are judged, and each connection
+pub record IsJudged (c : Course) : Type 0 where
+  pub left : c.traffic.course.left_stopped ≡ false
+  pub right : c.traffic.course.right_stopped ≡ false
+  pub firm : c.traffic.course.loose ≡ false
+  pub left_goes : c.left.halted ≡ None
+  pub right_goes : c.right.halted ≡ None
+
+-- nobody is judged any more
+pub record IsOver (c : Course) : Type 0 where
+  pub left : c.traffic.course.left_stopped ≡ true
+  pub right : c.traffic.course.right_stopped ≡ true
+  pub left_halts : is_some c.left.halted ≡ true
+  pub right_halts : is_some c.right.halted ≡ true
+
+-- nobody has broken a rule
+pub record IsCalm (c : Course) : Type 0 where
+  pub none : c.first ≡ None
+  pub how : IsJudged c ⊎ IsOver c
+
+changes_first : (d : Side) (f : Marks → Marks) (c : Course) → (changes d f c).first ≡ c.first
+changes_first side.Left f c = refl
+changes_first side.Right f c = refl
+
+reached_first : (m : Mark) (r : Reach) (c : Course) → (reached m r c).first ≡ c.first
+reached_first m reach.Nothing c = refl
+reached_first m reach.Connection c = refl
+reached_first m reach.Side c = changes_first m.direction (halts m) c
+reached_first m reach.Everything c = refl
+
+pub marked_first : (m : Mark) (r : Reach) (c : Course) → (marked m r c).first ≡ first_by m c.first
+marked_first m r c =
+    reached_first m r (changes m.direction (breaks m) (first_marked m c)) ∙ changes_first m.direction (breaks m) (first_marked m c)
+
+-- a break is the first, if none was before it
+pub breaks_first : (m : Mark) (r : Reach) (c : Course) → is_break m.cause ≡ true → c.first ≡ None → (marked m r c).first ≡ Some (first_of m)
+breaks_first m r c broke none =
+    marked_first m r c ∙ ap (first_by m) none ∙ ap (λ (b : Bool). if b then Some (first_of m) else None) broke
+
+-- ---- one connection too many: nobody is judged after it
+
+some_earlier : (o : Option Mark) (m : Mark) → is_some (earlier o m) ≡ true
+some_earlier None m = refl
+some_earlier (Some k) m = refl
+
+pub changes_traffic : (d : Side) (f : Marks → Marks) (c : Course) → (changes d f c).traffic ≡ c.traffic
+changes_traffic side.Left f c = refl
+changes_traffic side.Right f c = refl
+
+-- ---- a unit
+
+module _ (d : Side) (at : ℕ) (v : Value) (c : Course) where
+  abbrev o : Outcome
+  o = takes (way_of d) v c.traffic
+
+  -- what it comes to, before what was found is noted
+  abbrev mid : Course
+  mid = moved (moment_of d at v o.told (taken d at v o.told.meaning o.told.place c.sessions)) (record c { traffic = o.state })
+
+  abbrev mark : Cause → Mark
+  mark k = record { direction = d; offset = at; unit = Some (kind_of v); connection = number_at o.told.place mid.sessions; cause = k }
+
+  says : (e : Direction) → is_stopped e o.state.course ≡ (traffic.stops_by (way_of d) o.told.reach e || is_stopped e c.traffic.course)
+  says e = stops_are_said (way_of d) v c.traffic e
+
+  says_so : (r : Reach) → o.told.reach ≡ r → (e : Direction) →
+      is_stopped e o.state.course ≡ (traffic.stops_by (way_of d) r e || is_stopped e c.traffic.course)
+  says_so r is e = says e ∙ ap (λ (x : Reach). traffic.stops_by (way_of d) x e || is_stopped e c.traffic.course) is
+
+  by_nothing : o.told.reach ≡ reach.Nothing → o.state.course.loose ≡ c.traffic.course.loose → IsCalm c → IsCalm mid
+  by_nothing is same calm = record { none = calm.none; how = by calm.how }
+    where
+      by : IsJudged c ⊎ IsOver c → IsJudged mid ⊎ IsOver mid
+      by (inl j) = inl (record {
+        left = says_so reach.Nothing is Left ∙ j.left;
+        right = says_so reach.Nothing is Right ∙ j.right;
+        firm = same ∙ j.firm;
+        left_goes = j.left_goes;
+        right_goes = j.right_goes;
+      })
+      by (inr w) = inr (record {
+        left = says_so reach.Nothing is Left ∙ w.left;
+        right = says_so reach.Nothing is Right ∙ w.right;
+        left_halts = w.left_halts;
+        right_halts = w.right_halts;
+      })
+
+  by_everything : o.told.reach ≡ reach.Everything → IsCalm c → IsCalm (marked (mark cause.TooMany) o.told.reach mid)
+  by_everything is calm =
+      subst (λ (r : Reach). IsCalm (marked (mark cause.TooMany) r mid)) (sym is)
+      (record {
+        none = marked_first (mark cause.TooMany) reach.Everything mid ∙ ap (first_by (mark cause.TooMany)) calm.none;
+        how = inr (record {
+          left = ap (λ (t : State). t.course.left_stopped)
+              (changes_traffic d (breaks (mark cause.TooMany)) (first_marked (mark cause.TooMany) mid))
+              ∙ says_so reach.Everything is Left;
+          right = ap (λ (t : State). t.course.right_stopped)
+              (changes_traffic d (breaks (mark cause.TooMany)) (first_marked (mark cause.TooMany) mid))
+              ∙ says_so reach.Everything is Right;
+          left_halts = some_earlier (changes d (breaks (mark cause.TooMany)) (first_marked (mark cause.TooMany) mid)).left.halted
+              (mark cause.TooMany);
+          right_halts = some_earlier (changes d (breaks (mark cause.TooMany)) (first_marked (mark cause.TooMany) mid)).right.halted
+              (mark cause.TooMany);
+        });
+      })
+
+  -- it leaves nobody who broke a rule first, or its side did
+  abbrev pub Leaves : Finding → Course → Type 0
+  Leaves Kept after = IsCalm after
+  Leaves NotJudged after = IsCalm after
+  Leaves TooMany after = IsCalm after
+  Leaves (Broke rule) after = (f : First) × (after.first ≡ Some f) × (f.direction ≡ d)
+  Leaves Outside after = (f : First) × (after.first ≡ Some f) × (f.direction ≡ d)
+
+  by_finding : (f : Finding) → Means f o.told.reach o.state.course.loose c.traffic.course.loose → IsCalm c →
+      Leaves f (noted_by d at v o.told (cause_of f) mid)
+  by_finding Kept means calm = by_nothing means.0 means.1 calm
+  by_finding NotJudged means calm = by_nothing means.0 means.1 calm
+  by_finding TooMany means calm = by_everything means calm
+  by_finding (Broke rule) means calm =
+      (first_of (mark (cause.Broke rule)), breaks_first (mark (cause.Broke rule)) o.told.reach mid refl calm.none, refl)
+  by_finding Outside means calm = (first_of (mark cause.Outside), breaks_first (mark cause.Outside) o.told.reach mid refl calm.none, refl)
+
+  pub unit_leaves : IsCalm c → Leaves o.told.finding (unit_passes d at v c)
+  unit_leaves calm = by_finding o.told.finding (takes_means (way_of d) v c.traffic) calm
+
+-- ---- what this side finds stays
+
+-- what passes of either side after the end of all judging is no break
+stopped_so : (d : Side) (c : Course) → IsOver c → is_stopped (way_of d) c.traffic.course ≡ true
+stopped_so side.Left c over = over.left
+stopped_so side.Right c over = over.right
+
+pub unit_over : (d : Side) (at : ℕ) (v : Value) (c : Course) → c.first ≡ None → IsOver c →
+    ((unit_passes d at v c).first ≡ None) × IsOver (unit_passes d at v c)
+unit_over d at v c none over =
+    let told = stops_last (way_of d) v c.traffic (stopped_so d c over) in
+    subst (λ (x : Outcome). ((noted_by d at v x.told (cause_of x.told.finding)
+    (moved (moment_of d at v x.told (taken d at v x.told.meaning x.told.place c.sessions)) (record c { traffic = x.state }))).first ≡ None)
+    × IsOver (noted_by d at v x.told (cause_of x.told.finding)
+    (moved (moment_of d at v x.told (taken d at v x.told.meaning x.told.place c.sessions)) (record c { traffic = x.state }))))
+    (sym told) (
+      none,
+      record {
+        left = over.left;
+        right = over.right;
+        left_halts = over.left_halts;
+        right_halts = over.right_halts;
+      },
+    )
+
+-- the first break stays the first
+kept_first : (m : Mark) (r : Reach) (c : Course) (f : First) → c.first ≡ Some f → (marked m r c).first ≡ Some f
+kept_first m r c f is = marked_first m r c ∙ ap (first_by m) is
+
+noted_first : (d : Side) (at : ℕ) (v : Value) (told : Told) (k : Option Cause) (c : Course) (f : First) → c.first ≡ Some f →
+    (noted_by d at v told k c).first ≡ Some f
+noted_first d at v told None c f is = is
+noted_first d at v told (Some k) c f is = kept_first _ told.reach c f is
+
+pub unit_first : (d : Side) (at : ℕ) (v : Value) (c : Course) (f : First) → c.first ≡ Some f → (unit_passes d at v c).first ≡ Some f
+unit_first d at v c f is =
+    let told = (takes (way_of d) v c.traffic).told in
+    noted_first d at v told (cause_of told.finding) _ f is
+
+-- ---- a packet begins, and what can't be read
+
+pub begins_calm : (d : Side) (c : Course) → IsCalm c → IsCalm (packet_begins d c)
+begins_calm d c calm = record { none = calm.none; how = by d calm.how }
+  where
+    by : (e : Side) → IsJudged c ⊎ IsOver c → IsJudged (packet_begins e c) ⊎ IsOver (packet_begins e c)
+    by side.Left (inl j) = inl (record {
+      left = j.left;
+      right = j.right;
+      firm = j.firm;
+      left_goes = j.left_goes;
+      right_goes = j.right_goes;
+    })
+    by side.Right (inl j) = inl (record {
+      left = j.left;
+      right = j.right;
+      firm = j.firm;
+      left_goes = j.left_goes;
+      right_goes = j.right_goes;
+    })
+    by side.Left (inr w) = inr (record {
+      left = w.left;
+      right = w.right;
+      left_halts = w.left_halts;
+      right_halts = w.right_halts;
+    })
+    by side.Right (inr w) = inr (record {
+      left = w.left;
+      right = w.right;
+      left_halts = w.left_halts;
+      right_halts = w.right_halts;
+    })
+
+pub begins_over : (d : Side) (c : Course) → IsOver c → IsOver (packet_begins d c)
+begins_over side.Left c w = record { left = w.left; right = w.right; left_halts = w.left_halts; right_halts = w.right_halts }
+begins_over side.Right c w = record { left = w.left; right = w.right; left_halts = w.left_halts; right_halts = w.right_halts }
+
+abbrev unread_if : Bool → Side → (at : ℕ) → Cause → Course → Course
+unread_if b d at k c = if b then c else marked (unread_mark d at k) (traffic.refused_reach (way_of d) c.traffic)
+    (moved (unread_moment d at k c.sessions) (record c { traffic = traffic.refused (way_of d) c.traffic }))
+
+first_if : (b : Bool) (d : Side) (at : ℕ) (k : Cause) (c : Course) (f : First) → c.first ≡ Some f → (unread_if b d at k c).first ≡ Some f
+first_if true d at k c f is = is
+first_if false d at k c f is = kept_first (unread_mark d at k) (traffic.refused_reach (way_of d) c.traffic) _ f is
+
+pub unread_first : (d : Side) (at : ℕ) (k : Cause) (c : Course) (f : First) → c.first ≡ Some f → (unread d at k c).first ≡ Some f
+unread_first d at k c f is = first_if (is_some (marks_of d c).halted) d at k c f is
+
+halted_so : (d : Side) (c : Course) → IsOver c → is_some (marks_of d c).halted ≡ true
+halted_so side.Left c over = over.left_halts
+halted_so side.Right c over = over.right_halts
+
+-- after the end of all judging it changes nothing
+pub unread_over : (d : Side) (at : ℕ) (k : Cause) (c : Course) → IsOver c → unread d at k c ≡ c
+unread_over d at k c over = ap (λ (b : Bool). unread_if b d at k c) (halted_so d c over)
+
+goes_so : (d : Side) (c : Course) → IsJudged c → is_some (marks_of d c).halted ≡ false
+goes_so side.Left c j = ap is_some j.left_goes
+goes_so side.Right c j = ap is_some j.right_goes
+
+-- before that it is the first break
+pub unread_breaks : (d : Side) (at : ℕ) (k : Cause) (c : Course) → is_break k ≡ true → c.first ≡ None → IsJudged c →
+    (f : First) × ((unread d at k c).first ≡ Some f) × (f.direction ≡ d)
+unread_breaks d at k c bad none judged =
+    let is : unread d at k c ≡ unread_if false d at k c = ap (λ (b : Bool). unread_if b d at k c) (goes_so d c judged) in (
+      first_of (unread_mark d at k),
+      ap (λ (x : Course). x.first) is ∙ breaks_first (unread_mark d at k) (traffic.refused_reach (way_of d) c.traffic) _ bad none,
+      refl,
+    )

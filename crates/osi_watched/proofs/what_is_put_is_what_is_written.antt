@@ -1,0 +1,138 @@
+-- Packets with the same octets have the same written units, and a unit that can be written is the one that is read there. And two
+-- readings of what an end holds and uses as packets agree as far as they matter.
+-- For the units between an end and a tap.
+use Rattle.std.proofs.Common.{◌≡◌, ◌≢◌, ◌∙◌, ◌+◌, ◌/◌, ◌%◌, ◌≤◌, ℕ, List, [], ◌∷◌, ◌++◌, length, map, Option, Some, None, Ok, refl}
+use Rattle.std.proofs.Common.{sym, ap, subst}
+use Rattle.std.proofs.Common.{arith}
+use Rattle.std.specs.List.{AllByRecursion}
+use Rattle.std.proofs.lemmas.List.{append-nil, length-append}
+use Rattle.osi_tpkt.specs.Octets.{IsOctets}
+use Rattle.osi_tpkt.specs.Packet.{packet_of}
+use Rattle.osi_tpkt.specs.Stream.{ArePackets}
+use Rattle.osi_tpdu.specs.Packet.{units_of}
+use Rattle.osi_tpdu.specs.Value.{Value}
+use Rattle.osi_tpdu.specs.Writing.{written}
+use Rattle.osi_carrier.specs.State.{packets}
+use Rattle.osi_carrier.specs.declared.ends.EndReason.{EndReason}
+use Rattle.osi_honest.proofs.reading.two_readings_of_a_stream_agree.{GoesBeyond, first, second, two_readings}
+use Rattle.osi_honest.proofs.reading.what_is_written_is_read_again.{CanBeWritten, read_again}
+
+-- ---- octets of packets
+
+same_split : (a b x y : List ℕ) → length a ≡ length b → a ++ x ≡ b ++ y → (a ≡ b) × (x ≡ y)
+same_split [] [] x y l e = (refl, e)
+same_split [] (b ∷ bs) x y l e = absurd (cc)
+same_split (a ∷ some) [] x y l e = absurd (cc)
+same_split (a ∷ some) (b ∷ others) x y l e =
+    let one : a ≡ b = cc in
+    let rest : some ++ x ≡ others ++ y = cc in
+    let long : length some ≡ length others = omega arith in
+    let more = same_split some others x y long rest in
+    (λ i. one i ∷ more.0 i, more.1)
+
+same_length : (n m : ℕ) → (n + 4) / 256 ≡ (m + 4) / 256 → (n + 4) % 256 ≡ (m + 4) % 256 → n ≡ m
+same_length n m high low = omega arith
+
+record Heads (n m : ℕ) (a b : List ℕ) : Type 0 where
+  high : (n + 4) / 256 ≡ (m + 4) / 256
+  low : (n + 4) % 256 ≡ (m + 4) % 256
+  rest : a ≡ b
+
+heads : (n m : ℕ) (a b : List ℕ) →
+    (3 ∷ 0 ∷ ((n + 4) / 256) ∷ ((n + 4) % 256) ∷ a) ≡ (3 ∷ 0 ∷ ((m + 4) / 256) ∷ ((m + 4) % 256) ∷ b) → Heads n m a b
+heads n m a b e = record { high = cc; low = cc; rest = cc }
+
+one_packet : (u w x y : List ℕ) → packet_of u ++ x ≡ packet_of w ++ y → (u ≡ w) × (x ≡ y)
+one_packet u w x y e =
+    let h = heads (length u) (length w) (u ++ x) (w ++ y) e in
+    same_split u w x y (same_length (length u) (length w) h.high h.low) h.rest
+
+-- the same octets are of the same written units
+pub same_written : (us vs : List Value) → packets us ≡ packets vs → map written us ≡ map written vs
+same_written [] [] e = refl
+same_written [] (v ∷ vs) e = absurd (cc)
+same_written (u ∷ us) [] e = absurd (cc)
+same_written (u ∷ us) (v ∷ vs) e =
+    let one = one_packet (written u) (written v) (packets us) (packets vs) e in
+    let more = same_written us vs one.1 in
+    λ i. one.0 i ∷ more i
+
+pub written_join : (us vs : List Value) → map written (us ++ vs) ≡ map written us ++ map written vs
+written_join [] vs = refl
+written_join (u ∷ us) vs = ap (λ (l : List (List ℕ)). written u ∷ l) (written_join us vs)
+
+-- ---- the first unit
+
+-- the first of these units is read as this one, and others follow
+pub record StartsWith (vs us : List Value) (u : Value) : Type 0 where
+  pub rest : List Value
+  pub is : vs ≡ u ∷ rest
+  pub same : map written rest ≡ map written us
+  pub can : AllByRecursion CanBeWritten rest
+
+pub starts_with : (vs us : List Value) (u : Value) → map written vs ≡ map written (u ∷ us) → AllByRecursion CanBeWritten vs →
+    units_of (written u) ≡ Ok (u ∷ []) → IsOctets (written u) → StartsWith vs us u
+starts_with [] us u e can read octets = absurd (cc)
+starts_with (v ∷ vs) us u e can read octets =
+    let same : written v ≡ written u = cc in
+    let more : map written vs ≡ map written us = cc in
+    let again : units_of (written v) ≡ Ok (v ∷ []) = read_again v can.0 (subst IsOctets (sym same) octets) in
+    let both = sym again ∙ ap units_of same ∙ read in
+    let one : v ≡ u = cc in
+    record { rest = vs; is = ap (λ (x : Value). x ∷ vs) one; same = more; can = can.1 }
+
+pub none_written : (vs us : List Value) → map written vs ≡ map written us → us ≢ [] → vs ≢ []
+none_written vs [] e some = λ none. some refl
+none_written [] (u ∷ us) e some = λ none. cc
+none_written (v ∷ vs) (u ∷ us) e some = λ none. cc
+
+-- ---- readings of what is held and used
+
+longer : (us : List (List ℕ)) (x y : List ℕ) → ArePackets us x y → length y + length us ≤ length x
+longer [] x y e = omega (arith, ap length e)
+longer (u ∷ us) x y (b, t, p, e, more) =
+    let few = longer us t y more in
+    omega (arith, ap length e, length-append b t, ap length p.spelled)
+
+pub none_left : (us : List (List ℕ)) (x y : List ℕ) → ArePackets us x y → x ≡ y → us ≡ []
+none_left [] x y h e = refl
+none_left (u ∷ us) x y h e = absurd (omega (arith, longer (u ∷ us) x y h, ap length e))
+
+-- These packets are the first of those, and all of them as long as the end lasts.
+pub record AreFirst (units used : List (List ℕ)) (ended : Option EndReason) : Type 0 where
+  pub more : List (List ℕ)
+  pub is : used ≡ units ++ more
+  pub all : ended ≡ None → more ≡ []
+
+-- An end took packets of what it held and used, and holds the rest as long as it lasts. Another reading of these octets has them
+-- first, if it has the same rest then, and after the end no packet is left in its rest.
+pub are_first : (units used : List (List ℕ)) (s r q : List ℕ) (ended : Option EndReason) → ArePackets units s r → ArePackets used s q →
+    (ended ≡ None → r ≡ q) → (ended ≢ None → (more : List (List ℕ)) (last : List ℕ) → ArePackets more q last → more ≡ []) →
+    AreFirst units used ended
+are_first units used s r q ended h k same none = by ended refl (two_readings units used s r q h k)
+  where
+    by : (o : Option EndReason) → ended ≡ o → GoesBeyond units used r q → AreFirst units used ended
+    by None e (second more is p) = record {
+      more = more;
+      is = is;
+      all = λ lasts. none_left more r q p (same lasts);
+    }
+    by None e (first more is p) =
+        let empty = none_left more q r p (sym (same e)) in
+        record {
+          more = [];
+          is = sym (is ∙ ap (λ (l : List (List ℕ)). used ++ l) empty ∙ append-nil used) ∙ sym (append-nil units);
+          all = λ lasts. refl;
+        }
+    by (Some reason) e (second more is p) = record {
+      more = more;
+      is = is;
+      all = λ lasts. let no : Some reason ≡ None = sym e ∙ lasts in absurd (cc);
+    }
+    by (Some reason) e (first more is p) =
+        let empty = none (λ lasts. let no : Some reason ≡ None = sym e ∙ lasts in cc) more r p in
+        record {
+          more = [];
+          is = sym (is ∙ ap (λ (l : List (List ℕ)). used ++ l) empty ∙ append-nil used) ∙ sym (append-nil units);
+          all = λ lasts. refl;
+        }

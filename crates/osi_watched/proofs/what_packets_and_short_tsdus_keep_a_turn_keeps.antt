@@ -1,0 +1,340 @@
+-- What each packet and the TSDUs of a session, which are not too long, leave true of a carrier and of the packets that it used so
+-- far, a turn of an end leaves true, whatever arrives and however much memory there is.
+-- For what a turn of an end does to its carrier. `osi_honest` has the like for TSDUs of any length.
+use Rattle.std.proofs.Common.{◌≡◌, ◌∙◌, refl, sym, ap, subst, ℕ, Bool, true, false, if◌then◌else◌, List, [], ◌∷◌, ◌++◌, length, take}
+use Rattle.std.proofs.Common.{drop, Option, Some, None, is_some, IsSome, option_map, inl, inr, ◌⊎◌, append_assoc, arith}
+use Rattle.std.specs.List.{AllByRecursion, list_any}
+use Rattle.std.specs.Prelude.{◌||◌, ◌≤◌, nat_lt}
+use Rattle.std.proofs.lemmas.Bool.Decides.{nat_tests}
+use Rattle.std.proofs.lemmas.List.{append-nil, take-append-drop, take_all}
+use Rattle.osi_tpkt.specs.Octets.{IsOctets}
+use Rattle.osi_tpkt.specs.Stream.{ArePackets}
+use Rattle.osi_tpkt.specs.declared.cutting.Fed.{Fed}
+use Rattle.osi_tpdu.specs.Limits.{tsap_octets}
+use Rattle.osi_tpdu.specs.declared.tsaps.Tsap.{Tsap}
+use Rattle.osi_carrier.specs.Calls.{asks, closed_with, may_connect, open_link, send_all_error, sent_all}
+use Rattle.osi_carrier.specs.Happenings.{Happening}
+use Rattle.osi_carrier.specs.Packets as carriers
+use Rattle.osi_carrier.specs.State.{State as Carrier}
+use Rattle.osi_carrier.specs.State as states
+use Rattle.osi_carrier.specs.declared.ends.EndReason.{EndReason}
+use Rattle.osi_carrier.specs.declared.ends.EndReason.TheVariants.{Broken, NoMemory}
+use Rattle.osi_carrier.specs.Rows.{value_at}
+use Rattle.osi_carrier.specs.declared.faults.OpenError.{OpenError}
+use Rattle.osi_carrier.specs.declared.faults.SendError.{SendError}
+use Rattle.osi_carrier.specs.declared.faults.SendError.TheVariants.{TooLong}
+use Rattle.osi_carrier.proofs.stream.a_piece_is_read_packet_by_packet.{acts_cases}
+use Rattle.osi_class.specs.Link.{Standing}
+use Rattle.osi_session.specs.Listening.{Input, Listener, called, react}
+use Rattle.osi_session.specs.Sessions.{awaits}
+use Rattle.osi_stack.specs.Calls.{after_open, terms_error}
+use Rattle.osi_stack.specs.Feeding.{Feeds, TakesPackets, uses_all}
+use Rattle.osi_stack.specs.Feeding.{Goes as GoesThrough}
+use Rattle.osi_stack.specs.Hearing.{RunsOut, Starves, after_packet, attends, ends, hears_all, hears_times, with_carrier, with_events}
+use Rattle.osi_stack.specs.Inputs.{IsAccepted}
+use Rattle.osi_stack.specs.Rounds.{UserCall, user_does}
+use Rattle.osi_stack.specs.Rounds.UserCall.{breaking, calling, connecting, disconnecting}
+use Rattle.osi_stack.specs.Runs.{Call, Calls, carried_in, used_in}
+use Rattle.osi_stack.specs.Runs.Call.{carrying, feeding, telling}
+use Rattle.osi_stack.specs.State.{End, Holding, waits}
+use Rattle.osi_stack.specs.declared.connecting.ConnectError.{ConnectError}
+use Rattle.osi_stack.proofs.given_up.the_invariant_stays.{disconnect_carrier}
+use Rattle.osi_stack.proofs.carried.events_one_after_the_other.{concluded_carrier}
+use Rattle.osi_stack.proofs.carried.packets_without_events.{packet_is, quiet_stops}
+use Rattle.osi_stack.proofs.stream.the_room_for_a_packet.{found_how}
+use Rattle.osi_stack.proofs.stream.an_end_is_what_its_packets_make.{none_ended}
+use Rattle.osi_stack.proofs.carried.what_each_step_preserves.{events_heard}
+use Rattle.osi_stack.specs.Messages.{AreShort}
+use Rattle.osi_stack.specs.Moving.{by_line, carrier_by, to_session}
+use Rattle.osi_stack.specs.State.{Line}
+use Rattle.osi_stack.specs.Transport.{answers_by, sent_unless}
+use Rattle.osi_honest.specs.Talking as history
+use Rattle.osi_honest.specs.Turns.{Act, Acts, Takes, Turn, carried_by, used_by}
+use Rattle.osi_honest.specs.Turns.Act.{serving, using}
+use Rattle.osi_honest.proofs.reading.two_readings_of_a_stream_agree.{packets_on, packets_then}
+use Rattle.osi_honest.proofs.class_0.what_a_packet_does_in_class_0.{AllProper}
+use Rattle.osi_honest.proofs.class_0.what_a_turn_does_in_class_0.{all_octets, more_used, stopped_within}
+use Rattle.osi_honest.proofs.class_0.what_packets_do_in_class_0.{never_lasts}
+
+-- ---- what a session sends
+
+-- a session sends TSDUs, none of which is too long, or closes its connection
+pub record Carries (P : Carrier → Type 0) : Type 0 where
+  pub sends : (r : ℕ) (tsdus : List (List ℕ)) (c : Carrier) → AreShort tsdus → P c → P (sent_all r tsdus c)
+  pub closes : (r : ℕ) (c : Carrier) → P c → P (closed_with r 128 c)
+
+short_if : (b : Bool) (tsdu : List ℕ) (tsdus : List (List ℕ)) → nat_lt 1048576 (length tsdu) ≡ b →
+    (list_any (λ (t : List ℕ). nat_lt 1048576 (length t)) tsdus ≡ false → AreShort tsdus) →
+    (b || list_any (λ (t : List ℕ). nat_lt 1048576 (length t)) tsdus) ≡ false → AreShort (tsdu ∷ tsdus)
+short_if true tsdu tsdus e more h = absurd (cc)
+short_if false tsdu tsdus e more h = (let few : length tsdu ≤ 1048576 = grind (arith, nat_tests) in few, more h)
+
+all_short : (tsdus : List (List ℕ)) → list_any (λ (t : List ℕ). nat_lt 1048576 (length t)) tsdus ≡ false → AreShort tsdus
+all_short [] h = tt
+all_short (tsdu ∷ tsdus) h = short_if (nat_lt 1048576 (length tsdu)) tsdu tsdus refl (all_short tsdus) h
+
+short_by : (tsdus : List (List ℕ)) (b : Bool) → list_any (λ (t : List ℕ). nat_lt 1048576 (length t)) tsdus ≡ b →
+    (if b then Some TooLong else None) ≡ None → AreShort tsdus
+short_by tsdus true e h = absurd (cc)
+short_by tsdus false e h = all_short tsdus e
+
+are_short : (tsdus : List (List ℕ)) (o : Option (ℕ × Standing)) → send_all_error tsdus o ≡ None → AreShort tsdus
+are_short tsdus None h = absurd (cc)
+are_short tsdus (Some link) h = short_by tsdus (list_any (λ (t : List ℕ). nat_lt 1048576 (length t)) tsdus) refl h
+
+module _ (P : Carrier → Type 0) (law : Carries P) where
+  unless_carried : (o : Option SendError) (r : ℕ) (tsdus : List (List ℕ)) (c : Carrier) → (o ≡ None → AreShort tsdus) → P c →
+      P (sent_unless o r tsdus c)
+  unless_carried (Some e) r tsdus c short p = p
+  unless_carried None r tsdus c short p = law.sends r tsdus c (short refl) p
+
+  answer_carried : (closing : Bool) (r : ℕ) (tsdus : List (List ℕ)) (c : Carrier) → P c → P (answers_by closing r tsdus c)
+  answer_carried true r tsdus c p = law.closes r c p
+  answer_carried false r tsdus c p =
+      unless_carried (send_all_error tsdus (open_link r c)) r tsdus c (are_short tsdus (open_link r c)) p
+
+  move_carried : (r : ℕ) (o : Option Listener) (input : Input) (c : Carrier) → P c → P (carrier_by r o input c)
+  move_carried r None input c p = p
+  move_carried r (Some session) input c p = answer_carried (react session input).closes r _ c p
+
+  line_carried : (r : ℕ) (o : Option Line) (input : Input) (e : End) → P e.carrier → P (by_line r o input e).carrier
+  line_carried r None input e p = p
+  line_carried r (Some line) input e p = move_carried r line.session input e.carrier p
+
+  session_carried : (r : ℕ) (input : Input) (e : End) → P e.carrier → P (to_session r input e).carrier
+  session_carried r input e p = line_carried r (value_at r e.lines) input e p
+
+-- what holds of the packets that a carrier used and of the carrier, if it holds before each packet and before TSDUs of a session
+pub record IsTracked (P : List (List ℕ) → Carrier → Type 0) : Type 0 where
+  pub packet : (us : List (List ℕ)) (u : List ℕ) (c : Carrier) → IsOctets u → P us c → P (us ++ u ∷ []) (carriers.after_packet c u)
+  pub shortage : (us : List (List ℕ)) (u : List ℕ) (c d : Carrier) → IsOctets u → P us c → carriers.Starves c u d → P (us ++ u ∷ []) d
+  pub carries : (us : List (List ℕ)) → Carries (P us)
+  pub untold : (us : List (List ℕ)) (events : List Happening) (c : Carrier) → P us c → P us (record c { events = events })
+  pub ends_so : (us : List (List ℕ)) (reason : EndReason) (c : Carrier) → P us c → P us (states.ends reason c)
+
+-- and if the user requests a connection
+abbrev pub AsksToo : (Carrier → Type 0) → Type 0
+AsksToo P = (calling called : Option Tsap) (c : Carrier) → may_connect c ≡ None → P c →
+    P (asks (option_map tsap_octets calling) (option_map tsap_octets called) c)
+
+may_of : (o : Option OpenError) (fault : Option ConnectError) → after_open o fault ≡ None → o ≡ None
+may_of None fault h = refl
+may_of (Some e) fault h = cc
+
+-- ---- a turn
+
+-- Packets stand in what was held and used; what holds of them and those before holds of the carrier with all that was put.
+pub record Tracks (P : List (List ℕ) → Carrier → Type 0) (us : List (List ℕ)) (used put : List ℕ) (old new : Holding) : Type 0 where
+  pub units : List (List ℕ)
+  pub rest : List ℕ
+  pub cut : ArePackets units (old.held.octets ++ used) rest
+  pub held : new.end.carrier.ended ≡ None → rest ≡ new.held.octets
+  pub there : Carrier
+  pub holds : P (us ++ units) there
+  pub outgoing : there.outgoing ≡ old.end.carrier.outgoing ++ put
+  pub same : new.end.carrier ≡ record there { outgoing = new.end.carrier.outgoing }
+
+module _ (P : List (List ℕ) → Carrier → Type 0) (tracked : IsTracked P) where
+  -- ---- events and packets
+
+  heard : (us : List (List ℕ)) (n : ℕ) (e : End) → P us e.carrier → P us (hears_times n e).carrier
+  heard us n e p =
+      events_heard (λ x. P us x.carrier) (λ events x q. tracked.untold us events x.carrier q) (record {
+        begins = λ r x none q. q;
+        moves = λ event x q. session_carried (P us) (tracked.carries us) _ _ x q;
+      }) n e p
+
+  attended : (us : List (List ℕ)) (e : End) → P us e.carrier → P us (attends e).carrier
+  attended us e p = subst (P us) (sym (concluded_carrier (hears_all e))) (heard us (length e.carrier.events) e p)
+
+  after : (us : List (List ℕ)) (u : List ℕ) (e : End) → IsOctets u → P us e.carrier → P (us ++ u ∷ []) (after_packet e u).carrier
+  after us u e octets p =
+      subst (λ (x : End). P (us ++ u ∷ []) x.carrier) (sym (packet_is e u))
+      (attended (us ++ u ∷ []) (with_carrier (carriers.after_packet e.carrier u) e) (tracked.packet us u e.carrier octets p))
+
+  takes : (us units : List (List ℕ)) (old new : End) → AllByRecursion IsOctets units → P us old.carrier → TakesPackets old units new →
+      P (us ++ units) new.carrier
+  takes us [] old new octets p t =
+      subst (λ (x : List (List ℕ)). P x new.carrier) (sym (append-nil us)) (subst (λ (x : End). P us x.carrier) (sym t) p)
+  takes us (u ∷ units) old new octets p t =
+      subst (λ (x : List (List ℕ)). P x new.carrier) (append_assoc us (u ∷ []) units)
+      (takes (us ++ u ∷ []) units (after_packet old u) new octets.1 (after us u old octets.0 p) t.1)
+
+  -- ---- memory runs out
+
+  ended_so : (us : List (List ℕ)) (b : Bool) (c : Carrier) → P us c → P us (if b then c else states.ends NoMemory c)
+  ended_so us true c p = p
+  ended_so us false c p = tracked.ends_so us NoMemory c p
+
+  runs_out : (us : List (List ℕ)) (c : Carrier) (old new : End) → P us c → RunsOut (with_carrier c old) new → P us new.carrier
+  runs_out us c old new p out =
+      let mid = hears_times out.heard (with_carrier c old) in
+      subst (λ (x : End). P us x.carrier) (sym out.starved)
+      (ended_so us (is_some mid.carrier.ended) (with_events out.more mid).carrier
+      (tracked.untold us out.more mid.carrier (heard us out.heard (with_carrier c old) p)))
+
+  acts_or : (us : List (List ℕ)) (u : List ℕ) (old new : Carrier) → IsOctets u → P us old → carriers.Acts old u new → P (us ++ u ∷ []) new
+  acts_or us u old new octets p acts = elim (acts_cases old new u acts) [
+    | inl is ↦ subst (P (us ++ u ∷ [])) (sym is) (tracked.packet us u old octets p)
+    | inr short ↦ tracked.shortage us u old new octets p short
+  ]
+
+  starves : (us : List (List ℕ)) (u : List ℕ) (old new : End) → IsOctets u → P us old.carrier → Starves old u new →
+      P (us ++ u ∷ []) new.carrier
+  starves us u old new octets p (inl (c, short, there)) =
+      subst (λ (x : End). P (us ++ u ∷ []) x.carrier) (sym there)
+      (attended (us ++ u ∷ []) (with_carrier c old) (tracked.shortage us u old.carrier c octets p short))
+  starves us u old new octets p (inr (c, acts, out)) =
+      runs_out (us ++ u ∷ []) c old new (acts_or us u old.carrier c octets p acts) out
+
+  -- ---- a piece
+
+  as_used : (us units : List (List ℕ)) (used put rest : List ℕ) (old new : Holding) → P (us ++ units) new.end.carrier →
+      ArePackets units (old.held.octets ++ used) rest → (new.end.carrier.ended ≡ None → rest ≡ new.held.octets) →
+      new.end.carrier.outgoing ≡ old.end.carrier.outgoing ++ put → Tracks P us used put old new
+  as_used us units used put rest old new p cut held is = record {
+    units = units;
+    rest = rest;
+    cut = cut;
+    held = held;
+    there = new.end.carrier;
+    holds = p;
+    outgoing = is;
+    same = refl;
+  }
+
+  all_used : (us units : List (List ℕ)) (piece put rest : List ℕ) (used : ℕ) (old new : Holding) → used ≡ length piece →
+      ArePackets units (old.held.octets ++ piece) rest → IsSome new.end.carrier.ended → P (us ++ units) new.end.carrier →
+      new.end.carrier.outgoing ≡ old.end.carrier.outgoing ++ put → Tracks P us (take used piece) put old new
+  all_used us units piece put rest used old new all cut ended p is =
+      let whole : take used piece ≡ piece = take_all used piece (omega arith) in
+      as_used us units (take used piece) put rest old new p
+      (subst (λ (l : List ℕ). ArePackets units (old.held.octets ++ l) rest) (sym whole) cut)
+      (λ lasts. absurd (never_lasts new.end.carrier.ended ended lasts)) is
+
+  nothing_used : (us : List (List ℕ)) (used put : List ℕ) (old new : Holding) (there : Carrier) → used ≡ [] → P us there →
+      there.outgoing ≡ old.end.carrier.outgoing ++ put →
+      new.end.carrier ≡ record there { outgoing = new.end.carrier.outgoing } → new.held.octets ≡ old.held.octets →
+      Tracks P us used put old new
+  nothing_used us used put old new there none p is same held = record {
+    units = [];
+    rest = old.held.octets ++ used;
+    cut = refl;
+    held = λ lasts. ap (λ (l : List ℕ). old.held.octets ++ l) none ∙ append-nil old.held.octets ∙ sym held;
+    there = there;
+    holds = subst (λ (x : List (List ℕ)). P x there) (sym (append-nil us)) p;
+    outgoing = is;
+    same = same;
+  }
+
+  module _ (proper : AllProper) where
+    goes : (us : List (List ℕ)) (piece put : List ℕ) (used : ℕ) (old new : Holding) → P us old.end.carrier →
+        GoesThrough old piece used new →
+        new.end.carrier.outgoing ≡ old.end.carrier.outgoing ++ put → Tracks P us (take used piece) put old new
+    goes us piece put used old new p (inl (inl dry)) is =
+        let whole : take used piece ≡ piece = let all = dry.all in take_all used piece (omega arith) in
+        as_used us dry.units (take used piece) put new.held.octets old new
+        (takes us dry.units old.end new.end (all_octets dry.units _ _ dry.packets) p dry.taken)
+        (subst (λ (l : List ℕ). ArePackets dry.units (old.held.octets ++ l) new.held.octets) (sym whole) dry.packets) (λ lasts. refl) is
+    goes us piece put used old new p (inl (inr stop)) is =
+        let s = stopped_within awaits 0 [] [] [] proper awaits history.begins piece used old new stop new.end.carrier.ended
+        (uses_all new.end) refl refl in
+        as_used us stop.units (take used piece) put s.rest old new
+        (takes us stop.units old.end new.end (all_octets stop.units _ _ stop.packets) p stop.taken) s.cut s.held is
+    goes us piece put used old new p (inr (inl f)) is =
+        all_used us f.units piece put f.cut.0 used old new f.all f.cut.1 (ap (λ (e : End). is_some e.carrier.ended) f.ended)
+        (subst (λ (x : End). P (us ++ f.units) x.carrier) (sym f.ended)
+        (tracked.ends_so (us ++ f.units) _ f.before.carrier
+        (takes us f.units old.end f.before (all_octets f.units _ _ f.cut.1) p f.taken))) is
+    goes us piece put used old new p (inr (inr f)) is = by (found_how old piece used new f)
+      where
+        before : P (us ++ f.units) f.before.carrier
+        before = takes us f.units old.end f.before (all_octets f.units _ _ f.packets) p f.taken
+
+        ended : IsSome new.end.carrier.ended
+        ended = none_ended old piece used new f
+
+        one_more : (packet : List ℕ) → ArePackets (packet ∷ []) f.rest [] →
+            ArePackets (f.units ++ packet ∷ []) (old.held.octets ++ piece) ([] ++ drop f.within piece)
+        one_more packet one =
+            subst (λ (l : List ℕ). ArePackets (f.units ++ packet ∷ []) l ([] ++ drop f.within piece))
+            (append_assoc old.held.octets (take f.within piece) (drop f.within piece)
+            ∙ ap (λ (l : List ℕ). old.held.octets ++ l) (take-append-drop f.within piece))
+            (packets_then f.units (packet ∷ []) (old.held.octets ++ take f.within piece) f.rest (drop f.within piece)
+            ([] ++ drop f.within piece) f.packets (packets_on (packet ∷ []) f.rest [] (drop f.within piece) one))
+
+        by : (new.end ≡ ends NoMemory f.before)
+            ⊎ ((packet : List ℕ) × ArePackets (packet ∷ []) f.rest [] × Starves f.before packet new.end) →
+            Tracks P us (take used piece) put old new
+        by (inl same) =
+            all_used us f.units piece put (f.rest ++ drop f.within piece) used old new f.all
+            (more_used awaits 0 [] [] [] proper awaits history.begins f.units old.held.octets piece f.rest f.within f.packets) ended
+            (subst (λ (x : End). P (us ++ f.units) x.carrier) (sym same)
+            (tracked.ends_so (us ++ f.units) NoMemory f.before.carrier before)) is
+        by (inr (packet, one, starved)) =
+            all_used us (f.units ++ packet ∷ []) piece put ([] ++ drop f.within piece) used old new f.all (one_more packet one) ended
+            (subst (λ (x : List (List ℕ)). P x new.end.carrier) (append_assoc us f.units (packet ∷ []))
+            (starves (us ++ f.units) packet f.before new.end (all_octets (packet ∷ []) f.rest [] one).0 before starved)) is
+
+    feeds : (us : List (List ℕ)) (piece put : List ℕ) (fed : Fed) (old new : Holding) → P us old.end.carrier → Feeds old piece fed new →
+        new.end.carrier.outgoing ≡ old.end.carrier.outgoing ++ put → Tracks P us (take fed.used piece) put old new
+    feeds us piece put fed old new p f is = by old.end.carrier.ended refl (waits old.end.lines) refl
+      where
+        by : (o : Option EndReason) → old.end.carrier.ended ≡ o → (b : Bool) → waits old.end.lines ≡ b →
+            Tracks P us (take fed.used piece) put old new
+        by (Some reason) over b e =
+            let k = f.over (ap is_some over) in
+            as_used us [] (take fed.used piece) put (old.held.octets ++ take fed.used piece) old new
+            (subst (λ (x : Holding). P (us ++ []) x.end.carrier) (sym k.1)
+            (subst (λ (x : List (List ℕ)). P x old.end.carrier) (sym (append-nil us)) p)) refl
+            (λ lasts. absurd (never_lasts new.end.carrier.ended
+            (ap (λ (x : Holding). is_some x.end.carrier.ended) k.1 ∙ ap is_some over) lasts))
+            is
+        by None lasts true e =
+            let k = f.waiting lasts e in
+            nothing_used us (take fed.used piece) put old new new.end.carrier (ap (λ (n : ℕ). take n piece) k.0)
+            (subst (λ (x : Holding). P us x.end.carrier) (sym k.1) p) is refl (ap (λ (x : Holding). x.held.octets) k.1)
+        by None lasts false e = goes us piece put fed.used old new p (f.goes (quiet_stops old.end (ap is_some lasts) e)) is
+
+    -- ---- octets and indications come and go
+
+    serves : (us : List (List ℕ)) (call : Call) (put : List ℕ) (old new : Holding) → P us old.end.carrier → Calls old call new →
+        carried_in call ++ new.end.carrier.outgoing ≡ old.end.carrier.outgoing ++ put → Tracks P us (used_in call) put old new
+    serves us (feeding piece fed) put old new p c is = feeds us piece put fed old new p c is
+    serves us (telling shown) put old new p c is =
+        nothing_used us [] put old new new.end.carrier refl (subst (λ (x : Holding). P us x.end.carrier) (sym c.1) p) is refl
+        (ap (λ (x : Holding). x.held.octets) c.1)
+    serves us (carrying octets) put old new p c is =
+        let carrier : old.end.carrier ≡ record new.end.carrier { outgoing = octets ++ new.end.carrier.outgoing } =
+        ap (λ (x : Holding). x.end.carrier) c in
+        nothing_used us [] put old new old.end.carrier refl p
+        (ap (λ (x : Carrier). x.outgoing) carrier ∙ is)
+        (λ i. record (sym carrier i) { outgoing = new.end.carrier.outgoing }) (ap (λ (x : Holding). x.held.octets) (sym c))
+
+  -- ---- a call of the user
+
+  broken_end : (us : List (List ℕ)) (b : Bool) (e : End) → P us e.carrier → P us (if b then e else ends Broken e).carrier
+  broken_end us true e p = p
+  broken_end us false e p = tracked.ends_so us Broken e.carrier p
+
+  user_tracked : (us : List (List ℕ)) → AsksToo (P us) → (call : UserCall) (e : End) → IsAccepted call e → P us e.carrier →
+      P us (user_does call e).carrier
+  user_tracked us too (connecting c) e allowed p =
+      too c.calling_tsap c.called_tsap e.carrier (may_of (may_connect e.carrier) (terms_error c) allowed) p
+  user_tracked us too (calling r call) e allowed p = session_carried (P us) (tracked.carries us) r (called call) e p
+  user_tracked us too (disconnecting r) e allowed p =
+      subst (P us) (sym (disconnect_carrier r e)) ((tracked.carries us).closes r e.carrier p)
+  user_tracked us too breaking e allowed p = broken_end us (is_some e.carrier.ended) e p
+
+  pub turn_tracked : AllProper → (us : List (List ℕ)) → AsksToo (P us) → (turn : Turn) (old new : Holding) → P us old.end.carrier →
+      Takes old turn new → Tracks P us turn.used turn.put old new
+  turn_tracked proper us too turn old new p takes =
+      subst (λ (x : List ℕ). Tracks P us x turn.put old new) (sym takes.used) (by takes.act takes.acts takes.put)
+    where
+      by : (act : Act) → Acts old act new → carried_by act ++ new.end.carrier.outgoing ≡ old.end.carrier.outgoing ++ turn.put →
+          Tracks P us (used_by act) turn.put old new
+      by (serving call) acts put = serves proper us call turn.put old new p acts put
+      by (using call) acts put =
+          nothing_used us [] turn.put old new new.end.carrier refl
+          (subst (λ (x : Holding). P us x.end.carrier) (sym acts.3) (user_tracked us too call old.end acts.1 p)) put refl
+          (ap (λ (x : Holding). x.held.octets) acts.3)
