@@ -46,7 +46,7 @@ static void fetch(struct stack *s, struct received *r)
 static void receive(int socket, struct stack *s, struct received *r)
 {
     static uint8_t piece[PIECE];
-    const ssize_t came = recv(socket, piece, sizeof piece, 0);
+    const ssize_t came = recv(socket, piece, sizeof piece, MSG_DONTWAIT);
     must(came > 0, "recv");
     for (size_t used = 0; used < (size_t)came;) {
         used += feed_stack(s, piece + used, (size_t)came - used);
@@ -94,6 +94,7 @@ static void take_all(int socket, const struct task *t)
     struct received received = {0};
     open_stack(&stack, 1, t->window > 0, false);
     while (!received.has_point) {
+        wait_for(socket, POLLIN);
         receive(socket, &stack, &received);
         if (received.has_point)
             must(received.messages == t->count && stack_confirm(&stack, 1, received.point), "a confirmation");

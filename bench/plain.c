@@ -58,9 +58,9 @@ static void send_all(int socket, const struct task *t)
         if (waiting.end > 0)
             transmit(socket, &waiting);
         const int goes_on = waiting.end > 0 || may_say(t, &waiting, said, came / ANSWER);
-        if (goes_on && (wait_for(socket, POLLIN | POLLOUT) & POLLIN) == 0)
+        if ((wait_for(socket, (short)(POLLIN | (goes_on ? POLLOUT : 0))) & POLLIN) == 0)
             continue;
-        const ssize_t more = recv(socket, answers, sizeof answers, 0);
+        const ssize_t more = recv(socket, answers, sizeof answers, MSG_DONTWAIT);
         must(more > 0, "recv");
         came += (unsigned long)more;
     }
@@ -68,11 +68,26 @@ static void send_all(int socket, const struct task *t)
 
 /* ---- the side that takes */
 
-/* An incomplete packet. */
+/* An incomplete packet, and the user to whom each complete one is lent. */
 struct packet {
     uint8_t octets[PIECE];
     size_t length;
+    void (*shown)(void *user, const uint8_t *message, size_t octets);
+    void *user;
 };
+
+/* What the user received. */
+struct received {
+    unsigned long messages, octets;
+};
+
+static void count(void *user, const uint8_t *message, size_t octets)
+{
+    struct received *received = user;
+    (void)message;
+    received->messages++;
+    received->octets += octets;
+}
 
 /* How many octets of the piece belong to the packet: up to its end, if its header says where that is. */
 static size_t of_packet(const struct packet *p, size_t left)
@@ -81,10 +96,9 @@ static size_t of_packet(const struct packet *p, size_t left)
     return left < whole - p->length ? left : whole - p->length;
 }
 
-/* Copies the piece, packet by packet, and returns how many packets it completes. */
-static unsigned long gather(struct packet *p, const uint8_t *piece, size_t length)
+/* Copies the piece, packet by packet, and lends each message that it completes to the user. */
+static void gather(struct packet *p, const uint8_t *piece, size_t length)
 {
-    unsigned long whole = 0;
     while (length > 0) {
         const size_t part = of_packet(p, length);
         memcpy(p->octets + p->length, piece, part);
@@ -92,25 +106,29 @@ static unsigned long gather(struct packet *p, const uint8_t *piece, size_t lengt
         piece += part;
         length -= part;
         if (p->length > HEADER && of_packet(p, PIECE) == 0) {
+            p->shown(p->user, p->octets + HEADER, p->length - HEADER);
             p->length = 0;
-            whole++;
         }
     }
-    return whole;
 }
 
 static void take_all(int socket, const struct task *t)
 {
     static uint8_t piece[PIECE], answers[PIECE];
     static struct packet packet;
-    for (unsigned long taken = 0; taken < t->count;) {
-        const ssize_t came = recv(socket, piece, sizeof piece, 0);
+    struct received received = {0, 0};
+    packet.shown = count;
+    packet.user = &received;
+    while (received.messages < t->count) {
+        const unsigned long before = received.messages;
+        wait_for(socket, POLLIN);
+        const ssize_t came = recv(socket, piece, sizeof piece, MSG_DONTWAIT);
         must(came > 0, "recv");
-        const unsigned long more = gather(&packet, piece, (size_t)came);
-        taken += more;
-        const size_t due = ANSWER * (t->window > 0 ? more : taken == t->count);
+        gather(&packet, piece, (size_t)came);
+        const size_t due = ANSWER * (t->window > 0 ? received.messages - before : received.messages == t->count);
         must(due == 0 || send(socket, answers, due, MSG_NOSIGNAL) == (ssize_t)due, "send");
     }
+    must(received.octets == t->count * t->octets, "other octets");
 }
 
 int main(int words, char **word)

@@ -159,38 +159,40 @@ static void write_trace(struct gateway *g)
         osi_trace_each(&g->end, write_line, g->trace);
 }
 
-/* Fetches all pending indications. */
-static void show_all(struct gateway *g)
+/* Fetches an indication, if one is pending. */
+static bool show_next(struct gateway *g)
 {
     osi_indication shown;
-    write_trace(g);
-    while (osi_next(&g->end, &shown)) {
-        g->was_shown = true;
-        if (g->log != NULL) {
-            fprintf(g->log, "%s %u ", g->side, shown.reference);
-            write_shown(g->log, &shown);
-        }
-        g->shown(g, &shown);
+    if (!osi_next(&g->end, &shown))
+        return false;
+    g->was_shown = true;
+    if (g->log != NULL) {
+        fprintf(g->log, "%s %u ", g->side, shown.reference);
+        write_shown(g->log, &shown);
     }
+    g->shown(g, &shown);
+    return true;
 }
 
 static void close_socket(struct gateway *g)
 {
     osi_broken(&g->end);
-    show_all(g);
+    while (show_next(g)) {}
     close(g->socket);
     g->socket = -1;
 }
 
 static void feed_all(struct gateway *g, const uint8_t *piece, size_t length)
 {
-    while (length > 0) {
-        osi_fed fed;
+    osi_fed fed;
+    do {
         osi_feed(&g->end, piece, length, &fed);
         piece += fed.used;
         length -= fed.used;
-        show_all(g);
-    }
+        write_trace(g);
+        if (fed.waits)
+            show_next(g);
+    } while (length > 0 || fed.waits);
 }
 
 static bool comes_later(void)

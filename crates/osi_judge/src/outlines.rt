@@ -250,8 +250,9 @@ pub(crate) fn outline(alloc: Global, tsdu: &[u8]) -> Result<Octets, AllocError>
     if let Some(_user_data) = PlainUnit::data(tsdu) {
         return Octets::copy(alloc, data_head());
     }
-    match read_group(tsdu) {
-        Ok(group) => outline_of(alloc, tsdu, &group),
+    let read = read_group(tsdu);
+    match &read {
+        Ok(group) => outline_of(alloc, tsdu, group),
         Err(_) => Octets::copy(alloc, tsdu),
     }
 }

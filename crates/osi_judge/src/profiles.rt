@@ -60,7 +60,8 @@ fn accepted_by(unit: &Spdu) -> Option<Requirements>
 fn offered(tsdu: &[u8]) -> Option<Requirements>
     ensures { option_map unit_bits result ≡ in_first offered_in (said_at tsdu.now) }
 {
-    match read_group(tsdu) {
+    let read = read_group(tsdu);
+    match &read {
         Ok(group) => offered_by(group.first()),
         Err(_) => None,
     }
@@ -71,7 +72,8 @@ fn offered(tsdu: &[u8]) -> Option<Requirements>
 fn accepted(tsdu: &[u8]) -> Option<Requirements>
     ensures { option_map unit_bits result ≡ in_first accepted_in (said_at tsdu.now) }
 {
-    match read_group(tsdu) {
+    let read = read_group(tsdu);
+    match &read {
         Ok(group) => accepted_by(group.first()),
         Err(_) => None,
     }

@@ -273,9 +273,10 @@ pub(crate) fn break_at(
     requires { before ≤ length heard.now }
     ensures { IfOk result (λ by. BreaksAt heard.now tsdu.now before members.now by) }
 {
-    match read_group(tsdu) {
-        Ok(group) => break_in(alloc, heard, &group, tsdu.len(), before, members),
-        Err(fault) => nearest(alloc, heard, &Question::Fault(fault), before, members),
+    let read = read_group(tsdu);
+    match &read {
+        Ok(group) => break_in(alloc, heard, group, tsdu.len(), before, members),
+        Err(fault) => nearest(alloc, heard, &Question::Fault(*fault), before, members),
     }
 }
 

@@ -90,8 +90,9 @@ pub(crate) fn behind_tsdu(
     ensures value { IfOk result (λ next. next.items
         ≡ after_tsdu heard.now members.now (record { octets = tsdu.now; before = before })) }
 {
-    match read_group(tsdu) {
-        Ok(group) => behind_units(alloc, heard, &group, tsdu.len(), before, members),
+    let read = read_group(tsdu);
+    match &read {
+        Ok(group) => behind_units(alloc, heard, group, tsdu.len(), before, members),
         Err(_) => Ok(Vec::new(alloc)),
     }
 }

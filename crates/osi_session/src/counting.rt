@@ -214,8 +214,9 @@ pub(crate) fn count_tsdu(
 ) -> Result<Counting, AllocError>
     ensures { IfOk result (λ c. CountsCame state.now joined (said_at tsdu.now) (count_of c)) }
 {
-    match read_group(tsdu) {
-        Ok(group) => count_all(alloc, state, joined, &group),
-        Err(fault) => Ok(Counting::of(judge_unread(state, fault), joined)),
+    let read = read_group(tsdu);
+    match &read {
+        Ok(group) => count_all(alloc, state, joined, group),
+        Err(fault) => Ok(Counting::of(judge_unread(state, *fault), joined)),
     }
 }

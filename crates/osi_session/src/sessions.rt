@@ -384,9 +384,11 @@ impl Session {
     pub fn take_unexpected(&mut self, tsdu: &[u8]) -> Result<Taken, AllocError>
         ensures { Takes result (react self.old (came tsdu.now)) self.old self.new }
     {
-        match read_group(tsdu) {
-            Ok(group) => self.take(&group),
-            Err(fault) => self.take_bad(fault),
+        // The units are lent from where they were read: their parameters need much room, so a copy costs much.
+        let read = read_group(tsdu);
+        match &read {
+            Ok(group) => self.take(group),
+            Err(fault) => self.take_bad(*fault),
         }
     }
 

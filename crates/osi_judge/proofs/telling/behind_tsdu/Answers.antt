@@ -1,4 +1,6 @@
-use Rattle.std.proofs.Common.{◌∙◌, sym, ap, length, Result}
+use Rattle.std.proofs.Common.{◌∙◌, sym, ap, length, subst, Result}
+use Rattle.osi_spdu.specs.Groups.{units_of}
+use Rattle.osi_spdu.specs.Reading.{Gives, tsdu_at}
 use Rattle.osi_spdu.specs.declared.faults.SpduFault.{SpduFault}
 use Rattle.osi_message.specs.Reading.{said_at, said_if_read}
 use Rattle.osi_message.specs.Words.{Words}
@@ -12,19 +14,22 @@ pub returns-in-Err-clause-explains : goal.returns-in-Err-clause-explains
 unfolding said_at
 returns-in-Err-clause-explains c = λ us later x h.
     let t : Told = record { octets = c.args.tsdu.now; before = c.args.before } in
+    let read = subst (λ r. Gives units_of r (tsdu_at c.args.tsdu.now)) c.in-Err.is c.read_group-read.ensures.exact in
     unread_came us c.args.members.now c.new.result.items t (said_at c.args.tsdu.now) c.in-Err.field-0 later
-    (ap said_if_read c.in-Err.ensures.exact) c.new.ensures.items
+    (ap said_if_read read) c.new.ensures.items
 
 pub returns-in-Err-clause-value : goal.returns-in-Err-clause-value
 unfolding said_at
 returns-in-Err-clause-value c =
+    let read = subst (λ r. Gives units_of r (tsdu_at c.args.tsdu.now)) c.in-Err.is c.read_group-read.ensures.exact in
     c.new.ensures.items
     ∙ sym (ap (λ (r : Result Words SpduFault). after_read c.args.heard.now (length c.args.tsdu.now) c.args.before c.args.members.now r)
-    (ap said_if_read c.in-Err.ensures.exact))
+    (ap said_if_read read))
 
 pub returns-in-Ok-clause-value : goal.returns-in-Ok-clause-value
 unfolding said_at
 returns-in-Ok-clause-value c =
+    let read = subst (λ r. Gives units_of r (tsdu_at c.args.tsdu.now)) c.in-Ok.is c.read_group-read.ensures.exact in
     if_ok_as (λ v. v.items) c.behind_units.result _ _
     (ap (λ (r : Result Words SpduFault). after_read c.args.heard.now (length c.args.tsdu.now) c.args.before c.args.members.now r)
-    (sym (ap said_if_read c.in-Ok.ensures.exact))) c.behind_units.ensures.value
+    (sym (ap said_if_read read))) c.behind_units.ensures.value
