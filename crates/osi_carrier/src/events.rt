@@ -5,7 +5,7 @@ ghost use Rattle.std.specs.Prelude.{◌≡◌, ◌++◌, ◌∷◌, [], true};
 use osi_class::{LinkFault, Queue};
 
 /// The reference that this end gave a connection: 1 to 65,535, and never twice the same.
-#[derive(Clone, Copy, PartialEq, Eq, Debug)]
+#[derive(Clone, Copy, PartialEq, Eq)]
 pub struct Ref(pub u16);
 
 /// An event that a carrier reports to its user.

@@ -7,7 +7,7 @@ pub const LONGEST_TSDU: usize = 1_048_576;
 
 /// How many units of class 2 may be sent: the credit that a CR, a CC or an AK gives (X.224 section
 /// 13.3.3).
-#[derive(Clone, Copy, PartialEq, Eq, PartialOrd, Ord, Debug)]
+#[derive(Clone, Copy, PartialEq, Eq, PartialOrd, Ord)]
 pub struct Credit {
     units: u8,
     pub ghost at_most: { units ≤ 15 },

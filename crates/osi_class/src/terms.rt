@@ -3,7 +3,7 @@
 use osi_tpdu::{SizeCode, Window};
 
 /// The classes of the transport protocol that are known here (X.224 section 5.4).
-#[derive(Clone, Copy, PartialEq, Eq, Debug)]
+#[derive(Clone, Copy, PartialEq, Eq)]
 pub enum Class {
     /// Class 0, simple: one connection on a byte stream, no flow control.
     Zero,
@@ -12,7 +12,7 @@ pub enum Class {
 }
 
 /// What this end supports and prefers.
-#[derive(Clone, Copy, PartialEq, Eq, Debug)]
+#[derive(Clone, Copy, PartialEq, Eq)]
 pub struct Local {
     /// Whether class 0 is supported.
     pub class0: bool,
@@ -25,7 +25,7 @@ pub struct Local {
 }
 
 /// The answer to a CR (X.224 section 6.5).
-#[derive(Clone, Copy, PartialEq, Eq, Debug)]
+#[derive(Clone, Copy, PartialEq, Eq)]
 pub enum Answer {
     /// A CC, with the class and the TPDU size that it selects. Without a size units have at most
     /// 128 octets.

@@ -11,7 +11,7 @@ pub enum Slot {
 }
 
 /// A unit that a link gives, to be written for its peer.
-#[derive(Clone, Copy, PartialEq, Eq, Debug)]
+#[derive(Clone, Copy, PartialEq, Eq)]
 pub enum Out<'a> {
     /// DT of class 0, a part of a TSDU (X.224 section 13.7).
     Data0 {
@@ -39,7 +39,7 @@ pub enum Out<'a> {
 }
 
 /// The units that a link gives for a TSDU.
-#[derive(Clone, Copy, PartialEq, Eq, Debug)]
+#[derive(Clone, Copy, PartialEq, Eq)]
 pub struct Room {
     /// How many there are.
     pub units: usize,

@@ -1,7 +1,7 @@
 //! What was found of a side.
 
 /// What was found of one side of a connection.
-#[derive(Clone, Copy, PartialEq, Eq, Debug)]
+#[derive(Clone, Copy, PartialEq, Eq)]
 pub enum Finding {
     /// Each TSDU that it sent is explained.
     Kept,

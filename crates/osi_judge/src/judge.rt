@@ -15,7 +15,7 @@ use crate::stops::Stopped;
 use std::alloc::{AllocError, Global};
 
 /// What was read of a direction.
-#[derive(Clone, Copy, PartialEq, Eq, Debug)]
+#[derive(Clone, Copy, PartialEq, Eq)]
 pub struct Reading {
     /// Complete packets.
     pub packets: u64,

@@ -18,7 +18,7 @@ use osi_spdu::{Group, Kind, Spdu, SpduFault, read_group};
 use std::alloc::{AllocError, Global};
 
 /// Why a side may not send what it sent (X.225 sections 7 and 8).
-#[derive(Clone, Copy, PartialEq, Eq, Debug)]
+#[derive(Clone, Copy, PartialEq, Eq)]
 pub enum Rule {
     /// No session in this state sends the unit.
     Breach(Breach),

@@ -8,7 +8,7 @@ use osi_tpkt::TpktFault;
 
 /// Why the packets of a side are not looked at any more: after this the side has no more TSDUs, but for a DT of left that
 /// came before the answer to its CR.
-#[derive(Clone, Copy, PartialEq, Eq, Debug)]
+#[derive(Clone, Copy, PartialEq, Eq)]
 pub enum Stop {
     /// The first packet of left has no CR, or that of right no CC and no CR had passed before it: the capture begins in the
     /// middle of a connection.
@@ -49,7 +49,7 @@ impl Stop {
 }
 
 /// Where the transport of a side broke its rules, or is not read any further, and why.
-#[derive(Clone, Copy, PartialEq, Eq, Debug)]
+#[derive(Clone, Copy, PartialEq, Eq)]
 pub struct Stopped {
     pub stop: Stop,
     /// The offset of the packet in its direction.

@@ -4,7 +4,7 @@ ghost use Rattle.std.specs.Prelude.{◌≡◌, ◌+◌};
 ghost use Rattle.osi_listing.specs.Counting.{capped, none};
 
 /// How many lines of each kind a listing has. Each count stops at 2^64 - 1.
-#[derive(Clone, Copy, PartialEq, Eq, Debug)]
+#[derive(Clone, Copy, PartialEq, Eq)]
 pub struct Counts {
     /// Packets (RFC 1006 section 6).
     pub packets: u64,

@@ -9,7 +9,7 @@ ghost use Rattle.osi_message.specs.Reading.{place_in, place_of};
 use osi_spdu::{Enclosure, Kind, Params, Spdu};
 
 /// Which part of one Data a DT has (X.225 section 8, enclosure item).
-#[derive(Clone, Copy, PartialEq, Eq, Debug)]
+#[derive(Clone, Copy, PartialEq, Eq)]
 pub enum Place {
     /// The first.
     First,

@@ -8,7 +8,7 @@ use bitflags::Flags;
 use osi_spdu::TokenSet;
 
 /// A set of the four tokens (X.215 section 7), with a field for each.
-#[derive(Clone, Copy, PartialEq, Eq, Debug)]
+#[derive(Clone, Copy, PartialEq, Eq)]
 pub struct Tokens {
     /// The data token.
     pub data_token: bool,

@@ -7,7 +7,7 @@ use crate::directions::Direction;
 use crate::halves::Half;
 
 /// What a CR offers (X.224 section 6.5).
-#[derive(Clone, Copy, PartialEq, Eq, Debug)]
+#[derive(Clone, Copy, PartialEq, Eq)]
 pub struct Offer {
     pub(crate) class0: bool,
     pub(crate) class2: bool,
@@ -20,7 +20,7 @@ pub struct Offer {
 }
 
 /// A connection: what each side has sent, and how much of that the other may know.
-#[derive(Clone, Copy, PartialEq, Eq, Debug)]
+#[derive(Clone, Copy, PartialEq, Eq)]
 pub struct Connection {
     pub(crate) offer: Offer,
     /// The most octets of a DT, header included, if the CC names a size.

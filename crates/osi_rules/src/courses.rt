@@ -8,7 +8,7 @@ use crate::findings::Reach;
 use osi_class::Class;
 
 /// What has passed on a byte connection apart from its connections.
-#[derive(Clone, Copy, PartialEq, Eq, Debug)]
+#[derive(Clone, Copy, PartialEq, Eq)]
 pub struct Course {
     /// The class that a CC has selected.
     pub(crate) class: Option<Class>,

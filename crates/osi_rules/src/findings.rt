@@ -58,7 +58,7 @@ pub enum Rule {
 }
 
 /// What is found of a unit.
-#[derive(Clone, Copy, PartialEq, Eq, Debug)]
+#[derive(Clone, Copy, PartialEq, Eq)]
 pub enum Finding {
     /// It is right by what its sender had sent and by what had passed.
     Kept,
@@ -74,7 +74,7 @@ pub enum Finding {
 }
 
 /// How much is not judged any more after a unit.
-#[derive(Clone, Copy, PartialEq, Eq, Debug)]
+#[derive(Clone, Copy, PartialEq, Eq)]
 pub enum Reach {
     /// Everything is judged on.
     Nothing,
@@ -87,7 +87,7 @@ pub enum Reach {
 }
 
 /// What a unit means for the sessions above.
-#[derive(Clone, Copy, PartialEq, Eq, Debug)]
+#[derive(Clone, Copy, PartialEq, Eq)]
 pub enum Meaning {
     /// Nothing.
     Nothing,
@@ -102,7 +102,7 @@ pub enum Meaning {
 }
 
 /// What is found of a unit, and what it means.
-#[derive(Clone, Copy, PartialEq, Eq, Debug)]
+#[derive(Clone, Copy, PartialEq, Eq)]
 pub struct Told {
     pub finding: Finding,
     pub meaning: Meaning,

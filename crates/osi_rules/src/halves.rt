@@ -4,7 +4,7 @@ ghost use Rattle.std.specs.Prelude.{◌≡◌};
 ghost use Rattle.osi_rules.specs.Sides.{is_silent, is_open, is_refused, is_closing, is_closed, is_over_by};
 
 /// How far a side is with a connection (X.224 sections 6.5 to 6.7).
-#[derive(Clone, Copy, PartialEq, Eq, Debug)]
+#[derive(Clone, Copy, PartialEq, Eq)]
 pub enum Phase {
     /// It has sent nothing.
     Silent,
@@ -19,7 +19,7 @@ pub enum Phase {
 }
 
 /// What a side has sent on a connection.
-#[derive(Clone, Copy, PartialEq, Eq, Debug)]
+#[derive(Clone, Copy, PartialEq, Eq)]
 pub struct Half {
     pub(crate) phase: Phase,
     /// The reference that it gave the connection.

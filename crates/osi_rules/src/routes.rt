@@ -12,7 +12,7 @@ use osi_class::Class;
 use osi_tpdu::Tpdu;
 
 /// For which connection a unit is.
-#[derive(Clone, Copy, PartialEq, Eq, Debug)]
+#[derive(Clone, Copy, PartialEq, Eq)]
 pub enum Route {
     /// A CR of left: for a new one.
     Asks,

@@ -5,7 +5,7 @@ ghost use Rattle.osi_session.specs.Numbers.{from_base, point_sent, point_taken, 
 
 /// The numbers of synchronization points (X.225 section 5.9): V(M), V(A), V(R), and whether the last point was taken
 /// and not sent, so that this end confirms points.
-#[derive(Clone, Copy, PartialEq, Eq, Debug)]
+#[derive(Clone, Copy, PartialEq, Eq)]
 pub struct Numbers {
     /// V(M): the number of the next point.
     pub next: u32,

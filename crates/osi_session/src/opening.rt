@@ -11,7 +11,7 @@ use osi_message::Message;
 use osi_spdu::{Requirements, Selector, Serial, TokenSetting, TsduSizes};
 
 /// The contents of a CN (X.225 section 8, connect).
-#[derive(Clone, Copy, Debug)]
+#[derive(Clone, Copy)]
 pub struct Opening<'a> {
     /// The functional units that are offered (X.225 section 8, session user requirements).
     pub requirements: Requirements,

@@ -4,7 +4,7 @@ ghost use Rattle.std.specs.Prelude.{◌≡◌};
 ghost use Rattle.osi_session.specs.Phases.{is_over, is_wait_transport, is_wait_cn, is_connecting, is_answering, is_ready, is_major_asked, is_major_due, is_releasing, is_release_due, is_restarting, is_restart_due, is_aborting, is_ended, is_settled, in_major, may_give, may_ask, may_confirm_minor, may_restart, takes_data, takes_give, takes_please, takes_minor_ack, takes_restart, may_abort, may_hold, shows_loss};
 
 /// The phase of a session connection (X.225 annex A, states).
-#[derive(Clone, Copy, PartialEq, Eq, Debug)]
+#[derive(Clone, Copy, PartialEq, Eq)]
 pub enum Phase {
     /// The transport connection is requested; at the caller.
     WaitTransport,

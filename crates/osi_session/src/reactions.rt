@@ -28,7 +28,7 @@ const IMPLEMENTATION_RESTRICTION: u8 = 134;
 const PROTOCOL_ERROR: u8 = 0x05;
 
 /// An automatic answer to a unit, apart from what the user sends.
-#[derive(Clone, Copy, Debug)]
+#[derive(Clone, Copy)]
 pub enum Reply {
     /// RF with reason 132: the peer does not have version 2.
     VersionNotSupported,

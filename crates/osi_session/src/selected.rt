@@ -10,7 +10,7 @@ use osi_message::Tokens;
 use osi_spdu::{Requirements, Serial};
 
 /// The functional units that have a meaning here (X.215 section 6.3), by name.
-#[derive(Clone, Copy, PartialEq, Eq, Debug)]
+#[derive(Clone, Copy, PartialEq, Eq)]
 pub(crate) struct FunctionalUnits {
     pub(crate) half_duplex: bool,
     pub(crate) duplex: bool,

@@ -9,7 +9,7 @@ use osi_message::Tokens;
 use osi_spdu::{Side, TokenSetting, Wish};
 
 /// The side that holds each token at first, once it is settled (X.215 section 12.1.2).
-#[derive(Clone, Copy, PartialEq, Eq, Debug)]
+#[derive(Clone, Copy, PartialEq, Eq)]
 pub struct Sides {
     /// The data token.
     pub data_token: Side,

@@ -5,7 +5,7 @@ ghost use Rattle.osi_spdu.specs.Codes.{number_of, is_same, is_group, slot_of, ev
 ghost use Rattle.osi_spdu.specs.Reading.{code_among};
 
 /// A parameter or a parameter group of session units, by the code that names it (X.225 section 8).
-#[derive(Clone, Copy, PartialEq, Eq, Debug)]
+#[derive(Clone, Copy, PartialEq, Eq)]
 pub enum Code {
     /// The group of the references (1).
     ConnectionIdentifier,

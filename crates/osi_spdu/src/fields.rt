@@ -9,7 +9,7 @@ use crate::codes::Code;
 use crate::octets::{Short, Value};
 
 /// Whether a minor synchronization point asks for its confirmation (X.225 section 8, sync type).
-#[derive(Clone, Copy, PartialEq, Eq, Debug)]
+#[derive(Clone, Copy, PartialEq, Eq)]
 pub enum SyncType {
     /// The sender asks for it: bit 1 is clear.
     Asked,
@@ -18,7 +18,7 @@ pub enum SyncType {
 }
 
 /// What a resynchronization does (X.225 section 8, resync type).
-#[derive(Clone, Copy, PartialEq, Eq, Debug)]
+#[derive(Clone, Copy, PartialEq, Eq)]
 pub enum ResyncType {
     /// It goes back to a synchronization point (0).
     Restart,
@@ -29,7 +29,7 @@ pub enum ResyncType {
 }
 
 /// Where user data begins and ends (X.225 section 8, enclosure item).
-#[derive(Clone, Copy, PartialEq, Eq, Debug)]
+#[derive(Clone, Copy, PartialEq, Eq)]
 pub enum Enclosure {
     /// It begins in this unit and does not end in it (01).
     First,
@@ -43,7 +43,7 @@ pub enum Enclosure {
 
 /// The largest TSDU in each direction, in octets, 0 for no limit (X.225 section 8, TSDU maximum size). A value that was
 /// read may also be 1 to 63 octets, which no user of this library can give.
-#[derive(Clone, Copy, PartialEq, Eq, Debug)]
+#[derive(Clone, Copy, PartialEq, Eq)]
 pub struct TsduMaximumSize {
     /// From the side that asks for the connection.
     pub from_asker: u16,
@@ -52,7 +52,7 @@ pub struct TsduMaximumSize {
 }
 
 /// Why a connection is refused (X.225 section 8, reason code).
-#[derive(Clone, Copy, PartialEq, Eq, Debug)]
+#[derive(Clone, Copy, PartialEq, Eq)]
 pub struct Reason<'a> {
     /// The first octet.
     pub code: u8,

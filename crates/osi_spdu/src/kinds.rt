@@ -9,7 +9,7 @@ ghost use Rattle.osi_spdu.specs.Writing.{among};
 use crate::codes::{Code, code_numbered};
 
 /// A session unit, by the name that X.225 section 8 gives it.
-#[derive(Clone, Copy, PartialEq, Eq, Debug)]
+#[derive(Clone, Copy, PartialEq, Eq)]
 pub enum Kind {
     /// GT (SI 1 in the first place).
     GiveTokens,
@@ -48,7 +48,7 @@ pub enum Kind {
 }
 
 /// Where a unit may occur in a TSDU (X.225 section 6.3.7, basic concatenation).
-#[derive(Clone, Copy, PartialEq, Eq, Debug)]
+#[derive(Clone, Copy, PartialEq, Eq)]
 pub enum Category {
     /// Before a unit of category 2, or alone.
     Zero,

@@ -19,7 +19,7 @@ use crate::units::Spdu;
 
 /// What a CN proposes or an AC answers, apart from addresses and user data. Protocol options and version are fixed:
 /// extended concatenation is supported, and the version is 2.
-#[derive(Clone, Copy, PartialEq, Eq, Debug)]
+#[derive(Clone, Copy, PartialEq, Eq)]
 pub struct Terms {
     /// The first synchronization point serial number.
     pub initial_number: Option<Serial>,

@@ -3,7 +3,7 @@
 ghost use Rattle.std.specs.Prelude.{◌≡◌, ◌≤◌, ◌<◌, ◌==◌, ◌+◌, ◌/◌, ◌%◌, [], ◌∷◌, ◌++◌, drop, length};
 
 /// At most six octets, at the end of an array.
-#[derive(Clone, Copy, Debug)]
+#[derive(Clone, Copy)]
 pub(crate) struct Short {
     pub(crate) octets: [u8; 6],
     pub(crate) start: usize,
@@ -67,7 +67,7 @@ impl Short {
 
 /// The octets of a parameter's value, in two pieces: at most six octets that are computed here, and then octets that
 /// are borrowed.
-#[derive(Clone, Copy, Debug)]
+#[derive(Clone, Copy)]
 pub struct Value<'a> {
     made: Short,
     lent: &'a [u8],

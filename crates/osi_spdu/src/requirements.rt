@@ -11,7 +11,7 @@ use bitflags::{Flag, Flags};
 
 /// The functional units of a session (X.225 section 8, session user requirements). All 16 bits are kept as they were
 /// read.
-#[derive(Clone, Copy, PartialEq, Eq, Debug)]
+#[derive(Clone, Copy, PartialEq, Eq)]
 pub struct Requirements(u16);
 
 impl Requirements {

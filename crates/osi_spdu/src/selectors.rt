@@ -8,7 +8,7 @@ use crate::codes::Code;
 use crate::octets::Value;
 
 /// The address of a session user: 0 to 16 octets (X.225 section 8, session selector).
-#[derive(Clone, Copy, PartialEq, Eq, Debug)]
+#[derive(Clone, Copy, PartialEq, Eq)]
 pub struct Selector<'a> {
     /// The octets.
     pub octets: &'a [u8],

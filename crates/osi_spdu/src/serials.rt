@@ -7,7 +7,7 @@ ghost use Rattle.osi_spdu.specs.Octets.{short_octets, octets_of};
 use crate::octets::{Short, Value};
 
 /// A synchronization point serial number, 0 to 999,999 (X.225 section 8).
-#[derive(Clone, Copy, PartialEq, Eq, Debug)]
+#[derive(Clone, Copy, PartialEq, Eq)]
 pub struct Serial {
     /// The number.
     pub number: u32,

@@ -9,7 +9,7 @@ use crate::codes::Code;
 use crate::octets::Value;
 
 /// The side that is to hold a token at first (X.225 section 8, token setting).
-#[derive(Clone, Copy, PartialEq, Eq, Debug)]
+#[derive(Clone, Copy, PartialEq, Eq)]
 pub enum Wish {
     /// The side that asks for the connection or the resynchronization.
     Asker,
@@ -20,7 +20,7 @@ pub enum Wish {
 }
 
 /// The side that holds a token at first, once this is settled.
-#[derive(Clone, Copy, PartialEq, Eq, Debug)]
+#[derive(Clone, Copy, PartialEq, Eq)]
 pub enum Side {
     /// The side that asks for the connection or the resynchronization.
     Asker,
@@ -29,7 +29,7 @@ pub enum Side {
 }
 
 /// The wish for each token (X.225 section 8, token setting).
-#[derive(Clone, Copy, PartialEq, Eq, Debug)]
+#[derive(Clone, Copy, PartialEq, Eq)]
 pub struct TokenSetting {
     /// The data token.
     pub data_token: Wish,

@@ -7,14 +7,14 @@ use crate::fields::TsduMaximumSize;
 
 /// The largest TSDU in one direction, as a user gives it: no limit, or 64 to 65,535 octets (X.225
 /// section 8, TSDU maximum size).
-#[derive(Clone, Copy, PartialEq, Eq, Debug)]
+#[derive(Clone, Copy, PartialEq, Eq)]
 pub struct TsduSize {
     octets: u16,
     pub ghost is_size: { is_size octets ≡ true },
 }
 
 /// The largest TSDU in each direction, as a user gives it.
-#[derive(Clone, Copy, PartialEq, Eq, Debug)]
+#[derive(Clone, Copy, PartialEq, Eq)]
 pub struct TsduSizes {
     /// From the side that asks for the connection.
     pub from_asker: TsduSize,

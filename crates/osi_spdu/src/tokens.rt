@@ -11,7 +11,7 @@ use bitflags::{Flag, Flags};
 
 /// A set of tokens, each with a bit of its own (X.225 section 8, token item). Bits that name no token are kept in
 /// memory but never written. Union, intersection and difference are functions of [`bitflags::Flags`].
-#[derive(Clone, Copy, PartialEq, Eq, Debug)]
+#[derive(Clone, Copy, PartialEq, Eq)]
 pub struct TokenSet(u8);
 
 impl TokenSet {

@@ -5,7 +5,7 @@ ghost use Rattle.std.specs.Prelude.{◌≡◌, ◌<◌};
 use crate::octets::{low_half, number};
 
 /// AK of class 2 in normal format, which acknowledges units and gives credit (X.224 section 13.9).
-#[derive(Clone, Copy, PartialEq, Eq, Debug)]
+#[derive(Clone, Copy, PartialEq, Eq)]
 pub struct DataAcknowledgement {
     /// CDT: how many units may be sent from that number on, 0 to 15.
     pub credit: u8,

@@ -6,7 +6,7 @@ use crate::limits::SizeCode;
 use crate::tsaps::Selector;
 
 /// The parameters of a CR or CC that are known here (X.224 section 13.3.4). All others are skipped.
-#[derive(Clone, Copy, PartialEq, Eq, Debug)]
+#[derive(Clone, Copy, PartialEq, Eq)]
 pub struct ConnectParameters<'a> {
     /// C0: the TPDU size that is proposed or selected.
     pub size: Option<SizeCode>,
@@ -75,7 +75,7 @@ impl<'a> ConnectParameters<'a> {
 }
 
 /// The fields that a CR and a CC share (X.224 sections 13.3 and 13.4).
-#[derive(Clone, Copy, PartialEq, Eq, Debug)]
+#[derive(Clone, Copy, PartialEq, Eq)]
 pub struct ConnectFields<'a> {
     /// CDT: the first credit, 0 to 15.
     pub credit: u8,

@@ -5,7 +5,7 @@ ghost use Rattle.std.specs.Prelude.{◌≡◌};
 use crate::connect::ConnectFields;
 
 /// CC, the connection confirm (X.224 section 13.4).
-#[derive(Clone, Copy, PartialEq, Eq, Debug)]
+#[derive(Clone, Copy, PartialEq, Eq)]
 pub struct ConnectConfirm<'a> {
     /// DST-REF: the reference that the receiver gave the connection.
     pub destination: u16,

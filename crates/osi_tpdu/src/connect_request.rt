@@ -5,7 +5,7 @@ ghost use Rattle.std.specs.Prelude.{◌≡◌};
 use crate::connect::ConnectFields;
 
 /// CR, the connection request (X.224 section 13.3). Its DST-REF is written as 0 and ignored when read.
-#[derive(Clone, Copy, PartialEq, Eq, Debug)]
+#[derive(Clone, Copy, PartialEq, Eq)]
 pub struct ConnectRequest<'a> {
     /// The fields; the class is the preferred one.
     pub fields: ConnectFields<'a>,

@@ -3,7 +3,7 @@
 ghost use Rattle.std.specs.Prelude.{◌≡◌};
 
 /// DT of class 0, a part of a TSDU (X.224 section 13.7). Its number is written as 0 and ignored when read.
-#[derive(Clone, Copy, PartialEq, Eq, Debug)]
+#[derive(Clone, Copy, PartialEq, Eq)]
 pub struct DataClass0<'a> {
     /// EOT: this part is the last of its TSDU.
     pub end: bool,

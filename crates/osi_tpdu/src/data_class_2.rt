@@ -3,7 +3,7 @@
 ghost use Rattle.std.specs.Prelude.{◌≡◌, ◌<◌};
 
 /// DT of class 2 in normal format, a numbered part of a TSDU (X.224 section 13.7).
-#[derive(Clone, Copy, PartialEq, Eq, Debug)]
+#[derive(Clone, Copy, PartialEq, Eq)]
 pub struct DataClass2<'a> {
     /// DST-REF: the reference that the receiver gave the connection.
     pub destination: u16,

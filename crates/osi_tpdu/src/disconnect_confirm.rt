@@ -3,7 +3,7 @@
 ghost use Rattle.std.specs.Prelude.{◌≡◌};
 
 /// DC, the disconnect confirm (X.224 section 13.6).
-#[derive(Clone, Copy, PartialEq, Eq, Debug)]
+#[derive(Clone, Copy, PartialEq, Eq)]
 pub struct DisconnectConfirm {
     /// DST-REF: the reference that the receiver gave the connection.
     pub destination: u16,

@@ -3,7 +3,7 @@
 ghost use Rattle.std.specs.Prelude.{◌≡◌};
 
 /// DR, the disconnect request (X.224 section 13.5). Its parameters are skipped.
-#[derive(Clone, Copy, PartialEq, Eq, Debug)]
+#[derive(Clone, Copy, PartialEq, Eq)]
 pub struct DisconnectRequest<'a> {
     /// DST-REF: the reference that the receiver gave the connection.
     pub destination: u16,

@@ -4,7 +4,7 @@ ghost use Rattle.std.specs.Prelude.{◌≡◌, ◌≤◌, ◌^◌, ◌↔◌, Is
 
 /// The largest length of a unit, header included, as the code of the parameter TPDU size: the
 /// length is the power of two with this exponent (X.224 section 13.3.4).
-#[derive(Clone, Copy, PartialEq, Eq, PartialOrd, Ord, Debug)]
+#[derive(Clone, Copy, PartialEq, Eq, PartialOrd, Ord)]
 pub struct SizeCode {
     code: u8,
     pub ghost at_least: { 7 ≤ code },
@@ -57,7 +57,7 @@ impl SizeCode {
 
 /// How many units of class 2 a receiver lets its peer send ahead: the credit that a CR or CC
 /// gives (X.224 section 6.16).
-#[derive(Clone, Copy, PartialEq, Eq, PartialOrd, Ord, Debug)]
+#[derive(Clone, Copy, PartialEq, Eq, PartialOrd, Ord)]
 pub struct Window {
     units: u8,
     pub ghost at_least: { 1 ≤ units },

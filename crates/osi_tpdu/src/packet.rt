@@ -12,7 +12,7 @@ mod whole;
 pub use whole::read_units;
 
 /// The units of one packet, in order. Each is read again when it is given, so nothing is allocated.
-#[derive(Clone, Copy, Debug)]
+#[derive(Clone, Copy)]
 pub struct Units<'a> {
     at: usize,
     rest: &'a [u8],

@@ -3,7 +3,7 @@
 ghost use Rattle.std.specs.Prelude.{◌≡◌};
 
 /// ER, the report of a protocol error (X.224 section 13.12). Its parameters are skipped.
-#[derive(Clone, Copy, PartialEq, Eq, Debug)]
+#[derive(Clone, Copy, PartialEq, Eq)]
 pub struct ErrorReport {
     /// DST-REF: the reference that the receiver gave the connection.
     pub destination: u16,

@@ -4,7 +4,7 @@ ghost use Rattle.std.specs.Prelude.{◌≡◌, ◌≤◌, ◌↔◌, ℕ, length
 
 /// A transport selector of at most 32 octets, borrowed from the octets that were read: it names a transport service
 /// access point at an address (X.224 section 13.3.4).
-#[derive(Clone, Copy, PartialEq, Eq, Debug)]
+#[derive(Clone, Copy, PartialEq, Eq)]
 pub struct Selector<'a> {
     octets: &'a [u8],
     pub ghost at_most: { length octets.now ≤ 32 },
@@ -45,7 +45,7 @@ impl<'a> Selector<'a> {
 
 /// A transport selector held inline, without an allocation. The octets past its length are 0, so two selectors are
 /// equal if their octets are.
-#[derive(Clone, Copy, PartialEq, Eq, Debug)]
+#[derive(Clone, Copy, PartialEq, Eq)]
 pub struct Tsap {
     octets: [u8; 32],
     len: usize,

@@ -14,7 +14,7 @@ use crate::disconnect_request::DisconnectRequest;
 use crate::report::ErrorReport;
 
 /// A transport unit (TPDU) of class 0 or 2 (X.224 section 13). It borrows the octets from which it was read.
-#[derive(Clone, Copy, PartialEq, Eq, Debug)]
+#[derive(Clone, Copy, PartialEq, Eq)]
 pub enum Tpdu<'a> {
     /// CR, the connection request.
     Cr(ConnectRequest<'a>),

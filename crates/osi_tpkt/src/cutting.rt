@@ -10,7 +10,7 @@ use std::alloc::Global;
 use std::marker::Model;
 
 /// What a call of [`Cutter::feed`] did.
-#[derive(Clone, Copy, PartialEq, Eq, Debug)]
+#[derive(Clone, Copy, PartialEq, Eq)]
 pub struct Fed {
     /// How many octets of the piece were used. Feed the others again after [`Cutter::advance`].
     pub used: usize,

@@ -8,7 +8,7 @@ use crate::captures::Capture;
 use crate::explaining::run_of;
 use crate::halts::Halt;
 use crate::lines::push_comment;
-use crate::players::{LONGEST, Player};
+use crate::players::LONGEST;
 use crate::streams::Opening;
 use crate::telling::{Stop, Telling};
 use osi_listing::{CaptureFault, octets_of};
@@ -56,30 +56,29 @@ fn opened(alloc: Global, capture: &Capture, request: &Opening) -> Result<Witness
     let right_run = run_of(alloc, right, left, Standing::called())?;
     let mut telling = Telling::new(alloc, capture, left_run, right_run, caller, request.credit)?;
     let told = telling.tell();
-    finished(telling.player(), told)
+    finished(telling.player().script(), told)
 }
 
 /// The script of a player that told all, or stopped.
-fn finished(player: Player, told: Result<(), Stop>) -> Result<Witness, AllocError>
+fn finished(script: Vec<u8>, told: Result<(), Stop>) -> Result<Witness, AllocError>
     ensures { IfOk result (λ w. w.status < 2) }
 {
     match told {
-        Ok(()) => Ok(Witness {
-            script: player.script(),
-            status: 0,
-        }),
-        Err(
-            Stop {
-                halt: Halt::OutOfMemory,
-                ..
-            },
-        ) => Err(AllocError),
-        Err(Stop { side, offset, halt }) => {
-            let mut script = player.script();
-            push_comment(&mut script, side, offset, halt.words())?;
-            Ok(Witness { script, status: 1 })
-        }
+        Ok(()) => Ok(Witness { script, status: 0 }),
+        Err(stop) => stopped(script, stop),
     }
+}
+
+/// The script of a player that stopped: its last line says where, and why.
+fn stopped(script: Vec<u8>, stop: Stop) -> Result<Witness, AllocError>
+    ensures { IfOk result (λ w. w.status < 2) }
+{
+    if let Halt::OutOfMemory = stop.halt {
+        return Err(AllocError);
+    }
+    let mut script = script;
+    push_comment(&mut script, stop.side, stop.offset, stop.halt.words())?;
+    Ok(Witness { script, status: 1 })
 }
 
 /// A script that two ends play to its end, or none.

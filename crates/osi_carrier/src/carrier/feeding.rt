@@ -9,7 +9,7 @@ use osi_tpkt::Cutter;
 use osi_tpkt::laws::a_prefix_of_a_packet;
 
 /// The result of taking octets.
-#[derive(Clone, Copy, PartialEq, Eq, Debug)]
+#[derive(Clone, Copy, PartialEq, Eq)]
 pub(super) enum Fetched {
     /// This many octets completed a packet, which took effect.
     Packet(usize),
