@@ -1,6 +1,6 @@
 -- The course of one connection of an end, of either class and among any number of others: the calls of its link, and what its
 -- session took and sent by them.
-use Rattle.std.specs.Prelude.{◌≡◌, ◌+◌, ℕ, Bool, true, false, List, [], ◌∷◌, ◌++◌, map, Option, Some, None, IsSome, Result, Ok, Err}
+use Rattle.std.specs.Prelude.{◌≡◌, ◌+◌, ◌<◌, ℕ, Bool, true, false, List, [], ◌∷◌, ◌++◌, map, Option, Some, None, IsSome, Result, Ok, Err}
 use Rattle.std.specs.List.{flat_map}
 use Rattle.osi_tpkt.specs.Stream.{ArePackets}
 use Rattle.osi_tpdu.specs.Packet.{units_of}
@@ -21,6 +21,7 @@ use Rattle.osi_stack.specs.Calls.{calls_with, has_given, terms_error}
 use Rattle.osi_stack.specs.Messages.{kept_at}
 use Rattle.osi_stack.specs.State.{End, Holding}
 use Rattle.osi_stack.specs.declared.connecting.Connect.{Connect}
+use Rattle.osi_honest.specs.Marked.{AreByLinks, Marked, all_units, units_at}
 use Rattle.osi_honest.specs.Talking.{History, Said}
 use Rattle.osi_honest.specs.Turns.{Takes, Turn}
 
@@ -132,12 +133,6 @@ pub data Course (is_caller : Bool) (r : ℕ) (deeds : Deeds) (e : End) : Type 0 
 
 -- ---- a turn
 
--- these units stand among those, in order
-pub data IsWithin : List Value → List Value → Type 0 where
-  none : (all : List Value) → IsWithin [] all
-  here : (unit : Value) (units all : List Value) → IsWithin units all → IsWithin (unit ∷ units) (unit ∷ all)
-  later : (unit : Value) (units all : List Value) → IsWithin units all → IsWithin units (unit ∷ all)
-
 -- the units of these packets that can be read
 abbrev pub units_read : Result (List Value) TpduFault → List Value
 units_read (Ok units) = units
@@ -146,22 +141,30 @@ units_read (Err fault) = []
 abbrev pub units_in : List (List ℕ) → List Value
 units_in packets = flat_map (λ packet. units_read (units_of packet)) packets
 
--- More is done at the connection. What was put for it stands among all that was put, in order; and what its link took, among
--- the units of the packets in the octets that were used.
-pub record Continues (is_caller : Bool) (r : ℕ) (deeds : Deeds) (old : Holding) (turn : Turn) (new : Holding) : Type 0 where
-  pub more : Deeds
-  pub course : Course is_caller r (then_did deeds more) new.end
-  pub units : List Value
-  pub written : turn.put ≡ packets units
-  pub within : IsWithin more.put units
+-- More is done at each connection. All that was put is these units: of those of a connection, all were put for it and no others;
+-- and those of none are no DTs and no AKs. All that was used is the units of these packets: those of a connection are those that its
+-- link took.
+pub record Continues (is_caller : Bool) (deeds : ℕ → Deeds) (old : Holding) (turn : Turn) (new : Holding) : Type 0 where
+  pub more : ℕ → Deeds
+  pub course : (r : ℕ) → Course is_caller r (then_did (deeds r) (more r)) new.end
+  pub put : List Marked
+  pub written : turn.put ≡ packets (all_units put)
+  pub by_links : AreByLinks put
+  pub own : (r : ℕ) → 0 < r → (more r).put ≡ units_at r put
   pub used : List (List ℕ)
   pub rest : List ℕ
   pub cut : ArePackets used (old.held.octets ++ turn.used) rest
   pub held : new.end.carrier.ended ≡ None → rest ≡ new.held.octets
-  pub taken : IsWithin (units_taken more.calls) (units_in used)
+  pub took : List Marked
+  pub all : all_units took ≡ units_in used
+  pub taken : (r : ℕ) → 0 < r → units_taken (more r).calls ≡ units_at r took
+
+-- and then more, at each connection
+abbrev pub all_did : (ℕ → Deeds) → (ℕ → Deeds) → ℕ → Deeds
+all_did some more r = then_did (some r) (more r)
 
 -- the same of turns one after the other
-abbrev pub ContinuesAlong : Bool → ℕ → Deeds → Holding → List Turn → Holding → Type 0
-ContinuesAlong is_caller r deeds old [] new = new ≡ old
-ContinuesAlong is_caller r deeds old (turn ∷ turns) new = (mid : Holding) × Takes old turn mid
-    × (on : Continues is_caller r deeds old turn mid) × ContinuesAlong is_caller r (then_did deeds on.more) mid turns new
+abbrev pub ContinuesAlong : Bool → (ℕ → Deeds) → Holding → List Turn → Holding → Type 0
+ContinuesAlong is_caller deeds old [] new = new ≡ old
+ContinuesAlong is_caller deeds old (turn ∷ turns) new = (mid : Holding) × Takes old turn mid
+    × (on : Continues is_caller deeds old turn mid) × ContinuesAlong is_caller (all_did deeds on.more) mid turns new

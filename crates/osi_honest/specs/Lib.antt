@@ -6,4 +6,5 @@ pub mod Reading
 pub mod Showing
 pub mod Openings
 pub mod Seeing
+pub mod Marked
 pub mod Courses

@@ -21,18 +21,18 @@ use Rattle.osi_stack.proofs.carried.all_events_are_handled.{breaks_attended, con
 use Rattle.osi_stack.proofs.carried.what_a_move_leaves.{first_keep, kept_first}
 use Rattle.osi_stack.proofs.given_up.the_invariant_stays.{disconnect_attended, disconnect_orderly}
 use Rattle.osi_stack.proofs.sound.the_invariant_between_calls.{breaks_orderly, connect_orderly, session_orderly}
-use Rattle.osi_honest.specs.Courses.{Continues, ContinuesAlong, Course, Deeds, no_deeds, then_did}
+use Rattle.osi_honest.specs.Courses.{Continues, ContinuesAlong, Course, Deeds, all_did, no_deeds}
 use Rattle.osi_honest.specs.Courses.Course.{unknown}
-use Rattle.osi_honest.specs.Courses.IsWithin.{none as none_within}
+use Rattle.osi_honest.specs.Marked.{all_units}
 use Rattle.osi_honest.specs.Turns.{Act, Acts, Run, Takes, Turn, carried_by, used_by}
 use Rattle.osi_honest.specs.Turns.Act.{serving, using}
-use Rattle.osi_honest.proofs.courses.steps_of_a_course.{Steps}
+use Rattle.osi_honest.proofs.courses.steps_of_a_course.{HoldEach, Steps}
 use Rattle.osi_honest.proofs.courses.what_a_call_does_to_it.{user_steps}
 use Rattle.osi_honest.proofs.courses.what_a_packet_does_to_it.{Between, FeedSteps, feeds_steps, orderly_kept}
 use Rattle.osi_honest.proofs.courses.what_a_unit_does_to_a_connection.{none_given}
 use Rattle.osi_honest.proofs.courses.what_another_connection_leaves.{Beside, course_beside, none_before, none_behind}
 use Rattle.osi_honest.proofs.courses.what_calls_of_a_link_say.{then_none}
-use Rattle.osi_honest.proofs.courses.what_sessions_hear_of_it.{Known}
+use Rattle.osi_honest.proofs.courses.what_sessions_hear_of_it.{CourseAll, Known}
 use Rattle.osi_honest.proofs.keeping.what_a_unit_keeps_a_turn_keeps.{kept_feeds}
 
 -- ---- between two turns
@@ -94,102 +94,115 @@ carried_beside r octets e =
 
 -- ---- a turn
 
-module _ (known : Known) (is_caller : Bool) (r : ℕ) (moves : Deeds) where
+module _ (known : Known) (is_caller : Bool) (moves : ℕ → Deeds) where
+  abbrev Courses : (ℕ → Deeds) → End → Type 0
+  Courses moves e = HoldEach (CourseAll is_caller) moves e
+
   -- nothing was used
   as_turn : (turn : Turn) (old new : Holding) → turn.used ≡ [] → new.held.octets ≡ old.held.octets →
-      Steps (Course is_caller r) moves old.end.carrier.outgoing new.end →
-      new.end.carrier.outgoing ≡ old.end.carrier.outgoing ++ turn.put → Continues is_caller r moves old turn new
+      Steps (CourseAll is_caller) moves old.end.carrier new.end →
+      new.end.carrier.outgoing ≡ old.end.carrier.outgoing ++ turn.put → Continues is_caller moves old turn new
   as_turn turn old new none same s is = record {
     more = s.more;
     course = s.there;
-    units = s.units;
-    written = append_cancel_left old.end.carrier.outgoing turn.put (packets s.units) (sym is ∙ s.written);
-    within = s.within;
+    put = s.put;
+    written = append_cancel_left old.end.carrier.outgoing turn.put (packets (all_units s.put)) (sym is ∙ s.written);
+    by_links = s.by_links;
+    own = s.own;
     used = [];
     rest = old.held.octets ++ turn.used;
     cut = refl;
     held = λ lasts. ap (λ (l : List ℕ). old.held.octets ++ l) none ∙ append-nil old.held.octets ∙ sym same;
+    took = s.took;
+    all = s.all;
     taken = s.taken;
   }
 
   -- a piece was fed
-  fed_turn : (turn : Turn) (octets : List ℕ) (old new : Holding) → turn.used ≡ octets → FeedSteps known is_caller r moves octets old new →
-      new.end.carrier.outgoing ≡ old.end.carrier.outgoing ++ turn.put → Continues is_caller r moves old turn new
+  fed_turn : (turn : Turn) (octets : List ℕ) (old new : Holding) → turn.used ≡ octets → FeedSteps known is_caller moves octets old new →
+      new.end.carrier.outgoing ≡ old.end.carrier.outgoing ++ turn.put → Continues is_caller moves old turn new
   fed_turn turn octets old new used f is = record {
     more = f.steps.more;
     course = f.steps.there;
-    units = f.steps.units;
-    written = append_cancel_left old.end.carrier.outgoing turn.put (packets f.steps.units) (sym is ∙ f.steps.written);
-    within = f.steps.within;
+    put = f.steps.put;
+    written = append_cancel_left old.end.carrier.outgoing turn.put (packets (all_units f.steps.put)) (sym is ∙ f.steps.written);
+    by_links = f.steps.by_links;
+    own = f.steps.own;
     used = f.used;
     rest = f.rest;
     cut = subst (λ (l : List ℕ). ArePackets f.used (old.held.octets ++ l) f.rest) (sym used) f.cut;
     held = f.held;
+    took = f.steps.took;
+    all = f.steps.all;
     taken = f.steps.taken;
   }
 
   -- nothing was used or put
   quiet_turn : (turn : Turn) (old new : Holding) → turn.used ≡ [] → turn.put ≡ [] → new.held.octets ≡ old.held.octets →
-      Course is_caller r moves new.end → Continues is_caller r moves old turn new
+      Courses moves new.end → Continues is_caller moves old turn new
   quiet_turn turn old new none nothing same course = record {
-    more = no_deeds;
-    course = subst (λ (d : Deeds). Course is_caller r d new.end) (sym (then_none moves)) course;
-    units = [];
+    more = λ r. no_deeds;
+    course = λ r. subst (λ (d : Deeds). Course is_caller r d new.end) (sym (then_none (moves r))) (course r);
+    put = [];
     written = nothing;
-    within = none_within [];
+    by_links = tt;
+    own = λ r some. refl;
     used = [];
     rest = old.held.octets ++ turn.used;
     cut = refl;
     held = λ lasts. ap (λ (l : List ℕ). old.held.octets ++ l) none ∙ append-nil old.held.octets ∙ sym same;
-    taken = none_within [];
+    took = [];
+    all = refl;
+    taken = λ r some. refl;
   }
 
   nothing_put : (old new put : List ℕ) → new ≡ old ++ put → new ≡ old → put ≡ []
   nothing_put old new put is same = append_cancel_left old put [] (sym is ∙ same ∙ sym (append-nil old))
 
   serving_turn : (turn : Turn) (call : Call) (old new : Holding) → turn.used ≡ used_in call → Between old.end →
-      Course is_caller r moves old.end → Calls old call new →
-      carried_in call ++ new.end.carrier.outgoing ≡ old.end.carrier.outgoing ++ turn.put → Continues is_caller r moves old turn new
+      Courses moves old.end → Calls old call new →
+      carried_in call ++ new.end.carrier.outgoing ≡ old.end.carrier.outgoing ++ turn.put → Continues is_caller moves old turn new
   serving_turn turn (feeding piece fed) old new used b course c is =
-      fed_turn turn (take fed.used piece) old new used (feeds_steps known is_caller r moves piece fed old new b course c) is
+      fed_turn turn (take fed.used piece) old new used (feeds_steps known is_caller moves piece fed old new b course c) is
   serving_turn turn (telling shown) old new used b course c is =
       quiet_turn turn old new used
       (nothing_put old.end.carrier.outgoing new.end.carrier.outgoing turn.put is (ap (λ (x : Holding). x.end.carrier.outgoing) c.1))
       (ap (λ (x : Holding). x.held.octets) c.1)
-      (subst (λ (x : Holding). Course is_caller r moves x.end) (sym c.1)
-      (course_beside is_caller r moves old.end (record old.end { lines = without_first old.end.lines }) (told_beside r old.end) course))
+      (subst (λ (x : Holding). Courses moves x.end) (sym c.1)
+      (λ r. course_beside is_caller r (moves r) old.end (record old.end { lines = without_first old.end.lines }) (told_beside r old.end)
+      (course r)))
   serving_turn turn (carrying octets) old new used b course c is =
       quiet_turn turn old new used
       (nothing_put old.end.carrier.outgoing (octets ++ new.end.carrier.outgoing) turn.put is
       (sym (ap (λ (x : Holding). x.end.carrier.outgoing) c)))
       (sym (ap (λ (x : Holding). x.held.octets) c))
-      (course_beside is_caller r moves (put_back octets new.end) new.end (carried_beside r octets new.end)
-      (subst (λ (x : Holding). Course is_caller r moves x.end) c course))
+      (λ r. course_beside is_caller r (moves r) (put_back octets new.end) new.end (carried_beside r octets new.end)
+      (subst (λ (x : Holding). Course is_caller r (moves r) x.end) c (course r)))
 
-  act_turn : (turn : Turn) (act : Act) (old new : Holding) → turn.used ≡ used_by act → Between old.end → Course is_caller r moves old.end →
+  act_turn : (turn : Turn) (act : Act) (old new : Holding) → turn.used ≡ used_by act → Between old.end → Courses moves old.end →
       Acts old act new → carried_by act ++ new.end.carrier.outgoing ≡ old.end.carrier.outgoing ++ turn.put →
-      Continues is_caller r moves old turn new
+      Continues is_caller moves old turn new
   act_turn turn (serving call) old new used b course acts is = serving_turn turn call old new used b course acts is
   act_turn turn (using call) old new used b course acts is =
       as_turn turn old new used (ap (λ (x : Holding). x.held.octets) acts.3)
-      (subst (λ (x : Holding). Steps (Course is_caller r) moves old.end.carrier.outgoing x.end) (sym acts.3)
-      (user_steps is_caller r moves old.end acts.0 call acts.1 acts.2 course)) is
+      (subst (λ (x : Holding). Steps (CourseAll is_caller) moves old.end.carrier x.end) (sym acts.3)
+      (user_steps is_caller moves old.end acts.0 course call acts.1 acts.2)) is
 
-  pub turn_continues : (turn : Turn) (old new : Holding) → Between old.end → Course is_caller r moves old.end → Takes old turn new →
-      Continues is_caller r moves old turn new
+  pub turn_continues : (turn : Turn) (old new : Holding) → Between old.end → Courses moves old.end → Takes old turn new →
+      Continues is_caller moves old turn new
   turn_continues turn old new b course takes = act_turn turn takes.act old new takes.used b course takes.acts takes.put
 
 -- ---- a run
 
-pub run_continues : Known → (is_caller : Bool) (r : ℕ) (moves : Deeds) (turns : List Turn) (old new : Holding) → Between old.end →
-    Course is_caller r moves old.end → Run old turns new → ContinuesAlong is_caller r moves old turns new
-run_continues known is_caller r moves [] old new b course run = run
-run_continues known is_caller r moves (turn ∷ turns) old new b course run =
-    let on = turn_continues known is_caller r moves turn old run.0 b course run.1 in (
+pub run_continues : Known → (is_caller : Bool) (moves : ℕ → Deeds) (turns : List Turn) (old new : Holding) → Between old.end →
+    HoldEach (CourseAll is_caller) moves old.end → Run old turns new → ContinuesAlong is_caller moves old turns new
+run_continues known is_caller moves [] old new b course run = run
+run_continues known is_caller moves (turn ∷ turns) old new b course run =
+    let on = turn_continues known is_caller moves turn old run.0 b course run.1 in (
       run.0,
       run.1,
       on,
-      run_continues known is_caller r (then_did moves on.more) turns run.0 new (act_between run.1.act old run.0 b run.1.acts) on.course
+      run_continues known is_caller (all_did moves on.more) turns run.0 new (act_between run.1.act old run.0 b run.1.acts) on.course
           run.2,
     )
 

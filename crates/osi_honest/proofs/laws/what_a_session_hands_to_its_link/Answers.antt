@@ -13,9 +13,9 @@ pub returns-clause-begins : goal.returns-clause-begins
 returns-clause-begins c = fresh_course
 
 pub returns-clause-run : goal.returns-clause-run
-returns-clause-run c = λ is_caller local r begin end turns fresh run.
+returns-clause-run c = λ is_caller local begin end turns fresh run.
     let law : SpduLaws = record { room = c.few_octets_fit.ensures; digits = c.serial_digits.ensures } in
     let known : Known = record { proper = all_proper law c.what_closes_sends_nothing.ensures.octets; can = can_begin law } in
-    run_continues known is_caller r no_deeds turns begin end
+    run_continues known is_caller (λ r. no_deeds) turns begin end
     (subst Between (sym fresh.end) (fresh_between is_caller local))
-    (subst (λ (e : End). Course is_caller r no_deeds e) (sym fresh.end) (fresh_course is_caller local r)) run
+    (λ r. subst (λ (e : End). Course is_caller r no_deeds e) (sym fresh.end) (fresh_course is_caller local r)) run
