@@ -21,6 +21,7 @@ use Rattle.osi_stack.specs.Calls.{calls_with, has_given, terms_error}
 use Rattle.osi_stack.specs.Messages.{kept_at}
 use Rattle.osi_stack.specs.State.{End, Holding}
 use Rattle.osi_stack.specs.declared.connecting.Connect.{Connect}
+use Rattle.osi_honest.specs.Arriving.{Hears}
 use Rattle.osi_honest.specs.Marked.{AreByLinks, Marked, all_units, units_at}
 use Rattle.osi_honest.specs.Talking.{History, Said}
 use Rattle.osi_honest.specs.Turns.{Takes, Turn}
@@ -143,7 +144,7 @@ units_in packets = flat_map (λ packet. units_read (units_of packet)) packets
 
 -- More is done at each connection. All that was put is these units: of those of a connection, all were put for it and no others;
 -- and those of none are no DTs and no AKs. All that was used is the units of these packets: those of a connection are those that its
--- link took.
+-- link took, and these are all that were for it while it was open.
 pub record Continues (is_caller : Bool) (deeds : ℕ → Deeds) (old : Holding) (turn : Turn) (new : Holding) : Type 0 where
   pub more : ℕ → Deeds
   pub course : (r : ℕ) → Course is_caller r (then_did (deeds r) (more r)) new.end
@@ -158,6 +159,7 @@ pub record Continues (is_caller : Bool) (deeds : ℕ → Deeds) (old : Holding) 
   pub took : List Marked
   pub all : all_units took ≡ units_in used
   pub taken : (r : ℕ) → 0 < r → units_taken (more r).calls ≡ units_at r took
+  pub heard : (r : ℕ) → 0 < r → Hears is_caller r old.end.carrier took new.end.carrier
 
 -- and then more, at each connection
 abbrev pub all_did : (ℕ → Deeds) → (ℕ → Deeds) → ℕ → Deeds

@@ -7,4 +7,5 @@ pub mod Showing
 pub mod Openings
 pub mod Seeing
 pub mod Marked
+pub mod Arriving
 pub mod Courses

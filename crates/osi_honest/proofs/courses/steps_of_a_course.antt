@@ -1,6 +1,7 @@
 -- Steps of all connections of an end, one after the other, each with the calls of their links and with what was put and taken.
 -- For the course of a connection.
-use Rattle.std.proofs.Common.{◌≡◌, ◌∙◌, refl, sym, ap, subst, ℕ, ◌<◌, List, [], ◌++◌, append_assoc, map}
+use Rattle.std.proofs.Common.{◌≡◌, ◌∙◌, refl, sym, ap, subst, ℕ, ◌<◌, Bool, List, [], ◌++◌, append_assoc, map}
+use Rattle.std.proofs.Common.{IsSome, inl}
 use Rattle.std.proofs.lemmas.List.{append-nil}
 use Rattle.osi_tpdu.specs.Value.{Value}
 use Rattle.osi_class.specs.Link.{unit_of}
@@ -10,7 +11,10 @@ use Rattle.osi_stack.specs.State.{End}
 use Rattle.osi_honest.specs.Courses.{Deeds, all_did, no_deeds, then_did, units_given, units_taken}
 use Rattle.osi_honest.specs.Marked.{AreByLinks, Marked, all_units, units_at}
 use Rattle.osi_honest.proofs.class_0.what_class_0_writes_of_a_tsdu.{packets_joined}
-use Rattle.osi_honest.proofs.courses.units_of_each_connection.{all_units_more, by_links_more, marked, marked_all, nowhere, units_more}
+use Rattle.osi_honest.proofs.courses.units_of_each_connection.{all_units_more, by_links_more, marked, marked_all, none_marked, nowhere}
+use Rattle.osi_honest.proofs.courses.units_of_each_connection.{units_more}
+use Rattle.osi_honest.proofs.courses.what_arrives_for_a_connection.{Heard, Rests, Stage, heard_past, heard_rests, heard_then, rests_over}
+use Rattle.osi_honest.proofs.courses.what_arrives_for_a_connection.{stage_at, stage_over}
 use Rattle.osi_honest.proofs.courses.what_calls_of_a_link_say.{taken_more, then_joined, then_none}
 
 -- ---- one connection
@@ -58,7 +62,7 @@ HoldEach T deeds e = (r : ℕ) → T r (deeds r) e
 
 -- More is done at each connection, after which this holds. What the carrier put is the units of `put`, and the units that it used are
 -- those of `took`; each connection gave and took those of its reference.
-pub record StepsBy (used : List Value) (T : States) (deeds : ℕ → Deeds) (before : Carrier) (e : End) : Type 0 where
+pub record StepsBy (is_caller : Bool) (used : List Value) (T : States) (deeds : ℕ → Deeds) (before : Carrier) (e : End) : Type 0 where
   pub more : ℕ → Deeds
   pub there : HoldEach T (all_did deeds more) e
   pub put : List Marked
@@ -68,15 +72,27 @@ pub record StepsBy (used : List Value) (T : States) (deeds : ℕ → Deeds) (bef
   pub took : List Marked
   pub all : all_units took ≡ used
   pub taken : (r : ℕ) → 0 < r → units_taken (more r).calls ≡ units_at r took
+  pub heard : (r : ℕ) → 0 < r → Heard is_caller r (stage_at r before) took (stage_at r e.carrier)
+
+-- each connection is as open as it was, or past
+abbrev pub AllRest : Carrier → Carrier → Type 0
+AllRest old new = (r : ℕ) → Rests (stage_at r old) (stage_at r new)
+
+pub same_rest : (c : Carrier) → AllRest c c
+same_rest c = λ r. inl refl
+
+pub over_rest : (old new : Carrier) → IsSome new.ended → AllRest old new
+over_rest old new ended = λ r. rests_over r (stage_at r old) new ended
 
 -- no unit arrives
-abbrev pub Steps : States → (ℕ → Deeds) → Carrier → End → Type 0
-Steps T deeds before e = StepsBy [] T deeds before e
+abbrev pub Steps : Bool → States → (ℕ → Deeds) → Carrier → End → Type 0
+Steps is_caller T deeds before e = StepsBy is_caller [] T deeds before e
 
-pub step_each : (used : List Value) (T : States) (deeds : ℕ → Deeds) (before : Carrier) (e : End) (put took : List Marked) →
+pub step_each : (is_caller : Bool) (used : List Value) (T : States) (deeds : ℕ → Deeds) (before : Carrier) (e : End) (put took : List Marked) →
     e.carrier.outgoing ≡ before.outgoing ++ packets (all_units put) → AreByLinks put → all_units took ≡ used →
-    ((r : ℕ) → StepAt r put took (T r) (deeds r) e) → StepsBy used T deeds before e
-step_each used T deeds before e put took written by_links all each = record {
+    ((r : ℕ) → 0 < r → Heard is_caller r (stage_at r before) took (stage_at r e.carrier)) →
+    ((r : ℕ) → StepAt r put took (T r) (deeds r) e) → StepsBy is_caller used T deeds before e
+step_each is_caller used T deeds before e put took written by_links all heard each = record {
   more = λ r. (each r).more;
   there = λ r. (each r).there;
   put = put;
@@ -86,19 +102,21 @@ step_each used T deeds before e put took written by_links all each = record {
   took = took;
   all = all;
   taken = λ r. (each r).taken;
+  heard = heard;
 }
 
 -- nothing is done at any, and nothing is put
-pub step_none : (T : States) (deeds : ℕ → Deeds) (before : Carrier) (e : End) → e.carrier.outgoing ≡ before.outgoing →
-    HoldEach T deeds e → Steps T deeds before e
-step_none T deeds before e same there =
-    step_each [] T deeds before e [] [] (same ∙ sym (append-nil before.outgoing)) tt refl
+pub step_none : (is_caller : Bool) (T : States) (deeds : ℕ → Deeds) (before : Carrier) (e : End) →
+    e.carrier.outgoing ≡ before.outgoing → AllRest before e.carrier → HoldEach T deeds e → Steps is_caller T deeds before e
+step_none is_caller T deeds before e same rest there =
+    step_each is_caller [] T deeds before e [] [] (same ∙ sym (append-nil before.outgoing)) tt refl (λ r some. rest r)
     (λ r. step_idle r [] [] (T r) (deeds r) e (λ some. refl) (λ some. refl) (there r))
 
-pub step_then : (used others : List Value) (S T : States) (deeds : ℕ → Deeds) (before : Carrier) (mid new : End) →
-    StepsBy used S deeds before mid → ((after : ℕ → Deeds) → HoldEach S after mid → StepsBy others T after mid.carrier new) →
-    StepsBy (used ++ others) T deeds before new
-step_then used others S T deeds before mid new a next =
+pub step_then : (is_caller : Bool) (used others : List Value) (S T : States) (deeds : ℕ → Deeds) (before : Carrier) (mid new : End) →
+    StepsBy is_caller used S deeds before mid →
+    ((after : ℕ → Deeds) → HoldEach S after mid → StepsBy is_caller others T after mid.carrier new) →
+    StepsBy is_caller (used ++ others) T deeds before new
+step_then is_caller used others S T deeds before mid new a next =
     let b = next (all_did deeds a.more) a.there in
     record {
       more = all_did a.more b.more;
@@ -117,18 +135,22 @@ step_then used others S T deeds before mid new a next =
       taken = λ r some. taken_more (a.more r).calls (b.more r).calls
           ∙ ap (λ (l : List Value). l ++ units_taken (b.more r).calls) (a.taken r some)
           ∙ ap (λ (l : List Value). units_at r a.took ++ l) (b.taken r some) ∙ sym (units_more r a.took b.took);
+      heard = λ r some. heard_then is_caller r (stage_at r before) a.took (stage_at r mid.carrier) b.took (stage_at r new.carrier)
+          (a.heard r some) (b.heard r some);
     }
 
 -- units arrived before
-pub step_after : (used : List Value) (S T : States) (deeds : ℕ → Deeds) (before : Carrier) (mid new : End) → StepsBy used S deeds before mid →
-    ((after : ℕ → Deeds) → HoldEach S after mid → Steps T after mid.carrier new) → StepsBy used T deeds before new
-step_after used S T deeds before mid new a next =
-    subst (λ (l : List Value). StepsBy l T deeds before new) (append-nil used) (step_then used [] S T deeds before mid new a next)
+pub step_after : (is_caller : Bool) (used : List Value) (S T : States) (deeds : ℕ → Deeds) (before : Carrier) (mid new : End) →
+    StepsBy is_caller used S deeds before mid → ((after : ℕ → Deeds) → HoldEach S after mid → Steps is_caller T after mid.carrier new) →
+    StepsBy is_caller used T deeds before new
+step_after is_caller used S T deeds before mid new a next =
+    subst (λ (l : List Value). StepsBy is_caller l T deeds before new) (append-nil used)
+    (step_then is_caller used [] S T deeds before mid new a next)
 
--- more units arrived, of which no link took one
-pub step_more : (used others : List Value) (T : States) (deeds : ℕ → Deeds) (before : Carrier) (e : End) → StepsBy used T deeds before e →
-    StepsBy (used ++ others) T deeds before e
-step_more used others T deeds before e a = record {
+-- the carrier has ended, and more units had arrived
+pub step_more : (is_caller : Bool) (used others : List Value) (T : States) (deeds : ℕ → Deeds) (before : Carrier) (e : End) →
+    IsSome e.carrier.ended → StepsBy is_caller used T deeds before e → StepsBy is_caller (used ++ others) T deeds before e
+step_more is_caller used others T deeds before e ended a = record {
   more = a.more;
   there = a.there;
   put = a.put;
@@ -140,13 +162,16 @@ step_more used others T deeds before e a = record {
       ∙ ap (λ (l : List Value). used ++ l) (marked_all 0 others);
   taken = λ r some. a.taken r some ∙ sym (append-nil (units_at r a.took))
       ∙ ap (λ (l : List Value). units_at r a.took ++ l) (sym (nowhere r others some)) ∙ sym (units_more r a.took (marked 0 others));
+  heard = λ r some. heard_then is_caller r (stage_at r before) a.took (stage_at r e.carrier) (marked 0 others) (stage_at r e.carrier)
+      (a.heard r some) (subst (λ (s : Stage). Heard is_caller r s (marked 0 others) s) (sym (stage_over r e.carrier ended))
+      (heard_past is_caller r (marked 0 others) (none_marked r others some)));
 }
 
 -- the same with another end that has put as much
-pub step_as : (used : List Value) (S T : States) (deeds : ℕ → Deeds) (before : Carrier) (e new : End) → StepsBy used S deeds before e →
-    new.carrier.outgoing ≡ e.carrier.outgoing → ((r : ℕ) (after : Deeds) → S r after e → T r after new) →
-    StepsBy used T deeds before new
-step_as used S T deeds before e new a same next = record {
+pub step_as : (is_caller : Bool) (used : List Value) (S T : States) (deeds : ℕ → Deeds) (before : Carrier) (e new : End) →
+    StepsBy is_caller used S deeds before e → new.carrier.outgoing ≡ e.carrier.outgoing → AllRest e.carrier new.carrier →
+    ((r : ℕ) (after : Deeds) → S r after e → T r after new) → StepsBy is_caller used T deeds before new
+step_as is_caller used S T deeds before e new a same rest next = record {
   more = a.more;
   there = λ r. next r (then_did (deeds r) (a.more r)) (a.there r);
   put = a.put;
@@ -156,12 +181,15 @@ step_as used S T deeds before e new a same next = record {
   took = a.took;
   all = a.all;
   taken = a.taken;
+  heard = λ r some. heard_rests is_caller r (stage_at r before) a.took (stage_at r e.carrier) (stage_at r new.carrier) (a.heard r some)
+      (rest r);
 }
 
 -- the same since another carrier that had put as much
-pub step_since : (used : List Value) (T : States) (deeds : ℕ → Deeds) (before other : Carrier) (e : End) → other.outgoing ≡ before.outgoing →
-    StepsBy used T deeds other e → StepsBy used T deeds before e
-step_since used T deeds before other e same a = record {
+pub step_since : (is_caller : Bool) (used : List Value) (T : States) (deeds : ℕ → Deeds) (before other : Carrier) (e : End) →
+    other.outgoing ≡ before.outgoing → ((r : ℕ) → stage_at r other ≡ stage_at r before) → StepsBy is_caller used T deeds other e →
+    StepsBy is_caller used T deeds before e
+step_since is_caller used T deeds before other e same as_open a = record {
   more = a.more;
   there = a.there;
   put = a.put;
@@ -171,4 +199,5 @@ step_since used T deeds before other e same a = record {
   took = a.took;
   all = a.all;
   taken = a.taken;
+  heard = λ r some. subst (λ (s : Stage). Heard is_caller r s a.took (stage_at r e.carrier)) (as_open r) (a.heard r some);
 }

@@ -66,11 +66,15 @@ marked_other q r (unit ∷ units) e = one_other r (q == r) unit (units_at r (mar
 pub elsewhere : (q r : ℕ) (units : List Value) → r ≢ q → units_at r (marked q units) ≡ []
 elsewhere q r units ne = marked_other q r units (other_mark q r ne)
 
-none_mark : (r : ℕ) → 0 < r → (0 == r) ≡ false
+pub none_mark : (r : ℕ) → 0 < r → (0 == r) ≡ false
 none_mark r some = grind (arith, nat_tests)
 
 pub nowhere : (r : ℕ) (units : List Value) → 0 < r → units_at r (marked 0 units) ≡ []
 nowhere r units some = marked_other 0 r units (none_mark r some)
+
+pub none_marked : (r : ℕ) (units : List Value) → 0 < r → AllByRecursion (λ (m : Marked). (m.0 == r) ≡ false) (marked 0 units)
+none_marked r [] some = tt
+none_marked r (unit ∷ units) some = (none_mark r some, none_marked r units some)
 
 -- ---- DTs and AKs, and others
 

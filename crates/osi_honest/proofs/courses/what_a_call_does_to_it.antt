@@ -9,6 +9,7 @@ use Rattle.osi_class.specs.Link.{Standing}
 use Rattle.osi_class.specs.Runs.{tsdus_out}
 use Rattle.osi_carrier.specs.Calls.{closed_on, closed_with, link_of, may_connect, open_link}
 use Rattle.osi_carrier.specs.Negotiation.{proposal}
+use Rattle.osi_carrier.specs.Orderly.{IsOrderly}
 use Rattle.osi_carrier.specs.Rows.{value_at}
 use Rattle.osi_carrier.specs.State.{Connection, State as Carrier, asked}
 use Rattle.osi_carrier.specs.declared.ends.EndReason.{EndReason}
@@ -45,7 +46,8 @@ use Rattle.osi_honest.specs.Turns.{HasSerialIn}
 use Rattle.osi_honest.proofs.class_0.a_session_of_class_0_puts_what_it_sends.{still_begun}
 use Rattle.osi_honest.proofs.class_0.what_a_call_does_in_class_0.{granted_proper}
 use Rattle.osi_honest.proofs.class_0.what_packets_do_in_class_0.{never_lasts}
-use Rattle.osi_honest.proofs.courses.steps_of_a_course.{HasNone, HoldEach, StepAt, Steps, step_each, step_idle}
+use Rattle.osi_honest.proofs.courses.a_connection_without_a_unit.{connect_rests, given_up_rests, session_rests}
+use Rattle.osi_honest.proofs.courses.steps_of_a_course.{AllRest, HasNone, HoldEach, StepAt, Steps, over_rest, step_each, step_idle}
 use Rattle.osi_honest.proofs.courses.units_of_each_connection.{marked, nowhere, unequal}
 use Rattle.osi_honest.proofs.courses.what_a_session_puts.{Puts, closing_by_links, closing_puts, put_closing, puts_none}
 use Rattle.osi_honest.proofs.courses.what_a_session_puts.{session_by_links, session_others, session_puts, session_written}
@@ -54,6 +56,7 @@ use Rattle.osi_honest.proofs.courses.what_a_link_takes_and_is_handed.{Leaves, cl
 use Rattle.osi_honest.proofs.courses.what_a_unit_does_to_a_connection.{given_before, given_next, next_ungiven}
 use Rattle.osi_honest.proofs.courses.what_another_connection_leaves.{Beside, course_beside, course_over, gone_same, session_beside}
 use Rattle.osi_honest.proofs.courses.what_another_connection_leaves.{used_none}
+use Rattle.osi_honest.proofs.courses.what_arrives_for_a_connection.{Rests, stage_at}
 use Rattle.osi_honest.proofs.courses.what_its_own_session_does.{CanSpeak, session_speaks}
 
 -- no connection has two states
@@ -286,28 +289,34 @@ module _ (is_caller : Bool) (r : ℕ) (moves : Deeds) (e : End) (lasts : e.carri
 -- ---- at all connections
 
 module _ (is_caller : Bool) (moves : ℕ → Deeds) (e : End) (lasts : e.carrier.ended ≡ None)
-    (course : HoldEach (CourseAll is_caller) moves e) where
+    (orderly : IsOrderly e.carrier) (course : HoldEach (CourseAll is_caller) moves e) where
   abbrev AllThen : End → Type 0
-  AllThen new = Steps (CourseAll is_caller) moves e.carrier new
+  AllThen new = Steps is_caller (CourseAll is_caller) moves e.carrier new
 
-  each_then : (new : End) (put : List Marked) → Puts e.carrier put new.carrier → AreByLinks put →
+  each_then : (new : End) (put : List Marked) → Puts e.carrier put new.carrier → AreByLinks put → AllRest e.carrier new.carrier →
       ((r : ℕ) → StepAt r put [] (Course is_caller r) (moves r) new) → AllThen new
-  each_then new put written by_links each = step_each [] (CourseAll is_caller) moves e.carrier new put [] written by_links refl each
+  each_then new put written by_links rest each =
+      step_each is_caller [] (CourseAll is_caller) moves e.carrier new put [] written by_links refl (λ r some. rest r) each
 
   pub user_steps : (call : UserCall) → IsAccepted call e → HasSerialIn call → AllThen (user_does call e)
   user_steps (connecting c) allowed serial =
-      each_then (connects c e) (marked 0 (request_put c e)) refl (refl, tt)
+      each_then (connects c e) (marked 0 (request_put c e)) refl (refl, tt) (λ r. connect_rests r c e orderly lasts)
       (λ r. connect_steps is_caller r (moves r) e lasts c (r == e.carrier.given + 1) refl allowed (course r))
   user_steps (calling q call) allowed serial =
       each_then (to_session q (called call) e) (session_puts q (called call) e) (session_written q (called call) e)
       (session_by_links q (called call) e (course_given is_caller q (moves q) e (course q)))
+      (λ r. session_rests q r (called call) e)
       (λ r. call_steps is_caller r (moves r) e lasts q call (r == q) refl allowed serial (course r))
   user_steps (disconnecting q) allowed serial =
       each_then (disconnects q e) (marked 0 (put_closing q (open_link q e.carrier) e.carrier))
       (subst (Puts e.carrier (marked 0 (put_closing q (open_link q e.carrier) e.carrier))) (sym (disconnect_carrier q e))
       (closing_puts q e.carrier)) (closing_by_links q e.carrier)
+      (λ r. subst (λ (c : Carrier). Rests (stage_at r e.carrier) (stage_at r c)) (sym (disconnect_carrier q e))
+      (given_up_rests q r e.carrier))
       (λ r. given_steps is_caller r (moves r) e lasts q (r == q) refl allowed (course r))
   user_steps breaking allowed serial =
       each_then (breaks e) []
       (subst (λ (x : End). Puts e.carrier [] x.carrier) (sym (break_is is_caller 0 (moves 0) e lasts)) (puts_none e.carrier)) tt
+      (over_rest e.carrier (breaks e).carrier
+      (ap (λ (x : End). is_some x.carrier.ended) (break_is is_caller 0 (moves 0) e lasts)))
       (λ r. break_steps is_caller r (moves r) e lasts (course r))

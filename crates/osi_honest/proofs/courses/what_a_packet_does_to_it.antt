@@ -38,8 +38,9 @@ use Rattle.osi_honest.specs.Talking as history
 use Rattle.osi_honest.proofs.class_0.what_a_shortage_of_memory_leaves.{starves_same}
 use Rattle.osi_honest.proofs.class_0.what_a_turn_does_in_class_0.{all_octets, more_used, stopped_within}
 use Rattle.osi_honest.proofs.class_0.what_packets_do_in_class_0.{never_lasts}
-use Rattle.osi_honest.proofs.courses.steps_of_a_course.{HoldEach, Steps, StepsBy, step_after, step_as, step_more}
+use Rattle.osi_honest.proofs.courses.steps_of_a_course.{HoldEach, Steps, StepsBy, over_rest, same_rest, step_after, step_as, step_more}
 use Rattle.osi_honest.proofs.courses.steps_of_a_course.{step_none, step_then}
+use Rattle.osi_honest.proofs.courses.the_connections_of_each_class.{IsSound, class_kept, sound_unit}
 use Rattle.osi_honest.proofs.courses.what_another_connection_leaves.{course_over}
 use Rattle.osi_honest.proofs.courses.what_sessions_hear_of_it.{CourseAll, Known, attended, times_heard}
 use Rattle.osi_honest.proofs.courses.what_units_do_to_a_course.{CalmAll, NowAll, calm_over, leads_step, units_step}
@@ -50,7 +51,7 @@ use Rattle.osi_honest.proofs.courses.what_waits_to_be_heard.Waits.{away}
 use Rattle.osi_honest.proofs.reading.two_readings_of_a_stream_agree.{packets_on, packets_then}
 use Rattle.osi_honest.proofs.keeping.what_a_unit_keeps_a_turn_keeps.{IsKept, kept_takes}
 
--- ---- live connections stay in order
+-- ---- what holds of each carrier
 
 pub orderly_kept : IsKept IsOrderly
 orderly_kept = record {
@@ -60,20 +61,34 @@ orderly_kept = record {
   ends_so = λ reason c h. orderly_end reason c h;
 }
 
+pub sound_kept : IsKept IsSound
+sound_kept = record {
+  reacts_to = sound_unit;
+  carries = record {
+    sends = λ r tsdu c h. record {
+      orderly = orderly_kept.carries.sends r tsdu c h.orderly;
+      by_class = class_kept.carries.sends r tsdu c h.by_class;
+    };
+    closes = λ r c h. record { orderly = orderly_kept.carries.closes r c h.orderly; by_class = class_kept.carries.closes r c h.by_class };
+  };
+  untold = λ events c h. record { orderly = orderly_kept.untold events c h.orderly; by_class = class_kept.untold events c h.by_class };
+  ends_so = λ reason c h. record { orderly = orderly_kept.ends_so reason c h.orderly; by_class = class_kept.ends_so reason c h.by_class };
+}
+
 -- an end between two packets
 pub record Between (e : End) : Type 0 where
-  pub orderly : IsOrderly e.carrier
+  pub sound : IsSound e.carrier
   pub attended : IsAttended e
 
 pub takes_between : (units : List (List ℕ)) (old new : End) → Between old → TakesPackets old units new → Between new
 takes_between units old new b takes = record {
-  orderly = kept_takes IsOrderly orderly_kept units old new b.orderly takes;
+  sound = kept_takes IsSound sound_kept units old new b.sound takes;
   attended = packets_kept IsAttended attended_kept units old new takes b.attended;
 }
 
 module _ (known : Known) (is_caller : Bool) where
   abbrev CourseSteps : List Value → (ℕ → Deeds) → End → End → Type 0
-  CourseSteps used moves old new = StepsBy used (CourseAll is_caller) moves old.carrier new
+  CourseSteps used moves old new = StepsBy is_caller used (CourseAll is_caller) moves old.carrier new
 
   abbrev Courses : (ℕ → Deeds) → End → Type 0
   Courses moves e = HoldEach (CourseAll is_caller) moves e
@@ -84,15 +99,16 @@ module _ (known : Known) (is_caller : Bool) where
   -- ---- one packet
 
   acted : (u : List ℕ) (found : Result (List Value) TpduFault) (moves : ℕ → Deeds) (e : End) → IsOctets u → units_of u ≡ found →
-      IsOrderly e.carrier → HoldEach (CalmAll is_caller) moves e →
-      StepsBy (units_read found) (NowAll is_caller) moves e.carrier (with_carrier (carriers.acts_by found e.carrier) e)
+      IsSound e.carrier → HoldEach (CalmAll is_caller) moves e →
+      StepsBy is_caller (units_read found) (NowAll is_caller) moves e.carrier (with_carrier (carriers.acts_by found e.carrier) e)
   acted u (Ok units) moves e octets is h calm = units_step is_caller units u (units_found u units octets is) moves e h calm
   acted u (Err fault) moves e octets is h calm =
-      step_none (NowAll is_caller) moves e.carrier (with_carrier (carriers.acts_by (Err fault) e.carrier) e) refl
+      step_none is_caller (NowAll is_caller) moves e.carrier (with_carrier (carriers.acts_by (Err fault) e.carrier) e) refl
+      (over_rest e.carrier (carriers.acts_by (Err fault) e.carrier) refl)
       (λ r. away (calm_over is_caller r (moves r) e (with_carrier (carriers.acts_by (Err fault) e.carrier) e) (calm r) refl))
 
-  carried_out : (u : List ℕ) (moves : ℕ → Deeds) (e : End) → IsOctets u → IsOrderly e.carrier → HoldEach (CalmAll is_caller) moves e →
-      StepsBy (units_read (units_of u)) (NowAll is_caller) moves e.carrier
+  carried_out : (u : List ℕ) (moves : ℕ → Deeds) (e : End) → IsOctets u → IsSound e.carrier → HoldEach (CalmAll is_caller) moves e →
+      StepsBy is_caller (units_read (units_of u)) (NowAll is_caller) moves e.carrier
       (with_carrier (carriers.after_packet e.carrier u) e)
   unfolding carriers.after_packet
   carried_out u moves e octets h calm = acted u (units_of u) moves e octets refl h calm
@@ -101,20 +117,20 @@ module _ (known : Known) (is_caller : Bool) where
       CourseSteps (units_read (units_of u)) moves e (after_packet e u)
   packet_steps u moves e octets b lasts course =
       let mid = with_carrier (carriers.after_packet e.carrier u) e in
-      step_after (units_read (units_of u)) (NowAll is_caller) (CourseAll is_caller) moves e.carrier mid (after_packet e u)
-      (carried_out u moves e octets b.orderly (calm_of moves e (b.attended lasts) course))
-      (λ after w. subst (Steps (CourseAll is_caller) after mid.carrier) (sym (packet_is e u))
+      step_after is_caller (units_read (units_of u)) (NowAll is_caller) (CourseAll is_caller) moves e.carrier mid (after_packet e u)
+      (carried_out u moves e octets b.sound (calm_of moves e (b.attended lasts) course))
+      (λ after w. subst (Steps is_caller (CourseAll is_caller) after mid.carrier) (sym (packet_is e u))
       (attended known is_caller after mid w))
 
   takes_steps : (packets : List (List ℕ)) (moves : ℕ → Deeds) (old new : End) → AllByRecursion IsOctets packets → Between old →
       Courses moves old → TakesPackets old packets new → CourseSteps (units_in packets) moves old new
   takes_steps [] moves old new octets b course takes =
       subst (CourseSteps [] moves old) (sym takes)
-      (step_none (CourseAll is_caller) moves old.carrier old refl course)
+      (step_none is_caller (CourseAll is_caller) moves old.carrier old refl (same_rest old.carrier) course)
   takes_steps (u ∷ packets) moves old new octets b course takes =
       let mid = after_packet old u in
       let lasts = lasting_of old.carrier.ended (waits old.lines) takes.0 in
-      step_then (units_read (units_of u)) (units_in packets) (CourseAll is_caller) (CourseAll is_caller) moves old.carrier mid new
+      step_then is_caller (units_read (units_of u)) (units_in packets) (CourseAll is_caller) (CourseAll is_caller) moves old.carrier mid new
       (packet_steps u moves old octets.0 b lasts course)
       (λ after then_course. takes_steps packets after mid new octets.1 (takes_between (u ∷ []) old mid b (takes.0, refl)) then_course
       takes.1)
@@ -122,17 +138,18 @@ module _ (known : Known) (is_caller : Bool) where
   -- ---- memory runs out
 
   -- for a unit
-  unit_starved : (u : List ℕ) (units : List Value) (moves : ℕ → Deeds) (e : End) (c : Carrier) → AreUnits units u → IsOrderly e.carrier →
+  unit_starved : (u : List ℕ) (units : List Value) (moves : ℕ → Deeds) (e : End) (c : Carrier) → AreUnits units u → IsSound e.carrier →
       HoldEach (CalmAll is_caller) moves e → carriers.RunsOut e.carrier units c →
-      StepsBy units (NowAll is_caller) moves e.carrier (with_carrier c e)
+      StepsBy is_caller units (NowAll is_caller) moves e.carrier (with_carrier c e)
   unit_starved u units moves e c us h calm out =
       let before = with_carrier (reacts out.done e.carrier) e in
       let over_now = with_carrier (states.ends NoMemory (reacts out.done e.carrier)) e in
-      subst (λ (x : Carrier). StepsBy units (NowAll is_caller) moves e.carrier (with_carrier x e)) (sym out.ended)
-      (subst (λ (l : List Value). StepsBy l (NowAll is_caller) moves e.carrier over_now) (sym out.all)
-      (step_more out.done (out.next ∷ out.more) (NowAll is_caller) moves e.carrier over_now
-      (step_as out.done (CalmAll is_caller) (NowAll is_caller) moves e.carrier before over_now
+      subst (λ (x : Carrier). StepsBy is_caller units (NowAll is_caller) moves e.carrier (with_carrier x e)) (sym out.ended)
+      (subst (λ (l : List Value). StepsBy is_caller l (NowAll is_caller) moves e.carrier over_now) (sym out.all)
+      (step_more is_caller out.done (out.next ∷ out.more) (NowAll is_caller) moves e.carrier over_now refl
+      (step_as is_caller out.done (CalmAll is_caller) (NowAll is_caller) moves e.carrier before over_now
       (leads_step is_caller out.done out.next out.more u (subst (λ (l : List Value). AreUnits l u) out.all us) moves e h calm) refl
+      (over_rest before.carrier over_now.carrier refl)
       (λ r after then_calm. away (calm_over is_caller r after before over_now then_calm refl)))))
 
   -- for an event
@@ -141,8 +158,9 @@ module _ (known : Known) (is_caller : Bool) where
       let mid = hears_times out.heard e in
       let over_now = starves (with_events out.more mid) in
       subst (CourseSteps [] moves e) (sym out.starved)
-      (step_as [] (NowAll is_caller) (CourseAll is_caller) moves e.carrier mid over_now
+      (step_as is_caller [] (NowAll is_caller) (CourseAll is_caller) moves e.carrier mid over_now
       (times_heard known is_caller out.heard e.carrier.events moves e refl w) (starves_same out.more mid)
+      (over_rest mid.carrier over_now.carrier (starved_over (with_events out.more mid)))
       (λ r after then_now. is_gone (waits_over is_caller r after mid over_now mid.carrier.events then_now
       (starved_over (with_events out.more mid)))))
 
@@ -152,19 +170,19 @@ module _ (known : Known) (is_caller : Bool) where
       let mid = with_carrier c e in
       subst (λ (l : List Value). CourseSteps l moves e new) (sym (ap units_read is))
       (subst (CourseSteps units moves e) (sym there)
-      (step_after units (NowAll is_caller) (CourseAll is_caller) moves e.carrier mid (attends mid)
-      (unit_starved u units moves e c (units_found u units octets is) b.orderly (calm_of moves e (b.attended lasts) course) out)
+      (step_after is_caller units (NowAll is_caller) (CourseAll is_caller) moves e.carrier mid (attends mid)
+      (unit_starved u units moves e c (units_found u units octets is) b.sound (calm_of moves e (b.attended lasts) course) out)
       (λ after w. attended known is_caller after mid w)))
   starved_steps u moves e new octets b lasts course (inr (c, acts, out)) =
       let mid = with_carrier c e in
       let calm = calm_of moves e (b.attended lasts) course in
-      let now : StepsBy (units_read (units_of u)) (NowAll is_caller) moves e.carrier mid = elim (acts_cases e.carrier c u acts) [
-        | inl is ↦ subst (λ (x : Carrier). StepsBy (units_read (units_of u)) (NowAll is_caller) moves e.carrier (with_carrier x e))
-            (sym is) (carried_out u moves e octets b.orderly calm)
-        | inr short ↦ subst (λ (l : List Value). StepsBy l (NowAll is_caller) moves e.carrier mid) (sym (ap units_read short.1))
-            (unit_starved u short.0 moves e c (units_found u short.0 octets short.1) b.orderly calm short.2)
+      let now : StepsBy is_caller (units_read (units_of u)) (NowAll is_caller) moves e.carrier mid = elim (acts_cases e.carrier c u acts) [
+        | inl is ↦ subst (λ (x : Carrier). StepsBy is_caller (units_read (units_of u)) (NowAll is_caller) moves e.carrier (with_carrier x e))
+            (sym is) (carried_out u moves e octets b.sound calm)
+        | inr short ↦ subst (λ (l : List Value). StepsBy is_caller l (NowAll is_caller) moves e.carrier mid) (sym (ap units_read short.1))
+            (unit_starved u short.0 moves e c (units_found u short.0 octets short.1) b.sound calm short.2)
       ] in
-      step_after (units_read (units_of u)) (NowAll is_caller) (CourseAll is_caller) moves e.carrier mid new now
+      step_after is_caller (units_read (units_of u)) (NowAll is_caller) (CourseAll is_caller) moves e.carrier mid new now
       (λ after w. event_starved after mid new w out)
 
   -- ---- a piece
@@ -196,8 +214,8 @@ module _ (known : Known) (is_caller : Bool) where
       Courses moves old → TakesPackets old packets before → new.carrier.outgoing ≡ before.carrier.outgoing →
       IsSome new.carrier.ended → CourseSteps (units_in packets) moves old new
   then_over packets moves old before new octets b course takes same ended =
-      step_as (units_in packets) (CourseAll is_caller) (CourseAll is_caller) moves old.carrier before new
-      (takes_steps packets moves old before octets b course takes) same
+      step_as is_caller (units_in packets) (CourseAll is_caller) (CourseAll is_caller) moves old.carrier before new
+      (takes_steps packets moves old before octets b course takes) same (over_rest before.carrier new.carrier ended)
       (λ r after then_course. is_gone (course_over is_caller r after before new then_course ended))
 
   module _ (moves : ℕ → Deeds) (piece : List ℕ) (n : ℕ) (old new : Holding) (b : Between old.end)
@@ -259,7 +277,7 @@ module _ (known : Known) (is_caller : Bool) where
         all_used moves (f.units ++ packet ∷ []) piece ([] ++ drop f.within piece) n old new f.all (one_more f packet one)
         (none_ended old piece n new f)
         (subst (λ (l : List Value). CourseSteps l moves old.end new.end) (units_one_more f.units packet)
-        (step_then (units_in f.units) (units_read (units_of packet)) (CourseAll is_caller) (CourseAll is_caller) moves
+        (step_then is_caller (units_in f.units) (units_read (units_of packet)) (CourseAll is_caller) (CourseAll is_caller) moves
         old.end.carrier f.before new.end
         (takes_steps f.units moves old.end f.before (all_octets f.units _ _ f.packets) b course f.taken)
         (λ after then_course. starved_steps packet after f.before new.end (all_octets (packet ∷ []) f.rest [] one).0
@@ -282,7 +300,7 @@ module _ (known : Known) (is_caller : Bool) where
     held = λ lasts. ap (λ (l : List ℕ). old.held.octets ++ l) (none lasts) ∙ append-nil old.held.octets
         ∙ sym (ap (λ (x : Holding). x.held.octets) is);
     steps = subst (λ (x : Holding). CourseSteps [] moves old.end x.end) (sym is)
-        (step_none (CourseAll is_caller) moves old.end.carrier old.end refl course);
+        (step_none is_caller (CourseAll is_caller) moves old.end.carrier old.end refl (same_rest old.end.carrier) course);
   }
 
   pub feeds_steps : (moves : ℕ → Deeds) (piece : List ℕ) (fed : Fed) (old new : Holding) → Between old.end →

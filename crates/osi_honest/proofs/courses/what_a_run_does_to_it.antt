@@ -1,36 +1,44 @@
 -- Each turn of an end, and a run: what becomes of the course of one connection.
 -- For the laws of an end and its captures.
-use Rattle.std.proofs.Common.{◌≡◌, ◌∙◌, refl, sym, ap, subst, ℕ, ◌==◌, Bool, List, [], ◌∷◌, ◌++◌, take}
-use Rattle.std.proofs.Common.{None}
+use Rattle.std.proofs.Common.{◌≡◌, ◌∙◌, refl, sym, ap, subst, ℕ, ◌==◌, Bool, true, false, if◌then◌else◌, List, [], ◌∷◌, ◌++◌, take}
+use Rattle.std.proofs.Common.{None, inl, is_some, option_map}
 use Rattle.std.proofs.lemmas.List.{append-nil, append_cancel_left}
 use Rattle.osi_tpkt.specs.Stream.{ArePackets}
 use Rattle.osi_class.specs.declared.terms.Local.{Local}
-use Rattle.osi_carrier.specs.Orderly.{IsOrderly}
+use Rattle.osi_carrier.specs.Calls.{may_connect}
 use Rattle.osi_carrier.specs.Rows.{Rows, value_at}
 use Rattle.osi_carrier.specs.State.{packets}
-use Rattle.osi_carrier.proofs.effects.a_unit_touches_one_connection.{orderly_fresh, orderly_same}
+use Rattle.osi_carrier.specs.declared.ends.EndReason.TheVariants.{Broken}
+use Rattle.osi_carrier.proofs.effects.a_unit_touches_one_connection.{orderly_fresh}
 use Rattle.osi_session.specs.Listening.{called}
-use Rattle.osi_stack.specs.Calls.{without_first}
+use Rattle.osi_tpdu.specs.Limits.{tsap_octets}
+use Rattle.osi_stack.specs.Calls.{terms_error, without_first}
+use Rattle.osi_stack.specs.Hearing.{ends}
 use Rattle.osi_stack.specs.Inputs.{IsAccepted}
 use Rattle.osi_stack.specs.Rounds.{UserCall, user_does}
 use Rattle.osi_stack.specs.Rounds.UserCall.{breaking, calling, connecting, disconnecting}
 use Rattle.osi_stack.specs.Runs.{Call, Calls, carried_in, put_back, used_in}
 use Rattle.osi_stack.specs.Runs.Call.{carrying, feeding, telling}
-use Rattle.osi_stack.specs.State.{End, Holding, Line, fresh_end}
+use Rattle.osi_stack.specs.State.{End, Holding, IsAttended, Line, fresh_end}
 use Rattle.osi_stack.proofs.carried.all_events_are_handled.{breaks_attended, connect_attended, feeds_attended, session_attended}
 use Rattle.osi_stack.proofs.carried.what_a_move_leaves.{first_keep, kept_first}
-use Rattle.osi_stack.proofs.given_up.the_invariant_stays.{disconnect_attended, disconnect_orderly}
-use Rattle.osi_stack.proofs.sound.the_invariant_between_calls.{breaks_orderly, connect_orderly, session_orderly}
+use Rattle.osi_stack.proofs.carried.what_each_step_preserves.{session_carried}
+use Rattle.osi_stack.proofs.given_up.the_invariant_stays.{disconnect_attended, disconnect_carrier}
+use Rattle.osi_stack.proofs.sound.the_invariant_is_kept.{open_none}
+use Rattle.osi_stack.proofs.sound.the_invariant_between_calls.{connect_orderly}
 use Rattle.osi_honest.specs.Courses.{Continues, ContinuesAlong, Course, Deeds, all_did, no_deeds}
 use Rattle.osi_honest.specs.Courses.Course.{unknown}
 use Rattle.osi_honest.specs.Marked.{all_units}
 use Rattle.osi_honest.specs.Turns.{Act, Acts, Run, Takes, Turn, carried_by, used_by}
 use Rattle.osi_honest.specs.Turns.Act.{serving, using}
-use Rattle.osi_honest.proofs.courses.steps_of_a_course.{HoldEach, Steps}
+use Rattle.osi_honest.proofs.courses.steps_of_a_course.{AllRest, HoldEach, Steps}
+use Rattle.osi_honest.proofs.courses.the_connections_of_each_class.{IsSound, request_class, sound_same}
+use Rattle.osi_honest.proofs.courses.the_connections_of_each_class.ByClass.{none as no_connection}
 use Rattle.osi_honest.proofs.courses.what_a_call_does_to_it.{user_steps}
-use Rattle.osi_honest.proofs.courses.what_a_packet_does_to_it.{Between, FeedSteps, feeds_steps, orderly_kept}
+use Rattle.osi_honest.proofs.courses.what_a_packet_does_to_it.{Between, FeedSteps, feeds_steps, sound_kept}
 use Rattle.osi_honest.proofs.courses.what_a_unit_does_to_a_connection.{none_given}
 use Rattle.osi_honest.proofs.courses.what_another_connection_leaves.{Beside, course_beside, none_before, none_behind}
+use Rattle.osi_honest.proofs.courses.what_arrives_for_a_connection.{hears, stage_at}
 use Rattle.osi_honest.proofs.courses.what_calls_of_a_link_say.{then_none}
 use Rattle.osi_honest.proofs.courses.what_sessions_hear_of_it.{CourseAll, Known}
 use Rattle.osi_honest.proofs.keeping.what_a_unit_keeps_a_turn_keeps.{kept_feeds}
@@ -39,26 +47,40 @@ use Rattle.osi_honest.proofs.keeping.what_a_unit_keeps_a_turn_keeps.{kept_feeds}
 
 call_between : (call : Call) (old new : Holding) → Between old.end → Calls old call new → Between new.end
 call_between (feeding piece fed) old new b c = record {
-  orderly = kept_feeds IsOrderly orderly_kept piece fed old new b.orderly c;
+  sound = kept_feeds IsSound sound_kept piece fed old new b.sound c;
   attended = feeds_attended old new piece fed c b.attended;
 }
 call_between (telling shown) old new b c =
-    subst (λ (x : Holding). Between x.end) (sym c.1) (record { orderly = b.orderly; attended = b.attended })
+    subst (λ (x : Holding). Between x.end) (sym c.1) (record { sound = b.sound; attended = b.attended })
 call_between (carrying octets) old new b c =
     let was : Between (put_back octets new.end) = subst (λ (x : Holding). Between x.end) c b in
     record {
-      orderly = orderly_same (put_back octets new.end).carrier new.end.carrier.outgoing new.end.carrier.events was.orderly;
+      sound = sound_same (put_back octets new.end).carrier new.end.carrier.outgoing was.sound;
       attended = was.attended;
     }
 
+user_sound : (call : UserCall) (e : End) → IsAccepted call e → IsSound e.carrier → IsSound (user_does call e).carrier
+user_sound (connecting c) e allowed h = record {
+  orderly = connect_orderly c e allowed h.orderly;
+  by_class = request_class (option_map tsap_octets c.calling_tsap) (option_map tsap_octets c.called_tsap) e.carrier
+      (open_none (may_connect e.carrier) (terms_error c) allowed) h.by_class;
+}
+user_sound (calling q call) e allowed h = session_carried IsSound sound_kept.carries q (called call) e h
+user_sound (disconnecting q) e allowed h = subst IsSound (sym (disconnect_carrier q e)) (sound_kept.carries.closes q e.carrier h)
+user_sound breaking e allowed h = by (is_some e.carrier.ended)
+  where
+    by : (b : Bool) → IsSound (if b then e else ends Broken e).carrier
+    by true = h
+    by false = sound_kept.ends_so Broken e.carrier h
+
 user_between : (call : UserCall) (e : End) → IsAccepted call e → Between e → Between (user_does call e)
-user_between (connecting c) e allowed b =
-    record { orderly = connect_orderly c e allowed b.orderly; attended = connect_attended c e b.attended }
-user_between (calling q call) e allowed b =
-    record { orderly = session_orderly q (called call) e b.orderly; attended = session_attended q (called call) e b.attended }
-user_between (disconnecting q) e allowed b =
-    record { orderly = disconnect_orderly q e b.orderly; attended = disconnect_attended q e b.attended }
-user_between breaking e allowed b = record { orderly = breaks_orderly e b.orderly; attended = breaks_attended e b.attended }
+user_between call e allowed b = record { sound = user_sound call e allowed b.sound; attended = user_attended call e allowed b.attended }
+  where
+    user_attended : (call : UserCall) (e : End) → IsAccepted call e → IsAttended e → IsAttended (user_does call e)
+    user_attended (connecting c) e allowed h = connect_attended c e h
+    user_attended (calling q call) e allowed h = session_attended q (called call) e h
+    user_attended (disconnecting q) e allowed h = disconnect_attended q e h
+    user_attended breaking e allowed h = breaks_attended e h
 
 act_between : (act : Act) (old new : Holding) → Between old.end → Acts old act new → Between new.end
 act_between (serving call) old new b acts = call_between call old new b acts
@@ -66,7 +88,10 @@ act_between (using call) old new b acts =
     subst (λ (x : Holding). Between x.end) (sym acts.3) (user_between call old.end acts.1 b)
 
 pub fresh_between : (is_caller : Bool) (local : Local) → Between (fresh_end is_caller local)
-fresh_between is_caller local = record { orderly = orderly_fresh is_caller local; attended = λ lasts. refl }
+fresh_between is_caller local = record {
+  sound = record { orderly = orderly_fresh is_caller local; by_class = no_connection refl };
+  attended = λ lasts. refl;
+}
 
 -- ---- indications and octets are fetched
 
@@ -100,7 +125,7 @@ module _ (known : Known) (is_caller : Bool) (moves : ℕ → Deeds) where
 
   -- nothing was used
   as_turn : (turn : Turn) (old new : Holding) → turn.used ≡ [] → new.held.octets ≡ old.held.octets →
-      Steps (CourseAll is_caller) moves old.end.carrier new.end →
+      Steps is_caller (CourseAll is_caller) moves old.end.carrier new.end →
       new.end.carrier.outgoing ≡ old.end.carrier.outgoing ++ turn.put → Continues is_caller moves old turn new
   as_turn turn old new none same s is = record {
     more = s.more;
@@ -116,6 +141,7 @@ module _ (known : Known) (is_caller : Bool) (moves : ℕ → Deeds) where
     took = s.took;
     all = s.all;
     taken = s.taken;
+    heard = λ r some. hears is_caller r some old.end.carrier new.end.carrier s.took (s.heard r some);
   }
 
   -- a piece was fed
@@ -135,12 +161,13 @@ module _ (known : Known) (is_caller : Bool) (moves : ℕ → Deeds) where
     took = f.steps.took;
     all = f.steps.all;
     taken = f.steps.taken;
+    heard = λ r some. hears is_caller r some old.end.carrier new.end.carrier f.steps.took (f.steps.heard r some);
   }
 
   -- nothing was used or put
   quiet_turn : (turn : Turn) (old new : Holding) → turn.used ≡ [] → turn.put ≡ [] → new.held.octets ≡ old.held.octets →
-      Courses moves new.end → Continues is_caller moves old turn new
-  quiet_turn turn old new none nothing same course = record {
+      Courses moves new.end → AllRest old.end.carrier new.end.carrier → Continues is_caller moves old turn new
+  quiet_turn turn old new none nothing same course rest = record {
     more = λ r. no_deeds;
     course = λ r. subst (λ (d : Deeds). Course is_caller r d new.end) (sym (then_none (moves r))) (course r);
     put = [];
@@ -154,6 +181,7 @@ module _ (known : Known) (is_caller : Bool) (moves : ℕ → Deeds) where
     took = [];
     all = refl;
     taken = λ r some. refl;
+    heard = λ r some. hears is_caller r some old.end.carrier new.end.carrier [] (rest r);
   }
 
   nothing_put : (old new put : List ℕ) → new ≡ old ++ put → new ≡ old → put ≡ []
@@ -171,6 +199,7 @@ module _ (known : Known) (is_caller : Bool) (moves : ℕ → Deeds) where
       (subst (λ (x : Holding). Courses moves x.end) (sym c.1)
       (λ r. course_beside is_caller r (moves r) old.end (record old.end { lines = without_first old.end.lines }) (told_beside r old.end)
       (course r)))
+      (λ r. inl (ap (λ (x : Holding). stage_at r x.end.carrier) c.1))
   serving_turn turn (carrying octets) old new used b course c is =
       quiet_turn turn old new used
       (nothing_put old.end.carrier.outgoing (octets ++ new.end.carrier.outgoing) turn.put is
@@ -178,6 +207,7 @@ module _ (known : Known) (is_caller : Bool) (moves : ℕ → Deeds) where
       (sym (ap (λ (x : Holding). x.held.octets) c))
       (λ r. course_beside is_caller r (moves r) (put_back octets new.end) new.end (carried_beside r octets new.end)
       (subst (λ (x : Holding). Course is_caller r (moves r) x.end) c (course r)))
+      (λ r. inl (sym (ap (λ (x : Holding). stage_at r x.end.carrier) c)))
 
   act_turn : (turn : Turn) (act : Act) (old new : Holding) → turn.used ≡ used_by act → Between old.end → Courses moves old.end →
       Acts old act new → carried_by act ++ new.end.carrier.outgoing ≡ old.end.carrier.outgoing ++ turn.put →
@@ -185,8 +215,8 @@ module _ (known : Known) (is_caller : Bool) (moves : ℕ → Deeds) where
   act_turn turn (serving call) old new used b course acts is = serving_turn turn call old new used b course acts is
   act_turn turn (using call) old new used b course acts is =
       as_turn turn old new used (ap (λ (x : Holding). x.held.octets) acts.3)
-      (subst (λ (x : Holding). Steps (CourseAll is_caller) moves old.end.carrier x.end) (sym acts.3)
-      (user_steps is_caller moves old.end acts.0 course call acts.1 acts.2)) is
+      (subst (λ (x : Holding). Steps is_caller (CourseAll is_caller) moves old.end.carrier x.end) (sym acts.3)
+      (user_steps is_caller moves old.end acts.0 b.sound.orderly course call acts.1 acts.2)) is
 
   pub turn_continues : (turn : Turn) (old new : Holding) → Between old.end → Courses moves old.end → Takes old turn new →
       Continues is_caller moves old turn new

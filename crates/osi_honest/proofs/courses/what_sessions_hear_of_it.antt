@@ -39,7 +39,8 @@ use Rattle.osi_honest.specs.Talking as history
 use Rattle.osi_honest.proofs.class_0.a_session_of_class_0_puts_what_it_sends.{still_begun}
 use Rattle.osi_honest.proofs.class_0.what_a_packet_does_in_class_0.{AllProper}
 use Rattle.osi_honest.proofs.class_0.what_packets_do_in_class_0.{never_lasts}
-use Rattle.osi_honest.proofs.courses.steps_of_a_course.{HasNone, HoldEach, StepAt, States, Steps, step_as, step_each, step_idle}
+use Rattle.osi_honest.proofs.courses.a_connection_without_a_unit.{event_rests}
+use Rattle.osi_honest.proofs.courses.steps_of_a_course.{HasNone, HoldEach, StepAt, States, Steps, same_rest, step_as, step_each, step_idle}
 use Rattle.osi_honest.proofs.courses.steps_of_a_course.{step_none, step_on, step_since, step_then}
 use Rattle.osi_honest.proofs.courses.units_of_each_connection.{unequal}
 use Rattle.osi_honest.proofs.courses.what_a_link_takes_and_is_handed.{link_shut, over_unlinked}
@@ -48,6 +49,7 @@ use Rattle.osi_honest.proofs.courses.what_a_session_puts.{event_written, opening
 use Rattle.osi_honest.proofs.courses.what_a_unit_does_to_a_connection.{NoneOf}
 use Rattle.osi_honest.proofs.courses.what_another_connection_leaves.{Beside, course_over, gone_beside, gone_over, gone_same}
 use Rattle.osi_honest.proofs.courses.what_another_connection_leaves.{joins_beside, session_beside, shut_session}
+use Rattle.osi_honest.proofs.courses.what_arrives_for_a_connection.{stage_at}
 use Rattle.osi_honest.proofs.courses.what_calls_of_a_link_say.{fresh_of, none_said, out_more, said_more}
 use Rattle.osi_honest.proofs.courses.what_its_own_session_does.{CanSpeak, session_speaks}
 use Rattle.osi_honest.proofs.courses.what_units_do_to_a_course.{NowAll, request_new, unsaid}
@@ -342,45 +344,46 @@ module _ (known : Known) (is_caller : Bool) where
   WaitAll events r moves e = Waits is_caller r events moves e
 
   event_heard : (x : Happening) (rest : List Happening) (moves : ℕ → Deeds) (e : End) → HoldEach (WaitAll (x ∷ rest)) moves e →
-      Steps (WaitAll rest) moves e.carrier (hears x e)
+      Steps is_caller (WaitAll rest) moves e.carrier (hears x e)
   event_heard x rest moves e w =
-      step_each [] (WaitAll rest) moves e.carrier (hears x e) (event_puts x e) [] (event_written x e)
-      (event_by_links x e (waits_given is_caller (told_of x) (x ∷ rest) (moves (told_of x)) e (w (told_of x)))) refl
+      step_each is_caller [] (WaitAll rest) moves e.carrier (hears x e) (event_puts x e) [] (event_written x e)
+      (event_by_links x e (waits_given is_caller (told_of x) (x ∷ rest) (moves (told_of x)) e (w (told_of x)))) refl (λ r some. event_rests r x e)
       (λ r. one_heard known is_caller r x rest (moves r) e (w r))
 
   -- so many of the events
   pub times_heard : (n : ℕ) (events : List Happening) (moves : ℕ → Deeds) (e : End) → e.carrier.events ≡ events →
-      HoldEach (WaitAll events) moves e → Steps (NowAll is_caller) moves e.carrier (hears_times n e)
+      HoldEach (WaitAll events) moves e → Steps is_caller (NowAll is_caller) moves e.carrier (hears_times n e)
   times_heard zero events moves e is w =
-      step_none (NowAll is_caller) moves e.carrier e refl
+      step_none is_caller (NowAll is_caller) moves e.carrier e refl (same_rest e.carrier)
       (λ r. subst (λ (l : List Happening). Waits is_caller r l (moves r) e) (sym is) (w r))
   times_heard (suc n) [] moves e is w =
-      subst (Steps (NowAll is_caller) moves e.carrier) (sym (times_quiet (suc n) e is))
-      (step_none (NowAll is_caller) moves e.carrier e refl
+      subst (Steps is_caller (NowAll is_caller) moves e.carrier) (sym (times_quiet (suc n) e is))
+      (step_none is_caller (NowAll is_caller) moves e.carrier e refl (same_rest e.carrier)
       (λ r. subst (λ (l : List Happening). Waits is_caller r l (moves r) e) (sym is) (w r)))
   times_heard (suc n) (x ∷ rest) moves e is w =
       let mid = hears_next e in
-      let one : Steps (WaitAll rest) moves e.carrier mid =
-      subst (Steps (WaitAll rest) moves e.carrier) (sym (first_is x rest e is))
-      (step_since [] (WaitAll rest) moves e.carrier (with_events rest e).carrier (hears x (with_events rest e)) refl
+      let one : Steps is_caller (WaitAll rest) moves e.carrier mid =
+      subst (Steps is_caller (WaitAll rest) moves e.carrier) (sym (first_is x rest e is))
+      (step_since is_caller [] (WaitAll rest) moves e.carrier (with_events rest e).carrier (hears x (with_events rest e)) refl (λ r. refl)
       (event_heard x rest moves (with_events rest e)
       (λ r. waits_as is_caller r (moves r) e (with_events rest e) (x ∷ rest) (untold_beside known is_caller r rest e) (w r)))) in
-      step_then [] [] (WaitAll rest) (NowAll is_caller) moves e.carrier mid (hears_times n mid) one
+      step_then is_caller [] [] (WaitAll rest) (NowAll is_caller) moves e.carrier mid (hears_times n mid) one
       (λ after v. times_heard n rest after mid (rest_is x rest e is) v)
 
   none_left : (events : List Happening) (e : End) → e.carrier.events ≡ events → (hears_times (length events) e).carrier.events ≡ []
   none_left [] e is = is
   none_left (x ∷ rest) e is = none_left rest (hears_next e) (rest_is x rest e is)
 
-  all_heard : (moves : ℕ → Deeds) (e : End) → HoldEach (NowAll is_caller) moves e → Steps (CourseAll is_caller) moves e.carrier (hears_all e)
+  all_heard : (moves : ℕ → Deeds) (e : End) → HoldEach (NowAll is_caller) moves e → Steps is_caller (CourseAll is_caller) moves e.carrier (hears_all e)
   all_heard moves e w =
-      step_as [] (NowAll is_caller) (CourseAll is_caller) moves e.carrier (hears_all e) (hears_all e)
-      (times_heard (length e.carrier.events) e.carrier.events moves e refl w) refl
+      step_as is_caller [] (NowAll is_caller) (CourseAll is_caller) moves e.carrier (hears_all e) (hears_all e)
+      (times_heard (length e.carrier.events) e.carrier.events moves e refl w) refl (same_rest (hears_all e).carrier)
       (λ r after v. waits_none is_caller r after (hears_all e)
       (subst (λ (l : List Happening). Waits is_caller r l after (hears_all e)) (none_left e.carrier.events e refl) v))
 
-  pub attended : (moves : ℕ → Deeds) (e : End) → HoldEach (NowAll is_caller) moves e → Steps (CourseAll is_caller) moves e.carrier (attends e)
+  pub attended : (moves : ℕ → Deeds) (e : End) → HoldEach (NowAll is_caller) moves e → Steps is_caller (CourseAll is_caller) moves e.carrier (attends e)
   attended moves e w =
-      step_as [] (CourseAll is_caller) (CourseAll is_caller) moves e.carrier (hears_all e) (attends e) (all_heard moves e w)
+      step_as is_caller [] (CourseAll is_caller) (CourseAll is_caller) moves e.carrier (hears_all e) (attends e) (all_heard moves e w)
       (ap (λ (c : Carrier). c.outgoing) (concluded_carrier (hears_all e)))
+      (λ r. inl (ap (stage_at r) (concluded_carrier (hears_all e))))
       (λ r after course. concluded_by known is_caller r (hears_all e).carrier.ended after (hears_all e) refl course)

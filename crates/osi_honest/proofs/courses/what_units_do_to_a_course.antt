@@ -1,6 +1,6 @@
 -- Units that arrive, one after the other: what becomes of the course of one connection, before the sessions hear of it.
 -- For the course of a connection.
-use Rattle.std.proofs.Common.{◌≡◌, ◌∙◌, refl, sym, ap, subst, ℕ, zero, suc, ◌+◌, ◌<◌, ◌==◌, Bool, true, false, List, [], ◌∷◌, ◌++◌}
+use Rattle.std.proofs.Common.{◌≡◌, ◌≢◌, ◌∙◌, refl, sym, ap, subst, ℕ, zero, suc, ◌+◌, ◌<◌, ◌==◌, Bool, true, false, List, [], ◌∷◌, ◌++◌}
 use Rattle.std.proofs.Common.{length, map, take, Option, Some, None, is_some, IsSome, IsTrue, Ok, inl, inr, arith}
 use Rattle.std.proofs.lemmas.Bool.{eqb-true}
 use Rattle.std.proofs.lemmas.List.{append-nil}
@@ -13,13 +13,12 @@ use Rattle.osi_carrier.specs.Happenings.{opened, tsdu}
 use Rattle.osi_class.specs.declared.terms.Class.TheVariants.{Zero}
 use Rattle.osi_class.specs.declared.terms.Local.{Local}
 use Rattle.osi_carrier.specs.Negotiation.{opened_link}
-use Rattle.osi_carrier.specs.Orderly.{IsOrderly, RiseFrom, connection_of}
+use Rattle.osi_carrier.specs.Orderly.{RiseFrom, connection_of}
 use Rattle.osi_carrier.specs.Pump.{pumped, written_by}
 use Rattle.osi_carrier.specs.React.{handed_out, react, reacts, settles}
 use Rattle.osi_carrier.specs.Rows.{Rows, value_at}
 use Rattle.osi_carrier.specs.State.{Connection, State as Carrier, asked, linked, packets}
 use Rattle.osi_carrier.specs.declared.ends.EndReason.{EndReason}
-use Rattle.osi_carrier.proofs.effects.a_unit_touches_one_connection.{orderly_unit}
 use Rattle.osi_carrier.proofs.effects.units_one_after_the_other.{react_over}
 use Rattle.osi_carrier.proofs.references.what_a_change_leaves_there.{absent, put_here}
 use Rattle.osi_session.specs.Listening.{Listener}
@@ -37,19 +36,23 @@ use Rattle.osi_honest.specs.Courses.Gone.{closed, never, over}
 use Rattle.osi_honest.specs.Talking.{History, Said}
 use Rattle.osi_honest.specs.Talking as history
 use Rattle.osi_honest.proofs.class_0.what_packets_do_in_class_0.{never_lasts}
-use Rattle.osi_honest.proofs.courses.steps_of_a_course.{HoldEach, StepAt, States, StepsBy, done_by, step_as, step_each, step_idle}
-use Rattle.osi_honest.proofs.courses.steps_of_a_course.{step_none, step_then}
-use Rattle.osi_honest.proofs.courses.units_of_each_connection.{elsewhere, given_by_links, marked, marked_all, marked_own, nowhere}
-use Rattle.osi_honest.proofs.courses.units_of_each_connection.{plain_by_links, unequal}
+use Rattle.osi_honest.proofs.courses.steps_of_a_course.{HoldEach, StepAt, States, StepsBy, done_by, same_rest, step_as, step_each}
+use Rattle.osi_honest.proofs.courses.steps_of_a_course.{step_idle, step_none, step_then}
+use Rattle.osi_honest.proofs.courses.the_connections_of_each_class.{IsSound, sound_unit}
+use Rattle.osi_honest.proofs.courses.units_of_each_connection.{elsewhere, given_by_links, marked, marked_all, marked_own, none_marked}
+use Rattle.osi_honest.proofs.courses.units_of_each_connection.{nowhere, plain_by_links, unequal}
 use Rattle.osi_honest.proofs.courses.what_a_link_takes_and_is_handed.{HasFew, has_few, takes_in}
 use Rattle.osi_honest.proofs.courses.what_a_unit_does_to_a_connection.{Acts, Does, NoneOf, acts_elsewhere, none_more, unit_does}
 use Rattle.osi_honest.proofs.courses.what_a_unit_does_to_a_connection.Acts.{answers_it, joins, leaves_it, rests}
 use Rattle.osi_honest.proofs.courses.what_a_unit_does_to_a_connection.Acts.{over as carrier_over}
 use Rattle.osi_honest.proofs.courses.what_a_unit_does_to_a_connection.Does.{passes, takes}
 use Rattle.osi_honest.proofs.courses.what_another_connection_leaves.{Beside, course_beside, course_over, gone_beside, gone_over}
+use Rattle.osi_honest.proofs.courses.what_arrives_for_a_connection.{Heard, Stage, heard_past, stage_at, stage_over}
+use Rattle.osi_honest.proofs.courses.what_arrives_for_a_connection.Stage.{past}
 use Rattle.osi_honest.proofs.courses.what_calls_of_a_link_say.{along_more, none_said, out_more, put_more, said_more}
 use Rattle.osi_honest.proofs.courses.what_waits_to_be_heard.{Due, JustOpened, Waits, due_last}
 use Rattle.osi_honest.proofs.courses.what_waits_to_be_heard.Waits.{answered, away, called, came, still}
+use Rattle.osi_honest.proofs.courses.which_connection_a_unit_is_for.{elsewhere_deaf, heard_passed, heard_taken}
 
 -- ---- no event of this connection waits
 
@@ -123,7 +126,7 @@ request_new is_caller c side terms = subst (λ (b : Bool). IsNew b (calls_with c
 
 -- ---- one unit
 
-module _ (is_caller : Bool) (r : ℕ) (moves : Deeds) (v : Value) (e : End) (h : IsOrderly e.carrier) where
+module _ (is_caller : Bool) (r : ℕ) (moves : Deeds) (v : Value) (e : End) (h : IsSound e.carrier) where
   abbrev new : End
   new = with_carrier (react v e.carrier) e
 
@@ -140,7 +143,7 @@ module _ (is_caller : Bool) (r : ℕ) (moves : Deeds) (v : Value) (e : End) (h :
     beside live given = record {
       live = live;
       given = given;
-      side = (along_units (v ∷ []) e.carrier h).side;
+      side = (along_units (v ∷ []) e.carrier h.orderly).side;
       ended = lasts ∙ sym lasted;
       unlined = λ none. none;
       kept = λ some. refl;
@@ -305,13 +308,13 @@ module _ (is_caller : Bool) (r : ℕ) (moves : Deeds) (v : Value) (e : End) (h :
 
       on_still : Course is_caller r moves e → Acts r v e.carrier (react v e.carrier) → Idle
       on_still course (carrier_over ended) = absurd (never_lasts new.carrier.ended ended lasts)
-      on_still course (rests live given told events others) =
+      on_still course (rests live given told events others deaf) =
           calm_after is_caller r v moves new
           (is_still (subst (NoneOf r) (sym events) (none_more r e.carrier.events told none others))
           (course_beside is_caller r moves e new (beside live given) course))
-      on_still course (joins called_end alone free given peer first fresh here events) =
+      on_still course (joins called_end alone free given peer first fresh here events opener) =
           joins_now course called_end alone free given peer first fresh here events
-      on_still course (answers_it alone was same peer first fresh here events) =
+      on_still course (answers_it alone was same peer first fresh here events opener) =
           answers_now course alone was same peer first fresh here events
       on_still course (leaves_it x here same shut) = calm_after is_caller r v moves new (is_away (leaves_now course x here same shut))
 
@@ -319,12 +322,12 @@ module _ (is_caller : Bool) (r : ℕ) (moves : Deeds) (v : Value) (e : End) (h :
     on_away (over at calls heard unheard is session speaks parts into ended) act = absurd (never_lasts e.carrier.ended ended lasted)
     on_away (never no_moves ended) act = absurd (never_lasts e.carrier.ended ended lasted)
     on_away (closed at calls is session speaks given shut) (carrier_over ended) = absurd (never_lasts new.carrier.ended ended lasts)
-    on_away (closed at calls is session speaks given shut) (rests live same told events others) =
+    on_away (closed at calls is session speaks given shut) (rests live same told events others deaf) =
         calm_after is_caller r v moves new
         (is_away (gone_beside is_caller r moves e new (beside live same) (closed at calls is session speaks given shut)))
-    on_away (closed at calls is session speaks given shut) (joins called_end alone free then_given peer first fresh here events) =
+    on_away (closed at calls is session speaks given shut) (joins called_end alone free then_given peer first fresh here events opener) =
         both (has_given r e.carrier) given free
-    on_away (closed at calls is session speaks given shut) (answers_it alone was same peer first fresh here events) =
+    on_away (closed at calls is session speaks given shut) (answers_it alone was same peer first fresh here events opener) =
         absurd (subst IsShut was shut)
     on_away (closed at calls is session speaks given shut) (leaves_it x here same then_shut) =
         calm_after is_caller r v moves new (is_away (closed at calls is session speaks (same ∙ given) then_shut))
@@ -359,8 +362,9 @@ module _ (is_caller : Bool) (r : ℕ) (moves : Deeds) (v : Value) (e : End) (h :
       idle_by new.carrier.ended refl lasted calm
       (λ lasts. subst (λ (n : ℕ). Acts n v e.carrier (react v e.carrier)) (sym (eqb-true r q same)) act)
   idle_at q false same is lasted calm act =
+      let ne : r ≢ connection_of v e.carrier = λ one. unequal q r same (one ∙ sym is) in
       idle_by new.carrier.ended refl lasted calm
-      (λ lasts. acts_elsewhere r v e.carrier (λ one. unequal q r same (one ∙ sym is)) lasts)
+      (λ lasts. acts_elsewhere r v e.carrier ne lasts (elsewhere_deaf v e.carrier lasted lasts r h.by_class ne))
 
   -- the link of this or of another connection takes it
   taken_at : (q : ℕ) (b : Bool) → (r == q) ≡ b → q ≡ connection_of v e.carrier → e.carrier.ended ≡ None → Calm is_caller r moves e →
@@ -376,9 +380,11 @@ module _ (is_caller : Bool) (r : ℕ) (moves : Deeds) (v : Value) (e : End) (h :
   taken_at q false same is lasted calm peer link after here took then_is =
       let lasts : new.carrier.ended ≡ None = ap (λ (c : Carrier). c.ended) then_is ∙ lasted in
       let ne = unequal q r same in
+      let other : r ≢ connection_of v e.carrier = λ one. ne (one ∙ sym is) in
       step_idle r (marked q (written_by peer (handed_out after))) (marked q (v ∷ [])) (After is_caller r v) moves new
       (λ some. elsewhere q r (written_by peer (handed_out after)) ne) (λ some. elsewhere q r (v ∷ []) ne)
-      (on_calm lasts lasted calm (acts_elsewhere r v e.carrier (λ one. ne (one ∙ sym is)) lasts))
+      (on_calm lasts lasted calm
+      (acts_elsewhere r v e.carrier other lasts (elsewhere_deaf v e.carrier lasted lasts r h.by_class other)))
 
   passed : (units : List Value) → Idle → StepAt r (marked 0 units) (marked 0 (v ∷ [])) (After is_caller r v) moves new
   passed units idle =
@@ -400,37 +406,67 @@ module _ (is_caller : Bool) where
   abbrev AfterAll : Value → States
   AfterAll v r moves e = After is_caller r v moves e
 
-  module _ (moves : ℕ → Deeds) (v : Value) (e : End) (h : IsOrderly e.carrier) (calm : HoldEach CalmAll moves e) where
+  module _ (moves : ℕ → Deeds) (v : Value) (e : End) (h : IsSound e.carrier) (calm : HoldEach CalmAll moves e) where
     abbrev changed : End
     changed = with_carrier (react v e.carrier) e
 
+    gone_side : (r : ℕ) → e.carrier.ended ≡ None → Gone is_caller r (moves r) e → has_given r e.carrier ≡ false →
+        e.carrier.is_caller ≡ is_caller
+    gone_side r lasted (closed at calls is session speaks given shut) free = both (has_given r e.carrier) given free
+    gone_side r lasted (over at calls heard unheard is session speaks parts into ended) free =
+        absurd (never_lasts e.carrier.ended ended lasted)
+    gone_side r lasted (never no_moves ended) free = absurd (never_lasts e.carrier.ended ended lasted)
+
+    -- if a reference was not given, its course says on which side the end is
+    side_by : (r : ℕ) → e.carrier.ended ≡ None → Calm is_caller r (moves r) e → has_given r e.carrier ≡ false →
+        e.carrier.is_caller ≡ is_caller
+    side_by r lasted (is_still quiet (unknown no_moves side ungiven live lines)) free = side
+    side_by r lasted (is_still quiet (awaited no_moves c terms side lasts given live kept)) free = both (has_given r e.carrier) given free
+    side_by r lasted (is_still quiet (is_open given o)) free = both (has_given r e.carrier) given free
+    side_by r lasted (is_still quiet (is_gone g)) free = gone_side r lasted g free
+    side_by r lasted (is_away g) free = gone_side r lasted g free
+
+    side_of : (r : ℕ) → e.carrier.ended ≡ None → has_given r e.carrier ≡ false → e.carrier.is_caller ≡ is_caller
+    side_of r lasted free = side_by r lasted (calm r) free
+
+    -- the carrier had ended
+    heard_over : (r : ℕ) → 0 < r → IsSome e.carrier.ended → IsSome changed.carrier.ended →
+        Heard is_caller r (stage_at r e.carrier) (marked 0 (v ∷ [])) (stage_at r changed.carrier)
+    heard_over r some ended then_ended =
+        subst (λ (x : Stage). Heard is_caller r x (marked 0 (v ∷ [])) (stage_at r changed.carrier)) (sym (stage_over r e.carrier ended))
+        (subst (λ (x : Stage). Heard is_caller r past (marked 0 (v ∷ [])) x) (sym (stage_over r changed.carrier then_ended))
+        (heard_past is_caller r (marked 0 (v ∷ [])) (none_marked r (v ∷ []) some)))
+
     does_steps : e.carrier.ended ≡ None → Does (connection_of v e.carrier) v e.carrier (react v e.carrier) →
-        StepsBy (v ∷ []) (AfterAll v) moves e.carrier changed
+        StepsBy is_caller (v ∷ []) (AfterAll v) moves e.carrier changed
     does_steps lasted (takes peer link after here is then_is) =
         let q = connection_of v e.carrier in
         let units = written_by peer (handed_out after) in
-        step_each (v ∷ []) (AfterAll v) moves e.carrier changed (marked q units) (marked q (v ∷ []))
+        step_each is_caller (v ∷ []) (AfterAll v) moves e.carrier changed (marked q units) (marked q (v ∷ []))
         (ap (λ (c : Carrier). c.outgoing) then_is ∙ ap (λ (l : List Value). e.carrier.outgoing ++ packets l) (sym (marked_all q units)))
-        (given_by_links q peer (all_given (handed_out after)) (above_zero q (linked peer link) e.carrier.live h.rise here))
+        (given_by_links q peer (all_given (handed_out after)) (above_zero q (linked peer link) e.carrier.live h.orderly.rise here))
         (marked_all q (v ∷ []))
+        (λ r some. heard_taken is_caller r some v e.carrier h lasted (side_of r lasted) q refl peer link after here is then_is)
         (λ r. taken_at is_caller r (moves r) v e h q (r == q) refl refl lasted (calm r) peer link after here is then_is)
     does_steps lasted (passes units written plain act) =
         let q = connection_of v e.carrier in
-        step_each (v ∷ []) (AfterAll v) moves e.carrier changed (marked 0 units) (marked 0 (v ∷ []))
+        step_each is_caller (v ∷ []) (AfterAll v) moves e.carrier changed (marked 0 units) (marked 0 (v ∷ []))
         (written ∙ ap (λ (l : List Value). e.carrier.outgoing ++ packets l) (sym (marked_all 0 units)))
         (plain_by_links units plain) (marked_all 0 (v ∷ []))
+        (λ r some. heard_passed is_caller r some v e.carrier h lasted (side_of r lasted) q refl act)
         (λ r. passed is_caller r (moves r) v e h units (idle_at is_caller r (moves r) v e h q (r == q) refl refl lasted (calm r) act))
 
-    unit_by : (o : Option EndReason) → e.carrier.ended ≡ o → StepsBy (v ∷ []) (AfterAll v) moves e.carrier changed
+    unit_by : (o : Option EndReason) → e.carrier.ended ≡ o → StepsBy is_caller (v ∷ []) (AfterAll v) moves e.carrier changed
     unit_by None lasted = does_steps lasted (unit_does v e.carrier h lasted)
     unit_by (Some reason) ended =
         let same = react_over v e.carrier (ap is_some ended) in
-        step_each (v ∷ []) (AfterAll v) moves e.carrier changed [] (marked 0 (v ∷ []))
+        step_each is_caller (v ∷ []) (AfterAll v) moves e.carrier changed [] (marked 0 (v ∷ []))
         (ap (λ (c : Carrier). c.outgoing) same ∙ sym (append-nil e.carrier.outgoing)) tt (marked_all 0 (v ∷ []))
+        (λ r some. heard_over r some (ap is_some ended) (ap (λ (c : Carrier). is_some c.ended) same ∙ ap is_some ended))
         (λ r. passed is_caller r (moves r) v e h []
         (ended_idle is_caller r (moves r) v e h (calm r) (ap (λ (c : Carrier). is_some c.ended) same ∙ ap is_some ended)))
 
-    unit_steps : StepsBy (v ∷ []) (AfterAll v) moves e.carrier changed
+    unit_steps : StepsBy is_caller (v ∷ []) (AfterAll v) moves e.carrier changed
     unit_steps = unit_by e.carrier.ended refl
 
 -- ---- the units of a packet
@@ -439,33 +475,33 @@ followed_is : (b : Bool) → IsTrue b → b ≡ true
 followed_is b h = h
 
 module _ (is_caller : Bool) where
-  pub units_step : (units : List Value) (u : List ℕ) → AreUnits units u → (moves : ℕ → Deeds) (e : End) → IsOrderly e.carrier →
+  pub units_step : (units : List Value) (u : List ℕ) → AreUnits units u → (moves : ℕ → Deeds) (e : End) → IsSound e.carrier →
       HoldEach (CalmAll is_caller) moves e →
-      StepsBy units (NowAll is_caller) moves e.carrier (with_carrier (reacts units e.carrier) e)
+      StepsBy is_caller units (NowAll is_caller) moves e.carrier (with_carrier (reacts units e.carrier) e)
   units_step [] u us moves e h calm = absurd us
   units_step (v ∷ []) u us moves e h calm =
-      step_as (v ∷ []) (AfterAll is_caller v) (NowAll is_caller) moves e.carrier (with_carrier (react v e.carrier) e)
-      (with_carrier (react v e.carrier) e) (unit_steps is_caller moves v e h calm) refl (λ r after t. t.0)
+      step_as is_caller (v ∷ []) (AfterAll is_caller v) (NowAll is_caller) moves e.carrier (with_carrier (react v e.carrier) e)
+      (with_carrier (react v e.carrier) e) (unit_steps is_caller moves v e h calm) refl (same_rest (react v e.carrier)) (λ r after t. t.0)
   units_step (v ∷ w ∷ vs) u us moves e h calm =
       let mid = with_carrier (react v e.carrier) e in
-      step_then (v ∷ []) (w ∷ vs) (AfterAll is_caller v) (NowAll is_caller) moves e.carrier mid
+      step_then is_caller (v ∷ []) (w ∷ vs) (AfterAll is_caller v) (NowAll is_caller) moves e.carrier mid
       (with_carrier (reacts (v ∷ w ∷ vs) e.carrier) e) (unit_steps is_caller moves v e h calm)
-      (λ after t. units_step (w ∷ vs) us.2 us.5 after mid (orderly_unit v e.carrier h)
+      (λ after t. units_step (w ∷ vs) us.2 us.5 after mid (sound_unit v e.carrier h)
       (λ r. (t r).1 (followed_is (may_be_followed v) us.0)))
 
   -- units before others
   pub leads_step : (done : List Value) (next : Value) (more : List Value) (u : List ℕ) → AreUnits (done ++ (next ∷ more)) u →
-      (moves : ℕ → Deeds) (e : End) → IsOrderly e.carrier → HoldEach (CalmAll is_caller) moves e →
-      StepsBy done (CalmAll is_caller) moves e.carrier (with_carrier (reacts done e.carrier) e)
-  leads_step [] next more u us moves e h calm = step_none (CalmAll is_caller) moves e.carrier e refl calm
+      (moves : ℕ → Deeds) (e : End) → IsSound e.carrier → HoldEach (CalmAll is_caller) moves e →
+      StepsBy is_caller done (CalmAll is_caller) moves e.carrier (with_carrier (reacts done e.carrier) e)
+  leads_step [] next more u us moves e h calm = step_none is_caller (CalmAll is_caller) moves e.carrier e refl (same_rest e.carrier) calm
   leads_step (v ∷ []) next more u us moves e h calm =
       let mid = with_carrier (react v e.carrier) e in
-      step_as (v ∷ []) (AfterAll is_caller v) (CalmAll is_caller) moves e.carrier mid mid
-      (unit_steps is_caller moves v e h calm) refl
+      step_as is_caller (v ∷ []) (AfterAll is_caller v) (CalmAll is_caller) moves e.carrier mid mid
+      (unit_steps is_caller moves v e h calm) refl (same_rest (react v e.carrier))
       (λ r after t. t.1 (followed_is (may_be_followed v) us.0))
   leads_step (v ∷ w ∷ done) next more u us moves e h calm =
       let mid = with_carrier (react v e.carrier) e in
-      step_then (v ∷ []) (w ∷ done) (AfterAll is_caller v) (CalmAll is_caller) moves e.carrier mid
+      step_then is_caller (v ∷ []) (w ∷ done) (AfterAll is_caller v) (CalmAll is_caller) moves e.carrier mid
       (with_carrier (reacts (v ∷ w ∷ done) e.carrier) e) (unit_steps is_caller moves v e h calm)
-      (λ after t. leads_step (w ∷ done) next more us.2 us.5 after mid (orderly_unit v e.carrier h)
+      (λ after t. leads_step (w ∷ done) next more us.2 us.5 after mid (sound_unit v e.carrier h)
       (λ r. (t r).1 (followed_is (may_be_followed v) us.0)))
