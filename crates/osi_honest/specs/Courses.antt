@@ -21,7 +21,7 @@ use Rattle.osi_stack.specs.Calls.{calls_with, has_given, terms_error}
 use Rattle.osi_stack.specs.Messages.{kept_at}
 use Rattle.osi_stack.specs.State.{End, Holding}
 use Rattle.osi_stack.specs.declared.connecting.Connect.{Connect}
-use Rattle.osi_honest.specs.Arriving.{Hears}
+use Rattle.osi_honest.specs.Arriving.{Lives}
 use Rattle.osi_honest.specs.Marked.{AreByLinks, Marked, all_units, units_at}
 use Rattle.osi_honest.specs.Talking.{History, Said}
 use Rattle.osi_honest.specs.Turns.{Takes, Turn}
@@ -142,16 +142,17 @@ units_read (Err fault) = []
 abbrev pub units_in : List (List ℕ) → List Value
 units_in packets = flat_map (λ packet. units_read (units_of packet)) packets
 
--- More is done at each connection. All that was put is these units: of those of a connection, all were put for it and no others;
--- and those of none are no DTs and no AKs. All that was used is the units of these packets: those of a connection are those that its
--- link took, and these are all that were for it while it was open.
+-- More is done at each connection of an end.
 pub record Continues (is_caller : Bool) (deeds : ℕ → Deeds) (old : Holding) (turn : Turn) (new : Holding) : Type 0 where
   pub more : ℕ → Deeds
   pub course : (r : ℕ) → Course is_caller r (then_did (deeds r) (more r)) new.end
+  -- All that was put is these units: those of a connection are all that was put for it, and those of none are no DTs and no AKs.
   pub put : List Marked
   pub written : turn.put ≡ packets (all_units put)
   pub by_links : AreByLinks put
   pub own : (r : ℕ) → 0 < r → (more r).put ≡ units_at r put
+  -- What was used is these packets and a rest, which is held unless the end is over. Those of their units that are of a connection
+  -- are all that its link took.
   pub used : List (List ℕ)
   pub rest : List ℕ
   pub cut : ArePackets used (old.held.octets ++ turn.used) rest
@@ -159,7 +160,8 @@ pub record Continues (is_caller : Bool) (deeds : ℕ → Deeds) (old : Holding) 
   pub took : List Marked
   pub all : all_units took ≡ units_in used
   pub taken : (r : ℕ) → 0 < r → units_taken (more r).calls ≡ units_at r took
-  pub heard : (r : ℕ) → 0 < r → Hears is_caller r old.end.carrier took new.end.carrier
+  -- While it is open, its link takes all that is for it.
+  pub lives : (r : ℕ) → 0 < r → Lives is_caller r old.end.carrier took put new.end.carrier
 
 -- and then more, at each connection
 abbrev pub all_did : (ℕ → Deeds) → (ℕ → Deeds) → ℕ → Deeds

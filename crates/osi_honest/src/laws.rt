@@ -216,16 +216,17 @@ pub fn an_honest_end_is_never_blamed()
 /// many ([`Course`]).
 ///
 /// All that is put in a turn is accounted for. Each unit is marked with the reference of the connection whose link gave it, or with 0 if
-/// none did. The units with the mark of a connection are all that was put for it, in order, with the peer's reference. The units with the
-/// mark 0 are no DTs and no AKs: CRs, CCs, DRs and DCs ([`Continues`]).
+/// none did. The units with the mark of a connection are all that was put for it, in order. The units with the mark 0 are no DTs and no
+/// AKs: CRs, CCs, DRs and DCs. The units of the packets that were used are marked too, with the connection whose link took them
+/// ([`Continues`]).
 ///
-/// So is all that arrives. The units of the packets that were used are marked with the connection whose link took them. A link takes no
-/// unit before its connection is open, and none after it was closed. While it is open, its link takes each DT and AK that is for it, and
-/// no other unit ([`Hears`]).
+/// A link takes and gives no unit before its connection is open, and none after it was closed. A connection opens with its CC, or at a
+/// called end with a CR, for which a CC is put. While it is open, its link takes each DT and AK that is for it, and no other unit; and
+/// what it gives is for the reference that the peer gave in that CC or CR ([`Lives`]).
 ///
 /// [`Course`]: ../specs/Courses.antt
 /// [`Continues`]: ../specs/Courses.antt
-/// [`Hears`]: ../specs/Arriving.antt
+/// [`Lives`]: ../specs/Arriving.antt
 pub fn what_a_session_hands_to_its_link()
     ensures begins { (is_caller : Bool) (local : Local) (r : ℕ) → Course is_caller r no_deeds (fresh_end is_caller local) }
     ensures run { (is_caller : Bool) (local : Local) (begin end : Holding) (turns : List Turn) → IsFresh is_caller local begin →

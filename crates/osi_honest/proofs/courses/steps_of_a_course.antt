@@ -11,10 +11,11 @@ use Rattle.osi_stack.specs.State.{End}
 use Rattle.osi_honest.specs.Courses.{Deeds, all_did, no_deeds, then_did, units_given, units_taken}
 use Rattle.osi_honest.specs.Marked.{AreByLinks, Marked, all_units, units_at}
 use Rattle.osi_honest.proofs.class_0.what_class_0_writes_of_a_tsdu.{packets_joined}
+use Rattle.osi_honest.proofs.courses.how_long_a_connection_is_open.{Life, Rests, Stage, life_rests, life_then, life_then_rests}
+use Rattle.osi_honest.proofs.courses.how_long_a_connection_is_open.{life_to_past, rests_over, stage_at, stage_over}
+use Rattle.osi_honest.proofs.courses.how_long_a_connection_is_open.Stage.{past}
 use Rattle.osi_honest.proofs.courses.units_of_each_connection.{all_units_more, by_links_more, marked, marked_all, none_marked, nowhere}
 use Rattle.osi_honest.proofs.courses.units_of_each_connection.{units_more}
-use Rattle.osi_honest.proofs.courses.what_arrives_for_a_connection.{Heard, Rests, Stage, heard_past, heard_rests, heard_then, rests_over}
-use Rattle.osi_honest.proofs.courses.what_arrives_for_a_connection.{stage_at, stage_over}
 use Rattle.osi_honest.proofs.courses.what_calls_of_a_link_say.{taken_more, then_joined, then_none}
 
 -- ---- one connection
@@ -72,7 +73,7 @@ pub record StepsBy (is_caller : Bool) (used : List Value) (T : States) (deeds : 
   pub took : List Marked
   pub all : all_units took ≡ used
   pub taken : (r : ℕ) → 0 < r → units_taken (more r).calls ≡ units_at r took
-  pub heard : (r : ℕ) → 0 < r → Heard is_caller r (stage_at r before) took (stage_at r e.carrier)
+  pub life : (r : ℕ) → 0 < r → Life is_caller r (stage_at r before) took put (stage_at r e.carrier)
 
 -- each connection is as open as it was, or past
 abbrev pub AllRest : Carrier → Carrier → Type 0
@@ -88,11 +89,12 @@ over_rest old new ended = λ r. rests_over r (stage_at r old) new ended
 abbrev pub Steps : Bool → States → (ℕ → Deeds) → Carrier → End → Type 0
 Steps is_caller T deeds before e = StepsBy is_caller [] T deeds before e
 
-pub step_each : (is_caller : Bool) (used : List Value) (T : States) (deeds : ℕ → Deeds) (before : Carrier) (e : End) (put took : List Marked) →
+pub step_each : (is_caller : Bool) (used : List Value) (T : States) (deeds : ℕ → Deeds) (before : Carrier) (e : End)
+    (put took : List Marked) →
     e.carrier.outgoing ≡ before.outgoing ++ packets (all_units put) → AreByLinks put → all_units took ≡ used →
-    ((r : ℕ) → 0 < r → Heard is_caller r (stage_at r before) took (stage_at r e.carrier)) →
+    ((r : ℕ) → 0 < r → Life is_caller r (stage_at r before) took put (stage_at r e.carrier)) →
     ((r : ℕ) → StepAt r put took (T r) (deeds r) e) → StepsBy is_caller used T deeds before e
-step_each is_caller used T deeds before e put took written by_links all heard each = record {
+step_each is_caller used T deeds before e put took written by_links all life each = record {
   more = λ r. (each r).more;
   there = λ r. (each r).there;
   put = put;
@@ -102,14 +104,15 @@ step_each is_caller used T deeds before e put took written by_links all heard ea
   took = took;
   all = all;
   taken = λ r. (each r).taken;
-  heard = heard;
+  life = life;
 }
 
 -- nothing is done at any, and nothing is put
 pub step_none : (is_caller : Bool) (T : States) (deeds : ℕ → Deeds) (before : Carrier) (e : End) →
     e.carrier.outgoing ≡ before.outgoing → AllRest before e.carrier → HoldEach T deeds e → Steps is_caller T deeds before e
 step_none is_caller T deeds before e same rest there =
-    step_each is_caller [] T deeds before e [] [] (same ∙ sym (append-nil before.outgoing)) tt refl (λ r some. rest r)
+    step_each is_caller [] T deeds before e [] [] (same ∙ sym (append-nil before.outgoing)) tt refl
+    (λ r some. life_rests is_caller r (stage_at r before) (stage_at r e.carrier) [] tt (rest r))
     (λ r. step_idle r [] [] (T r) (deeds r) e (λ some. refl) (λ some. refl) (there r))
 
 pub step_then : (is_caller : Bool) (used others : List Value) (S T : States) (deeds : ℕ → Deeds) (before : Carrier) (mid new : End) →
@@ -135,8 +138,8 @@ step_then is_caller used others S T deeds before mid new a next =
       taken = λ r some. taken_more (a.more r).calls (b.more r).calls
           ∙ ap (λ (l : List Value). l ++ units_taken (b.more r).calls) (a.taken r some)
           ∙ ap (λ (l : List Value). units_at r a.took ++ l) (b.taken r some) ∙ sym (units_more r a.took b.took);
-      heard = λ r some. heard_then is_caller r (stage_at r before) a.took (stage_at r mid.carrier) b.took (stage_at r new.carrier)
-          (a.heard r some) (b.heard r some);
+      life = λ r some. life_then is_caller r (stage_at r before) a.took a.put (stage_at r mid.carrier) b.took b.put
+          (stage_at r new.carrier) (a.life r some) (b.life r some);
     }
 
 -- units arrived before
@@ -162,9 +165,12 @@ step_more is_caller used others T deeds before e ended a = record {
       ∙ ap (λ (l : List Value). used ++ l) (marked_all 0 others);
   taken = λ r some. a.taken r some ∙ sym (append-nil (units_at r a.took))
       ∙ ap (λ (l : List Value). units_at r a.took ++ l) (sym (nowhere r others some)) ∙ sym (units_more r a.took (marked 0 others));
-  heard = λ r some. heard_then is_caller r (stage_at r before) a.took (stage_at r e.carrier) (marked 0 others) (stage_at r e.carrier)
-      (a.heard r some) (subst (λ (s : Stage). Heard is_caller r s (marked 0 others) s) (sym (stage_over r e.carrier ended))
-      (heard_past is_caller r (marked 0 others) (none_marked r others some)));
+  life = λ r some. subst (λ (l : List Marked). Life is_caller r (stage_at r before) (a.took ++ marked 0 others) l (stage_at r e.carrier))
+      (append-nil a.put)
+      (life_then is_caller r (stage_at r before) a.took a.put (stage_at r e.carrier) (marked 0 others) [] (stage_at r e.carrier)
+      (a.life r some)
+      (subst (λ (s : Stage). Life is_caller r s (marked 0 others) [] s) (sym (stage_over r e.carrier ended))
+      (life_to_past is_caller r past (marked 0 others) [] (none_marked r others some) tt)));
 }
 
 -- the same with another end that has put as much
@@ -181,8 +187,8 @@ step_as is_caller used S T deeds before e new a same rest next = record {
   took = a.took;
   all = a.all;
   taken = a.taken;
-  heard = λ r some. heard_rests is_caller r (stage_at r before) a.took (stage_at r e.carrier) (stage_at r new.carrier) (a.heard r some)
-      (rest r);
+  life = λ r some. life_then_rests is_caller r (stage_at r before) a.took a.put (stage_at r e.carrier) (stage_at r new.carrier)
+      (a.life r some) (rest r);
 }
 
 -- the same since another carrier that had put as much
@@ -199,5 +205,5 @@ step_since is_caller used T deeds before other e same as_open a = record {
   took = a.took;
   all = a.all;
   taken = a.taken;
-  heard = λ r some. subst (λ (s : Stage). Heard is_caller r s a.took (stage_at r e.carrier)) (as_open r) (a.heard r some);
+  life = λ r some. subst (λ (s : Stage). Life is_caller r s a.took a.put (stage_at r e.carrier)) (as_open r) (a.life r some);
 }

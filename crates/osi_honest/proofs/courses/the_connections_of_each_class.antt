@@ -349,8 +349,8 @@ unit_class v s p = by s.ended refl
 
 -- ---- a session sends, or closes its connection
 
-pub linked_at : (over : Bool) (o : Option Connection) (peer : ℕ) (link : Standing) → (if over then None else link_of o) ≡ Some (peer, link) →
-    o ≡ Some (linked peer link)
+pub linked_at : (over : Bool) (o : Option Connection) (peer : ℕ) (link : Standing) →
+    (if over then None else link_of o) ≡ Some (peer, link) → o ≡ Some (linked peer link)
 linked_at true o peer link h = absurd (cc)
 linked_at false None peer link h = absurd (cc)
 linked_at false (Some asked) peer link h = absurd (cc)

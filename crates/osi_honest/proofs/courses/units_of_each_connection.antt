@@ -76,6 +76,10 @@ pub none_marked : (r : ℕ) (units : List Value) → 0 < r → AllByRecursion (�
 none_marked r [] some = tt
 none_marked r (unit ∷ units) some = (none_mark r some, none_marked r units some)
 
+pub other_marked : (q r : ℕ) (units : List Value) → r ≢ q → AllByRecursion (λ (m : Marked). (m.0 == r) ≡ false) (marked q units)
+other_marked q r [] ne = tt
+other_marked q r (unit ∷ units) ne = (other_mark q r ne, other_marked q r units ne)
+
 -- ---- DTs and AKs, and others
 
 -- no DT and no AK

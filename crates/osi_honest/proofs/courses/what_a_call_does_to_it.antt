@@ -1,6 +1,6 @@
 -- A call of the user: what becomes of the course of one connection, whichever connection the call is for.
 -- For the course of a connection.
-use Rattle.std.proofs.Common.{◌≡◌, ◌≢◌, ◌∙◌, refl, sym, ap, subst, ℕ, ◌+◌, ◌==◌, ◌&&◌, Bool, true, false, if◌then◌else◌, not, nat_le}
+use Rattle.std.proofs.Common.{◌≡◌, ◌≢◌, ◌∙◌, refl, sym, ap, subst, ℕ, ◌+◌, ◌<◌, ◌==◌, ◌&&◌, Bool, true, false, if◌then◌else◌, not, nat_le}
 use Rattle.std.proofs.Common.{nat_lt, List, [], ◌∷◌, ◌++◌, length, Option, Some, None, is_some, option_map}
 use Rattle.std.proofs.lemmas.Bool.{eqb-true}
 use Rattle.osi_tpdu.specs.Limits.{tsap_octets}
@@ -46,9 +46,9 @@ use Rattle.osi_honest.specs.Turns.{HasSerialIn}
 use Rattle.osi_honest.proofs.class_0.a_session_of_class_0_puts_what_it_sends.{still_begun}
 use Rattle.osi_honest.proofs.class_0.what_a_call_does_in_class_0.{granted_proper}
 use Rattle.osi_honest.proofs.class_0.what_packets_do_in_class_0.{never_lasts}
-use Rattle.osi_honest.proofs.courses.a_connection_without_a_unit.{connect_rests, given_up_rests, session_rests}
-use Rattle.osi_honest.proofs.courses.steps_of_a_course.{AllRest, HasNone, HoldEach, StepAt, Steps, over_rest, step_each, step_idle}
-use Rattle.osi_honest.proofs.courses.units_of_each_connection.{marked, nowhere, unequal}
+use Rattle.osi_honest.proofs.courses.a_connection_without_a_unit.{connect_rests, given_up_rests, session_life}
+use Rattle.osi_honest.proofs.courses.steps_of_a_course.{HasNone, HoldEach, StepAt, Steps, step_each, step_idle}
+use Rattle.osi_honest.proofs.courses.units_of_each_connection.{marked, none_marked, nowhere, unequal}
 use Rattle.osi_honest.proofs.courses.what_a_session_puts.{Puts, closing_by_links, closing_puts, put_closing, puts_none}
 use Rattle.osi_honest.proofs.courses.what_a_session_puts.{session_by_links, session_others, session_puts, session_written}
 use Rattle.osi_honest.proofs.courses.what_sessions_hear_of_it.{CourseAll, course_given}
@@ -56,7 +56,7 @@ use Rattle.osi_honest.proofs.courses.what_a_link_takes_and_is_handed.{Leaves, cl
 use Rattle.osi_honest.proofs.courses.what_a_unit_does_to_a_connection.{given_before, given_next, next_ungiven}
 use Rattle.osi_honest.proofs.courses.what_another_connection_leaves.{Beside, course_beside, course_over, gone_same, session_beside}
 use Rattle.osi_honest.proofs.courses.what_another_connection_leaves.{used_none}
-use Rattle.osi_honest.proofs.courses.what_arrives_for_a_connection.{Rests, stage_at}
+use Rattle.osi_honest.proofs.courses.how_long_a_connection_is_open.{Life, life_rests, rests_over, stage_at}
 use Rattle.osi_honest.proofs.courses.what_its_own_session_does.{CanSpeak, session_speaks}
 
 -- no connection has two states
@@ -81,7 +81,8 @@ module _ (is_caller : Bool) (r : ℕ) (moves : Deeds) (e : End) (lasts : e.carri
   others_by : (put : List Marked) (new : End) (o : Option EndReason) → new.carrier.ended ≡ o → HasNone r put →
       (new.carrier.ended ≡ None → Beside r e new) → Course is_caller r moves e → Then put new
   others_by put new None is none b course = idle put new none (course_beside is_caller r moves e new (b is) course)
-  others_by put new (Some reason) is none b course = idle put new none (is_gone (course_over is_caller r moves e new course (ap is_some is)))
+  others_by put new (Some reason) is none b course =
+      idle put new none (is_gone (course_over is_caller r moves e new course (ap is_some is)))
 
   others : (put : List Marked) (new : End) → HasNone r put → (new.carrier.ended ≡ None → Beside r e new) →
       Course is_caller r moves e → Then put new
@@ -293,30 +294,37 @@ module _ (is_caller : Bool) (moves : ℕ → Deeds) (e : End) (lasts : e.carrier
   abbrev AllThen : End → Type 0
   AllThen new = Steps is_caller (CourseAll is_caller) moves e.carrier new
 
-  each_then : (new : End) (put : List Marked) → Puts e.carrier put new.carrier → AreByLinks put → AllRest e.carrier new.carrier →
+  each_then : (new : End) (put : List Marked) → Puts e.carrier put new.carrier → AreByLinks put →
+      ((r : ℕ) → 0 < r → Life is_caller r (stage_at r e.carrier) [] put (stage_at r new.carrier)) →
       ((r : ℕ) → StepAt r put [] (Course is_caller r) (moves r) new) → AllThen new
-  each_then new put written by_links rest each =
-      step_each is_caller [] (CourseAll is_caller) moves e.carrier new put [] written by_links refl (λ r some. rest r) each
+  each_then new put written by_links life each =
+      step_each is_caller [] (CourseAll is_caller) moves e.carrier new put [] written by_links refl life each
 
   pub user_steps : (call : UserCall) → IsAccepted call e → HasSerialIn call → AllThen (user_does call e)
   user_steps (connecting c) allowed serial =
-      each_then (connects c e) (marked 0 (request_put c e)) refl (refl, tt) (λ r. connect_rests r c e orderly lasts)
+      each_then (connects c e) (marked 0 (request_put c e)) refl (refl, tt)
+      (λ r some. life_rests is_caller r (stage_at r e.carrier) (stage_at r (connects c e).carrier) (marked 0 (request_put c e))
+      (none_marked r (request_put c e) some) (connect_rests r c e orderly lasts))
       (λ r. connect_steps is_caller r (moves r) e lasts c (r == e.carrier.given + 1) refl allowed (course r))
   user_steps (calling q call) allowed serial =
       each_then (to_session q (called call) e) (session_puts q (called call) e) (session_written q (called call) e)
       (session_by_links q (called call) e (course_given is_caller q (moves q) e (course q)))
-      (λ r. session_rests q r (called call) e)
+      (λ r some. session_life is_caller q r some (called call) e)
       (λ r. call_steps is_caller r (moves r) e lasts q call (r == q) refl allowed serial (course r))
   user_steps (disconnecting q) allowed serial =
       each_then (disconnects q e) (marked 0 (put_closing q (open_link q e.carrier) e.carrier))
       (subst (Puts e.carrier (marked 0 (put_closing q (open_link q e.carrier) e.carrier))) (sym (disconnect_carrier q e))
       (closing_puts q e.carrier)) (closing_by_links q e.carrier)
-      (λ r. subst (λ (c : Carrier). Rests (stage_at r e.carrier) (stage_at r c)) (sym (disconnect_carrier q e))
-      (given_up_rests q r e.carrier))
+      (λ r some. subst (λ (c : Carrier). Life is_caller r (stage_at r e.carrier) [] (marked 0 (put_closing q (open_link q e.carrier) e.carrier))
+      (stage_at r c)) (sym (disconnect_carrier q e))
+      (life_rests is_caller r (stage_at r e.carrier) (stage_at r (closed_with q 128 e.carrier))
+      (marked 0 (put_closing q (open_link q e.carrier) e.carrier))
+      (none_marked r (put_closing q (open_link q e.carrier) e.carrier) some) (given_up_rests q r e.carrier)))
       (λ r. given_steps is_caller r (moves r) e lasts q (r == q) refl allowed (course r))
   user_steps breaking allowed serial =
       each_then (breaks e) []
       (subst (λ (x : End). Puts e.carrier [] x.carrier) (sym (break_is is_caller 0 (moves 0) e lasts)) (puts_none e.carrier)) tt
-      (over_rest e.carrier (breaks e).carrier
-      (ap (λ (x : End). is_some x.carrier.ended) (break_is is_caller 0 (moves 0) e lasts)))
+      (λ r some. life_rests is_caller r (stage_at r e.carrier) (stage_at r (breaks e).carrier) [] tt
+      (rests_over r (stage_at r e.carrier) (breaks e).carrier
+      (ap (λ (x : End). is_some x.carrier.ended) (break_is is_caller 0 (moves 0) e lasts))))
       (λ r. break_steps is_caller r (moves r) e lasts (course r))

@@ -177,7 +177,8 @@ module _ (known : Known) (is_caller : Bool) where
       let mid = with_carrier c e in
       let calm = calm_of moves e (b.attended lasts) course in
       let now : StepsBy is_caller (units_read (units_of u)) (NowAll is_caller) moves e.carrier mid = elim (acts_cases e.carrier c u acts) [
-        | inl is ↦ subst (λ (x : Carrier). StepsBy is_caller (units_read (units_of u)) (NowAll is_caller) moves e.carrier (with_carrier x e))
+        | inl is ↦ subst
+            (λ (x : Carrier). StepsBy is_caller (units_read (units_of u)) (NowAll is_caller) moves e.carrier (with_carrier x e))
             (sym is) (carried_out u moves e octets b.sound calm)
         | inr short ↦ subst (λ (l : List Value). StepsBy is_caller l (NowAll is_caller) moves e.carrier mid) (sym (ap units_read short.1))
             (unit_starved u short.0 moves e c (units_found u short.0 octets short.1) b.sound calm short.2)

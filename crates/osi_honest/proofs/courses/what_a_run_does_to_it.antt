@@ -38,7 +38,7 @@ use Rattle.osi_honest.proofs.courses.what_a_call_does_to_it.{user_steps}
 use Rattle.osi_honest.proofs.courses.what_a_packet_does_to_it.{Between, FeedSteps, feeds_steps, sound_kept}
 use Rattle.osi_honest.proofs.courses.what_a_unit_does_to_a_connection.{none_given}
 use Rattle.osi_honest.proofs.courses.what_another_connection_leaves.{Beside, course_beside, none_before, none_behind}
-use Rattle.osi_honest.proofs.courses.what_arrives_for_a_connection.{hears, stage_at}
+use Rattle.osi_honest.proofs.courses.how_long_a_connection_is_open.{life_rests, lives, stage_at}
 use Rattle.osi_honest.proofs.courses.what_calls_of_a_link_say.{then_none}
 use Rattle.osi_honest.proofs.courses.what_sessions_hear_of_it.{CourseAll, Known}
 use Rattle.osi_honest.proofs.keeping.what_a_unit_keeps_a_turn_keeps.{kept_feeds}
@@ -141,7 +141,7 @@ module _ (known : Known) (is_caller : Bool) (moves : ℕ → Deeds) where
     took = s.took;
     all = s.all;
     taken = s.taken;
-    heard = λ r some. hears is_caller r some old.end.carrier new.end.carrier s.took (s.heard r some);
+    lives = λ r some. lives is_caller r some old.end.carrier new.end.carrier s.took s.put (s.life r some);
   }
 
   -- a piece was fed
@@ -161,7 +161,7 @@ module _ (known : Known) (is_caller : Bool) (moves : ℕ → Deeds) where
     took = f.steps.took;
     all = f.steps.all;
     taken = f.steps.taken;
-    heard = λ r some. hears is_caller r some old.end.carrier new.end.carrier f.steps.took (f.steps.heard r some);
+    lives = λ r some. lives is_caller r some old.end.carrier new.end.carrier f.steps.took f.steps.put (f.steps.life r some);
   }
 
   -- nothing was used or put
@@ -181,7 +181,8 @@ module _ (known : Known) (is_caller : Bool) (moves : ℕ → Deeds) where
     took = [];
     all = refl;
     taken = λ r some. refl;
-    heard = λ r some. hears is_caller r some old.end.carrier new.end.carrier [] (rest r);
+    lives = λ r some. lives is_caller r some old.end.carrier new.end.carrier [] []
+        (life_rests is_caller r (stage_at r old.end.carrier) (stage_at r new.end.carrier) [] tt (rest r));
   }
 
   nothing_put : (old new put : List ℕ) → new ≡ old ++ put → new ≡ old → put ≡ []

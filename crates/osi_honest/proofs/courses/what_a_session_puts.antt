@@ -203,7 +203,7 @@ unlinked_put q (tsdu ∷ tsdus) c none =
     ap (λ (o : Option (ℕ × Standing)). one_puts tsdu o ++ all_put q tsdus (sent q tsdu c)) none
     ∙ ap (all_put q tsdus) same ∙ unlinked_put q tsdus c none
 
-unlinked_unless : (o : Option SendError) (q : ℕ) (tsdus : List (List ℕ)) (c : Carrier) → open_link q c ≡ None → put_unless o q tsdus c ≡ []
+pub unlinked_unless : (o : Option SendError) (q : ℕ) (tsdus : List (List ℕ)) (c : Carrier) → open_link q c ≡ None → put_unless o q tsdus c ≡ []
 unlinked_unless None q tsdus c none = unlinked_put q tsdus c none
 unlinked_unless (Some e) q tsdus c none = refl
 
@@ -252,7 +252,8 @@ all_by_links q (tsdu ∷ tsdus) c some =
     (by_links_more (marked q one) (marked q others) (one_by_links q tsdu (open_link q c) some)
     (all_by_links q tsdus (sent q tsdu c) some))
 
-unless_by_links : (o : Option SendError) (q : ℕ) (tsdus : List (List ℕ)) (c : Carrier) → 0 < q → AreByLinks (marked q (put_unless o q tsdus c))
+unless_by_links : (o : Option SendError) (q : ℕ) (tsdus : List (List ℕ)) (c : Carrier) → 0 < q →
+    AreByLinks (marked q (put_unless o q tsdus c))
 unless_by_links None q tsdus c some = all_by_links q tsdus c some
 unless_by_links (Some e) q tsdus c some = tt
 

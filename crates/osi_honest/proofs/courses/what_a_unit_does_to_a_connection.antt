@@ -29,10 +29,10 @@ use Rattle.osi_carrier.proofs.references.what_a_change_leaves_there.{push_here, 
 use Rattle.osi_stack.specs.Calls.{has_given}
 use Rattle.osi_honest.specs.Courses.{IsFreshLink}
 use Rattle.osi_honest.specs.Courses.{IsShut}
-use Rattle.osi_honest.specs.Arriving.{Opens, is_for}
+use Rattle.osi_honest.specs.Arriving.{Answers, Opens, is_for}
 use Rattle.osi_honest.specs.Marked.{is_of_link}
 use Rattle.osi_honest.proofs.courses.the_connections_of_each_class.{IsSound, zero_asks_none}
-use Rattle.osi_honest.proofs.courses.units_of_each_connection.{ArePlain}
+use Rattle.osi_honest.proofs.courses.units_of_each_connection.{ArePlain, marked}
 
 -- ---- events
 
@@ -73,29 +73,30 @@ fresh_link class size local credit = record { class = class; size = size; local 
 abbrev pub IsDeaf : ℕ → Value → Carrier → Type 0
 IsDeaf r v s = (peer : ℕ) (link : Standing) → value_at r s.live ≡ Some (linked peer link) → is_for r v ≡ false
 
-pub data Acts (r : ℕ) (v : Value) (old new : Carrier) : Type 0 where
+-- `put`: the units that are put then
+pub data Acts (r : ℕ) (v : Value) (put : List Value) (old new : Carrier) : Type 0 where
   -- the carrier ends
-  over : IsSome new.ended → Acts r v old new
+  over : IsSome new.ended → Acts r v put old new
   -- nothing happens to the connection
   rests : value_at r new.live ≡ value_at r old.live → has_given r new ≡ has_given r old → (told : List Happening) →
-      new.events ≡ old.events ++ told → NoneOf r told → IsDeaf r v old → Acts r v old new
+      new.events ≡ old.events ++ told → NoneOf r told → IsDeaf r v old → Acts r v put old new
   -- a CR is accepted at a called end, and this is the next reference
   joins : old.is_caller ≡ false → may_be_followed v ≡ false → has_given r old ≡ false → has_given r new ≡ true → (peer : ℕ)
       (first : Standing) → IsFreshLink first → (value_at r old.live ≡ None → value_at r new.live ≡ Some (linked peer first)) →
-      new.events ≡ old.events ++ opened r ∷ [] → Opens false r v → Acts r v old new
+      new.events ≡ old.events ++ opened r ∷ [] → Opens false r peer v → Answers r peer v (marked 0 put) → Acts r v put old new
   -- its CC arrives
   answers_it : may_be_followed v ≡ false → value_at r old.live ≡ Some asked → has_given r new ≡ has_given r old → (peer : ℕ)
       (first : Standing) → IsFreshLink first → value_at r new.live ≡ Some (linked peer first) → new.events ≡ old.events ++ opened r ∷ [] →
-      ((b : Bool) → Opens b r v) → Acts r v old new
+      ((b : Bool) → Opens b r peer v) → Answers r peer v [] → Acts r v put old new
   -- it ends
   leaves_it : (x : Connection) → value_at r old.live ≡ Some x → has_given r new ≡ has_given r old → IsShut (value_at r new.live) →
-      Acts r v old new
+      Acts r v put old new
 
 -- the link takes the unit; or it doesn't, and what is put is no DT and no AK
 pub data Does (r : ℕ) (v : Value) (old new : Carrier) : Type 0 where
   takes : (peer : ℕ) (link after : Standing) → value_at r old.live ≡ Some (linked peer link) → taken link v ≡ Ok after →
       new ≡ settles r peer after old → Does r v old new
-  passes : (units : List Value) → new.outgoing ≡ old.outgoing ++ packets units → ArePlain units → Acts r v old new → Does r v old new
+  passes : (units : List Value) → new.outgoing ≡ old.outgoing ++ packets units → ArePlain units → Acts r v units old new → Does r v old new
 
 -- ---- a unit of another connection
 
@@ -107,9 +108,9 @@ given_by_how q r old new ne lasts (inr (inl joined)) =
 given_by_how q r old new ne lasts (inr (inr gone)) =
     absurd (let some = gone.ended in let none : is_some new.ended ≡ false = ap is_some lasts in cc)
 
-pub acts_elsewhere : (r : ℕ) (v : Value) (s : Carrier) → r ≢ connection_of v s → (react v s).ended ≡ None → IsDeaf r v s →
-    Acts r v s (react v s)
-acts_elsewhere r v s ne lasts deaf =
+pub acts_elsewhere : (r : ℕ) (v : Value) (units : List Value) (s : Carrier) → r ≢ connection_of v s → (react v s).ended ≡ None →
+    IsDeaf r v s → Acts r v units s (react v s)
+acts_elsewhere r v units s ne lasts deaf =
     let e = effect v s in
     let c = changes_one v s lasts in
     rests (c.others r ne) (given_by_how (connection_of v s) r s (react v s) ne lasts e.how) e.told e.events
@@ -123,16 +124,17 @@ IsNamed r (confirm destination c) = destination ≡ r
 IsNamed r v = Unit {0}
 
 module _ (s : Carrier) (rise : RiseFrom 0 s.live) where
-  acts_none : (r : ℕ) (v : Value) (t : Carrier) → t.live ≡ s.live → t.given ≡ s.given → t.events ≡ s.events → IsDeaf r v s → Acts r v s t
-  acts_none r v t live given events deaf =
+  acts_none : (r : ℕ) (v : Value) (units : List Value) (t : Carrier) → t.live ≡ s.live → t.given ≡ s.given → t.events ≡ s.events →
+      IsDeaf r v s → Acts r v units s t
+  acts_none r v units t live given events deaf =
       rests (ap (value_at r) live) (ap (λ (n : ℕ). nat_lt 0 r && nat_le r n) given) [] (events ∙ sym (append-nil s.events)) tt deaf
 
   -- nothing is put, or one unit
-  nothing : (r : ℕ) (v : Value) (t : Carrier) → t.outgoing ≡ s.outgoing → Acts r v s t → Does r v s t
+  nothing : (r : ℕ) (v : Value) (t : Carrier) → t.outgoing ≡ s.outgoing → Acts r v [] s t → Does r v s t
   nothing r v t same act = passes [] (same ∙ sym (append-nil s.outgoing)) tt act
 
-  puts : (r : ℕ) (v u : Value) (t : Carrier) → t.outgoing ≡ s.outgoing ++ packets (u ∷ []) → is_of_link u ≡ false → Acts r v s t →
-      Does r v s t
+  puts : (r : ℕ) (v u : Value) (t : Carrier) → t.outgoing ≡ s.outgoing ++ packets (u ∷ []) → is_of_link u ≡ false →
+      Acts r v (u ∷ []) s t → Does r v s t
   puts r v u t is plain act = passes (u ∷ []) is (plain, tt) act
 
   ends_it : (r : ℕ) (v : Value) (t : Carrier) → t.outgoing ≡ s.outgoing → IsSome t.ended → Does r v s t
@@ -145,17 +147,19 @@ module _ (s : Carrier) (rise : RiseFrom 0 s.live) where
       puts (s.given + 1) (request c) (confirm c.source (acceptance Zero size c s.local (s.given + 1))) _ refl refl
       (joins called refl (next_ungiven s.given) (given_next s.given) c.source (opened_link Zero size s.local c.credit)
       (fresh_link Zero size s.local c.credit)
-      (λ none. push_here (s.given + 1) (linked c.source (opened_link Zero size s.local c.credit)) s.live none) refl refl)
+      (λ none. push_here (s.given + 1) (linked c.source (opened_link Zero size s.local c.credit)) s.live none) refl (refl, refl)
+      (acceptance Zero size c s.local (s.given + 1), refl, refl))
   acts_accepts Two size c called =
       puts (s.given + 1) (request c) (confirm c.source (acceptance Two size c s.local (s.given + 1))) _ refl refl
       (joins called refl (next_ungiven s.given) (given_next s.given) c.source (opened_link Two size s.local c.credit)
       (fresh_link Two size s.local c.credit)
-      (λ none. push_here (s.given + 1) (linked c.source (opened_link Two size s.local c.credit)) s.live none) refl refl)
+      (λ none. push_here (s.given + 1) (linked c.source (opened_link Two size s.local c.credit)) s.live none) refl (refl, refl)
+      (acceptance Two size c s.local (s.given + 1), refl, refl))
 
   acts_denies : (c : Connect) (reason : ℕ) → Does (s.given + 1) (request c) s (denies reason c.source s)
   acts_denies c reason =
       puts (s.given + 1) (request c) (disconnect c.source 0 reason []) _ refl refl
-      (acts_none (s.given + 1) (request c) (denies reason c.source s) refl refl refl (λ peer link here. refl))
+      (acts_none (s.given + 1) (request c) _ (denies reason c.source s) refl refl refl (λ peer link here. refl))
 
   acts_selected : (c : Connect) (selection : Selection) (held : Option Class) → s.is_caller ≡ false →
       Does (s.given + 1) (request c) s (answers c selection held s)
@@ -178,10 +182,11 @@ module _ (s : Carrier) (rise : RiseFrom 0 s.live) where
   acts_unknown : (r : ℕ) (v : Value) → Does r v s (to_unknown v s)
   acts_unknown r (disconnect destination source reason user) =
       puts r (disconnect destination source reason user) (disconnected source destination) _ refl refl
-      (acts_none r (disconnect destination source reason user) (to_unknown (disconnect destination source reason user) s) refl refl refl
+      (acts_none r (disconnect destination source reason user) _ (to_unknown (disconnect destination source reason user) s) refl refl refl
       (λ peer link here. refl))
   acts_unknown r (disconnected destination source) =
-      nothing r (disconnected destination source) s refl (acts_none r (disconnected destination source) s refl refl refl (λ peer link here. refl))
+      nothing r (disconnected destination source) s refl
+      (acts_none r (disconnected destination source) _ s refl refl refl (λ peer link here. refl))
   acts_unknown r (request c) = ends_it r (request c) _ refl refl
   acts_unknown r (confirm destination c) = ends_it r (confirm destination c) _ refl refl
   acts_unknown r (data0 end user) = ends_it r (data0 end user) _ refl refl
@@ -197,17 +202,16 @@ module _ (s : Carrier) (rise : RiseFrom 0 s.live) where
       let first = opened_link Zero (agreed_size c.parameters.size s.local) s.local c.credit in
       nothing r (confirm destination c) (opens r c (Some Zero) s) refl
       (answers_it refl here refl c.source first (fresh_link Zero (agreed_size c.parameters.size s.local) s.local c.credit)
-      (put_here r (linked c.source first) asked s.live here) refl (λ b. named))
+      (put_here r (linked c.source first) asked s.live here) refl (λ b. (named, refl)) refl)
   acts_opens r destination c (Some Two) named here =
       let first = opened_link Two (agreed_size c.parameters.size s.local) s.local c.credit in
       nothing r (confirm destination c) (opens r c (Some Two) s) refl
       (answers_it refl here refl c.source first (fresh_link Two (agreed_size c.parameters.size s.local) s.local c.credit)
-      (put_here r (linked c.source first) asked s.live here) refl (λ b. named))
+      (put_here r (linked c.source first) asked s.live here) refl (λ b. (named, refl)) refl)
 
-  dropped : (r : ℕ) (v : Value) (x : Connection) (t : Carrier) → value_at r s.live ≡ Some x → t.live ≡ without r s.live →
-      t.given ≡ s.given →
-      Acts r v s t
-  dropped r v x t here live given =
+  dropped : (r : ℕ) (v : Value) (units : List Value) (x : Connection) (t : Carrier) → value_at r s.live ≡ Some x →
+      t.live ≡ without r s.live → t.given ≡ s.given → Acts r v units s t
+  dropped r v units x t here live given =
       leaves_it x here (ap (λ (n : ℕ). nat_lt 0 r && nat_le r n) given)
       (subst IsShut (sym (ap (value_at r) live ∙ without_here r s.live rise)) tt)
 
@@ -215,10 +219,10 @@ module _ (s : Carrier) (rise : RiseFrom 0 s.live) where
   acts_asked r (confirm destination c) named here = acts_opens r destination c (confirmed c s.local s.class) named here
   acts_asked r (disconnect destination source reason user) named here =
       nothing r (disconnect destination source reason user) (to_asked r (disconnect destination source reason user) s) refl
-      (dropped r (disconnect destination source reason user) asked _ here refl refl)
+      (dropped r (disconnect destination source reason user) _ asked _ here refl refl)
   acts_asked r (error destination cause) named here =
       nothing r (error destination cause) (to_asked r (error destination cause) s) refl
-      (dropped r (error destination cause) asked _ here refl refl)
+      (dropped r (error destination cause) _ asked _ here refl refl)
   acts_asked r (request c) named here = acts_unknown r (request c)
   acts_asked r (disconnected destination source) named here = acts_unknown r (disconnected destination source)
   acts_asked r (data0 end user) named here = acts_unknown r (data0 end user)
@@ -226,9 +230,9 @@ module _ (s : Carrier) (rise : RiseFrom 0 s.live) where
   acts_asked r (acknowledge credit destination number) named here = acts_unknown r (acknowledge credit destination number)
 
   -- it is open
-  closes_to : (r peer : ℕ) (v : Value) (x : Connection) (t : Carrier) → value_at r s.live ≡ Some x → t.live ≡ put r (closing peer) s.live →
-      t.given ≡ s.given → Acts r v s t
-  closes_to r peer v x t here live given =
+  closes_to : (r peer : ℕ) (v : Value) (units : List Value) (x : Connection) (t : Carrier) → value_at r s.live ≡ Some x →
+      t.live ≡ put r (closing peer) s.live → t.given ≡ s.given → Acts r v units s t
+  closes_to r peer v units x t here live given =
       leaves_it x here (ap (λ (n : ℕ). nat_lt 0 r && nat_le r n) given)
       (subst IsShut (sym (ap (value_at r) live ∙ put_here r (closing peer) x s.live here)) tt)
 
@@ -236,7 +240,7 @@ module _ (s : Carrier) (rise : RiseFrom 0 s.live) where
       value_at r s.live ≡ Some (linked peer link) → Does r v s (breaks r peer fault held s)
   acts_breaks r peer link v fault (Some Two) here =
       puts r v (disconnect peer r 133 []) (breaks r peer fault (Some Two) s) refl refl
-      (closes_to r peer v (linked peer link) _ here refl refl)
+      (closes_to r peer v _ (linked peer link) _ here refl refl)
   acts_breaks r peer link v fault (Some Zero) here = ends_it r v _ refl refl
   acts_breaks r peer link v fault None here = ends_it r v _ refl refl
 
@@ -248,7 +252,7 @@ module _ (s : Carrier) (rise : RiseFrom 0 s.live) where
   acts_leaves : (r peer reason : ℕ) (link : Standing) (v : Value) (held : Option Class) → value_at r s.live ≡ Some (linked peer link) →
       Does r v s (leaves r peer reason held s)
   acts_leaves r peer reason link v (Some Two) here =
-      puts r v (disconnected peer r) (leaves r peer reason (Some Two) s) refl refl (dropped r v (linked peer link) _ here refl refl)
+      puts r v (disconnected peer r) (leaves r peer reason (Some Two) s) refl refl (dropped r v _ (linked peer link) _ here refl refl)
   acts_leaves r peer reason link v (Some Zero) here = ends_it r v _ refl refl
   acts_leaves r peer reason link v None here = ends_it r v _ refl refl
 
@@ -273,22 +277,27 @@ module _ (s : Carrier) (rise : RiseFrom 0 s.live) where
   acts_closing : (r peer : ℕ) (v : Value) → value_at r s.live ≡ Some (closing peer) → Does r v s (to_closing r v s)
   acts_closing r peer (disconnected destination source) here =
       nothing r (disconnected destination source) (to_closing r (disconnected destination source) s) refl
-      (dropped r (disconnected destination source) (closing peer) _ here refl refl)
+      (dropped r (disconnected destination source) _ (closing peer) _ here refl refl)
   acts_closing r peer (disconnect destination source reason user) here =
       nothing r (disconnect destination source reason user) (to_closing r (disconnect destination source reason user) s) refl
-      (dropped r (disconnect destination source reason user) (closing peer) _ here refl refl)
+      (dropped r (disconnect destination source reason user) _ (closing peer) _ here refl refl)
   acts_closing r peer (request c) here =
-      nothing r (request c) s refl (acts_none r (request c) s refl refl refl (closing_deaf r peer (request c) here))
+      nothing r (request c) s refl (acts_none r (request c) _ s refl refl refl (closing_deaf r peer (request c) here))
   acts_closing r peer (confirm destination c) here =
-      nothing r (confirm destination c) s refl (acts_none r (confirm destination c) s refl refl refl (closing_deaf r peer (confirm destination c) here))
+      nothing r (confirm destination c) s refl
+      (acts_none r (confirm destination c) _ s refl refl refl (closing_deaf r peer (confirm destination c) here))
   acts_closing r peer (data0 end user) here =
-      nothing r (data0 end user) s refl (acts_none r (data0 end user) s refl refl refl (closing_deaf r peer (data0 end user) here))
+      nothing r (data0 end user) s refl (acts_none r (data0 end user) _ s refl refl refl (closing_deaf r peer (data0 end user) here))
   acts_closing r peer (data2 destination number end user) here =
-      nothing r (data2 destination number end user) s refl (acts_none r (data2 destination number end user) s refl refl refl (closing_deaf r peer (data2 destination number end user) here))
+      nothing r (data2 destination number end user) s refl
+      (acts_none r (data2 destination number end user) _ s refl refl refl (closing_deaf r peer (data2 destination number end user) here))
   acts_closing r peer (acknowledge credit destination number) here =
-      nothing r (acknowledge credit destination number) s refl (acts_none r (acknowledge credit destination number) s refl refl refl (closing_deaf r peer (acknowledge credit destination number) here))
+      nothing r (acknowledge credit destination number) s refl
+      (acts_none r (acknowledge credit destination number) _ s refl refl refl
+      (closing_deaf r peer (acknowledge credit destination number) here))
   acts_closing r peer (error destination cause) here =
-      nothing r (error destination cause) s refl (acts_none r (error destination cause) s refl refl refl (closing_deaf r peer (error destination cause) here))
+      nothing r (error destination cause) s refl
+      (acts_none r (error destination cause) _ s refl refl refl (closing_deaf r peer (error destination cause) here))
 
   acts_connection : (r : ℕ) (o : Option Connection) (v : Value) → (o ≡ Some asked → IsNamed r v) → value_at r s.live ≡ o →
       Does r v s (to_connection r o v s)
@@ -304,7 +313,8 @@ module _ (s : Carrier) (rise : RiseFrom 0 s.live) where
 
   acts_before : (b : Bool) (v : Value) → s.is_caller ≡ b → Does (connection_by None v s) v s (before_class b v s)
   acts_before true (confirm destination c) is = acts_reference destination (confirm destination c) refl
-  acts_before true (disconnect destination source reason user) is = acts_reference destination (disconnect destination source reason user) tt
+  acts_before true (disconnect destination source reason user) is =
+      acts_reference destination (disconnect destination source reason user) tt
   acts_before true (error destination cause) is = acts_reference destination (error destination cause) tt
   acts_before true (request c) is = ends_it _ (request c) _ refl refl
   acts_before true (disconnected destination source) is = ends_it _ (disconnected destination source) _ refl refl
@@ -326,7 +336,7 @@ module _ (s : Carrier) (rise : RiseFrom 0 s.live) where
   module _ (never : (r : ℕ) → value_at r s.live ≡ Some asked → ⊥) where
     acts_only : (rows : Rows Connection) (v : Value) → s.live ≡ rows → Does (only_of rows) v s (to_only rows v s)
     acts_only [] v is =
-        nothing 0 v s refl (acts_none 0 v s refl refl refl
+        nothing 0 v s refl (acts_none 0 v [] s refl refl refl
         (λ peer link here. absurd (let both : None ≡ Some (linked peer link) = sym (ap (value_at 0) is) ∙ here in cc)))
     acts_only ((r, x) ∷ rows) v is =
         let here : value_at r s.live ≡ Some x = ap (value_at r) is ∙ first_here r x rows in

@@ -39,7 +39,7 @@ use Rattle.osi_honest.specs.Talking as history
 use Rattle.osi_honest.proofs.class_0.a_session_of_class_0_puts_what_it_sends.{still_begun}
 use Rattle.osi_honest.proofs.class_0.what_a_packet_does_in_class_0.{AllProper}
 use Rattle.osi_honest.proofs.class_0.what_packets_do_in_class_0.{never_lasts}
-use Rattle.osi_honest.proofs.courses.a_connection_without_a_unit.{event_rests}
+use Rattle.osi_honest.proofs.courses.a_connection_without_a_unit.{event_life}
 use Rattle.osi_honest.proofs.courses.steps_of_a_course.{HasNone, HoldEach, StepAt, States, Steps, same_rest, step_as, step_each, step_idle}
 use Rattle.osi_honest.proofs.courses.steps_of_a_course.{step_none, step_on, step_since, step_then}
 use Rattle.osi_honest.proofs.courses.units_of_each_connection.{unequal}
@@ -49,7 +49,7 @@ use Rattle.osi_honest.proofs.courses.what_a_session_puts.{event_written, opening
 use Rattle.osi_honest.proofs.courses.what_a_unit_does_to_a_connection.{NoneOf}
 use Rattle.osi_honest.proofs.courses.what_another_connection_leaves.{Beside, course_over, gone_beside, gone_over, gone_same}
 use Rattle.osi_honest.proofs.courses.what_another_connection_leaves.{joins_beside, session_beside, shut_session}
-use Rattle.osi_honest.proofs.courses.what_arrives_for_a_connection.{stage_at}
+use Rattle.osi_honest.proofs.courses.how_long_a_connection_is_open.{stage_at}
 use Rattle.osi_honest.proofs.courses.what_calls_of_a_link_say.{fresh_of, none_said, out_more, said_more}
 use Rattle.osi_honest.proofs.courses.what_its_own_session_does.{CanSpeak, session_speaks}
 use Rattle.osi_honest.proofs.courses.what_units_do_to_a_course.{NowAll, request_new, unsaid}
@@ -270,7 +270,8 @@ module _ (known : Known) (is_caller : Bool) (r : ℕ) where
       λ some. ap (units_at r) (event_unlinked x e none)
 
   -- what its session does then
-  spoke : (x : Happening) (input : Input) (moves : Deeds) (e : End) → hears x e ≡ to_session r input e → event_puts x e ≡ session_puts r input e →
+  spoke : (x : Happening) (input : Input) (moves : Deeds) (e : End) → hears x e ≡ to_session r input e →
+      event_puts x e ≡ session_puts r input e →
       StepAt r (session_puts r input e) [] (Course is_caller r) moves (to_session r input e) →
       StepAt r (event_puts x e) [] (Course is_caller r) moves (hears x e)
   spoke x input moves e is puts s =
@@ -347,7 +348,8 @@ module _ (known : Known) (is_caller : Bool) where
       Steps is_caller (WaitAll rest) moves e.carrier (hears x e)
   event_heard x rest moves e w =
       step_each is_caller [] (WaitAll rest) moves e.carrier (hears x e) (event_puts x e) [] (event_written x e)
-      (event_by_links x e (waits_given is_caller (told_of x) (x ∷ rest) (moves (told_of x)) e (w (told_of x)))) refl (λ r some. event_rests r x e)
+      (event_by_links x e (waits_given is_caller (told_of x) (x ∷ rest) (moves (told_of x)) e (w (told_of x)))) refl
+      (λ r some. event_life is_caller r some x e)
       (λ r. one_heard known is_caller r x rest (moves r) e (w r))
 
   -- so many of the events
@@ -374,14 +376,16 @@ module _ (known : Known) (is_caller : Bool) where
   none_left [] e is = is
   none_left (x ∷ rest) e is = none_left rest (hears_next e) (rest_is x rest e is)
 
-  all_heard : (moves : ℕ → Deeds) (e : End) → HoldEach (NowAll is_caller) moves e → Steps is_caller (CourseAll is_caller) moves e.carrier (hears_all e)
+  all_heard : (moves : ℕ → Deeds) (e : End) → HoldEach (NowAll is_caller) moves e →
+      Steps is_caller (CourseAll is_caller) moves e.carrier (hears_all e)
   all_heard moves e w =
       step_as is_caller [] (NowAll is_caller) (CourseAll is_caller) moves e.carrier (hears_all e) (hears_all e)
       (times_heard (length e.carrier.events) e.carrier.events moves e refl w) refl (same_rest (hears_all e).carrier)
       (λ r after v. waits_none is_caller r after (hears_all e)
       (subst (λ (l : List Happening). Waits is_caller r l after (hears_all e)) (none_left e.carrier.events e refl) v))
 
-  pub attended : (moves : ℕ → Deeds) (e : End) → HoldEach (NowAll is_caller) moves e → Steps is_caller (CourseAll is_caller) moves e.carrier (attends e)
+  pub attended : (moves : ℕ → Deeds) (e : End) → HoldEach (NowAll is_caller) moves e →
+      Steps is_caller (CourseAll is_caller) moves e.carrier (attends e)
   attended moves e w =
       step_as is_caller [] (CourseAll is_caller) (CourseAll is_caller) moves e.carrier (hears_all e) (attends e) (all_heard moves e w)
       (ap (λ (c : Carrier). c.outgoing) (concluded_carrier (hears_all e)))

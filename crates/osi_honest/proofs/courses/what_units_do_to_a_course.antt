@@ -36,6 +36,7 @@ use Rattle.osi_honest.specs.Courses.Gone.{closed, never, over}
 use Rattle.osi_honest.specs.Talking.{History, Said}
 use Rattle.osi_honest.specs.Talking as history
 use Rattle.osi_honest.proofs.class_0.what_packets_do_in_class_0.{never_lasts}
+use Rattle.osi_honest.proofs.courses.how_long_a_connection_is_open.{Life, life_to_past, stage_at, stage_over}
 use Rattle.osi_honest.proofs.courses.steps_of_a_course.{HoldEach, StepAt, States, StepsBy, done_by, same_rest, step_as, step_each}
 use Rattle.osi_honest.proofs.courses.steps_of_a_course.{step_idle, step_none, step_then}
 use Rattle.osi_honest.proofs.courses.the_connections_of_each_class.{IsSound, sound_unit}
@@ -47,12 +48,10 @@ use Rattle.osi_honest.proofs.courses.what_a_unit_does_to_a_connection.Acts.{answ
 use Rattle.osi_honest.proofs.courses.what_a_unit_does_to_a_connection.Acts.{over as carrier_over}
 use Rattle.osi_honest.proofs.courses.what_a_unit_does_to_a_connection.Does.{passes, takes}
 use Rattle.osi_honest.proofs.courses.what_another_connection_leaves.{Beside, course_beside, course_over, gone_beside, gone_over}
-use Rattle.osi_honest.proofs.courses.what_arrives_for_a_connection.{Heard, Stage, heard_past, stage_at, stage_over}
-use Rattle.osi_honest.proofs.courses.what_arrives_for_a_connection.Stage.{past}
 use Rattle.osi_honest.proofs.courses.what_calls_of_a_link_say.{along_more, none_said, out_more, put_more, said_more}
 use Rattle.osi_honest.proofs.courses.what_waits_to_be_heard.{Due, JustOpened, Waits, due_last}
 use Rattle.osi_honest.proofs.courses.what_waits_to_be_heard.Waits.{answered, away, called, came, still}
-use Rattle.osi_honest.proofs.courses.which_connection_a_unit_is_for.{elsewhere_deaf, heard_passed, heard_taken}
+use Rattle.osi_honest.proofs.courses.which_connection_a_unit_is_for.{elsewhere_deaf, passed_life, taken_life}
 
 -- ---- no event of this connection waits
 
@@ -162,7 +161,8 @@ module _ (is_caller : Bool) (r : ℕ) (moves : Deeds) (v : Value) (e : End) (h :
     }
 
     took : has_given r e.carrier ≡ true → (o : IsOpen is_caller r moves e) → (after : Standing) → taken o.calls.link v ≡ Ok after →
-        react v e.carrier ≡ settles r o.peer after e.carrier → NoneOf r e.carrier.events → HasFew v after.ends.joining.whole → Took o.peer after
+        react v e.carrier ≡ settles r o.peer after e.carrier → NoneOf r e.carrier.events →
+        HasFew v after.ends.joining.whole → Took o.peer after
     took given o after is then_is none (inl nothing) =
         let t = takes_in o.calls.link after v [] nothing (inl refl) is in
         let events : new.carrier.events ≡ e.carrier.events =
@@ -268,7 +268,8 @@ module _ (is_caller : Bool) (r : ℕ) (moves : Deeds) (v : Value) (e : End) (h :
       answers_now (unknown no_moves side ungiven live lines) alone was same peer first fresh here events =
           two_states (Some asked) None was live (λ no. absurd (cc))
       answers_now (awaited no_moves c terms side lasts given live kept) alone was same peer first fresh here events =
-          last_after is_caller r v moves new alone (answered (subst (Due r (opened r)) (sym events) (due_last r (opened r) e.carrier.events none)) side c terms kept
+          last_after is_caller r v moves new alone
+          (answered (subst (Due r (opened r)) (sym events) (due_last r (opened r) e.carrier.events none)) side c terms kept
           (opens_now alone (same ∙ given) peer first fresh no_moves here))
       answers_now (is_open given o) alone was same peer first fresh here events =
           two_states (Some asked) (Some (linked o.peer o.calls.link)) was o.here (λ no. absurd (cc))
@@ -306,33 +307,33 @@ module _ (is_caller : Bool) (r : ℕ) (moves : Deeds) (v : Value) (e : End) (h :
           absurd (never_lasts e.carrier.ended ended lasted)
       leaves_now (is_gone (never no_moves ended)) x here same then_shut = absurd (never_lasts e.carrier.ended ended lasted)
 
-      on_still : Course is_caller r moves e → Acts r v e.carrier (react v e.carrier) → Idle
+      on_still : {units : List Value} → Course is_caller r moves e → Acts r v units e.carrier (react v e.carrier) → Idle
       on_still course (carrier_over ended) = absurd (never_lasts new.carrier.ended ended lasts)
       on_still course (rests live given told events others deaf) =
           calm_after is_caller r v moves new
           (is_still (subst (NoneOf r) (sym events) (none_more r e.carrier.events told none others))
           (course_beside is_caller r moves e new (beside live given) course))
-      on_still course (joins called_end alone free given peer first fresh here events opener) =
+      on_still course (joins called_end alone free given peer first fresh here events opener answer) =
           joins_now course called_end alone free given peer first fresh here events
-      on_still course (answers_it alone was same peer first fresh here events opener) =
+      on_still course (answers_it alone was same peer first fresh here events opener answer) =
           answers_now course alone was same peer first fresh here events
       on_still course (leaves_it x here same shut) = calm_after is_caller r v moves new (is_away (leaves_now course x here same shut))
 
-    on_away : Gone is_caller r moves e → Acts r v e.carrier (react v e.carrier) → Idle
+    on_away : {units : List Value} → Gone is_caller r moves e → Acts r v units e.carrier (react v e.carrier) → Idle
     on_away (over at calls heard unheard is session speaks parts into ended) act = absurd (never_lasts e.carrier.ended ended lasted)
     on_away (never no_moves ended) act = absurd (never_lasts e.carrier.ended ended lasted)
     on_away (closed at calls is session speaks given shut) (carrier_over ended) = absurd (never_lasts new.carrier.ended ended lasts)
     on_away (closed at calls is session speaks given shut) (rests live same told events others deaf) =
         calm_after is_caller r v moves new
         (is_away (gone_beside is_caller r moves e new (beside live same) (closed at calls is session speaks given shut)))
-    on_away (closed at calls is session speaks given shut) (joins called_end alone free then_given peer first fresh here events opener) =
+    on_away (closed at calls is session speaks given shut) (joins called_end alone free then_given peer first fresh here events opener answer) =
         both (has_given r e.carrier) given free
-    on_away (closed at calls is session speaks given shut) (answers_it alone was same peer first fresh here events opener) =
+    on_away (closed at calls is session speaks given shut) (answers_it alone was same peer first fresh here events opener answer) =
         absurd (subst IsShut was shut)
     on_away (closed at calls is session speaks given shut) (leaves_it x here same then_shut) =
         calm_after is_caller r v moves new (is_away (closed at calls is session speaks (same ∙ given) then_shut))
 
-    on_calm : Calm is_caller r moves e → Acts r v e.carrier (react v e.carrier) → Idle
+    on_calm : {units : List Value} → Calm is_caller r moves e → Acts r v units e.carrier (react v e.carrier) → Idle
     on_calm (is_still none course) act = on_still none course act
     on_calm (is_away g) act = on_away g act
 
@@ -350,21 +351,21 @@ module _ (is_caller : Bool) (r : ℕ) (moves : Deeds) (v : Value) (e : End) (h :
   ended_idle : Calm is_caller r moves e → IsSome new.carrier.ended → Idle
   ended_idle calm ended = calm_after is_caller r v moves new (is_away (calm_over is_caller r moves e new calm ended))
 
-  idle_by : (o : Option EndReason) → new.carrier.ended ≡ o → e.carrier.ended ≡ None → Calm is_caller r moves e →
-      (new.carrier.ended ≡ None → Acts r v e.carrier (react v e.carrier)) → Idle
+  idle_by : {units : List Value} (o : Option EndReason) → new.carrier.ended ≡ o → e.carrier.ended ≡ None → Calm is_caller r moves e →
+      (new.carrier.ended ≡ None → Acts r v units e.carrier (react v e.carrier)) → Idle
   idle_by (Some reason) ended lasted calm act = ended_idle calm (ap is_some ended)
   idle_by None lasts lasted calm act = on_calm lasts lasted calm (act lasts)
 
   -- as of its own connection, or as of another one
-  idle_at : (q : ℕ) (b : Bool) → (r == q) ≡ b → q ≡ connection_of v e.carrier → e.carrier.ended ≡ None → Calm is_caller r moves e →
-      Acts q v e.carrier (react v e.carrier) → Idle
-  idle_at q true same is lasted calm act =
+  idle_at : (units : List Value) (q : ℕ) (b : Bool) → (r == q) ≡ b → q ≡ connection_of v e.carrier → e.carrier.ended ≡ None → Calm is_caller r moves e →
+      Acts q v units e.carrier (react v e.carrier) → Idle
+  idle_at units q true same is lasted calm act =
       idle_by new.carrier.ended refl lasted calm
-      (λ lasts. subst (λ (n : ℕ). Acts n v e.carrier (react v e.carrier)) (sym (eqb-true r q same)) act)
-  idle_at q false same is lasted calm act =
+      (λ lasts. subst (λ (n : ℕ). Acts n v units e.carrier (react v e.carrier)) (sym (eqb-true r q same)) act)
+  idle_at units q false same is lasted calm act =
       let ne : r ≢ connection_of v e.carrier = λ one. unequal q r same (one ∙ sym is) in
       idle_by new.carrier.ended refl lasted calm
-      (λ lasts. acts_elsewhere r v e.carrier ne lasts (elsewhere_deaf v e.carrier lasted lasts r h.by_class ne))
+      (λ lasts. acts_elsewhere r v units e.carrier ne lasts (elsewhere_deaf v e.carrier lasted lasts r h.by_class ne))
 
   -- the link of this or of another connection takes it
   taken_at : (q : ℕ) (b : Bool) → (r == q) ≡ b → q ≡ connection_of v e.carrier → e.carrier.ended ≡ None → Calm is_caller r moves e →
@@ -384,7 +385,7 @@ module _ (is_caller : Bool) (r : ℕ) (moves : Deeds) (v : Value) (e : End) (h :
       step_idle r (marked q (written_by peer (handed_out after))) (marked q (v ∷ [])) (After is_caller r v) moves new
       (λ some. elsewhere q r (written_by peer (handed_out after)) ne) (λ some. elsewhere q r (v ∷ []) ne)
       (on_calm lasts lasted calm
-      (acts_elsewhere r v e.carrier other lasts (elsewhere_deaf v e.carrier lasted lasts r h.by_class other)))
+      (acts_elsewhere r v [] e.carrier other lasts (elsewhere_deaf v e.carrier lasted lasts r h.by_class other)))
 
   passed : (units : List Value) → Idle → StepAt r (marked 0 units) (marked 0 (v ∷ [])) (After is_caller r v) moves new
   passed units idle =
@@ -430,12 +431,11 @@ module _ (is_caller : Bool) where
     side_of r lasted free = side_by r lasted (calm r) free
 
     -- the carrier had ended
-    heard_over : (r : ℕ) → 0 < r → IsSome e.carrier.ended → IsSome changed.carrier.ended →
-        Heard is_caller r (stage_at r e.carrier) (marked 0 (v ∷ [])) (stage_at r changed.carrier)
-    heard_over r some ended then_ended =
-        subst (λ (x : Stage). Heard is_caller r x (marked 0 (v ∷ [])) (stage_at r changed.carrier)) (sym (stage_over r e.carrier ended))
-        (subst (λ (x : Stage). Heard is_caller r past (marked 0 (v ∷ [])) x) (sym (stage_over r changed.carrier then_ended))
-        (heard_past is_caller r (marked 0 (v ∷ [])) (none_marked r (v ∷ []) some)))
+    over_life : (r : ℕ) → 0 < r → IsSome e.carrier.ended → IsSome changed.carrier.ended →
+        Life is_caller r (stage_at r e.carrier) (marked 0 (v ∷ [])) [] (stage_at r changed.carrier)
+    over_life r some ended then_ended =
+        subst (Life is_caller r (stage_at r e.carrier) (marked 0 (v ∷ [])) []) (sym (stage_over r changed.carrier then_ended))
+        (life_to_past is_caller r (stage_at r e.carrier) (marked 0 (v ∷ [])) [] (none_marked r (v ∷ []) some) tt)
 
     does_steps : e.carrier.ended ≡ None → Does (connection_of v e.carrier) v e.carrier (react v e.carrier) →
         StepsBy is_caller (v ∷ []) (AfterAll v) moves e.carrier changed
@@ -446,15 +446,15 @@ module _ (is_caller : Bool) where
         (ap (λ (c : Carrier). c.outgoing) then_is ∙ ap (λ (l : List Value). e.carrier.outgoing ++ packets l) (sym (marked_all q units)))
         (given_by_links q peer (all_given (handed_out after)) (above_zero q (linked peer link) e.carrier.live h.orderly.rise here))
         (marked_all q (v ∷ []))
-        (λ r some. heard_taken is_caller r some v e.carrier h lasted (side_of r lasted) q refl peer link after here is then_is)
+        (λ r some. taken_life is_caller r some v e.carrier h lasted (side_of r lasted) q refl peer link after here is then_is)
         (λ r. taken_at is_caller r (moves r) v e h q (r == q) refl refl lasted (calm r) peer link after here is then_is)
     does_steps lasted (passes units written plain act) =
         let q = connection_of v e.carrier in
         step_each is_caller (v ∷ []) (AfterAll v) moves e.carrier changed (marked 0 units) (marked 0 (v ∷ []))
         (written ∙ ap (λ (l : List Value). e.carrier.outgoing ++ packets l) (sym (marked_all 0 units)))
         (plain_by_links units plain) (marked_all 0 (v ∷ []))
-        (λ r some. heard_passed is_caller r some v e.carrier h lasted (side_of r lasted) q refl act)
-        (λ r. passed is_caller r (moves r) v e h units (idle_at is_caller r (moves r) v e h q (r == q) refl refl lasted (calm r) act))
+        (λ r some. passed_life is_caller r some v e.carrier h lasted (side_of r lasted) units q refl act)
+        (λ r. passed is_caller r (moves r) v e h units (idle_at is_caller r (moves r) v e h units q (r == q) refl refl lasted (calm r) act))
 
     unit_by : (o : Option EndReason) → e.carrier.ended ≡ o → StepsBy is_caller (v ∷ []) (AfterAll v) moves e.carrier changed
     unit_by None lasted = does_steps lasted (unit_does v e.carrier h lasted)
@@ -462,7 +462,7 @@ module _ (is_caller : Bool) where
         let same = react_over v e.carrier (ap is_some ended) in
         step_each is_caller (v ∷ []) (AfterAll v) moves e.carrier changed [] (marked 0 (v ∷ []))
         (ap (λ (c : Carrier). c.outgoing) same ∙ sym (append-nil e.carrier.outgoing)) tt (marked_all 0 (v ∷ []))
-        (λ r some. heard_over r some (ap is_some ended) (ap (λ (c : Carrier). is_some c.ended) same ∙ ap is_some ended))
+        (λ r some. over_life r some (ap is_some ended) (ap (λ (c : Carrier). is_some c.ended) same ∙ ap is_some ended))
         (λ r. passed is_caller r (moves r) v e h []
         (ended_idle is_caller r (moves r) v e h (calm r) (ap (λ (c : Carrier). is_some c.ended) same ∙ ap is_some ended)))
 

@@ -4,14 +4,16 @@ use Rattle.std.proofs.Common.{◌≡◌, ◌≢◌, ◌∙◌, refl, sym, ap, su
 use Rattle.std.proofs.Common.{nat_le, nat_lt, Option, Some, None, is_some, IsSome, Ok, arith}
 use Rattle.std.proofs.lemmas.Bool.{eq-eqb, eqb-true}
 use Rattle.std.proofs.lemmas.Bool.Decides.{nat_tests}
+use Rattle.std.proofs.lemmas.List.{append-nil}
 use Rattle.osi_tpdu.specs.Value.{Value, acknowledge, confirm, data0, data2, disconnect, disconnected, error, request}
 use Rattle.osi_class.specs.Ends.{Ends}
 use Rattle.osi_class.specs.Flow.{Flow}
+use Rattle.osi_class.specs.Giving.{all_given}
 use Rattle.osi_class.specs.Link.{Standing, taken, taken_by}
 use Rattle.osi_class.specs.declared.terms.Class.{Class}
 use Rattle.osi_class.specs.declared.terms.Class.TheVariants.{Two}
 use Rattle.osi_carrier.specs.Orderly.{connection_by, connection_of, only_of}
-use Rattle.osi_carrier.specs.Pump.{pumped}
+use Rattle.osi_carrier.specs.Pump.{pumped, written_by}
 use Rattle.osi_carrier.specs.React.{handed_out, in_class, in_two, react, settles}
 use Rattle.osi_carrier.specs.Rows.{put, value_at}
 use Rattle.osi_carrier.specs.State.{Connection, State as Carrier, asked, closing, linked}
@@ -20,18 +22,19 @@ use Rattle.osi_carrier.proofs.effects.units_one_after_the_other.{react_quiet}
 use Rattle.osi_carrier.proofs.references.rows_after_a_change.{put_other}
 use Rattle.osi_carrier.proofs.references.what_a_change_leaves_there.{beyond, put_here}
 use Rattle.osi_stack.specs.Calls.{has_given}
-use Rattle.osi_honest.specs.Arriving.{Opens, is_for}
+use Rattle.osi_honest.specs.Arriving.{AreApart, GivesTo, Opens, TakesAll, is_for}
 use Rattle.osi_honest.specs.Courses.{IsShut}
 use Rattle.osi_honest.specs.Marked.{Marked, is_of_link}
 use Rattle.osi_honest.proofs.class_0.what_packets_do_in_class_0.{never_lasts}
 use Rattle.osi_honest.proofs.courses.the_connections_of_each_class.{ByClass, IsSound, one_here}
 use Rattle.osi_honest.proofs.courses.the_connections_of_each_class.ByClass.{asks, none, two, zero}
-use Rattle.osi_honest.proofs.courses.units_of_each_connection.{none_mark, other_mark, unequal}
+use Rattle.osi_honest.proofs.courses.units_of_each_connection.{marked, none_mark, none_marked, other_mark, other_marked, unequal}
+use Rattle.osi_honest.proofs.courses.a_connection_without_a_unit.{given_to}
 use Rattle.osi_honest.proofs.courses.what_a_unit_does_to_a_connection.{Acts, IsDeaf, acts_elsewhere}
 use Rattle.osi_honest.proofs.courses.what_a_unit_does_to_a_connection.Acts.{answers_it, joins, leaves_it, over, rests}
-use Rattle.osi_honest.proofs.courses.what_arrives_for_a_connection.{Heard, Passes, Stage, heard_one, passes_to_past, stage_at, stage_by}
-use Rattle.osi_honest.proofs.courses.what_arrives_for_a_connection.{stage_is, stage_over, stage_there}
-use Rattle.osi_honest.proofs.courses.what_arrives_for_a_connection.Stage.{amid, early, past}
+use Rattle.osi_honest.proofs.courses.how_long_a_connection_is_open.{Life, Stage, life_as, life_open, life_opens, life_to_past, stage_at}
+use Rattle.osi_honest.proofs.courses.how_long_a_connection_is_open.{stage_by, stage_is, stage_over, stage_there}
+use Rattle.osi_honest.proofs.courses.how_long_a_connection_is_open.Stage.{amid, early, past}
 
 -- ---- a unit of another connection is not for this one
 
@@ -129,14 +132,14 @@ module _ (s : Carrier) (q peer : ℕ) (link after : Standing) (here : value_at q
 
 -- ---- the unit at one connection
 
-amid_linked : (b given : Bool) (o : Option Connection) → stage_by b given o ≡ amid →
+amid_linked : (b given : Bool) (o : Option Connection) (p : ℕ) → stage_by b given o ≡ amid p →
     (peer : ℕ) × (link : Standing) × (o ≡ Some (linked peer link))
-amid_linked true given o is = absurd (cc)
-amid_linked false true None is = absurd (cc)
-amid_linked false false None is = absurd (cc)
-amid_linked false given (Some asked) is = absurd (cc)
-amid_linked false given (Some (linked peer link)) is = (peer, link, refl)
-amid_linked false given (Some (closing peer)) is = absurd (cc)
+amid_linked true given o p is = absurd (cc)
+amid_linked false true None p is = absurd (cc)
+amid_linked false false None p is = absurd (cc)
+amid_linked false given (Some asked) p is = absurd (cc)
+amid_linked false given (Some (linked peer link)) p is = (peer, link, refl)
+amid_linked false given (Some (closing peer)) p is = absurd (cc)
 
 past_shut : (o : Option Connection) → IsShut o → stage_there true o ≡ past
 past_shut None shut = refl
@@ -156,34 +159,33 @@ module _ (is_caller : Bool) (r : ℕ) (some : 0 < r) (v : Value) (s : Carrier) (
   abbrev t : Carrier
   t = react v s
 
-  abbrev P : Stage → Marked → Stage → Type 0
-  P a m b = Passes is_caller r a m b
+  abbrev P : Stage → ℕ → List Marked → Stage → Type 0
+  P a q put b = Life is_caller r a ((q, v) ∷ []) put b
 
-  passes_as : (m : Marked) (a b : Stage) → stage_at r s ≡ a → stage_at r t ≡ b → P a m b → P (stage_at r s) m (stage_at r t)
-  passes_as m a b was then_is p =
-      subst (λ (x : Stage). P x m (stage_at r t)) (sym was) (subst (λ (x : Stage). P a m x) (sym then_is) p)
+  life_between : (q : ℕ) (put : List Marked) (a b : Stage) → stage_at r s ≡ a → stage_at r t ≡ b → P a q put b →
+      P (stage_at r s) q put (stage_at r t)
+  life_between q put a b was then_is p =
+      subst (λ (x : Stage). P x q put (stage_at r t)) (sym was) (subst (λ (x : Stage). P a q put x) (sym then_is) p)
 
   no_mark : (0 == r) ≡ false
   no_mark = none_mark r some
 
-  -- it is as it was
-  same_by : (a : Stage) (m : Marked) → (m.0 == r) ≡ false → (a ≡ amid → is_for r m.1 ≡ false) → P a m a
-  same_by early m other deaf = other
-  same_by amid m other deaf = other ∙ sym (deaf refl)
-  same_by past m other deaf = other
-
   -- a connection that is open is not one that the unit is for
-  deaf_amid : IsDeaf r v s → stage_at r s ≡ amid → is_for r v ≡ false
-  deaf_amid deaf is =
-      let k = amid_linked (is_some s.ended) (has_given r s) (value_at r s.live) is in
-      deaf k.0 k.1 k.2
+  deaf_takes : (q : ℕ) → (q == r) ≡ false → IsDeaf r v s → (p : ℕ) → stage_at r s ≡ amid p → TakesAll r ((q, v) ∷ [])
+  deaf_takes q other deaf p is =
+      let k = amid_linked (is_some s.ended) (has_given r s) (value_at r s.live) p is in
+      (other ∙ sym (deaf k.0 k.1 k.2), tt)
 
-  same_passes : (q : ℕ) → (q == r) ≡ false → stage_at r t ≡ stage_at r s → IsDeaf r v s → P (stage_at r s) (q, v) (stage_at r t)
-  same_passes q other same deaf =
-      passes_as (q, v) (stage_at r s) (stage_at r s) refl same (same_by (stage_at r s) (q, v) other (deaf_amid deaf))
+  same_life : (q : ℕ) (put : List Marked) → (q == r) ≡ false → AreApart r put → stage_at r t ≡ stage_at r s → IsDeaf r v s →
+      P (stage_at r s) q put (stage_at r t)
+  same_life q put other apart same deaf =
+      life_between q put (stage_at r s) (stage_at r s) refl same
+      (life_as is_caller r (stage_at r s) ((q, v) ∷ []) put (other, tt) apart (deaf_takes q other deaf))
 
-  to_past : (q : ℕ) → (q == r) ≡ false → stage_at r t ≡ past → P (stage_at r s) (q, v) (stage_at r t)
-  to_past q other is = passes_as (q, v) (stage_at r s) past refl is (passes_to_past is_caller r (stage_at r s) (q, v) other)
+  to_past : (units : List Value) → stage_at r t ≡ past → P (stage_at r s) 0 (marked 0 units) (stage_at r t)
+  to_past units is =
+      life_between 0 (marked 0 units) (stage_at r s) past refl is
+      (life_to_past is_caller r (stage_at r s) ((0, v) ∷ []) (marked 0 units) (no_mark, tt) (none_marked r units some))
 
   live_given : (x : Connection) → value_at r s.live ≡ Some x → has_given r s ≡ true
   live_given x here =
@@ -191,44 +193,49 @@ module _ (is_caller : Bool) (r : ℕ) (some : 0 < r) (v : Value) (s : Carrier) (
       (λ above. let gone : value_at r s.live ≡ None = beyond r s.given s.live h.orderly.up_to above in
       absurd (let both : Some x ≡ None = sym here ∙ gone in cc))
 
-  acts_pass : Acts r v s t → t.ended ≡ None → P (stage_at r s) (0, v) (stage_at r t)
-  acts_pass (over ended) lasts = to_past 0 no_mark (stage_over r t ended)
-  acts_pass (rests live given told events others deaf) lasts =
-      same_passes 0 no_mark
+  acts_live : (units : List Value) → Acts r v units s t → t.ended ≡ None → P (stage_at r s) 0 (marked 0 units) (stage_at r t)
+  acts_live units (over ended) lasts = to_past units (stage_over r t ended)
+  acts_live units (rests live given told events others deaf) lasts =
+      same_life 0 (marked 0 units) no_mark (none_marked r units some)
       (stage_is r t (value_at r s.live) (has_given r s) lasts given live
       ∙ sym (stage_is r s (value_at r s.live) (has_given r s) lasted refl refl)) deaf
-  acts_pass (joins called_end alone free given peer first fresh here events opener) lasts =
+  acts_live units (joins called_end alone free given peer first fresh here events opener answer) lasts =
       let empty : value_at r s.live ≡ None = beyond r s.given s.live h.orderly.up_to (above_given r s.given some free) in
-      passes_as (0, v) early amid (stage_is r s None false lasted free empty)
+      life_between 0 (marked 0 units) early (amid peer) (stage_is r s None false lasted free empty)
       (stage_is r t (Some (linked peer first)) true lasts given (here empty))
-      (refl, subst (λ (b : Bool). Opens b r v) (sym called_end ∙ side free) opener)
-  acts_pass (answers_it alone was same peer first fresh here events opener) lasts =
-      passes_as (0, v) early amid (stage_is r s (Some asked) (has_given r s) lasted refl was)
-      (stage_is r t (Some (linked peer first)) (has_given r t) lasts refl here) (refl, opener is_caller)
-  acts_pass (leaves_it x here same shut) lasts =
-      to_past 0 no_mark
+      (life_opens is_caller r peer v [] (marked 0 units)
+      (subst (λ (b : Bool). Opens b r peer v) (sym called_end ∙ side free) opener) tt (none_marked r units some) answer)
+  acts_live units (answers_it alone was same peer first fresh here events opener answer) lasts =
+      life_between 0 (marked 0 units) early (amid peer) (stage_is r s (Some asked) (has_given r s) lasted refl was)
+      (stage_is r t (Some (linked peer first)) (has_given r t) lasts refl here)
+      (subst (λ (l : List Marked). P early 0 l (amid peer)) (append-nil (marked 0 units))
+      (life_opens is_caller r peer v (marked 0 units) [] (opener is_caller) (none_marked r units some) tt answer))
+  acts_live units (leaves_it x here same shut) lasts =
+      to_past units
       (stage_is r t (value_at r t.live) true lasts (same ∙ live_given x here) refl ∙ past_shut (value_at r t.live) shut)
 
   -- no link takes it
-  passed_by : (q : ℕ) (b : Bool) → (r == q) ≡ b → q ≡ connection_of v s → (o : Option EndReason) → t.ended ≡ o → Acts q v s t →
-      P (stage_at r s) (0, v) (stage_at r t)
-  passed_by q b is own (Some reason) ended act = to_past 0 no_mark (stage_over r t (ap is_some ended))
-  passed_by q true is own None lasts act = acts_pass (subst (λ (n : ℕ). Acts n v s t) (sym (eqb-true r q is)) act) lasts
-  passed_by q false is own None lasts act =
+  passed_by : (units : List Value) (q : ℕ) (b : Bool) → (r == q) ≡ b → q ≡ connection_of v s → (o : Option EndReason) → t.ended ≡ o →
+      Acts q v units s t → P (stage_at r s) 0 (marked 0 units) (stage_at r t)
+  passed_by units q b is own (Some reason) ended act = to_past units (stage_over r t (ap is_some ended))
+  passed_by units q true is own None lasts act =
+      acts_live units (subst (λ (n : ℕ). Acts n v units s t) (sym (eqb-true r q is)) act) lasts
+  passed_by units q false is own None lasts act =
       let ne : r ≢ connection_of v s = λ same. unequal q r is (same ∙ sym own) in
-      acts_pass (acts_elsewhere r v s ne lasts (elsewhere_deaf v s lasted lasts r h.by_class ne)) lasts
+      acts_live units (acts_elsewhere r v units s ne lasts (elsewhere_deaf v s lasted lasts r h.by_class ne)) lasts
 
   -- the link of its connection takes it
   taken_by_one : (q : ℕ) (b : Bool) → (r == q) ≡ b → q ≡ connection_of v s → (peer : ℕ) (link after : Standing) →
       value_at q s.live ≡ Some (linked peer link) → taken link v ≡ Ok after → t ≡ settles q peer after s →
-      P (stage_at r s) (q, v) (stage_at r t)
+      P (stage_at r s) q (marked q (written_by peer (handed_out after))) (stage_at r t)
   taken_by_one q false is own peer link after here took then_is =
       let differ = unequal q r is in
       let lasts : t.ended ≡ None = ap (λ (c : Carrier). c.ended) then_is ∙ lasted in
       let live : value_at r t.live ≡ value_at r s.live =
       ap (λ (c : Carrier). value_at r c.live) then_is ∙ put_other r q (linked peer (pumped (handed_out after))) s.live differ in
       let given : has_given r t ≡ has_given r s = ap (has_given r) then_is in
-      same_passes q (other_mark q r differ)
+      same_life q (marked q (written_by peer (handed_out after))) (other_mark q r differ)
+      (other_marked q r (written_by peer (handed_out after)) differ)
       (stage_is r t (value_at r s.live) (has_given r s) lasts given live
       ∙ sym (stage_is r s (value_at r s.live) (has_given r s) lasted refl refl))
       (elsewhere_deaf v s lasted lasts r h.by_class (λ same. differ (same ∙ sym own)))
@@ -240,17 +247,18 @@ module _ (is_caller : Bool) (r : ℕ) (some : 0 < r) (v : Value) (s : Carrier) (
       let now : value_at r t.live ≡ Some next =
       ap (λ (c : Carrier). value_at r c.live) then_is ∙ ap (λ (n : ℕ). value_at n (put q next s.live)) same
       ∙ put_here q next (linked peer link) s.live here in
-      passes_as (q, v) amid amid (stage_is r s (Some (linked peer link)) (has_given r s) lasted refl was)
+      let units = written_by peer (handed_out after) in
+      life_between q (marked q units) (amid peer) (amid peer) (stage_is r s (Some (linked peer link)) (has_given r s) lasted refl was)
       (stage_is r t (Some next) (has_given r t) lasts refl now)
-      (eq-eqb q r (sym same)
-      ∙ sym (ap (λ (n : ℕ). is_for n v) same ∙ taken_for s q peer link after here v own h.by_class took))
+      (life_open is_caller r peer ((q, v) ∷ []) (marked q units)
+      (eq-eqb q r (sym same) ∙ sym (ap (λ (n : ℕ). is_for n v) same ∙ taken_for s q peer link after here v own h.by_class took), tt)
+      (subst (λ (n : ℕ). GivesTo r peer (marked n units)) same (given_to r peer (all_given (handed_out after)))))
 
-  pub heard_passed : (q : ℕ) → q ≡ connection_of v s → Acts q v s t → Heard is_caller r (stage_at r s) ((0, v) ∷ []) (stage_at r t)
-  heard_passed q own act =
-      heard_one is_caller r (stage_at r s) (stage_at r t) (0, v) (passed_by q (r == q) refl own t.ended refl act)
+  pub passed_life : (units : List Value) (q : ℕ) → q ≡ connection_of v s → Acts q v units s t →
+      P (stage_at r s) 0 (marked 0 units) (stage_at r t)
+  passed_life units q own act = passed_by units q (r == q) refl own t.ended refl act
 
-  pub heard_taken : (q : ℕ) → q ≡ connection_of v s → (peer : ℕ) (link after : Standing) → value_at q s.live ≡ Some (linked peer link) →
-      taken link v ≡ Ok after → t ≡ settles q peer after s → Heard is_caller r (stage_at r s) ((q, v) ∷ []) (stage_at r t)
-  heard_taken q own peer link after here took then_is =
-      heard_one is_caller r (stage_at r s) (stage_at r t) (q, v)
-      (taken_by_one q (r == q) refl own peer link after here took then_is)
+  pub taken_life : (q : ℕ) → q ≡ connection_of v s → (peer : ℕ) (link after : Standing) → value_at q s.live ≡ Some (linked peer link) →
+      taken link v ≡ Ok after → t ≡ settles q peer after s →
+      P (stage_at r s) q (marked q (written_by peer (handed_out after))) (stage_at r t)
+  taken_life q own peer link after here took then_is = taken_by_one q (r == q) refl own peer link after here took then_is
