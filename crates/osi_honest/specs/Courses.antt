@@ -13,7 +13,7 @@ use Rattle.osi_class.specs.declared.terms.Class.{Class}
 use Rattle.osi_class.specs.declared.terms.Local.{Local}
 use Rattle.osi_carrier.specs.Negotiation.{opened_link}
 use Rattle.osi_carrier.specs.Rows.{value_at}
-use Rattle.osi_carrier.specs.State.{Connection, asked, closing, linked, packets}
+use Rattle.osi_carrier.specs.State.{Connection, State, asked, closing, linked, packets}
 use Rattle.osi_session.specs.Listening.{Listener}
 use Rattle.osi_session.specs.Phases.{is_wait_transport}
 use Rattle.osi_session.specs.Sessions.{awaits}
@@ -167,8 +167,10 @@ pub record Continues (is_caller : Bool) (deeds : ℕ → Deeds) (old : Holding) 
 abbrev pub all_did : (ℕ → Deeds) → (ℕ → Deeds) → ℕ → Deeds
 all_did some more r = then_did (some r) (more r)
 
--- the same of turns one after the other
-abbrev pub ContinuesAlong : Bool → (ℕ → Deeds) → Holding → List Turn → Holding → Type 0
-ContinuesAlong is_caller deeds old [] new = new ≡ old
-ContinuesAlong is_caller deeds old (turn ∷ turns) new = (mid : Holding) × Takes old turn mid
-    × (on : Continues is_caller deeds old turn mid) × ContinuesAlong is_caller (all_did deeds on.more) mid turns new
+-- The same of turns one after the other, and since this carrier, of which these units were used and put before the turns.
+abbrev pub ContinuesAlong : Bool → State → (ℕ → Deeds) → (took put : List Marked) → Holding → List Turn → Holding → Type 0
+ContinuesAlong is_caller first deeds took put old [] new = new ≡ old
+ContinuesAlong is_caller first deeds took put old (turn ∷ turns) new = (mid : Holding) × Takes old turn mid
+    × (on : Continues is_caller deeds old turn mid)
+    × ((r : ℕ) → 0 < r → Lives is_caller r first (took ++ on.took) (put ++ on.put) mid.end.carrier)
+    × ContinuesAlong is_caller first (all_did deeds on.more) (took ++ on.took) (put ++ on.put) mid turns new

@@ -30,7 +30,8 @@
 //!   and the units that were put for it, with what its session took and sent by them. Every connection of an end has a course, in
 //!   either class, however many others there are, in any run of the end. Each unit that the end puts, and each that arrives, is
 //!   marked with the connection whose link gave or took it (`specs/Marked.antt`). While a connection is open, its link takes all
-//!   DTs and AKs that are for it (`specs/Arriving.antt`): [`laws::what_a_session_hands_to_its_link`].
+//!   DTs and AKs that are for it, and gives units for the peer's reference (`specs/Arriving.antt`):
+//!   [`laws::what_a_session_hands_to_its_link`].
 //! - So what such a session sent is explained by what it had taken: [`laws::what_a_connection_said_is_explained`].
 //! - The units that were put for it carry the TSDUs that were handed in, and those that its link took carry the TSDUs that it handed
 //!   out: [`laws::what_the_units_of_a_connection_carry`].

@@ -109,8 +109,8 @@ given_to r peer (given ∷ units) = ((λ own. for_peer given), given_to r peer u
     for_peer (part2 number last octets) = eq-eqb peer peer refl
     for_peer (ack number credit) = eq-eqb peer peer refl
 
-amid_open : (over given : Bool) (o : Option Connection) (peer : ℕ) (link : Standing) → (if over then None else link_of o) ≡ Some (peer, link) →
-    (p : ℕ) → stage_by over given o ≡ amid p → peer ≡ p
+amid_open : (over given : Bool) (o : Option Connection) (peer : ℕ) (link : Standing) →
+    (if over then None else link_of o) ≡ Some (peer, link) → (p : ℕ) → stage_by over given o ≡ amid p → peer ≡ p
 amid_open true given o peer link h p is = absurd (cc)
 amid_open false given None peer link h p is = absurd (cc)
 amid_open false given (Some asked) peer link h p is = absurd (cc)

@@ -302,7 +302,7 @@ module _ (is_caller : Bool) (moves : ℕ → Deeds) (e : End) (lasts : e.carrier
 
   pub user_steps : (call : UserCall) → IsAccepted call e → HasSerialIn call → AllThen (user_does call e)
   user_steps (connecting c) allowed serial =
-      each_then (connects c e) (marked 0 (request_put c e)) refl (refl, tt)
+      each_then (connects c e) (marked 0 (request_put c e)) refl (refl, tt) 
       (λ r some. life_rests is_caller r (stage_at r e.carrier) (stage_at r (connects c e).carrier) (marked 0 (request_put c e))
       (none_marked r (request_put c e) some) (connect_rests r c e orderly lasts))
       (λ r. connect_steps is_caller r (moves r) e lasts c (r == e.carrier.given + 1) refl allowed (course r))
@@ -312,13 +312,11 @@ module _ (is_caller : Bool) (moves : ℕ → Deeds) (e : End) (lasts : e.carrier
       (λ r some. session_life is_caller q r some (called call) e)
       (λ r. call_steps is_caller r (moves r) e lasts q call (r == q) refl allowed serial (course r))
   user_steps (disconnecting q) allowed serial =
-      each_then (disconnects q e) (marked 0 (put_closing q (open_link q e.carrier) e.carrier))
-      (subst (Puts e.carrier (marked 0 (put_closing q (open_link q e.carrier) e.carrier))) (sym (disconnect_carrier q e))
-      (closing_puts q e.carrier)) (closing_by_links q e.carrier)
-      (λ r some. subst (λ (c : Carrier). Life is_caller r (stage_at r e.carrier) [] (marked 0 (put_closing q (open_link q e.carrier) e.carrier))
-      (stage_at r c)) (sym (disconnect_carrier q e))
-      (life_rests is_caller r (stage_at r e.carrier) (stage_at r (closed_with q 128 e.carrier))
-      (marked 0 (put_closing q (open_link q e.carrier) e.carrier))
+      let put : List Marked = marked 0 (put_closing q (open_link q e.carrier) e.carrier) in
+      each_then (disconnects q e) put
+      (subst (Puts e.carrier put) (sym (disconnect_carrier q e)) (closing_puts q e.carrier)) (closing_by_links q e.carrier)
+      (λ r some. subst (λ (c : Carrier). Life is_caller r (stage_at r e.carrier) [] put (stage_at r c)) (sym (disconnect_carrier q e))
+      (life_rests is_caller r (stage_at r e.carrier) (stage_at r (closed_with q 128 e.carrier)) put
       (none_marked r (put_closing q (open_link q e.carrier) e.carrier) some) (given_up_rests q r e.carrier)))
       (λ r. given_steps is_caller r (moves r) e lasts q (r == q) refl allowed (course r))
   user_steps breaking allowed serial =

@@ -1,13 +1,13 @@
 -- Each turn of an end, and a run: what becomes of the course of one connection.
 -- For the laws of an end and its captures.
-use Rattle.std.proofs.Common.{◌≡◌, ◌∙◌, refl, sym, ap, subst, ℕ, ◌==◌, Bool, true, false, if◌then◌else◌, List, [], ◌∷◌, ◌++◌, take}
+use Rattle.std.proofs.Common.{◌≡◌, ◌∙◌, refl, sym, ap, subst, ℕ, ◌<◌, ◌==◌, Bool, true, false, if◌then◌else◌, List, [], ◌∷◌, ◌++◌, take}
 use Rattle.std.proofs.Common.{None, inl, is_some, option_map}
 use Rattle.std.proofs.lemmas.List.{append-nil, append_cancel_left}
 use Rattle.osi_tpkt.specs.Stream.{ArePackets}
 use Rattle.osi_class.specs.declared.terms.Local.{Local}
 use Rattle.osi_carrier.specs.Calls.{may_connect}
 use Rattle.osi_carrier.specs.Rows.{Rows, value_at}
-use Rattle.osi_carrier.specs.State.{packets}
+use Rattle.osi_carrier.specs.State.{State as Carrier, packets}
 use Rattle.osi_carrier.specs.declared.ends.EndReason.TheVariants.{Broken}
 use Rattle.osi_carrier.proofs.effects.a_unit_touches_one_connection.{orderly_fresh}
 use Rattle.osi_session.specs.Listening.{called}
@@ -28,7 +28,7 @@ use Rattle.osi_stack.proofs.sound.the_invariant_is_kept.{open_none}
 use Rattle.osi_stack.proofs.sound.the_invariant_between_calls.{connect_orderly}
 use Rattle.osi_honest.specs.Courses.{Continues, ContinuesAlong, Course, Deeds, all_did, no_deeds}
 use Rattle.osi_honest.specs.Courses.Course.{unknown}
-use Rattle.osi_honest.specs.Marked.{all_units}
+use Rattle.osi_honest.specs.Marked.{Marked, all_units}
 use Rattle.osi_honest.specs.Turns.{Act, Acts, Run, Takes, Turn, carried_by, used_by}
 use Rattle.osi_honest.specs.Turns.Act.{serving, using}
 use Rattle.osi_honest.proofs.courses.steps_of_a_course.{AllRest, HoldEach, Steps}
@@ -38,7 +38,7 @@ use Rattle.osi_honest.proofs.courses.what_a_call_does_to_it.{user_steps}
 use Rattle.osi_honest.proofs.courses.what_a_packet_does_to_it.{Between, FeedSteps, feeds_steps, sound_kept}
 use Rattle.osi_honest.proofs.courses.what_a_unit_does_to_a_connection.{none_given}
 use Rattle.osi_honest.proofs.courses.what_another_connection_leaves.{Beside, course_beside, none_before, none_behind}
-use Rattle.osi_honest.proofs.courses.how_long_a_connection_is_open.{life_rests, lives, stage_at}
+use Rattle.osi_honest.proofs.courses.how_long_a_connection_is_open.{Life, life_rests, life_then, lives, stage_at}
 use Rattle.osi_honest.proofs.courses.what_calls_of_a_link_say.{then_none}
 use Rattle.osi_honest.proofs.courses.what_sessions_hear_of_it.{CourseAll, Known}
 use Rattle.osi_honest.proofs.keeping.what_a_unit_keeps_a_turn_keeps.{kept_feeds}
@@ -123,66 +123,80 @@ module _ (known : Known) (is_caller : Bool) (moves : ℕ → Deeds) where
   abbrev Courses : (ℕ → Deeds) → End → Type 0
   Courses moves e = HoldEach (CourseAll is_caller) moves e
 
+  -- a turn, and what it is for each connection
+  pub record TurnOf (turn : Turn) (old new : Holding) : Type 0 where
+    pub on : Continues is_caller moves old turn new
+    pub life : (r : ℕ) → 0 < r → Life is_caller r (stage_at r old.end.carrier) on.took on.put (stage_at r new.end.carrier)
+
   -- nothing was used
   as_turn : (turn : Turn) (old new : Holding) → turn.used ≡ [] → new.held.octets ≡ old.held.octets →
       Steps is_caller (CourseAll is_caller) moves old.end.carrier new.end →
-      new.end.carrier.outgoing ≡ old.end.carrier.outgoing ++ turn.put → Continues is_caller moves old turn new
+      new.end.carrier.outgoing ≡ old.end.carrier.outgoing ++ turn.put → TurnOf turn old new
   as_turn turn old new none same s is = record {
-    more = s.more;
-    course = s.there;
-    put = s.put;
-    written = append_cancel_left old.end.carrier.outgoing turn.put (packets (all_units s.put)) (sym is ∙ s.written);
-    by_links = s.by_links;
-    own = s.own;
-    used = [];
-    rest = old.held.octets ++ turn.used;
-    cut = refl;
-    held = λ lasts. ap (λ (l : List ℕ). old.held.octets ++ l) none ∙ append-nil old.held.octets ∙ sym same;
-    took = s.took;
-    all = s.all;
-    taken = s.taken;
-    lives = λ r some. lives is_caller r some old.end.carrier new.end.carrier s.took s.put (s.life r some);
+    on = record {
+      more = s.more;
+      course = s.there;
+      put = s.put;
+      written = append_cancel_left old.end.carrier.outgoing turn.put (packets (all_units s.put)) (sym is ∙ s.written);
+      by_links = s.by_links;
+      own = s.own;
+      used = [];
+      rest = old.held.octets ++ turn.used;
+      cut = refl;
+      held = λ lasts. ap (λ (l : List ℕ). old.held.octets ++ l) none ∙ append-nil old.held.octets ∙ sym same;
+      took = s.took;
+      all = s.all;
+      taken = s.taken;
+      lives = λ r some. lives is_caller r some old.end.carrier new.end.carrier s.took s.put (s.life r some);
+    };
+    life = s.life;
   }
 
   -- a piece was fed
   fed_turn : (turn : Turn) (octets : List ℕ) (old new : Holding) → turn.used ≡ octets → FeedSteps known is_caller moves octets old new →
-      new.end.carrier.outgoing ≡ old.end.carrier.outgoing ++ turn.put → Continues is_caller moves old turn new
+      new.end.carrier.outgoing ≡ old.end.carrier.outgoing ++ turn.put → TurnOf turn old new
   fed_turn turn octets old new used f is = record {
-    more = f.steps.more;
-    course = f.steps.there;
-    put = f.steps.put;
-    written = append_cancel_left old.end.carrier.outgoing turn.put (packets (all_units f.steps.put)) (sym is ∙ f.steps.written);
-    by_links = f.steps.by_links;
-    own = f.steps.own;
-    used = f.used;
-    rest = f.rest;
-    cut = subst (λ (l : List ℕ). ArePackets f.used (old.held.octets ++ l) f.rest) (sym used) f.cut;
-    held = f.held;
-    took = f.steps.took;
-    all = f.steps.all;
-    taken = f.steps.taken;
-    lives = λ r some. lives is_caller r some old.end.carrier new.end.carrier f.steps.took f.steps.put (f.steps.life r some);
+    on = record {
+      more = f.steps.more;
+      course = f.steps.there;
+      put = f.steps.put;
+      written = append_cancel_left old.end.carrier.outgoing turn.put (packets (all_units f.steps.put)) (sym is ∙ f.steps.written);
+      by_links = f.steps.by_links;
+      own = f.steps.own;
+      used = f.used;
+      rest = f.rest;
+      cut = subst (λ (l : List ℕ). ArePackets f.used (old.held.octets ++ l) f.rest) (sym used) f.cut;
+      held = f.held;
+      took = f.steps.took;
+      all = f.steps.all;
+      taken = f.steps.taken;
+      lives = λ r some. lives is_caller r some old.end.carrier new.end.carrier f.steps.took f.steps.put (f.steps.life r some);
+    };
+    life = f.steps.life;
   }
 
   -- nothing was used or put
   quiet_turn : (turn : Turn) (old new : Holding) → turn.used ≡ [] → turn.put ≡ [] → new.held.octets ≡ old.held.octets →
-      Courses moves new.end → AllRest old.end.carrier new.end.carrier → Continues is_caller moves old turn new
+      Courses moves new.end → AllRest old.end.carrier new.end.carrier → TurnOf turn old new
   quiet_turn turn old new none nothing same course rest = record {
-    more = λ r. no_deeds;
-    course = λ r. subst (λ (d : Deeds). Course is_caller r d new.end) (sym (then_none (moves r))) (course r);
-    put = [];
-    written = nothing;
-    by_links = tt;
-    own = λ r some. refl;
-    used = [];
-    rest = old.held.octets ++ turn.used;
-    cut = refl;
-    held = λ lasts. ap (λ (l : List ℕ). old.held.octets ++ l) none ∙ append-nil old.held.octets ∙ sym same;
-    took = [];
-    all = refl;
-    taken = λ r some. refl;
-    lives = λ r some. lives is_caller r some old.end.carrier new.end.carrier [] []
-        (life_rests is_caller r (stage_at r old.end.carrier) (stage_at r new.end.carrier) [] tt (rest r));
+    on = record {
+      more = λ r. no_deeds;
+      course = λ r. subst (λ (d : Deeds). Course is_caller r d new.end) (sym (then_none (moves r))) (course r);
+      put = [];
+      written = nothing;
+      by_links = tt;
+      own = λ r some. refl;
+      used = [];
+      rest = old.held.octets ++ turn.used;
+      cut = refl;
+      held = λ lasts. ap (λ (l : List ℕ). old.held.octets ++ l) none ∙ append-nil old.held.octets ∙ sym same;
+      took = [];
+      all = refl;
+      taken = λ r some. refl;
+      lives = λ r some. lives is_caller r some old.end.carrier new.end.carrier [] []
+          (life_rests is_caller r (stage_at r old.end.carrier) (stage_at r new.end.carrier) [] tt (rest r));
+    };
+    life = λ r some. life_rests is_caller r (stage_at r old.end.carrier) (stage_at r new.end.carrier) [] tt (rest r);
   }
 
   nothing_put : (old new put : List ℕ) → new ≡ old ++ put → new ≡ old → put ≡ []
@@ -190,7 +204,7 @@ module _ (known : Known) (is_caller : Bool) (moves : ℕ → Deeds) where
 
   serving_turn : (turn : Turn) (call : Call) (old new : Holding) → turn.used ≡ used_in call → Between old.end →
       Courses moves old.end → Calls old call new →
-      carried_in call ++ new.end.carrier.outgoing ≡ old.end.carrier.outgoing ++ turn.put → Continues is_caller moves old turn new
+      carried_in call ++ new.end.carrier.outgoing ≡ old.end.carrier.outgoing ++ turn.put → TurnOf turn old new
   serving_turn turn (feeding piece fed) old new used b course c is =
       fed_turn turn (take fed.used piece) old new used (feeds_steps known is_caller moves piece fed old new b course c) is
   serving_turn turn (telling shown) old new used b course c is =
@@ -212,7 +226,7 @@ module _ (known : Known) (is_caller : Bool) (moves : ℕ → Deeds) where
 
   act_turn : (turn : Turn) (act : Act) (old new : Holding) → turn.used ≡ used_by act → Between old.end → Courses moves old.end →
       Acts old act new → carried_by act ++ new.end.carrier.outgoing ≡ old.end.carrier.outgoing ++ turn.put →
-      Continues is_caller moves old turn new
+      TurnOf turn old new
   act_turn turn (serving call) old new used b course acts is = serving_turn turn call old new used b course acts is
   act_turn turn (using call) old new used b course acts is =
       as_turn turn old new used (ap (λ (x : Holding). x.held.octets) acts.3)
@@ -220,22 +234,33 @@ module _ (known : Known) (is_caller : Bool) (moves : ℕ → Deeds) where
       (user_steps is_caller moves old.end acts.0 b.sound.orderly course call acts.1 acts.2)) is
 
   pub turn_continues : (turn : Turn) (old new : Holding) → Between old.end → Courses moves old.end → Takes old turn new →
-      Continues is_caller moves old turn new
+      TurnOf turn old new
   turn_continues turn old new b course takes = act_turn turn takes.act old new takes.used b course takes.acts takes.put
 
 -- ---- a run
 
-pub run_continues : Known → (is_caller : Bool) (moves : ℕ → Deeds) (turns : List Turn) (old new : Holding) → Between old.end →
-    HoldEach (CourseAll is_caller) moves old.end → Run old turns new → ContinuesAlong is_caller moves old turns new
-run_continues known is_caller moves [] old new b course run = run
-run_continues known is_caller moves (turn ∷ turns) old new b course run =
-    let on = turn_continues known is_caller moves turn old run.0 b course run.1 in (
-      run.0,
+pub run_continues : Known → (is_caller : Bool) (first : Carrier) (moves : ℕ → Deeds) (took put : List Marked) (turns : List Turn)
+    (old new : Holding) → Between old.end → HoldEach (CourseAll is_caller) moves old.end →
+    ((r : ℕ) → 0 < r → Life is_caller r (stage_at r first) took put (stage_at r old.end.carrier)) → Run old turns new →
+    ContinuesAlong is_caller first moves took put old turns new
+run_continues known is_caller first moves took put [] old new b course life run = run
+run_continues known is_caller first moves took put (turn ∷ turns) old new b course life run =
+    let mid = run.0 in
+    let at = turn_continues known is_caller moves turn old mid b course run.1 in
+    let on = at.on in
+    let then_life : (r : ℕ) → 0 < r → Life is_caller r (stage_at r first) (took ++ on.took) (put ++ on.put) (stage_at r mid.end.carrier) =
+    λ r some. life_then is_caller r (stage_at r first) took put (stage_at r old.end.carrier) on.took on.put (stage_at r mid.end.carrier)
+    (life r some) (at.life r some) in (
+      mid,
       run.1,
       on,
-      run_continues known is_caller (all_did moves on.more) turns run.0 new (act_between run.1.act old run.0 b run.1.acts) on.course
-          run.2,
+      λ r some. lives is_caller r some first mid.end.carrier (took ++ on.took) (put ++ on.put) (then_life r some),
+      run_continues known is_caller first (all_did moves on.more) (took ++ on.took) (put ++ on.put) turns mid new
+          (act_between run.1.act old mid b run.1.acts) on.course then_life run.2,
     )
+
+pub fresh_life : (is_caller : Bool) (r : ℕ) (c : Carrier) → Life is_caller r (stage_at r c) [] [] (stage_at r c)
+fresh_life is_caller r c = life_rests is_caller r (stage_at r c) (stage_at r c) [] tt (inl refl)
 
 pub fresh_course : (is_caller : Bool) (local : Local) (r : ℕ) → Course is_caller r no_deeds (fresh_end is_caller local)
 fresh_course is_caller local r = unknown refl refl (none_given r) refl refl

@@ -203,7 +203,8 @@ unlinked_put q (tsdu ∷ tsdus) c none =
     ap (λ (o : Option (ℕ × Standing)). one_puts tsdu o ++ all_put q tsdus (sent q tsdu c)) none
     ∙ ap (all_put q tsdus) same ∙ unlinked_put q tsdus c none
 
-pub unlinked_unless : (o : Option SendError) (q : ℕ) (tsdus : List (List ℕ)) (c : Carrier) → open_link q c ≡ None → put_unless o q tsdus c ≡ []
+pub unlinked_unless : (o : Option SendError) (q : ℕ) (tsdus : List (List ℕ)) (c : Carrier) → open_link q c ≡ None →
+    put_unless o q tsdus c ≡ []
 unlinked_unless None q tsdus c none = unlinked_put q tsdus c none
 unlinked_unless (Some e) q tsdus c none = refl
 

@@ -326,7 +326,8 @@ module _ (is_caller : Bool) (r : ℕ) (moves : Deeds) (v : Value) (e : End) (h :
     on_away (closed at calls is session speaks given shut) (rests live same told events others deaf) =
         calm_after is_caller r v moves new
         (is_away (gone_beside is_caller r moves e new (beside live same) (closed at calls is session speaks given shut)))
-    on_away (closed at calls is session speaks given shut) (joins called_end alone free then_given peer first fresh here events opener answer) =
+    on_away (closed at calls is session speaks given shut) (joins called_end alone free then_given peer first fresh here events opener
+        answer) =
         both (has_given r e.carrier) given free
     on_away (closed at calls is session speaks given shut) (answers_it alone was same peer first fresh here events opener answer) =
         absurd (subst IsShut was shut)
@@ -357,7 +358,8 @@ module _ (is_caller : Bool) (r : ℕ) (moves : Deeds) (v : Value) (e : End) (h :
   idle_by None lasts lasted calm act = on_calm lasts lasted calm (act lasts)
 
   -- as of its own connection, or as of another one
-  idle_at : (units : List Value) (q : ℕ) (b : Bool) → (r == q) ≡ b → q ≡ connection_of v e.carrier → e.carrier.ended ≡ None → Calm is_caller r moves e →
+  idle_at : (units : List Value) (q : ℕ) (b : Bool) → (r == q) ≡ b → q ≡ connection_of v e.carrier → e.carrier.ended ≡ None →
+      Calm is_caller r moves e →
       Acts q v units e.carrier (react v e.carrier) → Idle
   idle_at units q true same is lasted calm act =
       idle_by new.carrier.ended refl lasted calm
