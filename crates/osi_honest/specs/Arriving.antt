@@ -53,8 +53,8 @@ pub record Parts (r : ℕ) (units : List Marked) : Type 0 where
   pub none_before : AreApart r before
   pub none_after : AreApart r after
 
--- It was open before; or the last unit before is the one with which it opens, and what was put for that unit is put last before; or it
--- does not open.
+-- How its time begins: it was open before all of these units; or the last unit that arrives before is the one with which it opens, and
+-- what is put for that unit is put last before; or it does not open.
 pub data Begins (is_caller : Bool) (r peer : ℕ) (old new : State) {took put : List Marked} (arrived : Parts r took)
     (left : Parts r put) : Type 0 where
   is_open : (link : Standing) → open_link r old ≡ Some (peer, link) → arrived.before ≡ [] → left.before ≡ [] →
@@ -65,7 +65,7 @@ pub data Begins (is_caller : Bool) (r peer : ℕ) (old new : State) {took put : 
   is_shut : open_link r old ≡ None → open_link r new ≡ None → arrived.during ++ arrived.after ≡ [] → left.during ++ left.after ≡ [] →
       Begins is_caller r peer old new arrived left
 
--- While it is open, its link takes all that is for it, and gives units for the peer. If it is open at the end, there is nothing after.
+-- While it is open, its link takes all that is for it, and gives units for the peer. If it is still open, there are none after.
 pub record Lives (is_caller : Bool) (r : ℕ) (old : State) (took put : List Marked) (new : State) : Type 0 where
   pub peer : ℕ
   pub arrived : Parts r took

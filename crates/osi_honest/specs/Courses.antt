@@ -167,10 +167,17 @@ pub record Continues (is_caller : Bool) (deeds : ℕ → Deeds) (old : Holding) 
 abbrev pub all_did : (ℕ → Deeds) → (ℕ → Deeds) → ℕ → Deeds
 all_did some more r = then_did (some r) (more r)
 
--- The same of turns one after the other, and since this carrier, of which these units were used and put before the turns.
+-- All that was done since this carrier, when these units were used and put: those of a connection are all that was put for it and
+-- that its link took.
+pub record SoFar (is_caller : Bool) (first : State) (deeds : ℕ → Deeds) (took put : List Marked) (new : Holding) : Type 0 where
+  pub own : (r : ℕ) → 0 < r → (deeds r).put ≡ units_at r put
+  pub taken : (r : ℕ) → 0 < r → units_taken (deeds r).calls ≡ units_at r took
+  pub lives : (r : ℕ) → 0 < r → Lives is_caller r first took put new.end.carrier
+
+-- turns one after the other, and all that was done since this carrier
 abbrev pub ContinuesAlong : Bool → State → (ℕ → Deeds) → (took put : List Marked) → Holding → List Turn → Holding → Type 0
 ContinuesAlong is_caller first deeds took put old [] new = new ≡ old
 ContinuesAlong is_caller first deeds took put old (turn ∷ turns) new = (mid : Holding) × Takes old turn mid
     × (on : Continues is_caller deeds old turn mid)
-    × ((r : ℕ) → 0 < r → Lives is_caller r first (took ++ on.took) (put ++ on.put) mid.end.carrier)
+    × SoFar is_caller first (all_did deeds on.more) (took ++ on.took) (put ++ on.put) mid
     × ContinuesAlong is_caller first (all_did deeds on.more) (took ++ on.took) (put ++ on.put) mid turns new

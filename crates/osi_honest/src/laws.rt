@@ -222,13 +222,14 @@ pub fn an_honest_end_is_never_blamed()
 ///
 /// A link takes and gives no unit before its connection is open, and none after it was closed. A connection opens with its CC, or at a
 /// called end with a CR, for which a CC is put. While it is open, its link takes each DT and AK that is for it, and no other unit; and
-/// what it gives is for the reference that the peer gave in that CC or CR ([`Lives`]). This holds of the units of each turn, and of
-/// all units from the beginning up to the end of that turn, so a connection opens only once ([`ContinuesAlong`]).
+/// what it gives is for the reference that the peer gave in that CC or CR ([`Lives`]).
+///
+/// All of this holds of the units of each turn, and of all units from the beginning of the run up to the end of that turn ([`SoFar`]).
 ///
 /// [`Course`]: ../specs/Courses.antt
 /// [`Continues`]: ../specs/Courses.antt
 /// [`Lives`]: ../specs/Arriving.antt
-/// [`ContinuesAlong`]: ../specs/Courses.antt
+/// [`SoFar`]: ../specs/Courses.antt
 pub fn what_a_session_hands_to_its_link()
     ensures begins { (is_caller : Bool) (local : Local) (r : ℕ) → Course is_caller r no_deeds (fresh_end is_caller local) }
     ensures run { (is_caller : Bool) (local : Local) (begin end : Holding) (turns : List Turn) → IsFresh is_caller local begin →

@@ -302,7 +302,7 @@ module _ (is_caller : Bool) (moves : ℕ → Deeds) (e : End) (lasts : e.carrier
 
   pub user_steps : (call : UserCall) → IsAccepted call e → HasSerialIn call → AllThen (user_does call e)
   user_steps (connecting c) allowed serial =
-      each_then (connects c e) (marked 0 (request_put c e)) refl (refl, tt) 
+      each_then (connects c e) (marked 0 (request_put c e)) refl (refl, tt)
       (λ r some. life_rests is_caller r (stage_at r e.carrier) (stage_at r (connects c e).carrier) (marked 0 (request_put c e))
       (none_marked r (request_put c e) some) (connect_rests r c e orderly lasts))
       (λ r. connect_steps is_caller r (moves r) e lasts c (r == e.carrier.given + 1) refl allowed (course r))

@@ -12,6 +12,7 @@ use Rattle.osi_carrier.specs.declared.ends.EndReason.TheVariants.{Broken}
 use Rattle.osi_carrier.proofs.effects.a_unit_touches_one_connection.{orderly_fresh}
 use Rattle.osi_session.specs.Listening.{called}
 use Rattle.osi_tpdu.specs.Limits.{tsap_octets}
+use Rattle.osi_tpdu.specs.Value.{Value}
 use Rattle.osi_stack.specs.Calls.{terms_error, without_first}
 use Rattle.osi_stack.specs.Hearing.{ends}
 use Rattle.osi_stack.specs.Inputs.{IsAccepted}
@@ -26,9 +27,9 @@ use Rattle.osi_stack.proofs.carried.what_each_step_preserves.{session_carried}
 use Rattle.osi_stack.proofs.given_up.the_invariant_stays.{disconnect_attended, disconnect_carrier}
 use Rattle.osi_stack.proofs.sound.the_invariant_is_kept.{open_none}
 use Rattle.osi_stack.proofs.sound.the_invariant_between_calls.{connect_orderly}
-use Rattle.osi_honest.specs.Courses.{Continues, ContinuesAlong, Course, Deeds, all_did, no_deeds}
+use Rattle.osi_honest.specs.Courses.{Continues, ContinuesAlong, Course, Deeds, SoFar, all_did, no_deeds, units_taken}
 use Rattle.osi_honest.specs.Courses.Course.{unknown}
-use Rattle.osi_honest.specs.Marked.{Marked, all_units}
+use Rattle.osi_honest.specs.Marked.{Marked, all_units, units_at}
 use Rattle.osi_honest.specs.Turns.{Act, Acts, Run, Takes, Turn, carried_by, used_by}
 use Rattle.osi_honest.specs.Turns.Act.{serving, using}
 use Rattle.osi_honest.proofs.courses.steps_of_a_course.{AllRest, HoldEach, Steps}
@@ -39,7 +40,8 @@ use Rattle.osi_honest.proofs.courses.what_a_packet_does_to_it.{Between, FeedStep
 use Rattle.osi_honest.proofs.courses.what_a_unit_does_to_a_connection.{none_given}
 use Rattle.osi_honest.proofs.courses.what_another_connection_leaves.{Beside, course_beside, none_before, none_behind}
 use Rattle.osi_honest.proofs.courses.how_long_a_connection_is_open.{Life, life_rests, life_then, lives, stage_at}
-use Rattle.osi_honest.proofs.courses.what_calls_of_a_link_say.{then_none}
+use Rattle.osi_honest.proofs.courses.units_of_each_connection.{units_more}
+use Rattle.osi_honest.proofs.courses.what_calls_of_a_link_say.{taken_more, then_none}
 use Rattle.osi_honest.proofs.courses.what_sessions_hear_of_it.{CourseAll, Known}
 use Rattle.osi_honest.proofs.keeping.what_a_unit_keeps_a_turn_keeps.{kept_feeds}
 
@@ -239,28 +241,58 @@ module _ (known : Known) (is_caller : Bool) (moves : ℕ → Deeds) where
 
 -- ---- a run
 
+-- what was done since this carrier
+pub record Since (is_caller : Bool) (first : Carrier) (moves : ℕ → Deeds) (took put : List Marked) (e : End) : Type 0 where
+  pub own : (r : ℕ) → 0 < r → (moves r).put ≡ units_at r put
+  pub taken : (r : ℕ) → 0 < r → units_taken (moves r).calls ≡ units_at r took
+  pub life : (r : ℕ) → 0 < r → Life is_caller r (stage_at r first) took put (stage_at r e.carrier)
+
+since_then : (known : Known) (is_caller : Bool) (first : Carrier) (moves : ℕ → Deeds) (took put : List Marked) (turn : Turn)
+    (old mid : Holding) → Since is_caller first moves took put old.end → (at : TurnOf known is_caller moves turn old mid) →
+    Since is_caller first (all_did moves at.on.more) (took ++ at.on.took) (put ++ at.on.put) mid.end
+since_then known is_caller first moves took put turn old mid s at =
+    let on = at.on in
+    record {
+      own = λ r some. ap (λ (l : List Value). l ++ (on.more r).put) (s.own r some)
+          ∙ ap (λ (l : List Value). units_at r put ++ l) (on.own r some) ∙ sym (units_more r put on.put);
+      taken = λ r some. taken_more (moves r).calls (on.more r).calls
+          ∙ ap (λ (l : List Value). l ++ units_taken (on.more r).calls) (s.taken r some)
+          ∙ ap (λ (l : List Value). units_at r took ++ l) (on.taken r some) ∙ sym (units_more r took on.took);
+      life = λ r some. life_then is_caller r (stage_at r first) took put (stage_at r old.end.carrier) on.took on.put
+          (stage_at r mid.end.carrier) (s.life r some) (at.life r some);
+    }
+
+so_far : (is_caller : Bool) (first : Carrier) (moves : ℕ → Deeds) (took put : List Marked) (new : Holding) →
+    Since is_caller first moves took put new.end → SoFar is_caller first moves took put new
+so_far is_caller first moves took put new s = record {
+  own = s.own;
+  taken = s.taken;
+  lives = λ r some. lives is_caller r some first new.end.carrier took put (s.life r some);
+}
+
 pub run_continues : Known → (is_caller : Bool) (first : Carrier) (moves : ℕ → Deeds) (took put : List Marked) (turns : List Turn)
     (old new : Holding) → Between old.end → HoldEach (CourseAll is_caller) moves old.end →
-    ((r : ℕ) → 0 < r → Life is_caller r (stage_at r first) took put (stage_at r old.end.carrier)) → Run old turns new →
-    ContinuesAlong is_caller first moves took put old turns new
-run_continues known is_caller first moves took put [] old new b course life run = run
-run_continues known is_caller first moves took put (turn ∷ turns) old new b course life run =
+    Since is_caller first moves took put old.end → Run old turns new → ContinuesAlong is_caller first moves took put old turns new
+run_continues known is_caller first moves took put [] old new b course s run = run
+run_continues known is_caller first moves took put (turn ∷ turns) old new b course s run =
     let mid = run.0 in
     let at = turn_continues known is_caller moves turn old mid b course run.1 in
     let on = at.on in
-    let then_life : (r : ℕ) → 0 < r → Life is_caller r (stage_at r first) (took ++ on.took) (put ++ on.put) (stage_at r mid.end.carrier) =
-    λ r some. life_then is_caller r (stage_at r first) took put (stage_at r old.end.carrier) on.took on.put (stage_at r mid.end.carrier)
-    (life r some) (at.life r some) in (
+    let then_since = since_then known is_caller first moves took put turn old mid s at in (
       mid,
       run.1,
       on,
-      λ r some. lives is_caller r some first mid.end.carrier (took ++ on.took) (put ++ on.put) (then_life r some),
+      so_far is_caller first (all_did moves on.more) (took ++ on.took) (put ++ on.put) mid then_since,
       run_continues known is_caller first (all_did moves on.more) (took ++ on.took) (put ++ on.put) turns mid new
-          (act_between run.1.act old mid b run.1.acts) on.course then_life run.2,
+          (act_between run.1.act old mid b run.1.acts) on.course then_since run.2,
     )
 
-pub fresh_life : (is_caller : Bool) (r : ℕ) (c : Carrier) → Life is_caller r (stage_at r c) [] [] (stage_at r c)
-fresh_life is_caller r c = life_rests is_caller r (stage_at r c) (stage_at r c) [] tt (inl refl)
+pub nothing_since : (is_caller : Bool) (e : End) → Since is_caller e.carrier (λ r. no_deeds) [] [] e
+nothing_since is_caller e = record {
+  own = λ r some. refl;
+  taken = λ r some. refl;
+  life = λ r some. life_rests is_caller r (stage_at r e.carrier) (stage_at r e.carrier) [] tt (inl refl);
+}
 
 pub fresh_course : (is_caller : Bool) (local : Local) (r : ℕ) → Course is_caller r no_deeds (fresh_end is_caller local)
 fresh_course is_caller local r = unknown refl refl (none_given r) refl refl
