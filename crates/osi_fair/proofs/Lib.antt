@@ -65,7 +65,9 @@ pub mod a_calling_end_is_fair_in_class_2
 pub mod a_whole_end_ends
 pub mod a_calling_end_is_fair
 pub mod a_packet_is_events
+pub mod what_is_in_front_of_a_whole_end
 pub mod a_piece_is_events
+pub mod a_run_of_calls_is_events
 pub mod units_by_their_place
 pub mod what_is_live_at_a_called_end
 pub mod each_connection_of_a_called_end

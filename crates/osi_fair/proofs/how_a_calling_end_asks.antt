@@ -135,10 +135,10 @@ never e o h k = absurd (cc)
 both_ways : {A : Type 0} (b : Bool) → b ≡ true → b ≡ false → A
 both_ways b h k = absurd (cc)
 
-abbrev NoneOpen : State → Type 0
+abbrev pub NoneOpen : State → Type 0
 NoneOpen s = (q : ℕ) → open_link q s ≡ None
 
-all_none : (r : ℕ) (tsdus : List (List ℕ)) (s : State) → NoneOpen s → (sent_all r tsdus s ≡ s) × (put_together r tsdus s ≡ [])
+pub all_none : (r : ℕ) (tsdus : List (List ℕ)) (s : State) → NoneOpen s → (sent_all r tsdus s ≡ s) × (put_together r tsdus s ≡ [])
 all_none r [] s h = (refl, refl)
 all_none r (tsdu ∷ tsdus) s h =
     let same : sent r tsdu s ≡ s = ap (λ (o : Option (ℕ × Standing)). sent_on r tsdu o s) (h r) in
@@ -181,7 +181,7 @@ idle_call (sends_all r tsdus) s none never may = all_sends_none r tsdus s none
 idle_call (closes r reason) s none never may = closes_none r reason s none
 idle_call (breaks reason) s none never may = breaks_none reason s
 
-none_over : (s : State) → IsOver s → NoneOpen s
+pub none_over : (s : State) → IsOver s → NoneOpen s
 none_over s h q = ap (λ (b : Bool). if◌then◌else◌ {A = Option (ℕ × Standing)} b None (link_of (value_at q s.live))) h
 
 pub over_calls : (call : UserCall) (s : State) → IsOver s → MayCall call s → Idle call s
