@@ -54,7 +54,6 @@ pub mod what_becomes_of_a_connection
 pub mod a_dr_for_what_is_gone
 pub mod what_has_come_with_one_unit_more
 pub mod a_unit_of_the_other_side_passes
-pub mod class_0_is_selected_if_offered
 pub mod a_stray_dc_of_the_other_side_passes
 pub mod what_a_whole_end_takes
 pub mod what_a_unit_leaves_at_a_calling_end

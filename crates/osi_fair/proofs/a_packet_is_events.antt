@@ -61,7 +61,7 @@ module _ (d : Direction) where
         ∙ ap (λ (l : List ℕ). w.end.outgoing ++ l) (sym (packets_join a.put b.put));
   }
 
-  pub becomes_same : (w : Whole) → Becomes d w w.end
+  becomes_same : (w : Whole) → Becomes d w w.end
   becomes_same w = record {
     events = [];
     put = [];
