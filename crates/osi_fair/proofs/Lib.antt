@@ -54,7 +54,6 @@ pub mod what_becomes_of_a_connection
 pub mod a_dr_for_what_is_gone
 pub mod what_has_come_with_one_unit_more
 pub mod a_unit_of_the_other_side_passes
-pub mod class_0_is_selected_if_offered
 pub mod a_stray_dc_of_the_other_side_passes
 pub mod what_a_whole_end_takes
 pub mod what_a_unit_leaves_at_a_calling_end
@@ -65,7 +64,9 @@ pub mod a_calling_end_is_fair_in_class_2
 pub mod a_whole_end_ends
 pub mod a_calling_end_is_fair
 pub mod a_packet_is_events
+pub mod what_is_in_front_of_a_whole_end
 pub mod a_piece_is_events
+pub mod a_run_of_calls_is_events
 pub mod units_by_their_place
 pub mod what_is_live_at_a_called_end
 pub mod each_connection_of_a_called_end

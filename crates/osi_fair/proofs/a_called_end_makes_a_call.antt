@@ -46,9 +46,6 @@ differ b h k = absurd (cc)
 unlike : (q p : ℕ) → (q == p) ≡ false → q ≡ p → ⊥
 unlike q p h e = differ (q == p) (ap (λ (x : ℕ). x == p) e ∙ eq-eqb p p refl) h
 
-no_row : {A : Type 0} (o : Option Live) (k : Live) → o ≡ None → o ≡ Some k → A
-no_row o k e h = absurd (cc)
-
 not_asked : (o : Option Live) (q : ℕ) (l : Standing) → o ≡ Some (linked q l) → o ≡ Some asked → ⊥
 not_asked o q l h e = cc
 

@@ -56,8 +56,8 @@ module _ (local : Local) (w : Whole) (v : Value) (rest : List Value) (j : Stands
       (j.staged.stage left)))
   by_stage (waits r is none not_begun cs strays tap p o offers waiting dcs) = none_put v rest w.put e none
   by_stage (refused r is none not_begun cs strays tap done dcs u more coming are refusal too) = none_put v rest w.put e none
-  by_stage (answered r is none not_begun dcs n x more coming are class after so z) = none_put v rest w.put e none
-  by_stage (zero z) = inl (zeroed_passes w.end w.tap v rest left
+  by_stage (answered r is none not_begun dcs n x more coming are class has after so z) = none_put v rest w.put e none
+  by_stage (zero has z) = inl (zeroed_passes w.end w.tap v rest left
       (subst (λ (l : List Value). IsZeroed w.end l true w.tap) e
       (subst (λ b. IsZeroed w.end w.put b w.tap) begun z))).0
   by_stage (known two seen has) =

@@ -2,6 +2,7 @@
 -- For the law of that name.
 use Rattle.std.proofs.Common.{◌≡◌, ◌∙◌, ℕ, Bool, true, false, List, [], ◌∷◌, ◌++◌, refl, sym, ap, subst}
 use Rattle.std.proofs.Common.{Option, Some, None, inl, inr, ◌⊎◌, is_some}
+use Rattle.std.specs.Prelude.{◌||◌, not}
 use Rattle.std.specs.List.{AllByRecursion}
 use Rattle.osi_tpdu.specs.Value.{Value, HasFieldsInRange, disconnect, disconnected, request}
 use Rattle.osi_class.specs.declared.terms.Class.{Class}
@@ -20,7 +21,7 @@ use Rattle.osi_rules.specs.declared.directions.Direction.TheVariants.{Left, Righ
 use Rattle.osi_rules.specs.declared.findings.Finding.TheVariants.{Kept, NotJudged, TooMany}
 use Rattle.osi_rules.specs.Reaches.{reach_by}
 use Rattle.osi_rules.specs.declared.connections.Connection.{Connection}
-use Rattle.osi_rules.specs.Traffic.{is_stopped, packet_begins, reached, refused_reach, takes}
+use Rattle.osi_rules.specs.Traffic.{State as Traffic, is_stopped, packet_begins, reached, takes}
 use Rattle.osi_fair.specs.Naming.{packet, passes, rubbish, unit as passing}
 use Rattle.osi_fair.specs.Putting.{put_by, put_for}
 use Rattle.osi_fair.specs.Wholes.{Event, HappenAlong, Happens, MayCall, Whole, arrives, begin, begins_other, begins_own, calls}
@@ -31,19 +32,17 @@ use Rattle.osi_fair.proofs.a_dr_for_what_is_gone.{next_holds}
 use Rattle.osi_fair.proofs.a_dc_for_a_stray_dr_passes.{Passes, dc_found, dc_goes, dc_passes}
 use Rattle.osi_fair.proofs.a_stray_dc_of_the_other_side_passes.{idle_passes}
 use Rattle.osi_fair.proofs.a_reference_names_one_connection.{no_item}
-use Rattle.osi_fair.proofs.class_0_is_selected_if_offered.{not_zero_after}
-use Rattle.osi_fair.proofs.class_0_stays_selected.{reached_class, zero_stays}
-use Rattle.osi_fair.proofs.left_selects_no_class.{left_class}
 use Rattle.osi_fair.proofs.a_unit_of_a_whole_end_passes.{own_kept, own_passes, request_passes}
 use Rattle.osi_fair.proofs.a_unit_of_the_other_side_passes.{other_passes}
 use Rattle.osi_fair.proofs.a_whole_end_ends.{whole_calls, whole_takes}
 use Rattle.osi_fair.proofs.each_connection_has_its_line.{Followed, IsOwned, asking, of, other_begins, own_begins, stray}
+use Rattle.osi_fair.proofs.how_requests_go_on.{Stage, answered, asks, ended, known, quiet, refused, waits, zero}
 use Rattle.osi_fair.proofs.no_request_is_blamed.{Holds as Staged, holds_first, holds_next, is_right}
-use Rattle.osi_fair.proofs.the_end_is_judged_as_the_other_side_is.{IsMild, other_judged, own_judged, rubbish_judged}
-use Rattle.osi_fair.proofs.what_a_calling_end_still_has.{IsLive, SelectsTwo, call_after, unit_after}
+use Rattle.osi_fair.proofs.the_end_is_judged_as_the_other_side_is.{IsMild}
+use Rattle.osi_fair.proofs.what_a_calling_end_still_has.{IsLive, SelectsTwo, call_after, over_not, unit_after}
 use Rattle.osi_fair.proofs.what_becomes_of_a_connection.{IsIdle, Told, comes_for}
 use Rattle.osi_fair.proofs.what_holds_of_one_item.{HoldsOfEach}
-use Rattle.osi_fair.proofs.what_lasts_at_the_tap.{lasts_passing}
+use Rattle.osi_fair.proofs.while_no_class_is_selected.{calm_tap}
 use Rattle.osi_fair.proofs.what_the_other_side_closes.{IsClear, IsDr, IsFirm, IsPlain, IsSane, closed_by}
 
 differ : {A : Type 0} (b : Bool) → b ≡ true → b ≡ false → A
@@ -57,10 +56,6 @@ pub record Joined (local : Local) (w : Whole) : Type 0 where
   pub orderly : IsOrderly w.end
   pub local_is : IsClear w.tap.course → w.end.local ≡ local
   pub followed : IsClear w.tap.course → Followed local w
-  -- class 0 is selected only if it was offered
-  pub never : local.class0 ≡ false → w.tap.course.loose ≡ false → w.tap.course.right_stopped ≡ false → w.tap.course.class ≡ Some Zero → ⊥
-  pub judged : (w.tap.course.class ≡ Some Zero → ⊥) → w.tap.course.loose ≡ false → w.tap.course.right_stopped ≡ false →
-      w.tap.course.left_stopped ≡ false
 
 orderly_calls : (call : UserCall) (s : State) → MayCall call s → IsOrderly s → IsOrderly (user_does call s)
 orderly_calls (connects calling called) s may h = orderly_asks calling called s may h
@@ -191,57 +186,6 @@ mild_of w v (inr (inr (e, strays))) = inr (inr e)
 
 -- ---- whatever happens
 
--- the end is judged as the other side is
-abbrev IsJudged : Course → Type 0
-IsJudged c = (c.class ≡ Some Zero → ⊥) → c.loose ≡ false → c.right_stopped ≡ false → c.left_stopped ≡ false
-
-clear_by : (c : Course) → IsJudged c → (c.class ≡ Some Zero → ⊥) → c.loose ≡ false → c.right_stopped ≡ false → IsClear c
-clear_by c h two firm right = record { sure = record { firm = firm; left = h two firm right; right = right }; two = two }
-
-own_stays : (local : Local) (w : Whole) (v : Value) (rest : List Value) → Joined local w → w.put ≡ v ∷ rest → w.begun ≡ true →
-    IsJudged (takes Left v w.tap).state.course
-own_stays local w v rest j e begun two firm right =
-    let l = lasts_passing (passing Left v) w.tap in
-    let before = clear_by w.tap.course j.judged (λ zero. two (zero_stays (passing Left v) w.tap zero)) (l.firm firm) (l.right right) in
-    let head = (subst (AllByRecursion (IsOwned w.tap)) e (j.followed before).owned).0 in
-    own_judged v w.tap (mild_of w v (fine_by local w v rest j e begun before head)) before.sure.left right
-
-other_stays : (local : Local) (w : Whole) (v : Value) → Joined local w → IsJudged (takes Right v w.tap).state.course
-other_stays local w v j two firm right =
-    let l = lasts_passing (passing Right v) w.tap in
-    other_judged v w.tap (j.judged (λ zero. two (zero_stays (passing Right v) w.tap zero)) (l.firm firm) (l.right right)) right
-
-rubbish_stays : (local : Local) (w : Whole) → Joined local w → IsJudged (passes (rubbish Right) w.tap).course
-rubbish_stays local w j two firm right =
-    let l = lasts_passing (rubbish Right) w.tap in
-    rubbish_judged w.tap (j.judged (λ zero. two (zero_stays (rubbish Right) w.tap zero)) (l.firm firm) (l.right right)) right
-
--- what passes selects class 0 only if that was offered
-own_never : (local : Local) (w : Whole) (v : Value) → Joined local w → local.class0 ≡ false →
-    (takes Left v w.tap).state.course.loose ≡ false → (takes Left v w.tap).state.course.right_stopped ≡ false →
-    (takes Left v w.tap).state.course.class ≡ Some Zero → ⊥
-own_never local w v j none firm right zero =
-    let l = lasts_passing (passing Left v) w.tap in
-    j.never none (l.firm firm) (l.right right) (sym (left_class v w.tap) ∙ zero)
-
-other_never : (local : Local) (w : Whole) (v : Value) → Joined local w → local.class0 ≡ false →
-    (takes Right v w.tap).state.course.loose ≡ false → (takes Right v w.tap).state.course.right_stopped ≡ false →
-    (takes Right v w.tap).state.course.class ≡ Some Zero → ⊥
-other_never local w v j none firm right zero =
-    let l = lasts_passing (passing Right v) w.tap in
-    let two = j.never none (l.firm firm) (l.right right) in
-    let clear = clear_by w.tap.course j.judged two (l.firm firm) (l.right right) in
-    let after : IsFirm (takes Right v w.tap).state.course =
-    record { firm = firm; left = other_judged v w.tap clear.sure.left right; right = right } in
-    not_zero_after local w (j.followed clear) j.kept.sane clear none v after zero
-
-rubbish_never : (local : Local) (w : Whole) → Joined local w → local.class0 ≡ false →
-    (passes (rubbish Right) w.tap).course.loose ≡ false → (passes (rubbish Right) w.tap).course.right_stopped ≡ false →
-    (passes (rubbish Right) w.tap).course.class ≡ Some Zero → ⊥
-rubbish_never local w j none firm right zero =
-    let l = lasts_passing (rubbish Right) w.tap in
-    j.never none (l.firm firm) (l.right right) (sym (reached_class Right (refused_reach Right w.tap) w.tap.course) ∙ zero)
-
 pub next_joined : (local : Local) (event : Event) (w new : Whole) → Happens Left event w new → Joined local w → Joined local new
 next_joined local arrives w new (u, coming, is) j =
     let after = record w { end = react u w.end; put = w.put ++ put_for u w.end; coming = new.coming } in
@@ -252,9 +196,7 @@ next_joined local arrives w new (u, coming, is) j =
       local_is = λ clear. (unit_after u w.end (j.kept.offers clear)
           (subst (AllByRecursion SelectsTwo) coming (j.kept.selects clear)).0).local
           ∙ j.local_is clear;
-      never = j.never;
       followed = λ firm. taking local w j u new.coming coming firm;
-      judged = j.judged;
     })
 next_joined local (calls call) w new (may, is) j =
     let after = record w { end = user_does call w.end; put = w.put ++ put_by call w.end } in
@@ -263,9 +205,7 @@ next_joined local (calls call) w new (may, is) j =
       kept = next_holds (calls call) w after (may, refl) j.kept;
       orderly = orderly_calls call w.end may j.orderly;
       local_is = λ clear. (call_after call w.end (j.kept.offers clear)).local ∙ j.local_is clear;
-      never = j.never;
       followed = λ firm. calling local w j call may firm;
-      judged = j.judged;
     })
 next_joined local begins_own w new (some, not_begun, is) j =
     let after = record w { begun = true; tap = packet_begins Left w.tap } in
@@ -274,11 +214,9 @@ next_joined local begins_own w new (some, not_begun, is) j =
       kept = next_holds begins_own w after (some, not_begun, refl) j.kept;
       orderly = j.orderly;
       local_is = λ clear. j.local_is (before_clear (packet Left) w.tap clear);
-      never = j.never;
       followed = λ begun_firm.
           let firm = before_clear (packet Left) w.tap begun_firm in
           own_begins local w (all_judged local w j firm) not_begun some (j.followed firm);
-      judged = j.judged;
     })
 next_joined local passes_own w new (v, put, begun, is) j =
     let after = record w { put = new.put; begun = false; tap = (takes Left v w.tap).state } in
@@ -288,12 +226,10 @@ next_joined local passes_own w new (v, put, begun, is) j =
       kept = kept;
       orderly = j.orderly;
       local_is = λ clear. j.local_is (before_clear (passing Left v) w.tap clear);
-      never = own_never local w v j;
       followed = λ firm_after.
           let firm = before_clear (passing Left v) w.tap firm_after in
           let f = j.followed firm in
           own_by local w j v new.put put begun kept firm_after firm f (subst (AllByRecursion (IsOwned w.tap)) put f.owned).0;
-      judged = own_stays local w v new.put j put begun;
     })
 next_joined local begins_other w new is j =
     let after = record w { tap = packet_begins Right w.tap } in
@@ -302,9 +238,7 @@ next_joined local begins_other w new is j =
       kept = next_holds begins_other w after refl j.kept;
       orderly = j.orderly;
       local_is = λ clear. j.local_is (before_clear (packet Right) w.tap clear);
-      never = j.never;
       followed = λ firm. other_begins local w (j.followed (before_clear (packet Right) w.tap firm));
-      judged = j.judged;
     })
 next_joined local (passes_other v) w new (ranges, is) j =
     let after = record w { tap = (takes Right v w.tap).state; coming = w.coming ++ v ∷ [] } in
@@ -313,9 +247,7 @@ next_joined local (passes_other v) w new (ranges, is) j =
       kept = next_holds (passes_other v) w after (ranges, refl) j.kept;
       orderly = j.orderly;
       local_is = λ clear. j.local_is (before_clear (passing Right v) w.tap clear);
-      never = other_never local w v j;
       followed = λ firm. other_goes local w j v ranges firm;
-      judged = other_stays local w v j;
     })
 next_joined local passes_rubbish w new is j =
     let after = record w { tap = passes (rubbish Right) w.tap } in
@@ -324,9 +256,7 @@ next_joined local passes_rubbish w new is j =
       kept = next_holds passes_rubbish w after refl j.kept;
       orderly = j.orderly;
       local_is = λ clear. j.local_is (before_clear (rubbish Right) w.tap clear);
-      never = rubbish_never local w j;
       followed = λ firm. rubbish_by local w j firm;
-      judged = rubbish_stays local w j;
     })
 
 all_joined : (local : Local) (events : List Event) (w new : Whole) → HappenAlong Left w events new → Joined local w → Joined local new
@@ -340,7 +270,6 @@ first_joined local two = record {
   kept = first_holds local two;
   orderly = orderly_fresh true local;
   local_is = λ clear. refl;
-  never = λ none firm right zero. cc;
   followed = λ firm. record {
     lines = λ i c at. no_item i c at;
     waiting = λ i c at. no_item i c at;
@@ -357,8 +286,29 @@ first_joined local two = record {
     seen = λ i c at. no_item i c at;
     settled = tt;
   };
-  judged = λ two firm right. refl;
 }
+
+has_none : {A : Type 0} (a b : Bool) → a ≡ false → b ≡ true → (a || not b) ≡ true → A
+has_none true b h k e = absurd (cc h)
+has_none false true h k e = absurd (cc e)
+has_none false false h k e = absurd (cc k)
+
+-- while the end is not over, class 0 is selected only if the end has it
+module _ (local : Local) (w : Whole) (lasts : w.end.ended ≡ None) (no_zero : local.class0 ≡ false) (two : local.class2 ≡ true)
+    (selected : w.tap.course.class ≡ Some Zero) where
+  calm_not : {A : Type 0} (cs : List Connection) (strays : Bool) → w.tap ≡ calm_tap cs strays → A
+  calm_not cs strays tap = absurd (cc (sym (ap (λ (t : Traffic). t.course.class) tap) ∙ selected))
+
+  not_selected : Stage local w → ⊥
+  not_selected (ended none h) = over_not w.end.ended h lasts
+  not_selected (quiet is none not_begun cs strays tap done dcs) = calm_not cs strays tap
+  not_selected (asks x put is offers cs strays tap done dcs begun) = calm_not cs strays tap
+  not_selected (waits r is none not_begun cs strays tap p o offers waiting dcs) = calm_not cs strays tap
+  not_selected (refused r is none not_begun cs strays tap done dcs v more coming are refusal too) = calm_not cs strays tap
+  not_selected (answered r is none not_begun dcs n x more coming are class has after so z) =
+      has_none local.class0 local.class2 no_zero two has
+  not_selected (zero has z) = has_none local.class0 local.class2 no_zero two has
+  not_selected (known class seen has) = absurd (cc (sym class ∙ selected))
 
 pub gone : (local : Local) (events : List Event) (w : Whole) (n source reason : ℕ) (user : List ℕ) (more : List Value) →
     local.class0 ≡ false → local.class2 ≡ true → HappenAlong Left (begin true local) events w →
@@ -368,4 +318,5 @@ pub gone : (local : Local) (events : List Event) (w : Whole) (n source reason : 
 gone local events w n source reason user more no_zero two along coming lasts none left right firm =
     let j = all_joined local events (begin true local) w along (first_joined local two) in
     let sure : IsFirm w.tap.course = record { firm = firm; left = left; right = right } in
-    gone_strays w n source reason user more j.kept coming lasts none (record { sure = sure; two = j.never no_zero firm right })
+    gone_strays w n source reason user more j.kept coming lasts none
+    (record { sure = sure; two = λ zero. not_selected local w lasts no_zero two zero (j.staged.stage left) })

@@ -403,7 +403,7 @@ two_of None h = inl refl
 two_of (Some Two) h = inr refl
 two_of (Some Zero) h = absurd (h refl)
 
-pub class_of : (c : Course) → IsClear c → (c.class ≡ None) ⊎ (c.class ≡ Some Two)
+class_of : (c : Course) → IsClear c → (c.class ≡ None) ⊎ (c.class ≡ Some Two)
 class_of c h = two_of c.class h.two
 
 same_content : (i m : ℕ) (y x : Connect) → confirm i y ≡ confirm m x → x ≡ y

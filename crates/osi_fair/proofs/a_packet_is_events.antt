@@ -11,7 +11,7 @@ use Rattle.osi_tpdu.specs.Value.{Value}
 use Rattle.osi_tpdu.specs.Writing.{written}
 use Rattle.osi_tpdu.specs.declared.faults.TpduFault.{TpduFault}
 use Rattle.osi_carrier.specs.Calls.{ended_by}
-use Rattle.osi_carrier.specs.Packets.{Acts, ActsBy, RunsOut, TakesPackets, acts_by, stops, waits}
+use Rattle.osi_carrier.specs.Packets.{Acts, ActsBy, RunsOut, acts_by, stops, waits}
 unfoldable use Rattle.osi_carrier.specs.Packets.{after_packet}
 use Rattle.osi_carrier.specs.React.{react, reacts}
 use Rattle.osi_carrier.specs.Runs.{UserCall, breaks, user_does}
@@ -20,7 +20,7 @@ use Rattle.osi_carrier.specs.declared.ends.CarrierFault.TheVariants.{Tpdu}
 use Rattle.osi_carrier.specs.declared.ends.EndReason.{EndReason}
 use Rattle.osi_carrier.specs.declared.ends.EndReason.TheVariants.{Fault, NoMemory}
 use Rattle.osi_rules.specs.declared.directions.Direction.{Direction}
-use Rattle.osi_fair.specs.Pieces.{units_by, units_in}
+use Rattle.osi_fair.specs.Pieces.{units_by}
 use Rattle.osi_fair.specs.Putting.{put_by, put_for}
 use Rattle.osi_fair.specs.Wholes.{Becomes, Event, HappenAlong, MayCall, Whole, arrives, calls}
 use Rattle.osi_fair.proofs.what_a_carrier_puts.{call_writes, unit_writes}
@@ -61,7 +61,7 @@ module _ (d : Direction) where
         ∙ ap (λ (l : List ℕ). w.end.outgoing ++ l) (sym (packets_join a.put b.put));
   }
 
-  pub becomes_same : (w : Whole) → Becomes d w w.end
+  becomes_same : (w : Whole) → Becomes d w w.end
   becomes_same w = record {
     events = [];
     put = [];
@@ -69,6 +69,17 @@ module _ (d : Direction) where
     along = ap (λ (l : List Value). record w { put = l }) (append-nil w.put);
     outgoing = sym (append-nil w.end.outgoing);
   }
+
+  -- with what is left to come
+  pub same_so : (w : Whole) (later : List Value) → w.coming ≡ later → (b : Becomes d w w.end) × (b.coming ≡ later)
+  unfolding becomes_same
+  same_so w later e = (becomes_same w, e)
+
+  pub then_so : (A : Type 0) (later : List Value) (w : Whole) (mid new : State) (a : Becomes d w mid)
+      (b : Becomes d (record w { end = mid; put = w.put ++ a.put; coming = a.coming }) new) → (A → b.coming ≡ later) →
+      (c : Becomes d w new) × (A → c.coming ≡ later)
+  unfolding becomes_then
+  then_so A later w mid new a b e = (becomes_then w mid new a b, e)
 
   -- ---- units, and a call
 
@@ -85,7 +96,7 @@ module _ (d : Direction) where
     refl,
   )
 
-  all_units : (units later : List Value) (w : Whole) → w.coming ≡ units ++ later →
+  pub all_units : (units later : List Value) (w : Whole) → w.coming ≡ units ++ later →
       (b : Becomes d w (reacts units w.end)) × (b.coming ≡ later)
   unfolding becomes_same becomes_then
   all_units [] later w e = (becomes_same w, e)
@@ -104,6 +115,10 @@ module _ (d : Direction) where
     outgoing = call_writes call w.end;
   }
 
+  pub call_so : (call : UserCall) (w : Whole) → MayCall call w.end → (b : Becomes d w (user_does call w.end)) × (b.coming ≡ w.coming)
+  unfolding becomes_by_call
+  call_so call w may = (becomes_by_call call w may, refl)
+
   -- the carrier ends
   ended_so : (reason : EndReason) (s : State) → s.ended ≡ None → ended_by reason s ≡ ends reason s
   ended_so reason s lasts = ap (λ (o : Option EndReason). if is_some o then s else ends reason s) lasts
@@ -114,7 +129,7 @@ module _ (d : Direction) where
 
   -- ---- a packet
 
-  pub runs_out : (units later : List Value) (w : Whole) (new : State) → w.coming ≡ units ++ later → RunsOut w.end units new →
+  runs_out : (units later : List Value) (w : Whole) (new : State) → w.coming ≡ units ++ later → RunsOut w.end units new →
       Becomes d w new
   runs_out units later w new e r =
       let (first, rest) = all_units r.done ((r.next ∷ r.more) ++ later) w
@@ -157,20 +172,7 @@ module _ (d : Direction) where
     refl,
   )
 
-  packet_so : (r : Result (List Value) TpduFault) (later : List Value) (w : Whole) → w.end.ended ≡ None →
+  pub packet_so : (r : Result (List Value) TpduFault) (later : List Value) (w : Whole) → w.end.ended ≡ None →
       w.coming ≡ units_by r ++ later → (b : Becomes d w (acts_by r w.end)) × (b.coming ≡ later)
   packet_so (Ok units) later w lasts e = all_units units later w e
   packet_so (Err fault) later w lasts e = let (b, same) = over_so (Fault (Tpdu fault)) w lasts in (b, same ∙ e)
-
-  -- each but the first comes to an end that has not ended
-  pub takes_all : (units : List (List ℕ)) (later : List Value) (new : State) (w : Whole) → TakesPackets w.end units new →
-      w.coming ≡ units_in units ++ later → (b : Becomes d w new) × (b.coming ≡ later)
-  unfolding becomes_same becomes_then after_packet
-  takes_all [] later new w e come =
-      subst (λ (s : State). (b : Becomes d w s) × (b.coming ≡ later)) (sym e) (becomes_same w, come)
-  takes_all (p ∷ ps) later new w (quiet, more) come =
-      let (first, rest) = packet_so (units_of p) (units_in ps ++ later) w (not_over w.end quiet)
-      (come ∙ append_assoc (units_by (units_of p)) (units_in ps) later) in
-      let mid : Whole = record w { end = after_packet w.end p; put = w.put ++ first.put; coming = first.coming } in
-      let (others, done) = takes_all ps later new mid more rest in
-      (becomes_then w (after_packet w.end p) new first others, done)

@@ -8,9 +8,11 @@ use Rattle.osi_tpkt.specs.Stream.{ArePackets}
 use Rattle.osi_tpkt.specs.declared.cutting.Fed.{Fed}
 use Rattle.osi_tpdu.specs.Packet.{units_of}
 use Rattle.osi_tpdu.specs.Value.{Value}
+use Rattle.osi_carrier.specs.Happenings.{Happening}
 use Rattle.osi_carrier.specs.Packets.{Carrying, Feeds, FindsNoMemory, FindsNoRoom, Goes, Refuses, RunsDry, Starves, StopsBehind}
 use Rattle.osi_carrier.specs.Packets.{TakesPackets, is_spoilt, waits}
 use Rattle.osi_carrier.specs.React.{reacts}
+use Rattle.osi_carrier.specs.Runs.{put_back}
 use Rattle.osi_carrier.specs.State.{State, ends}
 use Rattle.osi_carrier.specs.declared.ends.CarrierFault.TheVariants.{Tpkt}
 use Rattle.osi_carrier.specs.declared.ends.EndReason.{EndReason}
@@ -18,9 +20,11 @@ use Rattle.osi_carrier.specs.declared.ends.EndReason.TheVariants.{Fault, NoMemor
 use Rattle.osi_rules.specs.declared.directions.Direction.{Direction}
 use Rattle.osi_fair.specs.Pieces.{IsFed, units_by, units_in}
 use Rattle.osi_fair.specs.Wholes.{Becomes, Whole}
-use Rattle.osi_fair.proofs.a_packet_is_events.{becomes_over, becomes_same, becomes_then, not_over, runs_out, takes_all}
+use Rattle.osi_fair.proofs.a_packet_is_events.{becomes_then, not_over}
+use Rattle.osi_fair.proofs.what_is_in_front_of_a_whole_end.{Comes, after_all, all_come, none_come, runs_out_front, same_front}
+use Rattle.osi_fair.proofs.what_is_in_front_of_a_whole_end.{takes_front, units_in_range}
 
-units_join : (us vs : List (List ℕ)) → units_in (us ++ vs) ≡ units_in us ++ units_in vs
+pub units_join : (us vs : List (List ℕ)) → units_in (us ++ vs) ≡ units_in us ++ units_in vs
 units_join [] vs = refl
 units_join (u ∷ us) vs =
     ap (λ (l : List Value). units_by (units_of u) ++ l) (units_join us vs)
@@ -29,6 +33,16 @@ units_join (u ∷ us) vs =
 packets_join : (us vs : List (List ℕ)) (s mid rest : List ℕ) → ArePackets us s mid → ArePackets vs mid rest → ArePackets (us ++ vs) s rest
 packets_join [] vs s mid rest e h = subst (λ (l : List ℕ). ArePackets vs l rest) (sym e) h
 packets_join (u ∷ us) vs s mid rest (b, t, packet, e, more) h = (b, t, packet, e, packets_join us vs t mid rest more h)
+
+-- As `IsFed`, with reported events and sent octets in front. Unless the carrier ends, none of the units of its packets is left.
+pub record FeedsOn (d : Direction) (old : Carrying) (piece : List ℕ) (used : ℕ) (new : Carrying) : Type 0 where
+  pub packets : List (List ℕ)
+  pub within : ℕ
+  pub rest : List ℕ
+  pub cut : ArePackets packets (old.held.octets ++ take within piece) rest
+  pub becomes : (e : List Happening) (o : List ℕ) (w : Whole) (later : List Value) → w.end ≡ put_back e o old.state →
+      w.coming ≡ units_in packets ++ later → Comes d e o w new.state later
+  pub keeps : new.state.ended ≡ None → (used ≡ within) × (new.held.octets ≡ rest)
 
 module _ (d : Direction) (old : Carrying) (piece : List ℕ) (new : Carrying) where
   whole : take (length piece) piece ≡ piece
@@ -39,51 +53,49 @@ module _ (d : Direction) (old : Carrying) (piece : List ℕ) (new : Carrying) wh
       let some : Some reason ≡ None = sym (ap (λ (s : State). s.ended) e) ∙ lasts in
       cc some
 
-  same_fed : (used : ℕ) → new ≡ old → (new.state.ended ≡ None → used ≡ 0) → IsFed d old piece used new
-  same_fed used e none = record {
+  same_fed : (used : ℕ) → new ≡ old → (new.state.ended ≡ None → used ≡ 0) → FeedsOn d old piece used new
+  same_fed used same none = record {
     packets = [];
     within = 0;
     rest = old.held.octets ++ take 0 piece;
     cut = refl;
-    becomes = λ w later is come.
-        subst (λ (s : State). Becomes d w s) (is ∙ ap (λ (c : Carrying). c.state) (sym e)) (becomes_same d w);
-    keeps = λ lasts. (none lasts, ap (λ (c : Carrying). c.held.octets) e ∙ sym (append-nil old.held.octets));
+    becomes = λ e o w later is come.
+        subst (λ (c : Carrying). Comes d e o w c.state later) (sym same) (same_front d e o w old.state later is come);
+    keeps = λ lasts. (none lasts, ap (λ (c : Carrying). c.held.octets) same ∙ sym (append-nil old.held.octets));
   }
 
-  from_old : (w : Whole) (units : List (List ℕ)) (after : State) → w.end ≡ old.state → TakesPackets old.state units after →
-      TakesPackets w.end units after
-  from_old w units after is taken = subst (λ (s : State). TakesPackets s units after) (sym is) taken
-
-  -- after the packets the carrier ends
-  after_all : (units : List (List ℕ)) (before : State) (reason : EndReason) (w : Whole) (later : List Value) →
-      TakesPackets w.end units before → w.coming ≡ units_in units ++ later → before.ended ≡ None → Becomes d w (ends reason before)
-  after_all units before reason w later taken come lasts =
-      let (first, rest) = takes_all d units later before w taken come in
-      let mid : Whole = record w { end = before; put = w.put ++ first.put; coming = first.coming } in
-      becomes_then d w before (ends reason before) first (becomes_over d reason mid lasts)
-
-  dry_fed : (used : ℕ) → RunsDry old piece used new → IsFed d old piece used new
+  dry_fed : (used : ℕ) → RunsDry old piece used new → FeedsOn d old piece used new
   dry_fed used h = record {
     packets = h.units;
     within = length piece;
     rest = new.held.octets;
     cut = subst (λ (l : List ℕ). ArePackets h.units (old.held.octets ++ l) new.held.octets) (sym whole) h.packets;
-    becomes = λ w later is come. (takes_all d h.units later new.state w (from_old w h.units new.state is h.taken) come).0;
+    becomes = λ e o w later is come.
+        all_come d e o w new.state later (takes_front d e o h.units later old.state new.state w is h.taken come);
     keeps = λ lasts. (h.all, refl);
   }
 
-  stopped_fed : (used : ℕ) → StopsBehind old piece used new → IsFed d old piece used new
+  stopped_fed : (used : ℕ) → StopsBehind old piece used new → FeedsOn d old piece used new
   stopped_fed used h = record {
     packets = h.units;
     within = h.within;
     rest = [];
     cut = h.packets;
-    becomes = λ w later is come. (takes_all d h.units later new.state w (from_old w h.units new.state is h.taken) come).0;
+    becomes = λ e o w later is come.
+        all_come d e o w new.state later (takes_front d e o h.units later old.state new.state w is h.taken come);
     keeps = λ lasts.
         (h.uses ∙ ap (λ (o : Option EndReason). if is_spoilt o then length piece else h.within) lasts, h.held);
   }
 
-  refused_fed : (used : ℕ) → Refuses old piece used new → IsFed d old piece used new
+  -- after the packets the carrier ends
+  ends_after : (units : List (List ℕ)) (before : State) (reason : EndReason) → TakesPackets old.state units before →
+      before.ended ≡ None → new.state ≡ ends reason before → (e : List Happening) (o : List ℕ) (w : Whole) (later : List Value) →
+      w.end ≡ put_back e o old.state → w.coming ≡ units_in units ++ later → Comes d e o w new.state later
+  ends_after units before reason taken lasts ended e o w later is come =
+      subst (λ (s : State). Comes d e o w s later) (sym ended)
+      (none_come d e o w reason before later (after_all d e o units old.state before reason w later is taken come lasts))
+
+  refused_fed : (used : ℕ) → Refuses old piece used new → FeedsOn d old piece used new
   refused_fed used h =
       let (r, cut, fault) = h.cut in
       record {
@@ -91,63 +103,64 @@ module _ (d : Direction) (old : Carrying) (piece : List ℕ) (new : Carrying) wh
         within = length piece;
         rest = r;
         cut = subst (λ (l : List ℕ). ArePackets h.units (old.held.octets ++ l) r) (sym whole) cut;
-        becomes = λ w later is come. subst (λ (s : State). Becomes d w s) (sym h.ended)
-            (after_all h.units h.before (Fault (Tpkt h.fault)) w later (from_old w h.units h.before is h.taken) come
-            (not_over h.before h.quiet));
+        becomes = ends_after h.units h.before (Fault (Tpkt h.fault)) h.taken (not_over h.before h.quiet) h.ended;
         keeps = λ lasts. absurd (over_not (Fault (Tpkt h.fault)) h.before h.ended lasts);
       }
 
   -- memory runs out for what is left of the piece
-  no_room_fed : (used : ℕ) (h : FindsNoMemory old piece used new) → new.state ≡ ends NoMemory h.before → IsFed d old piece used new
+  no_room_fed : (used : ℕ) (h : FindsNoMemory old piece used new) → new.state ≡ ends NoMemory h.before → FeedsOn d old piece used new
   no_room_fed used h ended = record {
     packets = h.units;
     within = h.within;
     rest = h.rest;
     cut = h.packets;
-    becomes = λ w later is come. subst (λ (s : State). Becomes d w s) (sym ended)
-        (after_all h.units h.before NoMemory w later (from_old w h.units h.before is h.taken) come (not_over h.before h.quiet));
+    becomes = ends_after h.units h.before NoMemory h.taken (not_over h.before h.quiet) ended;
     keeps = λ lasts. absurd (over_not NoMemory h.before ended lasts);
   }
 
   -- or for a unit of the next packet
   starved_fed : (used : ℕ) (h : FindsNoMemory old piece used new) (packet : List ℕ) → ArePackets (packet ∷ []) h.rest [] →
-      Starves h.before packet new.state → IsFed d old piece used new
+      Starves h.before packet new.state → FeedsOn d old piece used new
   starved_fed used h packet one (units, read, out) = record {
     packets = h.units ++ packet ∷ [];
     within = h.within;
     rest = [];
     cut = packets_join h.units (packet ∷ []) (old.held.octets ++ take h.within piece) h.rest [] h.packets one;
-    becomes = λ w later is come.
+    becomes = λ e o w later is come.
         let first_come : w.coming ≡ units_in h.units ++ (units ++ later) =
         come ∙ ap (λ (l : List Value). l ++ later) (units_join h.units (packet ∷ []))
         ∙ append_assoc (units_in h.units) (units_in (packet ∷ [])) later
         ∙ ap (λ (l : List Value). units_in h.units ++ (l ++ later)) (append-nil (units_by (units_of packet)) ∙ ap units_by read) in
-        let (first, rest) = takes_all d h.units (units ++ later) h.before w (from_old w h.units h.before is h.taken) first_come in
-        let mid : Whole = record w { end = h.before; put = w.put ++ first.put; coming = first.coming } in
-        becomes_then d w h.before new.state first (runs_out d units later mid new.state rest out);
+        let (first, rest) = takes_front d e o h.units (units ++ later) old.state h.before w is h.taken first_come in
+        let mid : Whole = record w { end = put_back e o h.before; put = w.put ++ first.put; coming = first.coming } in
+        let b = becomes_then d w (put_back e o h.before) (put_back e o new.state) first
+        (runs_out_front d e o units later h.before new.state mid (units_in_range packet one.0 units one.2 read) refl rest out) in
+        subst (λ (s : State). Comes d e o w s later) (sym out.ended)
+        (none_come d e o w NoMemory (reacts out.done h.before) later
+        (subst (λ (s : State). Becomes d w (put_back e o s)) out.ended b));
     keeps = λ lasts. absurd (over_not NoMemory (reacts out.done h.before) out.ended lasts);
   }
 
   memory_by : (used : ℕ) (h : FindsNoMemory old piece used new) → FindsNoRoom old piece h.within h.rest h.before new.state
-      ⊎ ((packet : List ℕ) × ArePackets (packet ∷ []) h.rest [] × Starves h.before packet new.state) → IsFed d old piece used new
+      ⊎ ((packet : List ℕ) × ArePackets (packet ∷ []) h.rest [] × Starves h.before packet new.state) → FeedsOn d old piece used new
   memory_by used h (inl room) = no_room_fed used h room.ended
   memory_by used h (inr (packet, one, starved)) = starved_fed used h packet one starved
 
-  goes_fed : (used : ℕ) → Goes old piece used new → IsFed d old piece used new
+  goes_fed : (used : ℕ) → Goes old piece used new → FeedsOn d old piece used new
   goes_fed used (inl (inl h)) = dry_fed used h
   goes_fed used (inl (inr h)) = stopped_fed used h
   goes_fed used (inr (inl h)) = refused_fed used h
   goes_fed used (inr (inr h)) = memory_by used h h.how
 
   by_waits : (fed : Fed) → Feeds old piece fed new → old.state.ended ≡ None → (b : Bool) → waits old.state ≡ b →
-      IsFed d old piece fed.used new
+      FeedsOn d old piece fed.used new
   by_waits fed h lasts true e =
       let (none, same) = h.waiting lasts e in
       same_fed fed.used same (λ still. none)
   by_waits fed h lasts false e =
       goes_fed fed.used (h.goes (ap (λ (o : Option EndReason). is_some o || waits old.state) lasts ∙ e))
 
-  by_end : (fed : Fed) → Feeds old piece fed new → (o : Option EndReason) → old.state.ended ≡ o → IsFed d old piece fed.used new
+  by_end : (fed : Fed) → Feeds old piece fed new → (o : Option EndReason) → old.state.ended ≡ o → FeedsOn d old piece fed.used new
   by_end fed h None e = by_waits fed h e (waits old.state) refl
   by_end fed h (Some reason) e =
       let (all, same) = h.over (ap is_some e) in
@@ -155,5 +168,17 @@ module _ (d : Direction) (old : Carrying) (piece : List ℕ) (new : Carrying) wh
       let some : Some reason ≡ None = sym e ∙ ap (λ (c : Carrying). c.state.ended) (sym same) ∙ still in
       absurd (cc some))
 
+  pub feeds_on : (fed : Fed) → Feeds old piece fed new → FeedsOn d old piece fed.used new
+  feeds_on fed h = by_end fed h old.state.ended refl
+
   pub fed_so : (fed : Fed) → Feeds old piece fed new → IsFed d old piece fed.used new
-  fed_so fed h = by_end fed h old.state.ended refl
+  fed_so fed h =
+      let f = feeds_on fed h in
+      record {
+        packets = f.packets;
+        within = f.within;
+        rest = f.rest;
+        cut = f.cut;
+        becomes = λ w later is come. (f.becomes [] [] w later is come).0;
+        keeps = f.keeps;
+      }

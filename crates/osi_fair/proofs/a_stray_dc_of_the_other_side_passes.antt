@@ -105,7 +105,6 @@ module _ (local : Local) (w : Whole) (f : Followed local w) (sane : IsSane w.tap
   still_asking : (x : Connect) → IsAsking local w.end w.coming x → IsAsking local w.end more x
   still_asking x a = record {
     left = a.left;
-    class0 = a.class0;
     early = early_more x.source w.coming v dc (names x.source v) refl a.early;
     row = a.row;
   }

@@ -445,9 +445,6 @@ module _ (local : Local) (w : Whole) (f : Called local w) (apart : AreApart w.ta
           }) (asks_none q ∙ none);
         }
 
-    seen_same : next.seen_by_left ≡ c.seen_by_left
-    seen_same = seen_left v (is_applied found_so) c
-
     here_by : Stand local f.shut w.end w.coming (units_at q f.tagged) (units_at q f.came) (w.begun && first_at q f.tagged) (f.refs q) c →
         Here
     here_by (comes x a none ask i) = silent_not x a

@@ -207,7 +207,6 @@ module _ (local : Local) (w : Whole) (f : Followed local w) (sane : IsSane w.tap
     left = a.left;
     right = refl;
     seen = refl;
-    class0 = a.class0;
     early = a.early;
     row = a.row;
   })

@@ -131,7 +131,7 @@ half_not_silent (data2 destination number end user) half h = h
 half_not_silent (acknowledge credit destination number) half h = h
 half_not_silent (error destination cause) half h = refl
 
-pub course_same : (c : Connection) (v : Value) (b : Bool) (course : Course) → ((m : ℕ) (x : Connect) → v ≡ confirm m x → ⊥) →
+course_same : (c : Connection) (v : Value) (b : Bool) (course : Course) → ((m : ℕ) (x : Connect) → v ≡ confirm m x → ⊥) →
     (course_after Right c v b course).class ≡ course.class
 course_same c (request x) b course h = refl
 course_same c (confirm destination x) b course h = absurd (h destination x refl)
@@ -580,7 +580,6 @@ module _ (local : Local) (w : Whole) (f : Followed local w) (sane : IsSane w.tap
       let is = name_is in
       record {
         left = a.left;
-        class0 = a.class0;
         early = early_other x.source w.coming v (named_not t.n x.source v (λ same. absurd (omega arith)) t.dest) a.early;
         row = a.row;
       }

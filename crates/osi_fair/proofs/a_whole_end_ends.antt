@@ -167,7 +167,6 @@ is_over local w f t later h early few up = record {
         left = k.left;
         right = k.right;
         seen = k.seen;
-        class0 = k.class0;
         early = early k.r k.early;
         row = λ lasts. over_not t.ended h lasts;
       };
@@ -178,7 +177,6 @@ is_over local w f t later h early few up = record {
       (λ v. (x : Connect) → v ≡ request x → IsAsking local t later x) w.put
       (λ v k x e. let a = k x e in record {
         left = a.left;
-        class0 = a.class0;
         early = early x.source a.early;
         row = λ lasts. over_not t.ended h lasts;
       }) f.requests;

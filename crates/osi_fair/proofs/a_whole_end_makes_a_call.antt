@@ -1,8 +1,8 @@
 -- The user of a whole calling end makes a call: what it does to an open connection is acts of its line, and a CR waits to pass.
 -- For the law on a whole end.
 use Rattle.std.proofs.Common.{◌≡◌, ◌∙◌, ℕ, ◌+◌, ◌≤◌, Bool, true, false, List, [], ◌∷◌, ◌++◌, length, refl, sym, ap, subst}
-use Rattle.std.proofs.Common.{Option, Some, None, inl, inr, arith, is_none, is_some, if◌then◌else◌}
-use Rattle.std.specs.Prelude.{◌&&◌, ◌||◌, ◌==◌, not, slice_get}
+use Rattle.std.proofs.Common.{Option, Some, None, inl, inr, arith, is_some, if◌then◌else◌}
+use Rattle.std.specs.Prelude.{◌==◌, slice_get}
 use Rattle.std.specs.List.{AllByRecursion}
 use Rattle.std.proofs.lemmas.Bool.{eqb-true}
 use Rattle.std.proofs.lemmas.List.{append-nil}
@@ -15,8 +15,7 @@ use Rattle.osi_class.specs.declared.terms.Class.TheVariants.{Two}
 use Rattle.osi_class.specs.declared.terms.Local.{Local}
 use Rattle.osi_carrier.specs.Calls.{asks as asks_for, closed_on, closed_with, closes as closes_in, ended_by, link_of, open_link}
 use Rattle.osi_carrier.specs.Calls.{sent, sent_all, sent_on}
-use Rattle.osi_carrier.specs.Negotiation.{alternatives, proposal, proposal_by, proposes_two, proposes_zero}
-use Rattle.osi_class.specs.Negotiation.{lists}
+use Rattle.osi_carrier.specs.Negotiation.{proposal, proposal_by, proposes_two}
 use Rattle.osi_carrier.specs.Orderly.{IsOrderly}
 use Rattle.osi_carrier.specs.Pump.{pumped}
 use Rattle.osi_carrier.specs.Rows.{value_at}
@@ -229,7 +228,6 @@ module _ (local : Local) (w : Whole) (f : Followed local w) (sane : IsSane w.tap
           left = k.left;
           right = k.right;
           seen = k.seen;
-          class0 = k.class0;
           early = k.early;
           row = λ lasts. asked_still k.r (k.row was);
         };
@@ -241,7 +239,7 @@ module _ (local : Local) (w : Whole) (f : Followed local w) (sane : IsSane w.tap
         (all_so (λ v. (x : Connect) → v ≡ request x → IsAsking local w.end w.coming x) (λ v. (x : Connect) → v ≡ request x →
         IsAsking local t w.coming x) w.put
         (λ v h x e. let k = h x e in record
-        { left = k.left; class0 = k.class0; early = k.early; row = λ lasts. asked_still x.source (k.row was) })
+        { left = k.left; early = k.early; row = λ lasts. asked_still x.source (k.row was) })
         f.requests)
         (units_ask w.tap w.end n units (λ x. IsAsking local t w.coming x) puts);
     two = f.two;
@@ -258,18 +256,6 @@ module _ (local : Local) (w : Whole) (f : Followed local w) (sane : IsSane w.tap
   }
 
 -- ---- a call for a connection
-
-offers_none : (b : Bool) (local : Local) (held : Option Class) (calling called : Option (List ℕ)) (r : ℕ) → b ≡ true →
-    proposes_zero local held ≡ false → (asked_by (proposal_by b local held calling called r)).offer.class0 ≡ false
-offers_none true local held calling called r h e =
-    ap (λ (z : Bool). (lists (alternatives z) 0 || lists (alternatives z) 1)) e
-offers_none false local held calling called r h e = cc
-
-zero_none : (a b c : Bool) → b ≡ false → c ≡ true → (a && (b || not c)) ≡ false
-zero_none true false true h k = refl
-zero_none false false true h k = refl
-zero_none a true c h k = cc
-zero_none a false false h k = cc
 
 source_so : (b : Bool) (local : Local) (held : Option Class) (calling called : Option (List ℕ)) (r : ℕ) →
     (proposal_by b local held calling called r).source ≡ r
@@ -379,15 +365,12 @@ module _ (local : Local) (w : Whole) (f : Followed local w) (sane : IsSane w.tap
 
   new_asking : (y : Connect) → request x ≡ request y → IsAsking local t w.coming y
   new_asking y e =
-      let two : proposes_two s.local ≡ true = offers.two in
       let first : (asked_by x).left ≡ opened_half x.source (window_units local.window) =
       asked_so s.local s.class calling called r offers.two
       ∙ ap (λ (i : ℕ). opened_half i (window_units s.local.window)) (sym source_is)
       ∙ ap (λ (l : Local). opened_half x.source (window_units l.window)) local_is in
       subst (λ (z : Connect). IsAsking local t w.coming z) (sym (same_request x y e)) (record {
         left = first;
-        class0 = λ none. offers_none (proposes_two s.local) s.local s.class calling called r two (zero_none (is_none s.class)
-            s.local.class0 s.local.class2 (ap (λ (l : Local). l.class0) local_is ∙ none) offers.two);
         early = subst (λ (i : ℕ). AllByRecursion IsDc (those i w.coming)) (sym source_is) early_come;
         row = λ lasts. ap (λ (i : ℕ). value_at i t.live) source_is ∙ here_c;
       })
@@ -402,7 +385,6 @@ module _ (local : Local) (w : Whole) (f : Followed local w) (sane : IsSane w.tap
           left = k.left;
           right = k.right;
           seen = k.seen;
-          class0 = k.class0;
           early = k.early;
           row = λ lasts. asked_c k.r
               (k.row was);
@@ -415,7 +397,7 @@ module _ (local : Local) (w : Whole) (f : Followed local w) (sane : IsSane w.tap
         (all_so (λ v. (y : Connect) → v ≡ request y → IsAsking local s w.coming y) (λ v. (y : Connect) → v ≡ request y →
         IsAsking local t w.coming y) w.put
         (λ v h y e. let k = h y e in record
-        { left = k.left; class0 = k.class0; early = k.early; row = λ lasts. asked_c y.source (k.row was) })
+        { left = k.left; early = k.early; row = λ lasts. asked_c y.source (k.row was) })
         f.requests)
         (new_asking, tt);
     two = f.two;

@@ -68,9 +68,6 @@ was_judged d f v c h = judged_before d v (is_applied f) (reach_of (Some Two) f) 
 abbrev pub Keeps : (r peer : ℕ) → Line → Type 0
 Keeps r peer line = line.tap.is_judged ≡ true → Holds r peer line
 
-same_tap : (old new line : Line) → new ≡ line → line.tap ≡ old.tap → new.tap.is_judged ≡ true → old.tap.is_judged ≡ true
-same_tap old new line e same judged = sym (ap (λ (l : Line). l.tap.is_judged) e ∙ ap (λ (c : Connection). c.is_judged) same) ∙ judged
-
 act_keeps : (r peer : ℕ) (act : Act) (old new : Line) → Acts Left r peer act old new → Keeps r peer old → Keeps r peer new
 act_keeps r peer (moves move) old new (link, after, is, e, short, coming, new_is) h judged =
     moves_hold r peer move old new (link, after, is, e, short, coming, new_is)

@@ -110,14 +110,12 @@ pub record Waiting (local : Local) (end : State) (coming : List Value) (c : Conn
   pub left : c.left ≡ opened_half r (window_units local.window)
   pub right : c.right ≡ silent_half
   pub seen : c.seen_by_right.next ≡ 0
-  pub class0 : local.class0 ≡ false → c.offer.class0 ≡ false
   pub early : AllByRecursion IsDc (those r coming)
   pub row : end.ended ≡ None → value_at r end.live ≡ Some asked
 
 -- a CR that is to pass
 pub record IsAsking (local : Local) (end : State) (coming : List Value) (x : Connect) : Type 0 where
   pub left : (asked_by x).left ≡ opened_half x.source (window_units local.window)
-  pub class0 : local.class0 ≡ false → (asked_by x).offer.class0 ≡ false
   pub early : AllByRecursion IsDc (those x.source coming)
   pub row : end.ended ≡ None → value_at x.source end.live ≡ Some asked
 
@@ -270,10 +268,6 @@ begun_right : (d : Direction) (c : Connection) → (begins d c).right ≡ c.righ
 begun_right Left c = refl
 begun_right Right c = refl
 
-begun_offer : (d : Direction) (c : Connection) → (begins d c).offer.class0 ≡ c.offer.class0
-begun_offer Left c = refl
-begun_offer Right c = refl
-
 begun_seen : (d : Direction) (c : Connection) (r window : ℕ) → c.left ≡ opened_half r window → c.seen_by_right.next ≡ 0 →
     (begins d c).seen_by_right.next ≡ 0
 begun_seen Left c r window e h = h
@@ -286,7 +280,6 @@ waits_begun local d end coming c w = record {
   left = begun_left d c ∙ w.left;
   right = begun_right d c ∙ w.right;
   seen = begun_seen d c w.r (window_units local.window) w.left w.seen;
-  class0 = λ none. begun_offer d c ∙ w.class0 none;
   early = w.early;
   row = w.row;
 }
@@ -384,9 +377,6 @@ followed_begins local d w b some f k = record {
 and_first : (a b : Bool) → (a && b) ≡ true → a ≡ true
 and_first true b h = refl
 and_first false b h = cc
-
-differ : {A : Type 0} (b : Bool) → b ≡ true → b ≡ false → A
-differ b h k = absurd (cc)
 
 -- what the line of a connection that is open at the tap has put comes before the spare DCs
 none_by : (spare : List Value) (put : List Value) → (spare ≢ [] → put ≡ [] → ⊥) → put ≡ [] → spare ≡ []

@@ -2,13 +2,15 @@
 -- For the law on requests.
 use Rattle.std.proofs.Common.{◌≡◌, ◌∙◌, ℕ, ◌+◌, Bool, true, false, List, [], ◌∷◌, ◌++◌, refl, sym, ap, subst}
 use Rattle.std.proofs.Common.{Option, Some, None, if◌then◌else◌, is_some}
-use Rattle.std.specs.Prelude.{◌==◌, not}
+use Rattle.std.specs.Prelude.{◌==◌, ◌&&◌, ◌||◌, is_none, not}
 use Rattle.std.proofs.lemmas.Bool.{eq-eqb}
 use Rattle.osi_tpdu.specs.Value.{Value, Connect, request, confirm, disconnect, disconnected, data0, data2, acknowledge, error}
 use Rattle.osi_class.specs.Link.{Standing}
+use Rattle.osi_class.specs.Negotiation.{lists}
 use Rattle.osi_class.specs.declared.terms.Class.{Class}
+use Rattle.osi_class.specs.declared.terms.Local.{Local}
 use Rattle.osi_carrier.specs.Calls.{class_error, closed_on, link_of, may_connect, open_link, or_else, room_error, sent, sent_all, sent_on}
-use Rattle.osi_carrier.specs.Negotiation.{proposal, proposal_by, proposes_two}
+use Rattle.osi_carrier.specs.Negotiation.{alternatives, proposal, proposal_by, proposes_two, proposes_zero}
 use Rattle.osi_carrier.specs.React.{before_class, in_class, react_by, to_connection}
 unfoldable use Rattle.osi_carrier.specs.React.{react}
 use Rattle.osi_carrier.specs.Rows.{Rows, value_at, without}
@@ -17,7 +19,8 @@ use Rattle.osi_carrier.specs.State.{Connection, State, asked, ends}
 use Rattle.osi_carrier.specs.declared.ends.EndReason.{EndReason}
 use Rattle.osi_carrier.specs.declared.faults.OpenError.{OpenError}
 use Rattle.osi_carrier.specs.declared.faults.OpenError.TheVariants.{Ended, Negotiating, NotCaller}
-use Rattle.osi_rules.specs.Rows.{offers_two}
+use Rattle.osi_rules.specs.declared.connections.Offer.{Offer}
+use Rattle.osi_rules.specs.Traffic.{offer_of}
 use Rattle.osi_fair.specs.Asking.{asks_with}
 use Rattle.osi_fair.specs.Putting.{put_at, put_before, put_by, put_closing, put_for, put_in, put_sent, put_together}
 use Rattle.osi_fair.specs.Wholes.{MayCall}
@@ -135,10 +138,10 @@ never e o h k = absurd (cc)
 both_ways : {A : Type 0} (b : Bool) → b ≡ true → b ≡ false → A
 both_ways b h k = absurd (cc)
 
-abbrev NoneOpen : State → Type 0
+abbrev pub NoneOpen : State → Type 0
 NoneOpen s = (q : ℕ) → open_link q s ≡ None
 
-all_none : (r : ℕ) (tsdus : List (List ℕ)) (s : State) → NoneOpen s → (sent_all r tsdus s ≡ s) × (put_together r tsdus s ≡ [])
+pub all_none : (r : ℕ) (tsdus : List (List ℕ)) (s : State) → NoneOpen s → (sent_all r tsdus s ≡ s) × (put_together r tsdus s ≡ [])
 all_none r [] s h = (refl, refl)
 all_none r (tsdu ∷ tsdus) s h =
     let same : sent r tsdu s ≡ s = ap (λ (o : Option (ℕ × Standing)). sent_on r tsdu o s) (h r) in
@@ -181,7 +184,7 @@ idle_call (sends_all r tsdus) s none never may = all_sends_none r tsdus s none
 idle_call (closes r reason) s none never may = closes_none r reason s none
 idle_call (breaks reason) s none never may = breaks_none reason s
 
-none_over : (s : State) → IsOver s → NoneOpen s
+pub none_over : (s : State) → IsOver s → NoneOpen s
 none_over s h q = ap (λ (b : Bool). if◌then◌else◌ {A = Option (ℕ × Standing)} b None (link_of (value_at q s.live))) h
 
 pub over_calls : (call : UserCall) (s : State) → IsOver s → MayCall call s → Idle call s
@@ -204,22 +207,44 @@ one_calls r call s is may =
     (ap (λ (c : Option Class). class_error c s.live) is.class ∙ ap (λ (rows : Rows Connection). class_error None rows) is.live)
     (may_so s k).1) may
 
+-- a CR offers only classes that the end has, and class 0 if it has none
+pub record Offers (local : Local) (o : Offer) : Type 0 where
+  pub two : o.class2 ≡ true → local.class2 ≡ true
+  pub zero : o.class0 ≡ true → (local.class0 || not local.class2) ≡ true
+
 -- an end without a connection may ask for one
 pub data Calls (call : UserCall) (s : State) : Type 0 where
   idles : Idle call s → Calls call s
   asks_one : (x : Connect) → put_by call s ≡ request x ∷ [] → IsCalling (one x.source) (user_does call s) →
-      (user_does call s).local ≡ s.local → (offers_two x ≡ true → s.local.class2 ≡ true) → Calls call s
+      (user_does call s).local ≡ s.local → Offers s.local (offer_of x) → Calls call s
 
 proposed : (two : Bool) (s : State) (calling called : Option (List ℕ)) →
     (proposal_by two s.local s.class calling called (s.given + 1)).source ≡ s.given + 1
 proposed true s calling called = refl
 proposed false s calling called = refl
 
--- class 2 is offered only if the end has it
-offered : (two : Bool) (s : State) (calling called : Option (List ℕ)) →
-    offers_two (proposal_by two s.local s.class calling called (s.given + 1)) ≡ true → two ≡ true
-offered true s calling called h = refl
-offered false s calling called h = cc
+listed : (zero : Bool) → (lists (alternatives zero) 0 || lists (alternatives zero) 1) ≡ true → zero ≡ true
+listed true h = refl
+listed false h = cc
+
+and_second : (a b : Bool) → (a && b) ≡ true → b ≡ true
+and_second true b h = h
+and_second false b h = cc
+
+or_second : (a b : Bool) → b ≡ true → (a || b) ≡ true
+or_second true b h = refl
+or_second false b h = h
+
+proposal_offers : (two : Bool) (local : Local) (held : Option Class) (calling called : Option (List ℕ)) (r : ℕ) → local.class2 ≡ two →
+    Offers local (offer_of (proposal_by two local held calling called r))
+proposal_offers true local held calling called r e = record {
+  two = λ h. e;
+  zero = λ h. and_second (is_none held) (local.class0 || not local.class2) (listed (proposes_zero local held) h);
+}
+proposal_offers false local held calling called r e = record {
+  two = λ h. absurd (cc h);
+  zero = λ h. or_second local.class0 (not local.class2) (ap not e);
+}
 
 none_calls_by : (call : UserCall) (s : State) → IsCalling [] s → NoneOpen s → MayCall call s → Calls call s
 none_calls_by (connects calling called) s is none may =
@@ -230,7 +255,7 @@ none_calls_by (connects calling called) s is none may =
       class = is.class;
       live = ap (λ (rows : Rows Connection). rows ++ (s.given + 1, asked) ∷ []) is.live
           ∙ ap (λ (r : ℕ). one r) (sym (proposed (proposes_two s.local) s calling called));
-    }) refl (offered s.local.class2 s calling called)
+    }) refl (proposal_offers s.local.class2 s.local s.class calling called (s.given + 1) refl)
 none_calls_by (sends r tsdu) s is none may = idles (sends_none r tsdu s none)
 none_calls_by (sends_all r tsdus) s is none may = idles (all_sends_none r tsdus s none)
 none_calls_by (closes r reason) s is none may = idles (closes_none r reason s none)

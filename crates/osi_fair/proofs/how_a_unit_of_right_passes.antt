@@ -52,10 +52,6 @@ pub and_false : (b : Bool) → (b && false) ≡ false
 and_false true = refl
 and_false false = refl
 
-or_true : (a b : Bool) → a ≡ true → (a || b) ≡ true
-or_true true b h = refl
-or_true false b h = cc
-
 pub is_both : (a b : Bool) → a ≡ true → b ≡ true → (a && b) ≡ true
 is_both true b h k = k
 is_both false b h k = cc
@@ -277,10 +273,6 @@ half_not_refused (error destination cause) half h none = absurd (none destinatio
 pub wrong_form : (a : Bool) (ts : List Test) → a ≡ false → first_failed ((a, Broke rule.WrongForm) ∷ ts) ≡ Kept → ⊥
 wrong_form true ts h k = cc
 wrong_form false ts h k = cc
-
-kept_only : (j : Bool) (g : Finding) → (if j then g else NotJudged) ≡ Kept → g ≡ Kept
-kept_only true g h = h
-kept_only false g h = cc
 
 pub set_none : {X : Type 0} (xs : List X) (p i : ℕ) (x : X) → slice_get (set xs p x) i ≡ None → slice_get xs i ≡ None
 set_none [] p i x h = h

@@ -2,7 +2,7 @@
 -- For the laws on requests and on whole calling ends.
 use Rattle.std.proofs.Common.{◌≡◌, ◌≢◌, ◌∙◌, ℕ, Bool, true, false, List, [], ◌∷◌, ◌++◌, map, refl, sym, ap, subst, append_assoc}
 use Rattle.std.proofs.Common.{Option, Some, None, inl, inr, ◌⊎◌, is_some, if◌then◌else◌}
-use Rattle.std.specs.Prelude.{◌==◌, ◌&&◌, ◌||◌, not, slice_get}
+use Rattle.std.specs.Prelude.{◌%◌, ◌==◌, ◌&&◌, ◌||◌, not, slice_get}
 use Rattle.std.specs.List.{AllByRecursion, list_all, list_any}
 use Rattle.std.proofs.lemmas.Bool.{eqb-true}
 use Rattle.osi_tpdu.specs.Value.{Value, Connect, HasFieldsInRange, IsConnect, request, confirm}
@@ -17,7 +17,7 @@ use Rattle.osi_rules.specs.declared.connections.Offer.{Offer}
 use Rattle.osi_rules.specs.declared.directions.Direction.TheVariants.{Left, Right}
 use Rattle.osi_rules.specs.declared.findings.Finding.TheVariants.{Broke, NotJudged, TooMany}
 use Rattle.osi_rules.specs.declared.findings.Rule.TheVariants as rule
-use Rattle.osi_rules.specs.Rows.{first_failed, is_offered, offers_two, selects_expedited}
+use Rattle.osi_rules.specs.Rows.{first_failed, is_inside, is_offered, selects_expedited}
 use Rattle.osi_rules.specs.Sides.{begins, is_over, uses}
 use Rattle.osi_rules.specs.Traffic.{State as Traffic, class_of, has_place, is_not_judged, offer_of, packet_begins, refused as not_read}
 use Rattle.osi_rules.specs.Traffic.{request_tests, takes}
@@ -30,7 +30,7 @@ use Rattle.osi_fair.proofs.a_refused_request_waits_no_more.{all_from}
 use Rattle.osi_fair.proofs.a_request_of_a_whole_end_is_new.{IsUnused, Newer, next_unused}
 use Rattle.osi_fair.proofs.a_calling_end_goes_on_in_class_zero.{IsZeroed, confirm_takes, confirmed_so, zeroed_begins, zeroed_calls}
 use Rattle.osi_fair.proofs.a_calling_end_goes_on_in_class_zero.{zeroed_comes, zeroed_elsewhere, zeroed_passes, zeroed_refused, zeroed_takes}
-use Rattle.osi_fair.proofs.how_a_calling_end_asks.{Calls, Idle, IsCalling, IsOver, asks_one, broke, dc_ends, idles, none_calls, one}
+use Rattle.osi_fair.proofs.how_a_calling_end_asks.{Calls, Idle, IsCalling, IsOver, Offers, asks_one, broke, dc_ends, idles, none_calls, one}
 use Rattle.osi_fair.proofs.how_a_calling_end_asks.{one_calls, over_calls, over_takes, refusal_takes, same}
 use Rattle.osi_fair.proofs.what_holds_of_one_item.{HoldsOfEach}
 use Rattle.osi_fair.proofs.what_lasts_at_the_tap.{lasts_passing}
@@ -50,9 +50,9 @@ Calling local rows s = IsCalling rows s × (s.local ≡ local)
 abbrev CallsOrOver : Local → ℕ → State → Type 0
 CallsOrOver local r s = IsOver s ⊎ Calling local (one r) s
 
--- class 2 is offered only if the end has it
-abbrev OffersOwn : Local → Bool → Type 0
-OffersOwn local two = two ≡ true → local.class2 ≡ true
+-- the end has class 0, or no other
+abbrev pub HasZero : Local → Type 0
+HasZero local = (local.class0 || not local.class2) ≡ true
 
 pub data Stage (local : Local) (w : Whole) : Type 0 where
   -- the end is over, and nothing is to pass
@@ -61,21 +61,21 @@ pub data Stage (local : Local) (w : Whole) : Type 0 where
   quiet : Calling local [] w.end → w.put ≡ [] → w.begun ≡ false → (cs : List Connection) (strays : Bool) → w.tap ≡ calm_tap cs strays →
       HoldsOfEach IsDone cs → AreDcs w.coming → Stage local w
   -- a CR is to pass
-  asks : (x : Connect) → w.put ≡ request x ∷ [] → CallsOrOver local x.source w.end → OffersOwn local (offers_two x) →
+  asks : (x : Connect) → w.put ≡ request x ∷ [] → CallsOrOver local x.source w.end → Offers local (offer_of x) →
       (cs : List Connection) (strays : Bool) → w.tap ≡ calm_tap cs strays → HoldsOfEach IsDone cs → AreDcs w.coming →
       (w.begun ≡ true → AllOver cs) → Stage local w
   -- it has passed, and its answer has not
   waits : (r : ℕ) → Calling local (one r) w.end → w.put ≡ [] → w.begun ≡ false → (cs : List Connection) (strays : Bool) →
-      w.tap ≡ calm_tap cs strays → (p : ℕ) (o : Offer) → OffersOwn local o.class2 → Waits r p o cs → AreDcs w.coming → Stage local w
+      w.tap ≡ calm_tap cs strays → (p : ℕ) (o : Offer) → Offers local o → Waits r p o cs → AreDcs w.coming → Stage local w
   -- its answer has passed, and the end has not taken it: a refusal, or a CC for class 0, which makes of the end what comes after it
   refused : (r : ℕ) → Calling local (one r) w.end → w.put ≡ [] → w.begun ≡ false → (cs : List Connection) (strays : Bool) →
       w.tap ≡ calm_tap cs strays → HoldsOfEach IsDone cs → (dcs : List Value) (v : Value) (more : List Value) →
       w.coming ≡ dcs ++ v ∷ more → AreDcs dcs → IsRefusal r v → AreDcs more → Stage local w
   answered : (r : ℕ) → Calling local (one r) w.end → w.put ≡ [] → w.begun ≡ false → (dcs : List Value) (n : ℕ) (x : Connect)
-      (more : List Value) → w.coming ≡ dcs ++ confirm n x ∷ more → AreDcs dcs → (x.class == 2) ≡ false → (after : State) →
+      (more : List Value) → w.coming ≡ dcs ++ confirm n x ∷ more → AreDcs dcs → (x.class == 2) ≡ false → HasZero local → (after : State) →
       react (confirm n x) w.end ≡ after → IsZeroed after [] false w.tap → Stage local w
   -- class 0 is selected, and the end has taken the CC
-  zero : IsZeroed w.end w.put w.begun w.tap → Stage local w
+  zero : HasZero local → IsZeroed w.end w.put w.begun w.tap → Stage local w
   -- class 2 is selected, and has passed
   known : w.tap.course.class ≡ Some Two → (w.begun ≡ true → w.tap.course.class_seen ≡ Some Two) → local.class2 ≡ true → Stage local w
 
@@ -104,7 +104,7 @@ dc_taking local w rows unit later none is dc =
     let p = dc_ends rows unit w.end dc is.0 in ended_taking local w unit later none p.put p.after
 
 asks_taking : (local : Local) (w : Whole) (unit : Value) (later : List Value) (x : Connect) (cs : List Connection) (strays : Bool) →
-    w.put ≡ request x ∷ [] → CallsOrOver local x.source w.end → OffersOwn local (offers_two x) → w.tap ≡ calm_tap cs strays →
+    w.put ≡ request x ∷ [] → CallsOrOver local x.source w.end → Offers local (offer_of x) → w.tap ≡ calm_tap cs strays →
     HoldsOfEach IsDone cs → IsDc unit → AreDcs later → (w.begun ≡ true → AllOver cs) → Stage local (after_taking w unit later)
 asks_taking local w unit later x cs strays put (inl h) offers tap done dc dcs begun =
     let (e, none) = over_takes unit w.end h in
@@ -115,24 +115,24 @@ asks_taking local w unit later x cs strays put (inr is) offers tap done dc dcs b
     asks x (none_more w.put (put_for unit w.end) (request x ∷ []) put p.put) (inl p.after) offers cs strays tap done dcs begun
 
 cc_taking : (local : Local) (w : Whole) (r n : ℕ) (x : Connect) (later : List Value) (after : State) → Calling local (one r) w.end →
-    w.put ≡ [] → w.begun ≡ false → (x.class == 2) ≡ false → react (confirm n x) w.end ≡ after → IsZeroed after [] false w.tap →
+    w.put ≡ [] → w.begun ≡ false → (x.class == 2) ≡ false → HasZero local → react (confirm n x) w.end ≡ after → IsZeroed after [] false w.tap →
     Stage local (after_taking w (confirm n x) later)
-cc_taking local w r n x later after is none not_begun class so z =
+cc_taking local w r n x later after is none not_begun class has so z =
     let puts : w.put ++ put_for (confirm n x) w.end ≡ [] = none_more w.put (put_for (confirm n x) w.end) [] none
     (confirm_takes n r x w.end is.0 class).put in
-    zero (subst (λ (s : State). IsZeroed s (w.put ++ put_for (confirm n x) w.end) w.begun w.tap) (sym so)
+    zero has (subst (λ (s : State). IsZeroed s (w.put ++ put_for (confirm n x) w.end) w.begun w.tap) (sym so)
     (subst (λ (l : List Value). IsZeroed after l w.begun w.tap) (sym puts)
     (subst (λ (b : Bool). IsZeroed after [] b w.tap) (sym not_begun) z)))
 
 answered_taking : (local : Local) (w : Whole) (unit : Value) (later : List Value) (r : ℕ) (dcs : List Value) (n : ℕ) (x : Connect)
     (more : List Value) (after : State) → Calling local (one r) w.end → w.put ≡ [] → w.begun ≡ false →
-    unit ∷ later ≡ dcs ++ confirm n x ∷ more → AreDcs dcs → (x.class == 2) ≡ false → react (confirm n x) w.end ≡ after →
-    IsZeroed after [] false w.tap → Stage local (after_taking w unit later)
-answered_taking local w unit later r [] n x more after is none not_begun e dcs class so z =
+    unit ∷ later ≡ dcs ++ confirm n x ∷ more → AreDcs dcs → (x.class == 2) ≡ false → HasZero local →
+    react (confirm n x) w.end ≡ after → IsZeroed after [] false w.tap → Stage local (after_taking w unit later)
+answered_taking local w unit later r [] n x more after is none not_begun e dcs class has so z =
     let (same_unit, others) = first_of unit (confirm n x) later more e in
     subst (λ (v : Value). Stage local (after_taking w v later)) same_unit
-    (cc_taking local w r n x later after is none not_begun class so z)
-answered_taking local w unit later r (d ∷ dcs) n x more after is none not_begun e (dc, others) class so z =
+    (cc_taking local w r n x later after is none not_begun class has so z)
+answered_taking local w unit later r (d ∷ dcs) n x more after is none not_begun e (dc, others) class has so z =
     let (same_unit, rest) = first_of unit d later (dcs ++ confirm n x ∷ more) e in
     dc_taking local w (one r) unit later none is (subst IsDc same_unit dc)
 
@@ -168,9 +168,9 @@ taking local w unit later e (waits r is none not_begun cs strays tap p o offers 
     let (dc, more) = subst AreDcs e dcs in dc_taking local w (one r) unit later none is dc
 taking local w unit later e (refused r is none not_begun cs strays tap done dcs v more coming are refusal too) =
     refused_taking local w unit later r cs strays dcs v more is none not_begun tap done (sym e ∙ coming) are refusal too
-taking local w unit later e (answered r is none not_begun dcs n x more coming are class after so z) =
-    answered_taking local w unit later r dcs n x more after is none not_begun (sym e ∙ coming) are class so z
-taking local w unit later e (zero z) = zero (zeroed_takes w.end w.put w.begun w.tap z unit)
+taking local w unit later e (answered r is none not_begun dcs n x more coming are class has after so z) =
+    answered_taking local w unit later r dcs n x more after is none not_begun (sym e ∙ coming) are class has so z
+taking local w unit later e (zero has z) = zero has (zeroed_takes w.end w.put w.begun w.tap z unit)
 taking local w unit later e (known two seen has) = known two seen has
 
 -- ---- its user makes a call
@@ -195,7 +195,7 @@ over_calling local w call none h idle =
     one_calling local w call none idle (λ e put. ended put (ap (λ (s : State). is_some s.ended) e ∙ h))
 
 asks_calling : (local : Local) (w : Whole) (call : UserCall) (x : Connect) (cs : List Connection) (strays : Bool) →
-    w.put ≡ request x ∷ [] → CallsOrOver local x.source w.end → OffersOwn local (offers_two x) → Idle call w.end →
+    w.put ≡ request x ∷ [] → CallsOrOver local x.source w.end → Offers local (offer_of x) → Idle call w.end →
     w.tap ≡ calm_tap cs strays → HoldsOfEach IsDone cs → AreDcs w.coming → (w.begun ≡ true → AllOver cs) →
     Stage local (after_calling w call)
 asks_calling local w call x cs strays put is offers (same e none asks_none) tap done dcs begun =
@@ -216,7 +216,7 @@ quiet_calling local w call cs strays (idles i) is none not_begun tap done dcs =
     (λ e put. quiet (subst (Calling local []) (sym e) is) put not_begun cs strays tap done dcs)
 quiet_calling local w call cs strays (asks_one x put now here offers) is none not_begun tap done dcs =
     asks x (ap (λ (l : List Value). l ++ put_by call w.end) none ∙ put) (inr (now, here ∙ is.1))
-    (λ h. ap (λ (l : Local). l.class2) (sym is.1) ∙ offers h) cs strays tap done dcs (λ h. differ w.begun h not_begun)
+    (subst (λ (l : Local). Offers l (offer_of x)) is.1 offers) cs strays tap done dcs (λ h. differ w.begun h not_begun)
 
 calling : (local : Local) (w : Whole) (call : UserCall) → MayCall call w.end → Stage local w → Stage local (after_calling w call)
 calling local w call may (ended none h) = over_calling local w call none h (over_calls call w.end h may)
@@ -230,11 +230,11 @@ calling local w call may (waits r is none not_begun cs strays tap p o offers wai
 calling local w call may (refused r is none not_begun cs strays tap done dcs v more coming are refusal too) =
     one_calling local w call none (one_calls r call w.end is.0 may)
     (λ e put. refused r (subst (Calling local (one r)) (sym e) is) put not_begun cs strays tap done dcs v more coming are refusal too)
-calling local w call may (answered r is none not_begun dcs n x more coming are class after so z) =
+calling local w call may (answered r is none not_begun dcs n x more coming are class has after so z) =
     one_calling local w call none (one_calls r call w.end is.0 may)
-    (λ e put. answered r (subst (Calling local (one r)) (sym e) is) put not_begun dcs n x more coming are class after
+    (λ e put. answered r (subst (Calling local (one r)) (sym e) is) put not_begun dcs n x more coming are class has after
     (ap (λ (s : State). react (confirm n x) s) e ∙ so) z)
-calling local w call may (zero z) = zero (zeroed_calls w.end w.put w.begun w.tap z call may)
+calling local w call may (zero has z) = zero has (zeroed_calls w.end w.put w.begun w.tap z call may)
 calling local w call may (known two seen has) = known two seen has
 
 -- ---- a unit of the end begins to pass, and passes
@@ -250,8 +250,8 @@ beginning local w some (asks x put is offers cs strays tap done dcs begun) =
     (λ h. over_begins cs done)
 beginning local w some (waits r is none not_begun cs strays tap p o offers waiting dcs) = absurd (some none)
 beginning local w some (refused r is none not_begun cs strays tap done dcs v more coming are refusal too) = absurd (some none)
-beginning local w some (answered r is none not_begun dcs n x more coming are class after so z) = absurd (some none)
-beginning local w some (zero z) = zero (zeroed_begins w.end w.put w.begun w.tap z)
+beginning local w some (answered r is none not_begun dcs n x more coming are class has after so z) = absurd (some none)
+beginning local w some (zero has z) = zero has (zeroed_begins w.end w.put w.begun w.tap z)
 beginning local w some (known two seen has) = known ((lasts_passing (packet Left) w.tap).two two) (λ h. two) has
 
 abbrev after_own : Whole → Value → List Value → Whole
@@ -275,13 +275,13 @@ calm_passes x cs strays all unused =
     (has_place cs) (all_from (is_over Left) cs all) unused.judged unused.used
 
 asked_stage : (local : Local) (w : Whole) (x : Connect) (strays : Bool) → Calling local (one x.source) w.end →
-    OffersOwn local (offers_two x) → AreDcs w.coming → Asked x strays (takes Left (request x) w.tap).state →
+    Offers local (offer_of x) → AreDcs w.coming → Asked x strays (takes Left (request x) w.tap).state →
     Stage local (after_own w (request x) [])
 asked_stage local w x strays is offers dcs a =
     waits x.source is refl refl a.after strays a.is a.place (offer_of x) offers a.waits dcs
 
 asks_own : (local : Local) (w : Whole) (x : Connect) (cs : List Connection) (strays : Bool) → CallsOrOver local x.source w.end →
-    OffersOwn local (offers_two x) → w.tap ≡ calm_tap cs strays → HoldsOfEach IsDone cs → AreDcs w.coming → AllOver cs →
+    Offers local (offer_of x) → w.tap ≡ calm_tap cs strays → HoldsOfEach IsDone cs → AreDcs w.coming → AllOver cs →
     IsUnused x.source w.tap → GoesOn (takes Left (request x) w.tap).state → Stage local (after_own w (request x) [])
 asks_own local w x cs strays (inl h) offers tap done dcs all unused goes = ended refl h
 asks_own local w x cs strays (inr is) offers tap done dcs all unused goes =
@@ -293,9 +293,9 @@ asks_own local w x cs strays (inr is) offers tap done dcs all unused goes =
     (subst (λ (t : Traffic). Asked x strays (takes Left (request x) t).state) (sym tap) asked_there)
 
 zero_own : (local : Local) (w : Whole) (v : Value) (put : List Value) → w.put ≡ v ∷ put → w.begun ≡ true →
-    w.tap.course.left_stopped ≡ false → IsZeroed w.end w.put w.begun w.tap → Stage local (after_own w v put)
-zero_own local w v put e begun left z =
-    zero (zeroed_passes w.end w.tap v put left
+    w.tap.course.left_stopped ≡ false → HasZero local → IsZeroed w.end w.put w.begun w.tap → Stage local (after_own w v put)
+zero_own local w v put e begun left has z =
+    zero has (zeroed_passes w.end w.tap v put left
     (subst (λ (l : List Value). IsZeroed w.end l true w.tap) e (subst (λ (b : Bool). IsZeroed w.end w.put b w.tap) begun z))).1
 
 own : (local : Local) (w : Whole) (v : Value) (put : List Value) → w.put ≡ v ∷ put → w.begun ≡ true → Newer w →
@@ -312,8 +312,8 @@ own local w v put e begun newer goes (asks x one_put is offers cs strays tap don
 own local w v put e begun newer goes (waits r is none not_begun cs strays tap p o offers waiting dcs) = some_put w v put e none
 own local w v put e begun newer goes (refused r is none not_begun cs strays tap done dcs u more coming are refusal too) =
     some_put w v put e none
-own local w v put e begun newer goes (answered r is none not_begun dcs n x more coming are class after so z) = some_put w v put e none
-own local w v put e begun newer goes (zero z) = zero_own local w v put e begun ((lasts_passing (passing Left v) w.tap).left goes) z
+own local w v put e begun newer goes (answered r is none not_begun dcs n x more coming are class has after so z) = some_put w v put e none
+own local w v put e begun newer goes (zero has z) = zero_own local w v put e begun ((lasts_passing (passing Left v) w.tap).left goes) has z
 own local w v put e begun newer goes (known two seen has) =
     known ((lasts_passing (passing Left v) w.tap).two two) (λ h. differ false h refl) has
 
@@ -335,9 +335,9 @@ begun_elsewhere local w (waits r is none not_begun cs strays tap p o offers wait
 begun_elsewhere local w (refused r is none not_begun cs strays tap done dcs v more coming are refusal too) =
     refused r is none not_begun (map (begins Right) cs) strays (ap (λ (t : Traffic). packet_begins Right t) tap) (done_begins Right cs done)
     dcs v more coming are refusal too
-begun_elsewhere local w (answered r is none not_begun dcs n x more coming are class after so z) =
-    answered r is none not_begun dcs n x more coming are class after so (zeroed_elsewhere after [] false w.tap z)
-begun_elsewhere local w (zero z) = zero (zeroed_elsewhere w.end w.put w.begun w.tap z)
+begun_elsewhere local w (answered r is none not_begun dcs n x more coming are class has after so z) =
+    answered r is none not_begun dcs n x more coming are class has after so (zeroed_elsewhere after [] false w.tap z)
+begun_elsewhere local w (zero has z) = zero has (zeroed_elsewhere w.end w.put w.begun w.tap z)
 begun_elsewhere local w (known two seen has) =
     known ((lasts_passing (packet Right) w.tap).two two) (λ h. (lasts_passing (packet Right) w.tap).seen two (seen h)) has
 
@@ -373,6 +373,18 @@ is_two o x h e =
     two_offered (x.class == 0) (x.class == 2) (o.class0 && true) o.class2
     (o.expedited || not (selects_expedited x.parameters.additional)) o.others (zero_or_two x.class) h e
 
+-- and a CC for class 0 to one that offers that
+zero_offered : (z t a b rest : Bool) → t ≡ false → (z || (t && b)) ≡ true → (if z then (a && true) else rest) ≡ true → a ≡ true
+zero_offered true t true b rest h i e = refl
+zero_offered true t false b rest h i e = cc
+zero_offered false true a b rest h i e = absurd (cc h)
+zero_offered false false a b rest h i e = absurd (cc i)
+
+is_zero : (o : Offer) (x : Connect) → (x.class == 2) ≡ false → is_inside x ≡ true → is_offered o None x ≡ true → o.class0 ≡ true
+is_zero o x h inside e =
+    zero_offered (x.class == 0) (x.class == 2) o.class0 (not (selects_expedited x.parameters.additional) && not (x.options % 2 == 1))
+    (if x.class == 2 then o.class2 && (o.expedited || not (selects_expedited x.parameters.additional)) else o.others) h inside e
+
 class_two : (x : Connect) → (x.class == 2) ≡ true → Some (class_of x) ≡ Some Two
 class_two x h = ap (λ (b : Bool). Some (if b then Two else Zero)) h
 
@@ -380,25 +392,25 @@ item_is : (x y : Connection) (o : Option Connection) → o ≡ Some x → o ≡ 
 item_is x y o h k = cc
 
 confirm_answer : (local : Local) (w : Whole) (v : Value) (r p : ℕ) (o : Offer) (cs : List Connection) (strays : Bool) →
-    Calling local (one r) w.end → w.put ≡ [] → w.begun ≡ false → OffersOwn local o.class2 → (waiting : Waits r p o cs) → AreDcs w.coming →
+    Calling local (one r) w.end → w.put ≡ [] → w.begun ≡ false → Offers local o → (waiting : Waits r p o cs) → AreDcs w.coming →
     (n : ℕ) (x : Connect) → v ≡ confirm n x → IsConnect x → (takes Right v w.tap).state ≡ confirmed_tap p n x waiting.c cs strays →
-    is_offered o None x ≡ true → (b : Bool) → (x.class == 2) ≡ b → Stage local (after_other w v)
-confirm_answer local w v r p o cs strays is none not_begun offers waiting dcs n x same_unit range so offered true class =
-    known (ap (λ (s : Traffic). s.course.class) so ∙ class_two x class) (λ h. differ w.begun h not_begun) (offers (is_two o x class offered))
-confirm_answer local w v r p o cs strays is none not_begun offers waiting dcs n x same_unit range so offered false class =
+    is_offered o None x ≡ true → is_inside x ≡ true → (b : Bool) → (x.class == 2) ≡ b → Stage local (after_other w v)
+confirm_answer local w v r p o cs strays is none not_begun offers waiting dcs n x same_unit range so offered inside true class =
+    known (ap (λ (s : Traffic). s.course.class) so ∙ class_two x class) (λ h. differ w.begun h not_begun) (offers.two (is_two o x class offered))
+confirm_answer local w v r p o cs strays is none not_begun offers waiting dcs n x same_unit range so offered inside false class =
     answered r is none not_begun w.coming n x [] (ap (λ (u : Value). w.coming ++ u ∷ []) same_unit) dcs class
-    (react (confirm n x) w.end) refl
+    (offers.zero (is_zero o x class inside offered)) (react (confirm n x) w.end) refl
     (subst (λ (s : Traffic). IsZeroed (react (confirm n x) w.end) [] false s) (sym so)
     (confirmed_so n r p o x cs strays w.end waiting range is.0 class))
 
 waits_answer : (local : Local) (w : Whole) (v : Value) (r p : ℕ) (o : Offer) (cs : List Connection) (strays : Bool) → HasFieldsInRange v →
-    Calling local (one r) w.end → w.put ≡ [] → w.begun ≡ false → OffersOwn local o.class2 → Waits r p o cs → AreDcs w.coming →
+    Calling local (one r) w.end → w.put ≡ [] → w.begun ≡ false → Offers local o → Waits r p o cs → AreDcs w.coming →
     Answer r p o cs strays v (takes Right v w.tap).state → Stage local (after_other w v)
 waits_answer local w v r p o cs strays ranges is none not_begun offers waiting dcs (confirms n x same_unit c at so offered inside) =
     let range = (subst HasFieldsInRange same_unit ranges).1 in
     let here : c ≡ waiting.c = item_is c waiting.c (slice_get cs p) at waiting.at in
     confirm_answer local w v r p o cs strays is none not_begun offers waiting dcs n x same_unit range
-    (so ∙ ap (λ (y : Connection). confirmed_tap p n x y cs strays) here) offered (x.class == 2) refl
+    (so ∙ ap (λ (y : Connection). confirmed_tap p n x y cs strays) here) offered inside (x.class == 2) refl
 waits_answer local w v r p o cs strays ranges is none not_begun offers waiting dcs (refuses refusal after more tap done) =
     refused r is none not_begun after more tap done w.coming v [] refl dcs refusal tt
 waits_answer local w v r p o cs strays ranges is none not_begun offers waiting dcs (says_nothing (dc, tap)) =
@@ -420,11 +432,11 @@ other_passes local w v ranges goes (refused r is none not_begun cs strays tap do
     let (dc, after) = taken_at w v cs strays tap goes done in
     refused r is none not_begun cs strays after done dcs u (more ++ v ∷ [])
     (ap (λ (l : List Value). l ++ v ∷ []) coming ∙ append_assoc dcs (u ∷ more) (v ∷ [])) are refusal (one_more more v too dc)
-other_passes local w v ranges goes (answered r is none not_begun dcs n x more coming are class after so z) =
+other_passes local w v ranges goes (answered r is none not_begun dcs n x more coming are class has after so z) =
     answered r is none not_begun dcs n x (more ++ v ∷ [])
-    (ap (λ (l : List Value). l ++ v ∷ []) coming ∙ append_assoc dcs (confirm n x ∷ more) (v ∷ [])) are class after so
+    (ap (λ (l : List Value). l ++ v ∷ []) coming ∙ append_assoc dcs (confirm n x ∷ more) (v ∷ [])) are class has after so
     (zeroed_comes after [] false w.tap z v)
-other_passes local w v ranges goes (zero z) = zero (zeroed_comes w.end w.put w.begun w.tap z v)
+other_passes local w v ranges goes (zero has z) = zero has (zeroed_comes w.end w.put w.begun w.tap z v)
 other_passes local w v ranges goes (known two seen has) =
     known ((lasts_passing (passing Right v) w.tap).two two) (λ h. (lasts_passing (passing Right v) w.tap).seen two (seen h)) has
 
@@ -442,9 +454,9 @@ rubbish_passes local w goes (asks x put is offers cs strays tap done dcs begun) 
 rubbish_passes local w goes (waits r is none not_begun cs strays tap p o offers waiting dcs) = calm_stops w cs strays tap goes
 rubbish_passes local w goes (refused r is none not_begun cs strays tap done dcs v more coming are refusal too) =
     calm_stops w cs strays tap goes
-rubbish_passes local w goes (answered r is none not_begun dcs n x more coming are class after so z) =
-    answered r is none not_begun dcs n x more coming are class after so (zeroed_refused after [] false w.tap z)
-rubbish_passes local w goes (zero z) = zero (zeroed_refused w.end w.put w.begun w.tap z)
+rubbish_passes local w goes (answered r is none not_begun dcs n x more coming are class has after so z) =
+    answered r is none not_begun dcs n x more coming are class has after so (zeroed_refused after [] false w.tap z)
+rubbish_passes local w goes (zero has z) = zero has (zeroed_refused w.end w.put w.begun w.tap z)
 rubbish_passes local w goes (known two seen has) =
     known ((lasts_passing (rubbish Right) w.tap).two two) (λ h. (lasts_passing (rubbish Right) w.tap).seen two (seen h)) has
 

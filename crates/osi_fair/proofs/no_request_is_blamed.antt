@@ -86,9 +86,9 @@ is_right local x rest w e begun goes newer (asks y put is offers cs strays tap d
 is_right local x rest w e begun goes newer (waits r is none not_begun cs strays tap p o offers waiting dcs) = some_cr w x rest e none
 is_right local x rest w e begun goes newer (refused r is none not_begun cs strays tap done dcs v more coming are refusal too) =
     some_cr w x rest e none
-is_right local x rest w e begun goes newer (answered r is none not_begun dcs n y more coming are class after so z) =
+is_right local x rest w e begun goes newer (answered r is none not_begun dcs n y more coming are class has after so z) =
     some_cr w x rest e none
-is_right local x rest w e begun goes newer (zero z) =
+is_right local x rest w e begun goes newer (zero has z) =
     no_cr x rest z.tap.limit z.tap.c.left.begun
     (subst (PutsData z.tap.limit anyhow z.tap.c.left.begun) e (zero_puts z.tap.limit w.end z.tap.c.left.begun w.put z.goes))
 is_right local x rest w e begun goes newer (known two seen has) =

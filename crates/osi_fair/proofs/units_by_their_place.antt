@@ -76,15 +76,8 @@ pub all_nowhere : (p : ℕ) (vs : List Value) → units_at p (all_at None vs) �
 all_nowhere p [] = refl
 all_nowhere p (v ∷ vs) = all_nowhere p vs
 
-no_list : (v : Value) (vs : List Value) → v ∷ vs ≡ [] → ⊥
-no_list v vs e = cc
-
 pub first_more : (b : Bool) (p : ℕ) (ts more : List Placed) → (b ≡ true → values ts ≢ []) →
     (b && first_at p (ts ++ more)) ≡ (b && first_at p ts)
 first_more false p ts more h = refl
 first_more true p [] more h = absurd (h refl refl)
 first_more true p (t ∷ ts) more h = refl
-
--- the first of the units of a place is the first of all
-pub first_of_place : (p : ℕ) (v : Value) (ts : List Placed) → first_at p ((Some p, v) ∷ ts) ≡ true
-first_of_place p v ts = at_here p

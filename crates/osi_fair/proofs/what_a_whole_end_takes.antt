@@ -254,7 +254,6 @@ module _ (local : Local) (w : Whole) (f : Followed local w) (sane : IsSane w.tap
     left = k.left;
     right = k.right;
     seen = k.seen;
-    class0 = k.class0;
     early = early_later k.r (k.r == n) refl k.early;
     row = λ lasts. row_kept k.r (k.r == n) refl k.early (k.row was);
   }
@@ -262,7 +261,6 @@ module _ (local : Local) (w : Whole) (f : Followed local w) (sane : IsSane w.tap
   asking_new : (x : Connect) → IsAsking local w.end w.coming x → IsAsking local t later x
   asking_new x k = record {
     left = k.left;
-    class0 = k.class0;
     early = early_later x.source (x.source == n) refl k.early;
     row = λ lasts. row_kept x.source (x.source == n) refl k.early (k.row was);
   }

@@ -1,8 +1,8 @@
 -- What a unit of the other side does to its connection at the tap of a calling end: one that is open stays so, one that waits is
 -- opened or refused. For the law on a whole end.
 use Rattle.std.proofs.Common.{◌≡◌, ◌∙◌, ℕ, Bool, true, false, List, [], ◌∷◌, refl, sym, ap, subst}
-use Rattle.std.proofs.Common.{Option, Some, None, drop, length, inl, inr, ◌⊎◌, if◌then◌else◌, is_none}
-use Rattle.std.specs.Prelude.{◌%◌, ◌&&◌, ◌||◌, ◌==◌, not, position, slice_get, nat_le}
+use Rattle.std.proofs.Common.{Option, Some, None, drop, length, inl, inr, ◌⊎◌, if◌then◌else◌}
+use Rattle.std.specs.Prelude.{◌&&◌, ◌||◌, ◌==◌, not, position, slice_get, nat_le}
 use Rattle.osi_tpdu.specs.Value.{Value, Connect, request, confirm, disconnect, disconnected, data0, data2, acknowledge, error}
 use Rattle.osi_tpdu.specs.Value.{destination_of}
 use Rattle.osi_class.specs.declared.terms.Class.{Class}
@@ -20,7 +20,7 @@ use Rattle.osi_rules.specs.declared.halves.Phase.{Phase}
 use Rattle.osi_rules.specs.declared.halves.Phase.TheVariants.{Silent, Open, Refused, Closing, Closed}
 use Rattle.osi_rules.specs.Reaches.{is_applied, passes_over, reach_of}
 use Rattle.osi_rules.specs.Rows.{Test, first_failed, acknowledge_tests, code_named, confirm_tests, data2_tests, is_due, is_inside}
-use Rattle.osi_rules.specs.Rows.{is_offered, selects_expedited}
+use Rattle.osi_rules.specs.Rows.{is_offered}
 use Rattle.osi_rules.specs.Sides.{is_closing, is_named, is_open, is_refused, is_silent}
 use Rattle.osi_rules.specs.Traffic.{Outcome, State as Traffic, at_found, at_place, class_for, closing_phase, connection_after}
 use Rattle.osi_rules.specs.Traffic.{course_after, course_after_none, found, found_on, half_after, none_told, one_told, reached, route}
@@ -31,7 +31,7 @@ use Rattle.osi_fair.proofs.no_two_open_connections_have_one_peer.{there_not_sile
 use Rattle.osi_fair.proofs.class_0_stays_selected.{reached_class}
 use Rattle.osi_fair.proofs.each_connection_has_its_line.{is_tracked}
 use Rattle.osi_fair.proofs.what_keeps_names_apart.{Sound}
-use Rattle.osi_fair.proofs.what_stays_of_each_connection.{left_then, right_judged, right_own}
+use Rattle.osi_fair.proofs.what_stays_of_each_connection.{right_judged, right_own}
 use Rattle.osi_fair.proofs.what_the_other_side_closes.{IsFirm, judged_same, not_firm}
 use Rattle.osi_fair.proofs.which_units_are_for_a_connection.{is_dc}
 use Rattle.osi_fair.proofs.while_no_class_is_selected.{named_where}
@@ -217,11 +217,6 @@ pub data Ruled (f : Finding) : Type 0 where
   wrong_reference : f ≡ Broke rule.ReferenceInUse → Ruled f
   outside : f ≡ Outside → Ruled f
 
-abbrev cc_tests : (silent zero two offered none others other small used within : Bool) → List Test
-cc_tests silent zero two offered none others other small used within =
-    (silent, Broke rule.WrongForm) ∷ ((if zero then (offered && none) else (if two then others else other)), Broke rule.BadAnswer)
-    ∷ ((zero || (two && small)), Outside) ∷ (not used, Broke rule.ReferenceInUse) ∷ (within, Broke rule.LargerSize) ∷ []
-
 ruled : (a b i u l : Bool) → a ≡ true →
     Ruled (first_failed ((a, Broke rule.WrongForm) ∷ (b, Broke rule.BadAnswer) ∷ (i, Outside) ∷ (u, Broke rule.ReferenceInUse)
     ∷ (l, Broke rule.LargerSize) ∷ []))
@@ -231,20 +226,6 @@ ruled true true false u l h = outside refl
 ruled true true true false l h = wrong_reference refl
 ruled true true true true false h = fine (inr refl)
 ruled true true true true true h = fine (inl refl)
-
--- a CC that is taken selects class 2, and a reference that is not in use
-two_unused : (silent zero two offered none others other small used within : Bool) → offered ≡ false →
-    is_applied (first_failed (cc_tests silent zero two offered none others other small used within)) ≡ true →
-    (two ≡ true) × (used ≡ false)
-two_unused silent zero two true none others other small used within e h = cc
-two_unused false zero two false none others other small used within e h = cc
-two_unused true true two false none others other small used within e h = cc
-two_unused true false true false none true other true false within e h = (refl, refl)
-two_unused true false true false none true other true true within e h = cc
-two_unused true false true false none true other false used within e h = cc
-two_unused true false true false none false other small used within e h = cc
-two_unused true false false false none others true small used within e h = cc
-two_unused true false false false none others false small used within e h = cc
 
 unused_by : (a b i used l : Bool) → is_applied (first_failed ((a, Broke rule.WrongForm) ∷ (b, Broke rule.BadAnswer) ∷ (i, Outside)
     ∷ (not used, Broke rule.ReferenceInUse) ∷ (l, Broke rule.LargerSize) ∷ [])) ≡ true → used ≡ false
@@ -273,9 +254,6 @@ module _ (s : Traffic) (c : Connection) (judged : c.is_judged ≡ true) (sound :
   right_by : (v : Value) (b : Bool) → is_applied (finding v) ≡ b → (next v).right ≡ (if b then half_after v c.right else c.right)
   right_by v true e = ap (λ (b : Bool). (connection_after Right v b (how_far v) c).right) e ∙ right_own v (how_far v) c
   right_by v false e = ap (λ (b : Bool). (connection_after Right v b (how_far v) c).right) e ∙ right_judged (how_far v) c
-
-  pub next_left : (v : Value) → (next v).left ≡ c.left
-  next_left v = left_then v (is_applied (finding v)) (how_far v) c
 
   broke : {A : Type 0} (v : Value) (r : Rule) → finding v ≡ Broke r → passes_over r ≡ false → IsFirm (course v) → A
   broke v r e fine_so h =
@@ -398,17 +376,6 @@ module _ (s : Traffic) (c : Connection) (judged : c.is_judged ≡ true) (sound :
   -- a CC that takes effect selects class 2
   abbrev pub SelectsTwo : Value → Type 0
   SelectsTwo v = (m : ℕ) (x : Connect) → v ≡ confirm m x → is_applied (finding v) ≡ true → (x.class == 2) ≡ true
-
-  -- if class 0 was not offered
-  pub not_offered : c.offer.class0 ≡ false → (v : Value) → SelectsTwo v
-  not_offered zero v m x e applied =
-      let u = confirm m x in
-      let so = ap is_applied (sym (is_found u)) ∙ ap (λ (y : Value). is_applied (finding y)) (sym e) ∙ applied in
-      let (two, unused) = two_unused (is_silent c.right.phase) (x.class == 0) (x.class == 2) c.offer.class0 (is_none s.course.class)
-      (c.offer.class2 && (c.offer.expedited || not (selects_expedited x.parameters.additional))) c.offer.others
-      (not (selects_expedited x.parameters.additional) && not (x.options % 2 == 1)) (uses_source Right s.connections u)
-      (nat_le (code_named x.parameters.size) c.offer.size_code) zero so in
-      two
 
   two_or_zero : (m : ℕ) (x : Connect) (b : Bool) → (x.class == 2) ≡ b → is_applied (finding (confirm m x)) ≡ true →
       ((course (confirm m x)).class ≡ Some Zero → ⊥) → b ≡ true

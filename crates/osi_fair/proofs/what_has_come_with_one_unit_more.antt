@@ -96,7 +96,6 @@ waiting_other local end coming x v k e = record {
   left = k.left;
   right = k.right;
   seen = k.seen;
-  class0 = k.class0;
   early = early_other k.r coming v e k.early;
   row = k.row;
 }
@@ -109,7 +108,6 @@ waiting_dc local end coming x v dc k = record {
   left = k.left;
   right = k.right;
   seen = k.seen;
-  class0 = k.class0;
   early = early_more k.r coming v dc (names k.r v) refl k.early;
   row = k.row;
 }

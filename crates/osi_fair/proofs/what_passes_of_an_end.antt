@@ -2,7 +2,6 @@
 -- For the laws on a line.
 use Rattle.std.proofs.Common.{◌≡◌, ◌∙◌, ℕ, ◌+◌, ◌%◌, ◌<◌, ◌≤◌, Bool, true, false, List, [], ◌∷◌, length, arith, refl, sym, ap, subst}
 use Rattle.std.proofs.Common.{Option, Some, None, if◌then◌else◌}
-use Rattle.std.specs.Prelude.{not}
 use Rattle.osi_tpdu.specs.Value.{Value, request, confirm, disconnect, disconnected, data0, data2, acknowledge, error}
 use Rattle.osi_class.specs.Limits.{longest_tsdu}
 use Rattle.osi_class.specs.Link.{Standing}
@@ -125,10 +124,6 @@ begun_same half false octets h = omega arith
 open_if : (put : List Value) (phase : Phase) → is_open phase ≡ true → OpenIfAny put phase
 open_if [] phase h = tt
 open_if (unit ∷ units) phase h = h
-
-closing_same : (was : Bool) (half : Half) → not was ≡ true → closing_phase was half ≡ closing_phase false half
-closing_same true half h = cc
-closing_same false half h = refl
 
 module _ (r peer limit : ℕ) (x : Tally) (noted : ℕ) (tap : Connection) (o : Ordered x noted) (t : tapped r peer limit x noted tap) where
   -- a DT

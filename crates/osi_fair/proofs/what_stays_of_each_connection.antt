@@ -108,10 +108,6 @@ or_left : (a b : Bool) → (a || b) ≡ false → a ≡ false
 or_left true b h = cc
 or_left false b h = refl
 
-or_right : (a b : Bool) → (a || b) ≡ false → b ≡ false
-or_right true b h = cc
-or_right false b h = h
-
 closing_started : (was : Bool) (half : Half) → was ≡ false →
     (is_silent (closing_phase was half).phase || is_refused (closing_phase was half).phase) ≡ false
 closing_started false half h = refl

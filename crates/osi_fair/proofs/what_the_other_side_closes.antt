@@ -285,10 +285,6 @@ module _ (L : ℕ → Type 0) (s : State) (q : ℕ) (c : Connection) (at : slice
 
   -- ---- a DR
 
-  not_closed : (a : Bool) → is_applied (first_failed ((a, Broke rule.Closed) ∷ [])) ≡ false → a ≡ false
-  not_closed true h = cc
-  not_closed false h = refl
-
   all_applied : (a : Bool) → is_applied (first_failed ((a, Broke rule.Closed) ∷ [])) ≡ true → a ≡ true
   all_applied true h = refl
   all_applied false h = cc

@@ -138,7 +138,7 @@ over_done c (j, h) = both c.is_judged (is_over_by c.right c.seen_by_right) j (or
     (is_refused c.seen_by_right.phase || (is_closed c.right.phase
     || (is_closing c.right.phase && (is_closing c.seen_by_right.phase || is_closed c.seen_by_right.phase)))) h)
 
-pub done_not_named : (c : Connection) (n : ℕ) → IsDone c → is_named Right n c ≡ true → ⊥
+done_not_named : (c : Connection) (n : ℕ) → IsDone c → is_named Right n c ≡ true → ⊥
 done_not_named c n h k = not_named (is_over Right c) (not (is_silent c.seen_by_right.phase) && (c.seen_by_right.reference == n))
     (over_done c h) k
 

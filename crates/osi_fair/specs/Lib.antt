@@ -6,3 +6,4 @@ pub mod Asking
 pub mod Putting
 pub mod Wholes
 pub mod Pieces
+pub mod Calls

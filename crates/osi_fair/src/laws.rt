@@ -8,7 +8,7 @@ ghost use Rattle.osi_carrier.specs.Orderly.{IsOrderly};
 ghost use Rattle.osi_carrier.specs.Packets.{Acts as Takes, Carrying, Feeds};
 ghost use Rattle.osi_carrier.specs.React.{react};
 ghost use Rattle.osi_carrier.specs.Rows.{value_at};
-ghost use Rattle.osi_carrier.specs.Runs.{Act as Done, UserCall, user_does};
+ghost use Rattle.osi_carrier.specs.Runs.{Act as Done, Call, UserCall, user_does};
 ghost use Rattle.osi_carrier.specs.State.{State, closing, linked, packets};
 ghost use Rattle.osi_class.specs.Limits.{longest_tsdu};
 ghost use Rattle.osi_class.specs.Link.{Standing};
@@ -17,6 +17,7 @@ ghost use Rattle.osi_class.specs.declared.terms.Class.{Class};
 ghost use Rattle.osi_class.specs.declared.terms.Class.TheVariants.{Two, Zero};
 ghost use Rattle.osi_class.specs.declared.terms.Local.{Local};
 ghost use Rattle.osi_fair.specs.Asking.{all_asked, all_written};
+ghost use Rattle.osi_fair.specs.Calls.{AreFedFrom, IsRun, MadeAlong};
 ghost use Rattle.osi_fair.specs.Naming.{HoldsOfOne, Passing, all_passed, passes};
 ghost use Rattle.osi_fair.specs.Following.{Follows, IsAtPlace, JustCloses};
 ghost use Rattle.osi_tpkt.specs.declared.cutting.Fed.{Fed};
@@ -293,7 +294,11 @@ pub fn a_called_end_is_fair()
 /// (`packet`), or it can't be read, and the carrier ends (`fault`); and so is a call of its user (`call`). What these events
 /// put is what the carrier writes. It is so too as the carrier is fed a piece of its stream, however that is cut and with or
 /// without enough memory: the units arrive that the packets have which the piece completes, or the carrier ends; unless it ends,
-/// it holds the rest for the next piece (`piece`, over `specs/Pieces`). So the laws on whole ends speak of every run of a carrier.
+/// it holds the rest for the next piece (`piece`, over `specs/Pieces`). And it is so of any calls one after the other: the carrier
+/// is fed pieces of a stream, reports events, hands over octets to send, and its user makes calls (`run`, over `specs/Calls`). The
+/// units of the packets in the stream arrive, in order, and what the events put is all that the carrier writes in these calls. Its
+/// whole end keeps the events that were reported and the octets that were sent: no effect depends on these. So the laws on whole
+/// ends speak of every run of a carrier, with a tap at work between any two of its calls.
 pub fn a_packet_is_events()
     ensures packet { (d : Direction) (octets : List ℕ) (units later : List Value) (w : Whole) (new : State) → Takes w.end octets new →
         units_of octets ≡ Ok units → w.coming ≡ units ++ later → Becomes d w new }
@@ -302,4 +307,6 @@ pub fn a_packet_is_events()
     ensures call { (d : Direction) (call : UserCall) (w : Whole) → MayCall call w.end → Becomes d w (user_does call w.end) }
     ensures piece { (d : Direction) (old : Carrying) (piece : List ℕ) (new : Carrying) (fed : Fed) → Feeds old piece fed new →
         IsFed d old piece fed.used new }
+    ensures run { (d : Direction) (old : Carrying) (stream : List ℕ) (calls : List Call) (new : Carrying) → MadeAlong old calls new →
+        AreFedFrom stream calls → IsRun d old stream calls new }
 {}

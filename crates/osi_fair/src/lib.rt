@@ -41,9 +41,9 @@
 //!   [`laws::a_dr_for_what_is_gone_closed_nothing`]. And no unit of it that passes is blamed, of whatever connection and whatever
 //!   classes it offers, until the other side breaks a rule: [`laws::a_calling_end_is_fair`]. In class 2 each connection that is
 //!   open at the tap has its line, and each line its place. After a CC that selects class 0 has passed, the end puts nothing until
-//!   it takes that CC, since its CR is answered only then; after that it puts DTs alone, on its one connection. What a carrier does
-//!   with a packet, with or without enough memory, and what its user does, is such events, and so is what it does with a piece of
-//!   its stream: [`laws::a_packet_is_events`].
+//!   it takes that CC: while its CR has no answer, it asks for no other connection. From then on it puts DTs alone, on its one
+//!   connection. What a carrier does with a packet, with or without enough memory, and what its user does, is such events; and so is
+//!   what it does with a piece of its stream, and in any calls one after the other: [`laws::a_packet_is_events`].
 //! - **A DC for a DR that closed nothing** has for its DST-REF whatever SRC-REF that DR had, maybe that of another open connection.
 //!   The rules don't take it for the answer on that connection, since its SRC-REF is not the reference that the end gave there:
 //!   references rise, so the one that is gone is given to no later connection. And a DC of the other side that answers nothing is

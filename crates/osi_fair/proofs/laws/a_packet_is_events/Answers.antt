@@ -1,5 +1,6 @@
 use Rattle.osi_fair.proofs.a_packet_is_events.{becomes_by_call, becomes_by_fault, becomes_by_packet}
 use Rattle.osi_fair.proofs.a_piece_is_events.{fed_so}
+use Rattle.osi_fair.proofs.a_run_of_calls_is_events.{run_so}
 use Rattle.osi_fair.proofs.laws.a_packet_is_events.Goals as goal
 
 pub returns-clause-packet : goal.returns-clause-packet
@@ -13,3 +14,6 @@ returns-clause-call c = becomes_by_call
 
 pub returns-clause-piece : goal.returns-clause-piece
 returns-clause-piece c = fed_so
+
+pub returns-clause-run : goal.returns-clause-run
+returns-clause-run c = run_so

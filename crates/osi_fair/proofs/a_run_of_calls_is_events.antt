@@ -1,0 +1,262 @@
+-- What a carrier does in calls, one after the other, is events of its whole end: one by one, up to the call after which it has ended,
+-- and then nothing. For the law on packets.
+use Rattle.std.proofs.Common.{◌≡◌, ◌∙◌, ℕ, Bool, true, false, List, [], ◌∷◌, ◌++◌, take, drop, refl, sym, ap, subst, append_assoc}
+use Rattle.std.proofs.Common.{Option, Some, None, is_some, if◌then◌else◌}
+use Rattle.std.specs.List.{flat_map}
+use Rattle.std.proofs.lemmas.List.{append-nil, take-append-drop}
+use Rattle.osi_tpkt.specs.Stream.{ArePackets}
+use Rattle.osi_tpkt.specs.declared.cutting.Fed.{Fed}
+use Rattle.osi_tpkt.proofs.the_packets_are_those_of_the_stream.{packets_joined}
+use Rattle.osi_tpdu.specs.Value.{Value}
+use Rattle.osi_class.specs.Link.{Standing}
+use Rattle.osi_carrier.specs.Calls.{Tells, closed_on, sent_on}
+use Rattle.osi_carrier.specs.Happenings.{Happening}
+use Rattle.osi_carrier.specs.Packets.{Carrying, Feeds}
+use Rattle.osi_carrier.specs.Runs.{Call, Calls, UserCall, breaks, calling, carried_in, carrying, closes, connects, feeding, put_back, sends}
+use Rattle.osi_carrier.specs.Runs.{sends_all, telling, told_in, used_in, user_does}
+use Rattle.osi_carrier.specs.State.{State, ends}
+use Rattle.osi_carrier.specs.declared.ends.EndReason.{EndReason}
+use Rattle.osi_carrier.proofs.stream.a_carrier_does_what_its_packets_do.{back_joined}
+use Rattle.osi_rules.specs.declared.directions.Direction.{Direction}
+use Rattle.osi_fair.specs.Calls.{AreFedFrom, IsRun, MadeAlong, MayMake}
+use Rattle.osi_fair.specs.Pieces.{units_in}
+use Rattle.osi_fair.specs.Wholes.{Becomes, MayCall, Whole}
+use Rattle.osi_fair.proofs.a_packet_is_events.{then_so}
+use Rattle.osi_fair.proofs.a_piece_is_events.{feeds_on, units_join}
+use Rattle.osi_fair.proofs.how_a_calling_end_asks.{all_none, may_so, none_over}
+use Rattle.osi_fair.proofs.what_is_in_front_of_a_whole_end.{Comes, calls_front, same_front}
+
+-- ---- after the end nothing changes
+
+differ : {A : Type 0} (b : Bool) → b ≡ true → b ≡ false → A
+differ b h k = absurd (cc)
+
+user_stays : (call : UserCall) (s : State) → is_some s.ended ≡ true → MayCall call s → user_does call s ≡ s
+user_stays (connects this other) s h may = differ (is_some s.ended) h (may_so s may).0
+user_stays (sends r tsdu) s h may = ap (λ (o : Option (ℕ × Standing)). sent_on r tsdu o s) (none_over s h r)
+user_stays (sends_all r tsdus) s h may = (all_none r tsdus s (none_over s h)).0
+user_stays (closes r reason) s h may = ap (λ (o : Option (ℕ × Standing)). closed_on r reason o s) (none_over s h r)
+user_stays (breaks reason) s h may = ap (λ (b : Bool). if b then s else ends reason s) h
+
+-- but for what is reported and sent
+abbrev IsBehind : List Happening → List ℕ → State → State → Type 0
+IsBehind e o old new = put_back e o new ≡ old
+
+told_behind : (event : Option Happening) (old new : State) → Tells event old new → IsBehind (told_in (telling event)) [] old new
+told_behind None old new h = h.1
+told_behind (Some event) old new h = sym h
+
+call_stays : (old : Carrying) (call : Call) (new : Carrying) → is_some old.state.ended ≡ true → Calls old call new → MayMake old call →
+    IsBehind (told_in call) (carried_in call) old.state new.state
+call_stays old (feeding piece fed) new h calls may = ap (λ (c : Carrying). c.state) (calls.over h).1
+call_stays old (telling event) new h calls may = told_behind event old.state new.state calls.0
+call_stays old (carrying octets) new h calls may = ap (λ (c : Carrying). c.state) (sym calls)
+call_stays old (calling call) new h calls may =
+    ap (λ (c : Carrying). c.state) calls ∙ user_stays call old.state h may
+
+-- it has still ended
+still_over : (e : List Happening) (o : List ℕ) (old new : State) → IsBehind e o old new → is_some old.ended ≡ true →
+    is_some new.ended ≡ true
+still_over e o old new behind h = ap (λ (s : State). is_some s.ended) behind ∙ h
+
+all_stay : (old : Carrying) (calls : List Call) (new : Carrying) → is_some old.state.ended ≡ true → MadeAlong old calls new →
+    IsBehind (flat_map told_in calls) (flat_map carried_in calls) old.state new.state
+all_stay old [] new h same = ap (λ (c : Carrying). c.state) same
+all_stay old (call ∷ calls) new h (mid, first, may, more) =
+    let one = call_stays old call mid h first may in
+    let rest = all_stay mid calls new (still_over (told_in call) (carried_in call) old.state mid.state one h) more in
+    back_joined (told_in call) (flat_map told_in calls) (carried_in call) (flat_map carried_in calls) new.state
+    ∙ ap (λ (s : State). put_back (told_in call) (carried_in call) s) rest ∙ one
+
+over_after : (old : Carrying) (calls : List Call) (new : Carrying) → is_some old.state.ended ≡ true → MadeAlong old calls new →
+    is_some new.state.ended ≡ true
+over_after old calls new h along =
+    still_over (flat_map told_in calls) (flat_map carried_in calls) old.state new.state (all_stay old calls new h along) h
+
+-- ---- one call
+
+record Step (d : Direction) (old : Carrying) (call : Call) (mid : Carrying) : Type 0 where
+  packets : List (List ℕ)
+  fed : List ℕ
+  rest : List ℕ
+  cut : ArePackets packets (old.held.octets ++ fed) rest
+  becomes : (e : List Happening) (o : List ℕ) (w : Whole) (later : List Value) → w.end ≡ put_back e o old.state →
+      w.coming ≡ units_in packets ++ later → Comes d (e ++ told_in call) (o ++ carried_in call) w mid.state later
+  keeps : mid.state.ended ≡ None → (fed ≡ used_in call) × (mid.held.octets ≡ rest)
+  from : (stream : List ℕ) (calls : List Call) → AreFedFrom stream (call ∷ calls) →
+      (after : List ℕ) × (stream ≡ fed ++ after) × (mid.state.ended ≡ None → AreFedFrom after calls)
+
+comes_nil : (d : Direction) (e : List Happening) (o : List ℕ) (w : Whole) (s : State) (later : List Value) → Comes d e o w s later →
+    Comes d (e ++ []) (o ++ []) w s later
+comes_nil d e o w s later h =
+    subst (λ (x : List Happening). Comes d x (o ++ []) w s later) (sym (append-nil e))
+    (subst (λ (x : List ℕ). Comes d e x w s later) (sym (append-nil o)) h)
+
+-- nothing is taken
+held_cut : (held : List ℕ) → ArePackets [] (held ++ []) held
+held_cut held = append-nil held
+
+-- what is reported or sent now comes in front
+back_step : (d : Direction) (old : Carrying) (call : Call) (mid : Carrying) → IsBehind (told_in call) (carried_in call) old.state mid.state →
+    mid.held.octets ≡ old.held.octets → used_in call ≡ [] →
+    ((stream : List ℕ) (calls : List Call) → AreFedFrom stream (call ∷ calls) → AreFedFrom stream calls) → Step d old call mid
+back_step d old call mid behind held used from = record {
+  packets = [];
+  fed = [];
+  rest = old.held.octets;
+  cut = held_cut old.held.octets;
+  becomes = λ e o w later is come.
+      same_front d (e ++ told_in call) (o ++ carried_in call) w mid.state later
+      (is ∙ ap (λ (s : State). put_back e o s) (sym behind)
+      ∙ sym (back_joined e (told_in call) o (carried_in call) mid.state)) come;
+  keeps = λ lasts. (sym used, held);
+  from = λ stream calls f. (stream, refl, λ lasts. from stream calls f);
+}
+
+user_step : (d : Direction) (old : Carrying) (call : UserCall) (mid : Carrying) → mid ≡ record old { state = user_does call old.state } →
+    MayCall call old.state → Step d old (calling call) mid
+user_step d old call mid is_mid may = record {
+  packets = [];
+  fed = [];
+  rest = old.held.octets;
+  cut = held_cut old.held.octets;
+  becomes = λ e o w later is come.
+      comes_nil d e o w mid.state later (subst (λ (c : Carrying). Comes d e o w c.state later) (sym is_mid)
+      (calls_front d e o call w old.state later is may come));
+  keeps = λ lasts. (refl, ap (λ (c : Carrying). c.held.octets) is_mid);
+  from = λ stream calls f. (stream, refl, λ lasts. f);
+}
+
+fed_step : (d : Direction) (old : Carrying) (piece : List ℕ) (fed : Fed) (mid : Carrying) → Feeds old piece fed mid →
+    Step d old (feeding piece fed) mid
+fed_step d old piece fed mid h =
+    let f = feeds_on d old piece mid fed h in
+    record {
+      packets = f.packets;
+      fed = take f.within piece;
+      rest = f.rest;
+      cut = f.cut;
+      becomes = λ e o w later is come. comes_nil d e o w mid.state later (f.becomes e o w later is come);
+      keeps = λ lasts. (ap (λ (n : ℕ). take n piece) (sym (f.keeps lasts).0), (f.keeps lasts).1);
+      from = λ stream calls g. (
+        drop f.within piece ++ g.0,
+        g.1 ∙ ap (λ (l : List ℕ). l ++ g.0) (sym (take-append-drop f.within piece))
+            ∙ append_assoc (take f.within piece) (drop f.within piece) g.0,
+        λ lasts. subst (λ (n : ℕ). AreFedFrom (drop n piece ++ g.0) calls) (f.keeps lasts).0 g.2,
+      );
+    }
+
+step_so : (d : Direction) (old : Carrying) (call : Call) (mid : Carrying) → Calls old call mid → MayMake old call → Step d old call mid
+step_so d old (feeding piece fed) mid h may = fed_step d old piece fed mid h
+step_so d old (telling event) mid h may =
+    back_step d old (telling event) mid (told_behind event old.state mid.state h.0) (ap (λ held. held.octets) h.1) refl
+    (λ stream calls f. f)
+step_so d old (carrying octets) mid h may =
+    back_step d old (carrying octets) mid (ap (λ (c : Carrying). c.state) (sym h)) (ap (λ (c : Carrying). c.held.octets) (sym h)) refl
+    (λ stream calls f. f)
+step_so d old (calling call) mid h may = user_step d old call mid h may
+
+-- ---- calls one after the other
+
+no_end : {A : Type 0} (o : Option EndReason) → is_some o ≡ true → o ≡ None → A
+no_end o h e = absurd (cc)
+
+-- the call ends the carrier
+ended_run : (d : Direction) (old : Carrying) (stream : List ℕ) (call : Call) (calls : List Call) (mid new : Carrying) →
+    Step d old call mid → MadeAlong mid calls new → AreFedFrom stream (call ∷ calls) → is_some mid.state.ended ≡ true →
+    IsRun d old stream (call ∷ calls) new
+ended_run d old stream call calls mid new step more from gone =
+    let (after, parts, later_from) = step.from stream calls from in
+    let t = told_in call in
+    let c = carried_in call in
+    let ts = flat_map told_in calls in
+    let cs = flat_map carried_in calls in
+    let behind = all_stay mid calls new gone more in
+    let over_now = over_after mid calls new gone more in
+    record {
+      packets = step.packets;
+      fed = step.fed;
+      after = after;
+      rest = step.rest;
+      parts = parts;
+      cut = step.cut;
+      becomes = λ e o w later is come.
+          let so : put_back (e ++ t) (o ++ c) mid.state ≡ put_back (e ++ (t ++ ts)) (o ++ (c ++ cs)) new.state =
+          ap (λ (s : State). put_back (e ++ t) (o ++ c) s) (sym behind) ∙ sym (back_joined (e ++ t) ts (o ++ c) cs new.state)
+          ∙ ap (λ (x : List Happening). put_back x ((o ++ c) ++ cs) new.state) (append_assoc e t ts)
+          ∙ ap (λ (x : List ℕ). put_back (e ++ (t ++ ts)) x new.state) (append_assoc o c cs) in
+          (subst (λ (s : State). Becomes d w s) so (step.becomes e o w later is come).0, λ lasts. no_end new.state.ended over_now lasts);
+      keeps = λ lasts. no_end new.state.ended over_now lasts;
+    }
+
+-- it does not, and more calls follow
+more_run : (d : Direction) (old : Carrying) (stream : List ℕ) (call : Call) (calls : List Call) (mid new : Carrying)
+    (step : Step d old call mid) → mid.state.ended ≡ None → (after : List ℕ) → stream ≡ step.fed ++ after → IsRun d mid after calls new →
+    IsRun d old stream (call ∷ calls) new
+more_run d old stream call calls mid new step lasts after parts ran =
+    let t = told_in call in
+    let c = carried_in call in
+    let ts = flat_map told_in calls in
+    let cs = flat_map carried_in calls in
+    record {
+      packets = step.packets ++ ran.packets;
+      fed = step.fed ++ ran.fed;
+      after = ran.after;
+      rest = ran.rest;
+      parts = parts ∙ ap (λ (l : List ℕ). step.fed ++ l) ran.parts ∙ sym (append_assoc step.fed ran.fed ran.after);
+      cut = subst (λ (l : List ℕ). ArePackets (step.packets ++ ran.packets) l ran.rest)
+          (append_assoc old.held.octets step.fed ran.fed)
+          (packets_joined step.packets ran.packets (old.held.octets ++ step.fed) step.rest ran.fed ran.rest step.cut
+          (subst (λ (l : List ℕ). ArePackets ran.packets (l ++ ran.fed) ran.rest) (step.keeps lasts).1 ran.cut));
+      becomes = λ e o w later is come.
+          let first_come : w.coming ≡ units_in step.packets ++ (units_in ran.packets ++ later) =
+          come ∙ ap (λ (l : List Value). l ++ later) (units_join step.packets ran.packets)
+          ∙ append_assoc (units_in step.packets) (units_in ran.packets) later in
+          let first = step.becomes e o w (units_in ran.packets ++ later) is first_come in
+          let middle : Whole = record w {
+            end = put_back (e ++ t) (o ++ c) mid.state;
+            put = w.put ++ first.0.put;
+            coming = first.0.coming;
+          } in
+          let next = ran.becomes (e ++ t) (o ++ c) middle later refl (first.1 lasts) in
+          subst (λ (x : List Happening). Comes d x (o ++ (c ++ cs)) w new.state later) (append_assoc e t ts)
+          (subst (λ (x : List ℕ). Comes d ((e ++ t) ++ ts) x w new.state later) (append_assoc o c cs)
+          (then_so d (new.state.ended ≡ None) later w (put_back (e ++ t) (o ++ c) mid.state)
+          (put_back ((e ++ t) ++ ts) ((o ++ c) ++ cs) new.state) first.0 next.0 next.1));
+      keeps = λ still. (
+        ap (λ (l : List ℕ). l ++ ran.fed) (step.keeps lasts).0 ∙ ap (λ (l : List ℕ). used_in call ++ l) (ran.keeps still).0,
+        (ran.keeps still).1,
+      );
+    }
+
+none_run : (d : Direction) (old : Carrying) (stream : List ℕ) (new : Carrying) → new ≡ old → IsRun d old stream [] new
+none_run d old stream new same = record {
+  packets = [];
+  fed = [];
+  after = stream;
+  rest = old.held.octets;
+  parts = refl;
+  cut = held_cut old.held.octets;
+  becomes = λ e o w later is come.
+      comes_nil d e o w new.state later (subst (λ (c : Carrying). Comes d e o w c.state later) (sym same)
+      (same_front d e o w old.state later is come));
+  keeps = λ lasts. (refl, ap (λ (c : Carrying). c.held.octets) same);
+}
+
+module _ (d : Direction) where
+  by_end : (old : Carrying) (stream : List ℕ) (call : Call) (calls : List Call) (mid new : Carrying) → Step d old call mid →
+      MadeAlong mid calls new → AreFedFrom stream (call ∷ calls) →
+      ((after : List ℕ) → AreFedFrom after calls → IsRun d mid after calls new) → (o : Option EndReason) → mid.state.ended ≡ o →
+      IsRun d old stream (call ∷ calls) new
+  by_end old stream call calls mid new step more from runs (Some reason) e =
+      ended_run d old stream call calls mid new step more from (ap is_some e)
+  by_end old stream call calls mid new step more from runs None e =
+      let (after, parts, later_from) = step.from stream calls from in
+      more_run d old stream call calls mid new step e after parts (runs after (later_from e))
+
+  pub run_so : (old : Carrying) (stream : List ℕ) (calls : List Call) (new : Carrying) → MadeAlong old calls new →
+      AreFedFrom stream calls → IsRun d old stream calls new
+  run_so old stream [] new same from = none_run d old stream new same
+  run_so old stream (call ∷ calls) new (mid, first, may, more) from =
+      by_end old stream call calls mid new (step_so d old call mid first may) more from
+      (λ after later_from. run_so mid after calls new more later_from) mid.state.ended refl
