@@ -42,7 +42,7 @@ pub(crate) fn replayed(alloc: Global, script: &str) -> io::Result<Replay> {
 }
 
 fn replay_between(alloc: Global, left: Local, right: Local, script: &str) -> io::Result<Replay> {
-    replay_over(alloc, &mut Pair::new(alloc, left, right), script)
+    replay_over(alloc, &mut calls::two_ends(alloc, left, right), script)
 }
 
 fn replay_over(alloc: Global, pair: &mut Pair, script: &str) -> io::Result<Replay> {

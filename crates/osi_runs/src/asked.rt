@@ -41,7 +41,7 @@ pub(crate) fn unreadable() -> io::Error {
 }
 
 /// The configuration of the two ends that a line asks for; none for every other line.
-pub(crate) fn ends_in(line: &Line) -> Option<(Local, Local)> {
+fn ends_in(line: &Line) -> Option<(Local, Local)> {
     ends_of(line.command()?)
 }
 

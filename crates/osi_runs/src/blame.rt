@@ -1,6 +1,7 @@
 //! Captures in which an end of this product may not be blamed.
 
-use osi_dispute::{Judgement, judge_text};
+use crate::calls;
+use osi_dispute::Judgement;
 use osi_listing::CaptureFault;
 use std::alloc::{AllocError, Global};
 use std::io;
@@ -42,7 +43,7 @@ pub(crate) fn judge(
 }
 
 fn judged(alloc: Global, capture: &[u8]) -> io::Result<Judgement> {
-    match judge_text(alloc, capture) {
+    match calls::judge(alloc, capture) {
         Ok(judgement) => Ok(judgement),
         Err(CaptureFault::BadHex) => Err(io::Error::from(io::ErrorKind::InvalidData)),
         Err(CaptureFault::OutOfMemory) => Err(io::Error::from(io::ErrorKind::OutOfMemory)),

@@ -3,10 +3,14 @@
 
 use bitflags::Flags;
 use osi_carrier::Ref;
+use osi_class::Local;
+use osi_dispute::{Judgement, judge_text};
+use osi_listing::CaptureFault;
 use osi_pair::{Entry, Event, Pair, PairError, Side};
 use osi_session::{CallError, Indication, Request};
 use osi_stack::{Connect, ConnectError, Stack};
 use osi_tpkt::Fed;
+use std::alloc::Global;
 
 /// Asks an end for a connection.
 pub(crate) fn connect(stack: &mut Stack, connect: &Connect) -> Result<Ref, ConnectError> {
@@ -53,10 +57,20 @@ pub(crate) fn journal(pair: &Pair) -> &[Entry] {
     pair.journal()
 }
 
+/// Two fresh ends.
+pub(crate) fn two_ends(alloc: Global, left: Local, right: Local) -> Pair {
+    Pair::new(alloc, left, right)
+}
+
 /// Applies an event, and returns how many octets it carried.
 pub(crate) fn apply(pair: &mut Pair, event: &Event) -> Result<usize, PairError> {
     match pair.apply(event) {
         Ok(applied) => Ok(applied.carried),
         Err(error) => Err(error),
     }
+}
+
+/// Judges a capture.
+pub(crate) fn judge(alloc: Global, capture: &[u8]) -> Result<Judgement, CaptureFault> {
+    judge_text(alloc, capture)
 }

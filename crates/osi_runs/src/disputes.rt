@@ -3,8 +3,9 @@
 //! A line that begins with `== ` names a capture, and the lines of the capture follow it. The line `-- status S` ends
 //! them; after it comes what is printed.
 
+use crate::calls;
 use crate::octets::push;
-use osi_dispute::{Judgement, judge_text};
+use osi_dispute::Judgement;
 use osi_listing::CaptureFault;
 use std::alloc::{AllocError, Global};
 use std::io;
@@ -33,7 +34,7 @@ impl Rows {
 
     fn judge(&mut self, alloc: Global) -> io::Result<()> {
         self.is_judged = true;
-        match judge_text(alloc, &self.capture) {
+        match calls::judge(alloc, &self.capture) {
             Ok(judgement) => Ok(self.tell(alloc, &judgement)?),
             Err(CaptureFault::BadHex) => Ok(push(&mut self.came, "-- BadHex")?),
             Err(CaptureFault::OutOfMemory) => Err(io::Error::from(io::ErrorKind::OutOfMemory)),

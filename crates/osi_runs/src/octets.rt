@@ -9,7 +9,7 @@ ghost use Rattle.std.specs.Prelude.{IfOk};
 ghost use Rattle.osi_spdu.specs.Groups.{units_of};
 ghost use Rattle.osi_spdu.specs.Writing.{TsduFits};
 
-use crate::asked::{ends_in, event_in};
+use crate::asked::{ends_read, event_in};
 use crate::calls;
 use crate::digits::octets_in;
 use bytes::BytesMut;
@@ -44,28 +44,81 @@ impl Ends {
 /// The lines of a text, with the result of each line that asks for something.
 pub(crate) fn played(alloc: Global, text: &str) -> io::Result<Vec<u8>> {
     let mut out = Vec::new(alloc);
-    play_text(alloc, &mut out, text)?;
+    let lines: Vec<&str> = text.lines().collect(alloc)?;
+    play_lines(alloc, &mut out, lines.as_slice())?;
     Ok(out)
 }
 
-fn play_text(alloc: Global, out: &mut Vec<u8>, text: &str) -> io::Result<()> {
-    play_all(alloc, out, &mut None, text)
+fn play_lines(alloc: Global, out: &mut Vec<u8>, lines: &[&str]) -> io::Result<()> {
+    play_first(alloc, out, lines)?;
+    for (at, line) in lines.iter().enumerate() {
+        if begins(*line) {
+            let behind = lines.get(at.saturating_add(1)..).unwrap_or_default();
+            play_script(alloc, out, *line, behind)?;
+        }
+    }
+    Ok(())
 }
 
-fn play_all(
+/// Whether a line asks for two fresh ends.
+fn begins(line: &str) -> bool {
+    line.starts_with("> ends ")
+}
+
+/// The lines before the first two ends: session units that are written again.
+fn play_first(alloc: Global, out: &mut Vec<u8>, lines: &[&str]) -> io::Result<()> {
+    for line in lines {
+        if begins(*line) {
+            return Ok(());
+        }
+        play_units(alloc, out, *line)?;
+    }
+    Ok(())
+}
+
+fn play_units(alloc: Global, out: &mut Vec<u8>, line: &str) -> io::Result<()> {
+    push_kept_line(out, line)?;
+    match line.strip_prefix("> tsdu ") {
+        Some(digits) => write_again(alloc, out, digits),
+        None if line.starts_with("> ") => Err(io::Error::from(io::ErrorKind::InvalidInput)),
+        None => Ok(()),
+    }
+}
+
+/// Adds a line that is no result.
+fn push_kept_line(out: &mut Vec<u8>, line: &str) -> Result<(), AllocError> {
+    if line.is_empty() || line.starts_with('#') || line.starts_with("> ") {
+        push(out, line)?;
+    }
+    Ok(())
+}
+
+/// The line that asks for two ends, and the lines after it, up to the next such line.
+fn play_script(alloc: Global, out: &mut Vec<u8>, asked: &str, lines: &[&str]) -> io::Result<()> {
+    push(out, asked)?;
+    let (left, right) = ends_read(alloc, asked.strip_prefix("> ").unwrap_or_default())?;
+    play_between(alloc, out, &mut ends_of(alloc, left, right), lines)
+}
+
+/// Two fresh ends.
+fn ends_of(alloc: Global, caller: Local, called: Local) -> Ends {
+    Ends {
+        left: Stack::caller(alloc, caller),
+        right: Stack::called(alloc, called),
+    }
+}
+
+fn play_between(
     alloc: Global,
     out: &mut Vec<u8>,
-    ends: &mut Option<Ends>,
-    text: &str,
+    ends: &mut Ends,
+    lines: &[&str],
 ) -> io::Result<()> {
-    for line in text.lines() {
-        if line.is_empty() || line.starts_with('#') {
-            push(out, line)?;
+    for line in lines {
+        if begins(*line) {
+            return Ok(());
         }
-        if let Some(asked) = line.strip_prefix("> ") {
-            push(out, line)?;
-            play(alloc, out, ends, asked)?;
-        }
+        play(alloc, out, ends, *line)?;
     }
     Ok(())
 }
@@ -102,37 +155,20 @@ pub(crate) fn push_made(out: &mut Vec<u8>, line: String) -> Result<(), AllocErro
     push(out, line.as_str())
 }
 
-fn play(alloc: Global, out: &mut Vec<u8>, ends: &mut Option<Ends>, asked: &str) -> io::Result<()> {
+fn play(alloc: Global, out: &mut Vec<u8>, ends: &mut Ends, line: &str) -> io::Result<()> {
+    push_kept_line(out, line)?;
+    match line.strip_prefix("> ") {
+        Some(asked) => play_asked(alloc, out, ends, asked),
+        None => Ok(()),
+    }
+}
+
+fn play_asked(alloc: Global, out: &mut Vec<u8>, ends: &mut Ends, asked: &str) -> io::Result<()> {
     if let Some(digits) = asked.strip_prefix("tsdu ") {
         return write_again(alloc, out, digits);
     }
     let line = Line::read(alloc, asked.as_bytes())?;
-    play_line(alloc, out, ends, asked, &line)
-}
-
-fn play_line<'a>(
-    alloc: Global,
-    out: &mut Vec<u8>,
-    ends: &mut Option<Ends>,
-    asked: &str,
-    line: &'a Line<'a>,
-) -> io::Result<()> {
-    if let Some((caller, called)) = ends_in(line) {
-        begin(alloc, ends, caller, called);
-        return Ok(());
-    }
-    match ends {
-        Some(ends) => play_at(alloc, out, ends, asked, event_in(line)),
-        None => Err(io::Error::from(io::ErrorKind::InvalidInput)),
-    }
-}
-
-/// Replaces the ends by two fresh ones.
-fn begin(alloc: Global, ends: &mut Option<Ends>, caller: Local, called: Local) {
-    *ends = Some(Ends {
-        left: Stack::caller(alloc, caller),
-        right: Stack::called(alloc, called),
-    });
+    play_at(alloc, out, ends, asked, event_in(&line))
 }
 
 fn play_at(

@@ -7,6 +7,7 @@ use crate::blame::{Blame, judge, mark};
 use crate::calls;
 use crate::octets::push_digits;
 use crate::ways::{WAYS, Way, script_in};
+use osi_class::Local;
 use osi_pair::{Event, Pair, Side};
 use osi_script::Line;
 use std::alloc::{AllocError, Global};
@@ -95,59 +96,68 @@ pub(crate) fn judge_runs(alloc: Global, blame: &mut Blame, text: &str) -> io::Re
 }
 
 fn judge_at(alloc: Global, blame: &mut Blame, tap: Tap, text: &str) -> io::Result<()> {
-    play_all(alloc, blame, &mut None, tap, text)
+    let lines: Vec<&str> = text.lines().collect(alloc)?;
+    judge_lines(alloc, blame, tap, lines.as_slice())
 }
 
-fn play_all(
+/// Judges what passes between the two ends of each script.
+fn judge_lines(alloc: Global, blame: &mut Blame, tap: Tap, lines: &[&str]) -> io::Result<()> {
+    for (at, line) in lines.iter().enumerate() {
+        if begins(*line) {
+            let behind = lines.get(at.saturating_add(1)..).unwrap_or_default();
+            judge_script(alloc, blame, tap, *line, behind)?;
+        }
+    }
+    Ok(())
+}
+
+/// Whether a line begins two fresh ends.
+fn begins(line: &str) -> bool {
+    line.starts_with("ends ")
+}
+
+fn judge_script(
     alloc: Global,
     blame: &mut Blame,
-    run: &mut Option<Run>,
     tap: Tap,
-    text: &str,
+    ends: &str,
+    lines: &[&str],
 ) -> io::Result<()> {
-    for line in text.lines() {
-        play(alloc, blame, run, tap, line)?;
-    }
-    finish(alloc, blame, run)
+    let (left, right) = ends_read(alloc, ends)?;
+    judge_run(
+        alloc,
+        blame,
+        &mut run_between(alloc, tap, left, right),
+        lines,
+    )
 }
 
-fn play(
-    alloc: Global,
-    blame: &mut Blame,
-    run: &mut Option<Run>,
-    tap: Tap,
-    line: &str,
-) -> io::Result<()> {
-    if line.starts_with("ends ") {
-        finish(alloc, blame, run)?;
-        return begin(alloc, run, tap, line);
-    }
-    match run {
-        Some(run) => play_line(alloc, run, line),
-        None => Ok(()),
-    }
-}
-
-/// Replaces the ends by two fresh ones.
-fn begin(alloc: Global, run: &mut Option<Run>, tap: Tap, line: &str) -> io::Result<()> {
-    let (left, right) = ends_read(alloc, line)?;
-    *run = Some(Run {
-        pair: Pair::new(alloc, left, right),
+fn run_between(alloc: Global, tap: Tap, left: Local, right: Local) -> Run {
+    Run {
+        pair: calls::two_ends(alloc, left, right),
         tap,
         capture: Vec::new(alloc),
         is_over: false,
-    });
+    }
+}
+
+fn judge_run(alloc: Global, blame: &mut Blame, run: &mut Run, lines: &[&str]) -> io::Result<()> {
+    play_all(alloc, run, lines)?;
+    finish_run(alloc, blame, run)
+}
+
+/// Plays the lines of a script, up to the next two ends.
+fn play_all(alloc: Global, run: &mut Run, lines: &[&str]) -> io::Result<()> {
+    for line in lines {
+        if begins(*line) {
+            return Ok(());
+        }
+        play_line(alloc, run, *line)?;
+    }
     Ok(())
 }
 
 /// Judges what passed between two ends.
-fn finish(alloc: Global, blame: &mut Blame, run: &Option<Run>) -> io::Result<()> {
-    match run {
-        Some(run) => finish_run(alloc, blame, run),
-        None => Ok(()),
-    }
-}
-
 fn finish_run(alloc: Global, blame: &mut Blame, run: &Run) -> io::Result<()> {
     if run.capture.is_empty() {
         return Ok(());

@@ -86,7 +86,12 @@ fn outcome_between(
     events: &[Event],
     given: Given,
 ) -> io::Result<Outcome> {
-    outcome_on(alloc, &mut Pair::new(alloc, left, right), events, given)
+    outcome_on(
+        alloc,
+        &mut calls::two_ends(alloc, left, right),
+        events,
+        given,
+    )
 }
 
 fn outcome_on(
