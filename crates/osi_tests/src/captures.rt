@@ -238,14 +238,24 @@ fn judge(rt: &HostRuntime) -> Result<Judge, Fail> {
 }
 
 fn judged(rt: &HostRuntime, capture: &Capture) -> Result<(), Fail> {
-    let mut whole = judge(rt)?;
-    let mut each = judge(rt)?;
+    is_judged_whole(&mut judge(rt)?, capture)?;
+    is_judged_each(&mut judge(rt)?, capture)
+}
+
+/// Fed piece by piece.
+fn is_judged_whole(judge: &mut Judge, capture: &Capture) -> Result<(), Fail> {
     for (direction, octets) in capture.pieces {
-        feed(&mut whole, *direction, *octets)?;
-        feed_each(&mut each, *direction, *octets)?;
+        feed(judge, *direction, *octets)?;
     }
-    is_found(&whole, capture)?;
-    is_found(&each, capture)
+    is_found(judge, capture)
+}
+
+/// Fed octet by octet.
+fn is_judged_each(judge: &mut Judge, capture: &Capture) -> Result<(), Fail> {
+    for (direction, octets) in capture.pieces {
+        feed_each(judge, *direction, *octets)?;
+    }
+    is_found(judge, capture)
 }
 
 #[test]

@@ -295,15 +295,14 @@ const OPEN_IN_CLASS_0: [Step; 4] = [
     Step::Tell(Told::Opened),
 ];
 
-/// A caller has connection 1 open in class 2, and nothing is to be carried.
-fn opened(rt: &HostRuntime) -> Result<Carrier, Fail> {
-    let mut carrier = caller(rt, true)?;
-    goes(&mut carrier, &OPEN_IN_CLASS_2)?;
-    Ok(carrier)
+/// A caller opens connection 1 in class 2, and continues with these steps.
+fn opened_does(rt: &HostRuntime, steps: &[Step]) -> Result<(), Fail> {
+    open_and_go(&mut caller(rt, true)?, steps)
 }
 
-fn opened_does(rt: &HostRuntime, steps: &[Step]) -> Result<(), Fail> {
-    goes(&mut opened(rt)?, steps)
+fn open_and_go(carrier: &mut Carrier, steps: &[Step]) -> Result<(), Fail> {
+    goes(carrier, &OPEN_IN_CLASS_2)?;
+    goes(carrier, steps)
 }
 
 /// The answer to sending a TSDU on connection 1 that is given away.
@@ -351,6 +350,7 @@ fn sends_together(
 /// The octets are one more than the greatest length. A TSDU of that length is sent in each way. The peer has not given
 /// enough credit for the first, so most of it and all others wait.
 fn lengths_go_on(carrier: &mut Carrier, alloc: Global, octets: &[u8]) -> Result<(), Fail> {
+    goes(carrier, &OPEN_IN_CLASS_2)?;
     let (longest, _) = octets.split_at_checked(1_048_576).ok_or("octets")?;
     sends(carrier, octets, Some(SendError::TooLong))?;
     sends(carrier, longest, None)?;
@@ -362,7 +362,7 @@ fn lengths_go_on(carrier: &mut Carrier, alloc: Global, octets: &[u8]) -> Result<
 #[test]
 fn a_sent_tsdu_has_at_most_1048576_octets(rt: HostRuntime) -> Result<(), Fail> {
     let octets = vec![in rt.alloc(); 0x5A; 1_048_577]?;
-    lengths_go_on(&mut opened(&rt)?, rt.alloc(), octets.as_slice())
+    lengths_go_on(&mut caller(&rt, true)?, rt.alloc(), octets.as_slice())
 }
 
 /// A TSDU arrives with number 5, where 0 is expected.
@@ -396,6 +396,7 @@ const CLOSE: [Step; 7] = [
 ];
 
 fn carries_and_closes(carrier: &mut Carrier, alloc: Global) -> Result<(), Fail> {
+    goes(carrier, &OPEN_IN_CLASS_2)?;
     goes(carrier, &SEND)?;
     gives_away(carrier, alloc, b"C")?;
     goes(carrier, &CLOSE)
@@ -403,7 +404,7 @@ fn carries_and_closes(carrier: &mut Carrier, alloc: Global) -> Result<(), Fail> 
 
 #[test]
 fn a_connection_of_class_2_carries_and_is_closed(rt: HostRuntime) -> Result<(), Fail> {
-    carries_and_closes(&mut opened(&rt)?, rt.alloc())
+    carries_and_closes(&mut caller(&rt, true)?, rt.alloc())
 }
 
 /// Five TSDUs of one octet.
@@ -524,13 +525,14 @@ fn what_credit_holds_back_is_unsent(rt: HostRuntime) -> Result<(), Fail> {
 /// A thousand TSDUs of one octet are sent in one call, and a thousand that are given away: credit holds all but four
 /// back.
 fn thousands_go_on(carrier: &mut Carrier, alloc: Global) -> Result<(), Fail> {
+    goes(carrier, &OPEN_IN_CLASS_2)?;
     sends_together(carrier, alloc, b"A", 1000)?;
     holds_back(carrier, 1996, 1)
 }
 
 #[test]
 fn a_thousand_tsdus_are_sent_together(rt: HostRuntime) -> Result<(), Fail> {
-    thousands_go_on(&mut opened(&rt)?, rt.alloc())
+    thousands_go_on(&mut caller(&rt, true)?, rt.alloc())
 }
 
 /// Sends 18 TSDUs of 1,048,576 octets, of which credit lets four units of 1,019 octets out. Before the last one almost 17
@@ -562,6 +564,7 @@ fn closes_behind(carrier: &mut Carrier) -> Result<(), Fail> {
 }
 
 fn much_goes_on(carrier: &mut Carrier, longest: &[u8]) -> Result<(), Fail> {
+    goes(carrier, &OPEN_IN_CLASS_2)?;
     eighteen_wait(carrier, longest)?;
     credit_comes(carrier)?;
     closes_behind(carrier)
@@ -570,5 +573,5 @@ fn much_goes_on(carrier: &mut Carrier, longest: &[u8]) -> Result<(), Fail> {
 #[test]
 fn eighteen_mib_wait_and_a_close_follows_two(rt: HostRuntime) -> Result<(), Fail> {
     let longest = vec![in rt.alloc(); 0x5A; 1_048_576]?;
-    much_goes_on(&mut opened(&rt)?, longest.as_slice())
+    much_goes_on(&mut caller(&rt, true)?, longest.as_slice())
 }

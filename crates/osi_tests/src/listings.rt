@@ -140,10 +140,18 @@ fn is_counted(lister: &Lister) -> Result<(), Fail> {
 
 /// The listing of octets that arrive one by one, and its status.
 fn listed_singly(alloc: Global, text: &mut Vec<u8>, octets: &[u8]) -> Result<u8, Fail> {
-    let mut lister = Lister::new(alloc);
-    feed_singly(alloc, &mut lister, text, octets)?;
-    is_counted(&lister)?;
-    Ok(finished(&lister, text)?)
+    listed_by(alloc, &mut Lister::new(alloc), text, octets)
+}
+
+fn listed_by(
+    alloc: Global,
+    lister: &mut Lister,
+    text: &mut Vec<u8>,
+    octets: &[u8],
+) -> Result<u8, Fail> {
+    feed_singly(alloc, lister, text, octets)?;
+    is_counted(lister)?;
+    Ok(finished(lister, text)?)
 }
 
 #[test]

@@ -2,7 +2,6 @@
 
 use crate::transport_units::only_unit;
 use osi_rules::{Direction, Finding, Rule, Traffic};
-use std::alloc::Global;
 use std::test::Fail;
 
 /// What passes.
@@ -54,10 +53,9 @@ fn does(traffic: &mut Traffic, step: Step) -> Result<(), Fail> {
     Ok(())
 }
 
-fn goes(alloc: Global, steps: &[Step]) -> Result<(), Fail> {
-    let mut traffic = Traffic::new(alloc);
+fn goes(traffic: &mut Traffic, steps: &[Step]) -> Result<(), Fail> {
     for step in steps {
-        does(&mut traffic, *step)?;
+        does(traffic, *step)?;
     }
     Ok(())
 }
@@ -264,7 +262,7 @@ const ROWS: [&[Step]; 17] = [
 #[test]
 fn units_are_found_right_or_broken(rt: HostRuntime) -> Result<(), Fail> {
     for steps in ROWS {
-        goes(rt.alloc(), steps)?;
+        goes(&mut Traffic::new(rt.alloc()), steps)?;
     }
     Ok(())
 }

@@ -243,12 +243,20 @@ fn goes_on(left: &mut Session, point: SentPoint) -> bool {
 /// MIP with number 1, which asks for its confirmation.
 const POINT: [u8; 7] = [0x01, 0x00, 0x31, 0x03, 0x2A, 0x01, 0x31];
 
+/// The planned point is sent in this unit.
+fn sent_point(plan: &PlannedPoint) -> Result<SentPoint, Fail> {
+    is_one(&plan.sent, &POINT)?;
+    Ok(plan.point)
+}
+
+fn sends_point(left: &Session) -> Result<SentPoint, Fail> {
+    sent_point(&plans_point(left)?)
+}
+
 /// The point is sent, and the session continues after it once; after that the plan is stale.
 fn goes_on_once(left: &mut Session) -> Result<(), Fail> {
     is_connected(left)?;
-    let plan = plans_point(left)?;
-    is_one(&plan.sent, &POINT)?;
-    let point = plan.point;
+    let point = sends_point(left)?;
     if !goes_on(left, point) || goes_on(left, point) || left.next_serial() != 2 {
         return Err(Fail::from("the session does not go on once"));
     }

@@ -285,13 +285,19 @@ fn called(rt: &HostRuntime) -> Result<Side, Fail> {
 }
 
 fn judged(rt: &HostRuntime, run: &Run) -> Result<(), Fail> {
-    let mut left = caller(rt)?;
-    let mut right = called(rt)?;
+    judged_with(rt, &mut caller(rt)?, run)
+}
+
+fn judged_with(rt: &HostRuntime, left: &mut Side, run: &Run) -> Result<(), Fail> {
+    judged_between(left, &mut called(rt)?, run)
+}
+
+fn judged_between(left: &mut Side, right: &mut Side, run: &Run) -> Result<(), Fail> {
     for (who, tsdu) in run.0 {
-        passes(&mut left, &mut right, *who, *tsdu)?;
+        passes(left, right, *who, *tsdu)?;
     }
-    is_found(&left, run.1)?;
-    is_found(&right, run.2)
+    is_found(left, run.1)?;
+    is_found(right, run.2)
 }
 
 #[test]
@@ -323,10 +329,9 @@ const ROWS: &[(&[&[u8]], usize)] = &[
     (&[GT_AND_DT, GT_AND_DT, GT, DT], 3),
 ];
 
-fn is_kept(rt: &HostRuntime, tsdus: &[&[u8]], wanted: usize) -> Result<(), Fail> {
-    let mut side = caller(rt)?;
+fn is_kept(side: &mut Side, tsdus: &[&[u8]], wanted: usize) -> Result<(), Fail> {
     for tsdu in tsdus {
-        hears(&mut side, *tsdu)?;
+        hears(side, *tsdu)?;
     }
     if side.kept() != wanted || side.heard() != tsdus.len() {
         return Err(Fail::from("another number is kept"));
@@ -337,7 +342,7 @@ fn is_kept(rt: &HostRuntime, tsdus: &[&[u8]], wanted: usize) -> Result<(), Fail>
 #[test]
 fn what_differs_in_user_data_alone_is_kept_once(rt: HostRuntime) -> Result<(), Fail> {
     for (tsdus, wanted) in ROWS {
-        is_kept(&rt, *tsdus, *wanted)?;
+        is_kept(&mut caller(&rt)?, *tsdus, *wanted)?;
     }
     Ok(())
 }
