@@ -187,17 +187,6 @@ answers_above given last n (error destination cause ∷ vs) up h = (λ m y e. ab
 nothing_not : reach.Nothing ≡ reach.Everything → ⊥
 nothing_not e = cc
 
-seen_left : (v : Value) (applied : Bool) (c : Connection) → (connection_after Left v applied reach.Nothing c).seen_by_left ≡ c.seen_by_left
-seen_left (request x) true c = refl
-seen_left (confirm destination x) true c = refl
-seen_left (disconnect destination source reason user) true c = refl
-seen_left (disconnected destination source) true c = refl
-seen_left (data0 end user) true c = refl
-seen_left (data2 destination number end user) true c = refl
-seen_left (acknowledge credit destination number) true c = refl
-seen_left (error destination cause) true c = refl
-seen_left v false c = refl
-
 seen_after : (c : Connection) (v : Value) (b : Bool) (course : Course) → (course_after Left c v b course).class_seen ≡ course.class_seen
 seen_after c (request x) b course = refl
 seen_after c (confirm destination x) true course = refl

@@ -67,7 +67,7 @@ pub data Stage (local : Local) (w : Whole) : Type 0 where
   -- it has passed, and its answer has not
   waits : (r : ℕ) → Calling local (one r) w.end → w.put ≡ [] → w.begun ≡ false → (cs : List Connection) (strays : Bool) →
       w.tap ≡ calm_tap cs strays → (p : ℕ) (o : Offer) → Offers local o → Waits r p o cs → AreDcs w.coming → Stage local w
-  -- its answer has passed, and the end has not taken it: a refusal, or a CC for class 0, which makes of the end what comes after it
+  -- its answer has passed, and the end has not taken it: a refusal, or a CC for class 0; `after` is the end as it will have taken that
   refused : (r : ℕ) → Calling local (one r) w.end → w.put ≡ [] → w.begun ≡ false → (cs : List Connection) (strays : Bool) →
       w.tap ≡ calm_tap cs strays → HoldsOfEach IsDone cs → (dcs : List Value) (v : Value) (more : List Value) →
       w.coming ≡ dcs ++ v ∷ more → AreDcs dcs → IsRefusal r v → AreDcs more → Stage local w
