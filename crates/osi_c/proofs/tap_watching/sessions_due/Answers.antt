@@ -1,4 +1,4 @@
-use Rattle.std.proofs.Common.{◌≡◌, ◌∙◌, ◌≤◌, sym, true, false, is_some, arith}
+use Rattle.std.proofs.Common.{◌≡◌, ◌∙◌, ◌≤◌, sym, is_some, arith}
 use Rattle.osi_c.specs.TapWatching.{HasNoneOf, HasNoneOfSessions}
 use Rattle.osi_c.proofs.what_is_fetched_of_a_tap.{one_more, all_of, some_is, none_is}
 use Rattle.osi_c.proofs.tap_watching.sessions_due.Goals as goal
