@@ -240,6 +240,7 @@ static void verdicts(void)
     VALUE(OSI_SAID_TRANSPORT_DC);
     VALUE(OSI_SAID_TRANSPORT_AK);
     VALUE(OSI_SAID_TRANSPORT_ER);
+    VALUE(OSI_WATCH_VERDICT_TEXT);
 }
 
 static void trace(void)

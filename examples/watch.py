@@ -139,19 +139,9 @@ class Fed(Watched):
             self.found = self.found or self.line(told, piece)
 
     def event(self, told, piece):
-        """The line of a verdict of the Watch that became certain with these octets."""
-        side, kind = told.side.name.lower(), told.kind
-        on = "" if told.connection is None else f"connection {told.connection} ({told.left or '?'}, {told.right or '?'}): "
-        if kind in (osi_session.VerdictKind.BROKE, osi_session.VerdictKind.LEAVES):
-            did = "broke the protocol" if kind is osi_session.VerdictKind.BROKE else "left the profile"
-            said = f"{side} {did}, in its packet {told.offset}: {told.said.name} {told.rule.name}"
-        elif kind is osi_session.VerdictKind.TOO_MANY:
-            said = f"{side} is judged no further: too many sessions explain it"
-        elif told.rule is osi_session.Rule.LIMIT:
-            said = f"{side} is judged no further: more passed than is judged of a connection"
-        else:
-            said = f"{side} is judged no further after packet {told.offset} of {told.by.name.lower()}: {told.said.name} {told.rule.name}"
-        return f"frame {piece.frame}, {piece.time - self.begin:.6f} seconds: {on}{said}"
+        """The line of a verdict of the Watch that became certain with these octets, in the words of `osi judge`."""
+        on = "" if told.connection is None else f"connection {told.connection}: "
+        return f"frame {piece.frame}, {piece.time - self.begin:.6f} seconds: {on}{told}"
 
     def news(self):
         if not self.is_wide:

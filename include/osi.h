@@ -759,14 +759,17 @@ void osi_judge_text(osi_judge *judge, osi_octets *text);
  *
  *     osi_watch watch = OSI_WATCH;
  *     osi_watch_verdict verdict;
+ *     char line[OSI_WATCH_VERDICT_TEXT];
  *     size_t used;
  *     if (osi_watch_new(&watch))
  *         return 1;                             // OSI_NO_MEMORY
  *     while (next_piece(&side, &piece, &length)) {
  *         if (osi_watch_feed(&watch, side, piece, length, &used))
  *             return 1;                         // OSI_NO_MEMORY: feed the rest again
- *         while (osi_watch_next(&watch, &verdict) == OSI_OK)
- *             printf("%u: %s\n", verdict.side, osi_rule_name(verdict.rule));
+ *         while (osi_watch_next(&watch, &verdict) == OSI_OK) {
+ *             osi_watch_verdict_text(&verdict, line, sizeof line);
+ *             puts(line);                       // left 1 broke packet 143 Data TokenNotHeld
+ *         }
  *     }
  *     osi_watch_free(&watch);
  *
@@ -828,6 +831,23 @@ uint32_t osi_watch_feed(osi_watch *watch, uint32_t side, const uint8_t *piece, s
  *   the transport of a side: where it first broke a rule or left the profile;
  *   a side of which nothing more is judged, OSI_VERDICT_NOT_JUDGED: the packet after which that is so. */
 uint32_t osi_watch_next(osi_watch *watch, osi_watch_verdict *verdict) OSI_LOOK;
+
+/* Writes a verdict of a watch as a line of text, in the words of `osi judge`:
+ *
+ *   left 1 broke packet 143 Data TokenNotHeld                   a session: its side, and that side's reference
+ *   left 1 leaves packet 143 Restart Outside
+ *   left 1 too many                                             more than 4,096 sessions explain it
+ *   left 1 not judged Limit
+ *   right broke packet 92 CC ReferenceInUse                     the transport of a side
+ *   left not judged after right packet 92 CC ReferenceInUse     a side of which nothing more is judged
+ *
+ * The line has no line feed, and a 0 octet after it. Returns its length without the 0; a buffer of OSI_WATCH_VERDICT_TEXT octets holds any line. If
+ * size is smaller, as much of the line as fits is written, with a 0 octet after it; if size is 0, nothing is, and the text may be
+ * null. A verdict that is all 0, and OSI_VERDICT_KEPT, give no text. No memory is taken, and no watch is needed. */
+size_t osi_watch_verdict_text(const osi_watch_verdict *verdict, char *text, size_t size);
+
+/* A buffer of so many octets holds the line of any verdict, with the 0 octet after it. */
+#define OSI_WATCH_VERDICT_TEXT 96u
 
 /* ---- names ------------------------------------------------------------------------------------------- */
 

@@ -714,6 +714,29 @@ struct watch_verdict {
     osi::reference right = 0;                /* the same of right */
 };
 
+/* A verdict of a watch as a line of text, in the words of `osi judge`, without a line feed; osi.h lists the forms. It takes no
+ * memory.
+ *
+ *     std::cout << osi::verdict_line(verdict).text() << '\n';    // left 1 broke packet 143 Data TokenNotHeld
+ */
+class verdict_line {
+public:
+    explicit verdict_line(const watch_verdict &v) noexcept
+    {
+        const osi_watch_verdict passed = {v.offset, v.connection.value_or(OSI_NO_CONNECTION), detail::bits(v.kind),
+                                          detail::bits(v.side), detail::bits(v.by), detail::bits(v.rule),
+                                          detail::bits(v.said), v.left, v.right};
+        length_ = osi_watch_verdict_text(&passed, text_, sizeof text_);
+    }
+
+    /* It is valid as long as the object is. */
+    std::string_view text() const noexcept { return {text_, length_}; }
+
+private:
+    char text_[OSI_WATCH_VERDICT_TEXT];
+    std::size_t length_;
+};
+
 /* The name of a number in osi.h, such as "OSI_BAD_STATE", and the version of the library. */
 inline std::string_view name(code answer) noexcept { return osi_code_name(detail::bits(answer)); }
 inline std::string_view name(tag shown) noexcept { return osi_indication_name(detail::bits(shown)); }
@@ -1121,6 +1144,61 @@ private:
     std::unique_ptr<osi_end, freed> slot_;
 };
 
+/* ---- what passes between two other programs -------------------------------------------------------------- */
+
+namespace detail {
+
+/* What osi::judge and osi::watch have in common: each holds one of its kind, in a slot of osi.h, or none. */
+template <class Own, class Slot, auto begins, auto frees, auto feeds>
+class tapped {
+public:
+    /* One on whose connection nothing has passed: ok, no_memory. */
+    static result<Own> make() noexcept
+    {
+        result<Own> answer;
+        answer.value.slot_.reset(new (std::nothrow) Slot()); /* zeros, as OSI_JUDGE and OSI_WATCH */
+        answer.code = answer.value ? static_cast<osi::code>(begins(answer.value.slot_.get())) : code::no_memory;
+        if (!answer)
+            answer.value.reset();
+        return answer;
+    }
+
+    /* Whether it holds one. */
+    explicit operator bool() const noexcept { return slot_ != nullptr; }
+
+    /* Frees what it holds. */
+    void reset() noexcept { slot_.reset(); }
+
+    /* Feeds octets of a side, in the order in which they passed the tap, and answers how many passed: all of them
+     * if the code is ok. ok, slot_empty, no_memory (the first ones have passed: feed the others again). */
+    result<std::size_t> feed(tap_side side, octets piece) noexcept
+    {
+        result<std::size_t> answer;
+        answer.code = call(feeds, detail::bits(side), piece.data(), piece.size(), &answer.value);
+        return answer;
+    }
+
+protected:
+    struct freed {
+        void operator()(Slot *slot) const noexcept
+        {
+            frees(slot);
+            delete slot;
+        }
+    };
+
+    /* A call with the slot. */
+    template <class Function, class... Arguments>
+    code call(Function function, Arguments... arguments) noexcept
+    {
+        return slot_ ? static_cast<code>(function(slot_.get(), arguments...)) : code::slot_empty;
+    }
+
+    std::unique_ptr<Slot, freed> slot_;
+};
+
+} // namespace detail
+
 /* ---- the judge of a connection that passes ---------------------------------------------------------- */
 
 /* Watches a connection between two other programs, and says which side first sent what no conforming end
@@ -1133,38 +1211,12 @@ private:
  *         std::cout << osi::name(said.rule) << '\n';
  *     });
  */
-class judge {
+class judge : public detail::tapped<judge, osi_judge, osi_judge_new, osi_judge_free, osi_judge_feed> {
 public:
     /* Holds no judge. */
     judge() noexcept = default;
 
-    /* The judge of a connection on which nothing has passed: ok, no_memory. */
-    static result<judge> make() noexcept
-    {
-        result<judge> answer;
-        answer.value.slot_.reset(new (std::nothrow) osi_judge OSI_JUDGE);
-        answer.code = answer.value ? static_cast<osi::code>(osi_judge_new(answer.value.slot_.get())) : code::no_memory;
-        if (!answer)
-            answer.value.reset();
-        return answer;
-    }
-
-    /* Whether it holds a judge. */
-    explicit operator bool() const noexcept { return slot_ != nullptr; }
-
-    /* Frees the judge. */
-    void reset() noexcept { slot_.reset(); }
-
-    /* Feeds octets of a side, in the order in which they passed the tap, and answers how many passed: all of them
-     * if the code is ok. ok, slot_empty, no_memory (the first ones have passed: feed the others again). */
-    result<std::size_t> feed(tap_side side, octets piece) noexcept
-    {
-        result<std::size_t> answer;
-        answer.code = call(osi_judge_feed, detail::bits(side), piece.data(), piece.size(), &answer.value);
-        return answer;
-    }
-
-    /* The same, and passes each verdict that is certain to on_verdict(const verdict &). */
+    /* Feeds octets of a side, and passes each verdict that is certain to on_verdict(const verdict &). */
     template <class OnVerdict>
     result<std::size_t> feed_all(tap_side side, octets piece, OnVerdict &&on_verdict)
     {
@@ -1204,27 +1256,11 @@ public:
     }
 
 private:
-    struct freed {
-        void operator()(osi_judge *slot) const noexcept
-        {
-            osi_judge_free(slot);
-            delete slot;
-        }
-    };
-
     static verdict verdict_of(const osi_verdict &v) noexcept
     {
         return {static_cast<tap_side>(v.side), static_cast<verdict_kind>(v.kind), static_cast<osi::said>(v.said),
                 static_cast<osi::rule>(v.rule), v.offset, v.reference};
     }
-
-    template <class Function, class... Arguments>
-    code call(Function function, Arguments... arguments) noexcept
-    {
-        return slot_ ? static_cast<code>(function(slot_.get(), arguments...)) : code::slot_empty;
-    }
-
-    std::unique_ptr<osi_judge, freed> slot_;
 };
 
 /* ---- the watch of a byte connection with all its connections ---------------------------------------- */
@@ -1238,38 +1274,12 @@ private:
  *         std::cout << osi::name(said.rule) << '\n';
  *     });
  */
-class watch {
+class watch : public detail::tapped<watch, osi_watch, osi_watch_new, osi_watch_free, osi_watch_feed> {
 public:
     /* Holds no watch. */
     watch() noexcept = default;
 
-    /* The watch of a byte connection on which nothing has passed: ok, no_memory. */
-    static result<watch> make() noexcept
-    {
-        result<watch> answer;
-        answer.value.slot_.reset(new (std::nothrow) osi_watch OSI_WATCH);
-        answer.code = answer.value ? static_cast<osi::code>(osi_watch_new(answer.value.slot_.get())) : code::no_memory;
-        if (!answer)
-            answer.value.reset();
-        return answer;
-    }
-
-    /* Whether it holds a watch. */
-    explicit operator bool() const noexcept { return slot_ != nullptr; }
-
-    /* Frees the watch. */
-    void reset() noexcept { slot_.reset(); }
-
-    /* Feeds octets of a side, in the order in which they passed the tap, and answers how many passed: all of them
-     * if the code is ok. ok, slot_empty, no_memory (the first ones have passed: feed the others again). */
-    result<std::size_t> feed(tap_side side, octets piece) noexcept
-    {
-        result<std::size_t> answer;
-        answer.code = call(osi_watch_feed, detail::bits(side), piece.data(), piece.size(), &answer.value);
-        return answer;
-    }
-
-    /* The same, and passes each verdict that is certain to on_verdict(const watch_verdict &). */
+    /* Feeds octets of a side, and passes each verdict that is certain to on_verdict(const watch_verdict &). */
     template <class OnVerdict>
     result<std::size_t> feed_all(tap_side side, octets piece, OnVerdict &&on_verdict)
     {
@@ -1294,14 +1304,6 @@ public:
     }
 
 private:
-    struct freed {
-        void operator()(osi_watch *slot) const noexcept
-        {
-            osi_watch_free(slot);
-            delete slot;
-        }
-    };
-
     static watch_verdict verdict_of(const osi_watch_verdict &v) noexcept
     {
         watch_verdict shown{static_cast<tap_side>(v.side), static_cast<verdict_kind>(v.kind), static_cast<osi::said>(v.said),
@@ -1310,14 +1312,6 @@ private:
             shown.connection = v.connection;
         return shown;
     }
-
-    template <class Function, class... Arguments>
-    code call(Function function, Arguments... arguments) noexcept
-    {
-        return slot_ ? static_cast<code>(function(slot_.get(), arguments...)) : code::slot_empty;
-    }
-
-    std::unique_ptr<osi_watch, freed> slot_;
 };
 
 } // namespace osi

@@ -595,6 +595,14 @@ static bool has_none(osi_watch *watch)
     return osi_watch_next(watch, &verdict) == OSI_NOTHING && verdict.kind == OSI_VERDICT_NONE && verdict.connection == 0;
 }
 
+/* The line of a verdict, in a buffer that holds it. */
+static bool is_line(const osi_watch_verdict *verdict, const char *line)
+{
+    char text[OSI_WATCH_VERDICT_TEXT];
+    const size_t length = osi_watch_verdict_text(verdict, text, sizeof text);
+    return length == strlen(line) && length < sizeof text && strcmp(text, line) == 0;
+}
+
 /* On the second connection right sends data without the token: its session breaks the protocol there, and the first connection
  * goes on. */
 static void a_break_is_told_of_its_connection(void)
@@ -613,7 +621,7 @@ static void a_break_is_told_of_its_connection(void)
     CHECK(osi_watch_next(&watch, &verdict) == OSI_OK);
     CHECK(verdict.connection == 1 && verdict.left == 3 && verdict.right == 4 && verdict.side == OSI_RIGHT && verdict.by == OSI_RIGHT);
     CHECK(verdict.kind == OSI_VERDICT_BROKE && verdict.rule == OSI_RULE_TOKEN_NOT_HELD && verdict.said == OSI_SAID_DT);
-    CHECK(verdict.offset == 92 && has_none(&watch));
+    CHECK(verdict.offset == 92 && has_none(&watch) && is_line(&verdict, "right 4 broke packet 92 Data TokenNotHeld"));
     dt2[7] = 2;
     see(&watch, OSI_LEFT, dt2, sizeof dt2);
     CHECK(has_none(&watch));
@@ -640,6 +648,60 @@ static void a_break_of_transport_is_told(void)
     }
     CHECK(has_none(&watch));
     osi_watch_free(&watch);
+}
+
+/* Each form of a line, and buffers that are too small. */
+static void verdicts_are_written(void)
+{
+    osi_watch_verdict said = {0};
+    char text[16];
+    CHECK(is_line(&said, ""));
+    said = (osi_watch_verdict){143, 0, OSI_VERDICT_BROKE, OSI_LEFT, OSI_LEFT, OSI_RULE_TOKEN_NOT_HELD, OSI_SAID_DT, 1, 65535};
+    CHECK(is_line(&said, "left 1 broke packet 143 Data TokenNotHeld"));
+    said.side = said.by = OSI_RIGHT;
+    CHECK(is_line(&said, "right 65535 broke packet 143 Data TokenNotHeld"));
+    said.kind = OSI_VERDICT_LEAVES;
+    said.rule = OSI_RULE_OUTSIDE;
+    said.said = OSI_SAID_RS;
+    CHECK(is_line(&said, "right 65535 leaves packet 143 Restart Outside"));
+    said = (osi_watch_verdict){0, 0, OSI_VERDICT_TOO_MANY, OSI_LEFT, OSI_LEFT, OSI_RULE_NONE, OSI_SAID_NOTHING, 1, 2};
+    CHECK(is_line(&said, "left 1 too many"));
+    said.kind = OSI_VERDICT_NOT_JUDGED;
+    said.rule = OSI_RULE_LIMIT;
+    CHECK(is_line(&said, "left 1 not judged Limit"));
+    said = (osi_watch_verdict){92, OSI_NO_CONNECTION, OSI_VERDICT_BROKE, OSI_RIGHT, OSI_RIGHT, OSI_RULE_REFERENCE_IN_USE,
+                               OSI_SAID_TRANSPORT_CC, 0, 0};
+    CHECK(is_line(&said, "right broke packet 92 CC ReferenceInUse"));
+    said.kind = OSI_VERDICT_NOT_JUDGED;
+    said.side = OSI_LEFT;
+    CHECK(is_line(&said, "left not judged after right packet 92 CC ReferenceInUse"));
+    /* The longest: an offset of 20 digits. */
+    said.offset = UINT64_MAX;
+    said.side = OSI_RIGHT;
+    said.rule = OSI_RULE_BAD_TPDU_PARAMETER_LENGTH;
+    said.said = OSI_SAID_TPDU;
+    CHECK(is_line(&said, "right not judged after right packet 18446744073709551615 TPDU BadParameterLength"));
+    memset(text, 'x', sizeof text);
+    const size_t length = osi_watch_verdict_text(&said, NULL, 0);
+    CHECK(osi_watch_verdict_text(&said, text, 6) == length && strcmp(text, "right") == 0 && text[6] == 'x');
+    CHECK(osi_watch_verdict_text(&said, text, 1) == length && text[0] == 0 && text[1] == 'i');
+}
+
+/* Each number that a verdict of a watch may have for what was sent, and for the rule, has its word. */
+static void each_word_is_known(void)
+{
+    osi_watch_verdict said = {0, 0, OSI_VERDICT_BROKE, OSI_LEFT, OSI_LEFT, OSI_RULE_OUTSIDE, OSI_SAID_CN, 1, 2};
+    char text[OSI_WATCH_VERDICT_TEXT];
+    for (uint32_t number = 1; number < 300; number++) {
+        said.said = number;
+        said.rule = OSI_RULE_OUTSIDE;
+        osi_watch_verdict_text(&said, text, sizeof text);
+        CHECK_QUIETLY((strstr(text, "unknown") == NULL) == (strcmp(osi_said_name(number), "unknown") != 0));
+        said.said = OSI_SAID_DT;
+        said.rule = number;
+        osi_watch_verdict_text(&said, text, sizeof text);
+        CHECK_QUIETLY((strstr(text, "unknown") == NULL) == (strcmp(osi_rule_name(number), "unknown") != 0));
+    }
 }
 
 /* More passes on the first connection than is judged of one: that is said once of each of its sides, and the second is judged on. */
@@ -798,6 +860,8 @@ int main(void)
     a_break_is_told_of_its_connection();
     a_break_of_transport_is_told();
     more_than_is_judged_of_a_connection_passes();
+    verdicts_are_written();
+    each_word_is_known();
     watches_that_are_refused();
     a_connection_takes_little_memory();
     judges_that_are_refused();

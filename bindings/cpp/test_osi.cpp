@@ -671,6 +671,9 @@ static void a_byte_connection_is_watched()
     CHECK(told[0].side == osi::tap_side::right && told[0].kind == osi::verdict_kind::broke && !told[0].connection);
     CHECK(told[1].side == osi::tap_side::left && told[1].kind == osi::verdict_kind::not_judged && told[1].by == osi::tap_side::right);
     CHECK(told[2].side == osi::tap_side::right && told[2].rule == osi::rule::bad_version && told[2].said == osi::said::tpkt);
+    CHECK(osi::verdict_line(told[0]).text() == "right broke packet 0 TPKT BadVersion");
+    CHECK(osi::verdict_line(told[1]).text() == "left not judged after right packet 0 TPKT BadVersion");
+    CHECK(osi::verdict_line(osi::watch_verdict()).text().empty());
     watch.reset();
     CHECK(!watch);
     no_slot = true;

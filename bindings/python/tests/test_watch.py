@@ -1,6 +1,8 @@
 """A watch is fed all connections of a byte connection, piece by piece."""
 import copy
+import os
 import pickle
+import re
 import unittest
 
 from osi_session import Code, Rule, Said, SessionError, TapSide, VerdictKind, Watch, WatchVerdict
@@ -11,6 +13,21 @@ CN = bytes.fromhex("0300001d04f00002800d12050c1301011601021701311a0100140200b9")
 AC = bytes.fromhex("0300001d04f00001800e12050c1301011601021701311a0100140200b9")
 DT = bytes.fromhex("0300001104f00001810100010064617461")
 OPENING = ((TapSide.LEFT, CR), (TapSide.RIGHT, CC), (TapSide.LEFT, CN), (TapSide.RIGHT, AC))
+
+TOP = os.path.dirname(os.path.dirname(os.path.dirname(os.path.dirname(os.path.abspath(__file__)))))
+STORED = os.path.join(TOP, "crates", "osi_runs", "data")
+# What `osi judge` prints of a side that did not keep the protocol, but for the last line.
+BLAMES = re.compile(r"(left|right) (\d+ )?(broke packet|leaves packet|too many|not judged after)")
+
+
+def disputes(name):
+    """The stored captures of a file: the title of each, its pieces, and what `osi judge` prints of it."""
+    with open(os.path.join(STORED, name), encoding="ascii") as file:
+        for part in re.split("^== ", file.read(), flags=re.MULTILINE)[1:]:
+            capture, _, printed = part.partition("-- status ")
+            title, *lines = capture.splitlines()
+            pieces = [(TapSide(line.startswith("\t")), bytes.fromhex(line)) for line in lines if not line.startswith("#")]
+            yield title, pieces, printed.splitlines()[1:]
 
 
 def opened() -> Watch:
@@ -27,20 +44,27 @@ class Watches(unittest.TestCase):
             self.assertEqual(list(watch.feed(TapSide.RIGHT, DT[place : place + 1])), [])
         told = WatchVerdict(TapSide.RIGHT, VerdictKind.BROKE, Said.DT, Rule.TOKEN_NOT_HELD, 46, TapSide.RIGHT, 0, 1, 2)
         self.assertEqual(list(watch.feed(TapSide.RIGHT, DT[-1:])), [told])
-        self.assertEqual(str(told), "connection 0 RIGHT BROKE packet 46: DT TOKEN_NOT_HELD")
+        self.assertEqual(str(told), "right 2 broke packet 46 Data TokenNotHeld")
         self.assertEqual(list(watch.verdicts()), [])
 
     def test_a_break_before_the_class_is_known_ends_the_judgement_of_both_sides(self):
         watch = Watch()
         watch.feed(TapSide.LEFT, CR)
         told = [str(one) for one in watch.feed(TapSide.RIGHT, b"HTTP/1.1 400 Bad Request")]
-        self.assertEqual(told, ["RIGHT BROKE packet 0: TPKT BAD_VERSION", "LEFT NOT_JUDGED RIGHT packet 0: TPKT BAD_VERSION",
-                                "RIGHT NOT_JUDGED packet 0: TPKT BAD_VERSION"])
+        self.assertEqual(told, ["right broke packet 0 TPKT BadVersion", "left not judged after right packet 0 TPKT BadVersion",
+                                "right not judged after right packet 0 TPKT BadVersion"])
 
     def test_a_capture_that_begins_in_the_middle_is_not_judged(self):
         told = list(Watch().feed(TapSide.LEFT, DT))
         self.assertEqual([(one.side, one.kind, one.rule, one.connection) for one in told],
                          [(side, VerdictKind.NOT_JUDGED, Rule.NO_OPENING, None) for side in TapSide])
+
+    @unittest.skipUnless(os.path.isdir(STORED), "no stored captures")
+    def test_the_lines_are_those_of_osi_judge(self):
+        for title, pieces, printed in (*disputes("class_2.disputes"), *disputes("in_flight.disputes")):
+            with Watch() as watch:
+                told = [str(one) for side, octets in pieces for one in watch.feed(side, octets)]
+            self.assertEqual(sorted(told), sorted(filter(BLAMES.match, printed)), title)
 
     def test_a_watch_that_was_closed(self):
         watch = opened()

@@ -176,6 +176,7 @@ pub struct osi_watch_verdict {
 }
 
 pub const OSI_NO_CONNECTION: u64 = u64::MAX;
+pub const OSI_WATCH_VERDICT_TEXT: usize = 96;
 pub const OSI_OK: u32 = 0;
 pub const OSI_NO_MEMORY: u32 = 3;
 pub const OSI_NOTHING: u32 = 5;
@@ -301,6 +302,8 @@ extern "C" {
         used: *mut usize,
     ) -> u32;
     pub fn osi_watch_next(watch: *mut osi_watch, verdict: *mut osi_watch_verdict) -> u32;
+    pub fn osi_watch_verdict_text(verdict: *const osi_watch_verdict, text: *mut c_char, size: usize)
+        -> usize;
     pub fn osi_version() -> *const c_char;
 }
 

@@ -44,18 +44,31 @@ impl WatchVerdict {
             right: (shown.right != 0).then_some(shown.right),
         }
     }
+
+    fn shown(&self) -> ffi::osi_watch_verdict {
+        ffi::osi_watch_verdict {
+            offset: self.offset,
+            connection: self.connection.unwrap_or(ffi::OSI_NO_CONNECTION),
+            kind: self.kind as u32,
+            side: self.side as u32,
+            by: self.by as u32,
+            rule: self.rule as u32,
+            said: self.said as u32,
+            left: self.left.unwrap_or(0),
+            right: self.right.unwrap_or(0),
+        }
+    }
 }
 
+/// The line of the verdict, in the words of `osi judge`: `left 1 broke packet 143 Data TokenNotHeld`. `osi.h` lists the
+/// forms.
 impl fmt::Display for WatchVerdict {
     fn fmt(&self, f: &mut fmt::Formatter<'_>) -> fmt::Result {
-        if let Some(connection) = self.connection {
-            write!(f, "connection {connection} ")?;
-        }
-        write!(
-            f,
-            "{:?} {:?} {:?} packet {}: {:?} {:?}",
-            self.side, self.kind, self.by, self.offset, self.said, self.rule
-        )
+        let mut text = [0u8; ffi::OSI_WATCH_VERDICT_TEXT];
+        // SAFETY: the text has as many octets as the call is told.
+        let length =
+            unsafe { ffi::osi_watch_verdict_text(&self.shown(), text.as_mut_ptr().cast(), text.len()) };
+        f.pad(str::from_utf8(text.get(..length).unwrap_or_default()).unwrap_or_default())
     }
 }
 

@@ -90,6 +90,6 @@ fn a_watch_tells_the_connection() {
     let told = watch.next_verdict().unwrap().unwrap();
     assert_eq!((told.side, told.kind, told.rule), (TapSide::Right, VerdictKind::Broke, Rule::TokenNotHeld));
     assert_eq!((told.connection, told.left, told.right, told.offset), (Some(0), Some(1), Some(2), 46));
-    assert_eq!(told.to_string(), "connection 0 Right Broke Right packet 46: Dt TokenNotHeld");
+    assert_eq!(told.to_string(), "right 2 broke packet 46 Data TokenNotHeld");
     assert_eq!(watch.next_verdict(), Ok(None));
 }

@@ -8,4 +8,5 @@ pub mod a_piece_passes_turn_by_turn
 pub mod a_piece_passes_to_a_tap
 pub mod a_note_is_of_what_passed
 pub mod what_is_fetched_of_a_tap
+pub mod each_connection_is_looked_at
 pub mod what_is_told_is_by_facts

@@ -5,7 +5,6 @@ use Rattle.osi_judge.specs.declared.directions.Direction.{Direction}
 use Rattle.osi_judge.specs.declared.findings.Finding.{Finding}
 use Rattle.osi_judge.specs.declared.rules.Break.{Break}
 use Rattle.osi_judge.specs.Captures.{other}
-use Rattle.osi_judge.specs.Judging.{Watched}
 use Rattle.osi_tap.specs.declared.connections.Connection.{Connection}
 use Rattle.osi_tap.specs.Connections.{Joined, spoken}
 use Rattle.osi_tap.specs.Holding.{line_in, HoldsFound, HoldsJoined, IsHeard, IsPlace}

@@ -1,18 +1,16 @@
 -- A verdict on a byte connection is fetched once all that passed is judged, and nothing is due if none of each subject is.
 -- For the functions of `tap_watching`.
 use Rattle.std.proofs.Common.{◌≡◌, ◌∙◌, refl, sym, ap, subst, ℕ, zero, suc, ◌+◌, ◌<◌, ◌⊎◌, inl, inr, arith, List, [], ◌∷◌, ◌++◌}
-use Rattle.std.proofs.Common.{◌≤◌, true, false, is_some, Option, Some, None}
+use Rattle.std.proofs.Common.{true, false, is_some, Option, Some, None}
 use Rattle.std.specs.Prelude.{IfSome, IfNone}
 use Rattle.osi_judge.specs.declared.directions.Direction.TheVariants.{Left, Right}
 use Rattle.osi_tap.specs.declared.tap.Tap.{Tap}
-use Rattle.osi_tap.specs.Connections.{count}
-use Rattle.osi_tap.specs.Standing.{HoldsState, IsJudged, IsSettled, first_in}
+use Rattle.osi_tap.specs.Standing.{HoldsState, IsSettled, first_in}
 use Rattle.osi_tap.specs.Tapping.{State}
-use Rattle.osi_tpkt.specs.Stream.{offset_of}
 use Rattle.osi_c.specs.NoteCodes.{Shows}
 use Rattle.osi_c.specs.Notes.{Tells, is_certain}
 use Rattle.osi_c.specs.Subjects.{leading}
-use Rattle.osi_c.specs.TapWatching.{HasFetched, HasNone, HasNoneIf, HasNoneOf, HasNoneOfSessions, HasNoneOfTransport, HasNoLeading}
+use Rattle.osi_c.specs.TapWatching.{HasFetched, HasNone, HasNoneIf, HasNoneOfSessions, HasNoneOfTransport, HasNoLeading}
 use Rattle.osi_c.specs.TapWatching.{HasNothing, IsDue, InTurn, Gives}
 use Rattle.osi_c.specs.declared.note_codes.OsiWatchVerdict.{OsiWatchVerdict}
 use Rattle.osi_c.specs.declared.notes.Note.{Note}
@@ -25,7 +23,7 @@ use Rattle.osi_c.specs.declared.tap_watching.Fetched.TheVariants as fetched
 
 -- ---- a subject
 
-uncertain : (n : Note) → is_certain n ≡ false → n ≡ note.Nothing
+pub uncertain : (n : Note) → is_certain n ≡ false → n ≡ note.Nothing
 uncertain note.Nothing e = refl
 uncertain (note.Broke offset by) e = absurd (cc)
 uncertain (note.Leaves offset by) e = absurd (cc)
@@ -78,24 +76,12 @@ none_if_leading (Some x) t told k e h = tt
 
 -- ---- numbers
 
-below_or_same : (n m : ℕ) → n < m + 1 → (n < m) ⊎ (n ≡ m)
+pub below_or_same : (n m : ℕ) → n < m + 1 → (n < m) ⊎ (n ≡ m)
 below_or_same zero zero lt = inr refl
 below_or_same zero (suc m) lt = inl (omega arith)
 below_or_same (suc n) zero lt = absurd (omega arith)
 below_or_same (suc n) (suc m) lt =
     elim (below_or_same n m (omega arith)) [ inl below ↦ inl (omega (arith, below)) | inr same ↦ inr (ap suc same) ]
-
--- one more
-pub one_more : (t : Tap) (told : List Subject) (m : ℕ) → ((n : ℕ) → n < m → HasNoneOf t told n) → HasNoneOf t told m
-    → (n : ℕ) → n < m + 1 → HasNoneOf t told n
-one_more t told m h k n lt = elim (below_or_same n m lt) [ inl below ↦ h n below | inr same ↦ subst (HasNoneOf t told) (sym same) k ]
-
--- all of them
-pub all_of : (t : Tap) (told : List Subject) (m c : ℕ) → c ≤ m
-    → ((s : State) → HoldsState t s → IsJudged t → c ≡ offset_of (count s.course.sessions))
-    → ((n : ℕ) → n < m → HasNoneOf t told n) → HasNoneOfSessions t told
-all_of t told m c le counts h = λ s holds settled n lt.
-    (let e = counts s holds settled.judged in h n (omega (arith, le, e, lt)))
 
 pub some_is : {X : Type 0} (r : Option X) (A : Type 0) → is_some r ≡ true → IfNone r A
 some_is None A e = absurd (cc)

@@ -1,6 +1,6 @@
 -- What C is told of a side is told by what a judge keeps of both sides, and these are facts of the capture.
 -- For the functions of `watching`.
-use Rattle.std.proofs.Common.{◌≡◌, refl, sym, subst, ℕ, Bool, true, false, List, Option, Some, None, inr, if◌then◌else◌}
+use Rattle.std.proofs.Common.{◌≡◌, refl, sym, subst, ℕ, Bool, true, false, Option, Some, None, inr, if◌then◌else◌}
 use Rattle.osi_session.specs.Standing.{seen_called}
 use Rattle.osi_judge.specs.declared.directions.Direction.{Direction}
 use Rattle.osi_judge.specs.declared.directions.Direction.TheVariants as side

@@ -2,18 +2,20 @@
 use Rattle.std.specs.Prelude.{◌≡◌, ℕ, ◌==◌, Bool, true, false, if◌then◌else◌, Option, Some, None}
 use Rattle.osi_tpkt.specs.Stream.{offset_of}
 use Rattle.osi_judge.specs.declared.directions.Direction.{Direction}
+use Rattle.osi_judge.specs.declared.directions.Direction.TheVariants.{Left, Right}
 use Rattle.osi_judge.specs.declared.findings.Finding.{Finding}
 use Rattle.osi_judge.specs.declared.findings.Finding.TheVariants as finding
 use Rattle.osi_judge.specs.declared.rules.Break.{Break}
 use Rattle.osi_judge.specs.Captures.{other}
 use Rattle.osi_judge.specs.Judging.{Watched}
+use Rattle.osi_tap.specs.declared.connections.Connection.{Connection}
 use Rattle.osi_tap.specs.declared.marks.Mark.{Mark}
 use Rattle.osi_tap.specs.declared.marks.UnitKind.{UnitKind}
 use Rattle.osi_tap.specs.declared.marks.UnitKind.TheVariants.{Cr}
 use Rattle.osi_tap.specs.declared.tap.Tap.{Tap}
 use Rattle.osi_tap.specs.Connections.{Joined, spoken, numbered, count}
 use Rattle.osi_tap.specs.Courses.{marks_of}
-use Rattle.osi_tap.specs.Holding.{IsPlace}
+use Rattle.osi_tap.specs.Holding.{HoldsJoined, IsHeard, IsPlace}
 use Rattle.osi_tap.specs.Rooms.{is_over}
 use Rattle.osi_tap.specs.Standing.{HoldsState, IsSettled}
 use Rattle.osi_tap.specs.Tapping.{State}
@@ -52,6 +54,14 @@ pub record IsNoteOf (d : Direction) (j : Joined) (n : Note) : Type 0 where
 abbrev pub IsNoteAt : Direction → Option Joined → Note → Type 0
 IsNoteAt d None n = n ≡ Nothing
 IsNoteAt d (Some j) n = IsNoteOf d j n
+
+-- nothing is certain of either side of a connection that a tap holds, once each session has heard all
+abbrev pub IsStill : Connection → Type 0
+IsStill c = (j : Joined) → HoldsJoined c j → IsHeard c → IsNoteOf Left j Nothing × IsNoteOf Right j Nothing
+
+abbrev pub StillIf : Bool → Connection → Type 0
+StillIf true c = IsStill c
+StillIf false c = Unit {0}
 
 -- ---- of a transport
 

@@ -1,15 +1,17 @@
 -- Verdicts on a byte connection that C fetches.
-use Rattle.std.specs.Prelude.{◌≡◌, ◌⊎◌, ◌<◌, ℕ, Bool, true, false, List, [], ◌∷◌, ◌++◌, Option, Some, None}
+use Rattle.std.specs.Prelude.{◌≡◌, ◌⊎◌, ◌<◌, ℕ, Bool, true, false, List, [], ◌∷◌, ◌++◌, Option, Some, None, slice_get}
 use Rattle.std.specs.List.{list_any}
 use Rattle.osi_tpkt.specs.Stream.{offset_of}
 use Rattle.osi_judge.specs.declared.directions.Direction.TheVariants.{Left, Right}
 use Rattle.osi_tap.specs.declared.tap.Tap.{Tap}
-use Rattle.osi_tap.specs.Connections.{count}
+use Rattle.osi_tap.specs.declared.connections.Connection.{Connection}
+use Rattle.osi_tap.specs.Connections.{Joined, count}
+use Rattle.osi_tap.specs.Holding.{HoldsJoined}
 use Rattle.osi_tap.specs.Standing.{HoldsState, IsSettled, first_in}
 use Rattle.osi_tap.specs.Tapping.{State}
 use Rattle.osi_c.specs.Codes.{coded}
 use Rattle.osi_c.specs.NoteCodes.{Shows, nothing}
-use Rattle.osi_c.specs.Notes.{Tells, is_certain}
+use Rattle.osi_c.specs.Notes.{IsStill, Tells, is_certain}
 use Rattle.osi_c.specs.Subjects.{same, leading}
 use Rattle.osi_c.specs.declared.note_codes.OsiWatchVerdict.{OsiWatchVerdict}
 use Rattle.osi_c.specs.declared.notes.Note.{Note}
@@ -43,6 +45,14 @@ HasNoneOf t told number = HasNone t told (Session number Left) × HasNone t told
 abbrev pub HasNoneOfSessions : Tap → List Subject → Type 0
 HasNoneOfSessions t told =
     (s : State) → HoldsState t s → IsSettled t → (number : ℕ) → number < offset_of (count s.course.sessions) → HasNoneOf t told number
+
+-- of both sides of a connection that the tap holds
+abbrev pub HasNoneBy : Tap → List Subject → Connection → Type 0
+HasNoneBy t told c = IsStill c ⊎ ((j : Joined) → HoldsJoined c j → HasNoneOf t told j.number)
+
+-- of each of these
+abbrev pub HasNoneByEach : Tap → List Subject → List Connection → Type 0
+HasNoneByEach t told cs = (i : ℕ) (c : Connection) → slice_get cs i ≡ Some c → HasNoneBy t told c
 
 pub record HasNoneOfTransport (t : Tap) (told : List Subject) : Type 0 where
   pub left : HasNone t told (Transport Left)

@@ -1,10 +1,9 @@
 -- A judge that C feeds: what it is known to have been fed, and what it still judges.
-use Rattle.std.specs.Prelude.{◌≡◌, ◌≤◌, ◌<◌, ◌∷◌, ℕ, ◌+◌, ◌-◌, nat_le, if◌then◌else◌, Bool, true, false, List, [], ◌++◌, length, take, Option, Some, None}
+use Rattle.std.specs.Prelude.{◌≡◌, ◌≤◌, ◌<◌, ◌∷◌, ℕ, ◌+◌, ◌-◌, nat_le, if◌then◌else◌, true, false, List, [], ◌++◌, length, take, Option, Some, None}
 use Rattle.osi_judge.specs.Captures.{Capture, piece}
 use Rattle.osi_judge.specs.Following.{judged}
 use Rattle.osi_judge.specs.declared.directions.Direction.{Direction}
 use Rattle.osi_judge.specs.declared.directions.Direction.TheVariants.{Left, Right}
-use Rattle.osi_judge.specs.declared.judge.Judge.{Judge}
 use Rattle.osi_dispute.specs.Verdicts.{Knows}
 use Rattle.osi_c.specs.Codes.{coded, Made, Begun, InUse}
 use Rattle.osi_c.specs.Codes as codes

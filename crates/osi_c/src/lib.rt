@@ -7,7 +7,8 @@
 //! an empty slot gives `CLOSED`.
 //!
 //! A C caller has a few duties that no contract can check (true lengths, one thread at a time): docs/GUIDE.md lists
-//! them. Three functions of the header are small C functions around these, in `bindings/c/edges.c`.
+//! them. Three functions of the header are small C functions around these, in `bindings/c/edges.c`; names and lines of text
+//! are written by `bindings/c/names.c` and `bindings/c/texts.c`.
 #![tactic(auto)]
 
 mod addresses;

@@ -20,7 +20,7 @@ use crate::subjects::Subject;
 use crate::verdicts::{reference_code, side_code};
 use osi_judge::Direction;
 use osi_rules::Rule;
-use osi_tap::{Cause, Connection, Mark, Tap, UnitKind};
+use osi_tap::{Cause, Connection, Tap, UnitKind};
 
 /// A verdict on a side of a byte connection, in the numbers of C.
 #[repr(C)]

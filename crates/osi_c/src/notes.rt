@@ -8,7 +8,7 @@ ghost use Rattle.osi_tap.specs.Tapping.{State};
 ghost use Rattle.osi_dispute.specs.Facts.{is_left};
 ghost use Rattle.osi_dispute.specs.Reports.{is_dropped};
 ghost use Rattle.osi_c.specs.Notes.{note_of_found, note_unless, is_no_cr, is_unopened, note_of_break, note_of_halt, is_certain};
-ghost use Rattle.osi_c.specs.Notes.{IsNoteOf, IsNoteAt, Tells};
+ghost use Rattle.osi_c.specs.Notes.{IsNoteOf, IsNoteAt, StillIf, Tells};
 
 use crate::subjects::Subject;
 use osi_judge::{Break, Direction, Finding};
@@ -97,6 +97,21 @@ fn note_of_session(tap: &Tap, number: usize, direction: Direction) -> Note
         None => Note::Nothing,
         Some(joint) => note_of_joint(joint, direction),
     }
+}
+
+/// Whether nothing is certain of either side of a connection.
+pub(crate) fn is_still(joint: &Connection) -> bool
+    ensures { StillIf result joint.now }
+{
+    let left = note_of_joint(joint, Direction::Left);
+    if is_certain(&left) {
+        return false;
+    }
+    let right = note_of_joint(joint, Direction::Right);
+    if is_certain(&right) {
+        return false;
+    }
+    true
 }
 
 /// Whether it is no CR.

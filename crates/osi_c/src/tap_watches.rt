@@ -1,6 +1,6 @@
 //! What a slot of C holds that watches a byte connection with all its connections.
 
-ghost use Rattle.std.specs.Prelude.{◌≡◌, ◌≤◌, ◌<◌, [], IfOk, OnOk, OnErr, length, take};
+ghost use Rattle.std.specs.Prelude.{◌≡◌, ◌≤◌, ◌<◌, [], IfOk, OnErr, length, take};
 ghost use Rattle.osi_c.specs.TapFed.{IsNew, Passes, TakesPiece};
 
 use crate::subjects::Subject;

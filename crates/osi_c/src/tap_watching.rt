@@ -3,17 +3,18 @@
 ghost use Rattle.std.specs.Prelude.{◌≡◌, Some, IfSome, IfNone};
 ghost use Rattle.osi_tap.specs.Standing.{IsSettled, first_in};
 ghost use Rattle.osi_c.specs.Subjects.{leading};
+ghost use Rattle.osi_c.specs.TapWatching.{HasNoneBy, HasNoneByEach};
 ghost use Rattle.osi_c.specs.TapWatching.{IsDue, HasNone, HasNoneOf, HasNoneOfTransport, HasNoneOfSessions, HasNoLeading, InTurn};
 ghost use Rattle.osi_c.specs.TapWatching.{HasNothing, HasFetched, Fetches, fetching_of};
 
 use crate::codes::{CLOSED, NO_MEMORY, NOTHING, OK};
 use crate::note_codes::{OsiWatchVerdict, nothing, shown};
-use crate::notes::{Note, is_certain, note_of};
+use crate::notes::{Note, is_certain, is_still, note_of};
 use crate::subjects::{Subject, is_among, leading};
 use crate::tap_slots::OsiWatch;
 use crate::tap_watches::TapWatch;
 use osi_judge::Direction;
-use osi_tap::Tap;
+use osi_tap::{Connection, Tap};
 use std::alloc::AllocError;
 
 /// What is to be told, and of what.
@@ -60,21 +61,42 @@ fn session_due(tap: &Tap, told: &[Subject], number: usize) -> Option<Due>
     due_of_either(tap, told, left, right)
 }
 
-/// What is to be told of a connection, in the order of their numbers.
+/// What is to be told of a connection that the tap holds.
+fn due_by(tap: &Tap, told: &[Subject], joint: &Connection) -> Option<Due>
+    ensures some { IfSome result (λ d. IsDue tap.now told.now d.subject d.note) }
+    ensures none { IfNone result (HasNoneBy tap.now told.now joint.now) }
+{
+    if is_still(joint) {
+        return None;
+    }
+    session_due(tap, told, joint.number())
+}
+
+/// What is to be told of these connections, one after the other.
+fn due_of_each(tap: &Tap, told: &[Subject], joints: &[Connection]) -> Option<Due>
+    ensures some { IfSome result (λ d. IsDue tap.now told.now d.subject d.note) }
+    ensures none { IfNone result (HasNoneByEach tap.now told.now joints.now) }
+{
+    let mut place = 0;
+    'connections: while place < joints.len() {
+        let due = due_by(tap, told, &joints[place]);
+        if due.is_some() {
+            return due;
+        }
+        place += 1;
+    }
+    None
+}
+
+/// What is to be told of a connection: first of those that may still get units.
 fn sessions_due(tap: &Tap, told: &[Subject]) -> Option<Due>
     ensures some { IfSome result (λ d. IsDue tap.now told.now d.subject d.note) }
     ensures none { IfNone result (HasNoneOfSessions tap.now told.now) }
 {
-    let count = tap.count();
-    let mut number = 0;
-    'connections: while number < count {
-        let due = session_due(tap, told, number);
-        if due.is_some() {
-            return due;
-        }
-        number += 1;
+    match due_of_each(tap, told, tap.placed()) {
+        Some(due) => Some(due),
+        None => due_of_each(tap, told, tap.replaced()),
     }
-    None
 }
 
 /// What is to be told of the transport of a side.

@@ -1,6 +1,6 @@
 //! What a slot of C holds that watches a connection.
 
-ghost use Rattle.std.specs.Prelude.{◌≡◌, ◌≤◌, ◌<◌, [], IfOk, OnOk, OnErr, length, take};
+ghost use Rattle.std.specs.Prelude.{◌≡◌, ◌≤◌, ◌<◌, [], IfOk, OnErr, length, take};
 ghost use Rattle.osi_c.specs.Watched.{room_in, Passes, TakesPiece};
 
 use osi_judge::{Direction, Judge};

@@ -2,7 +2,6 @@
 
 ghost use types.Logic.{sem};
 ghost use Rattle.std.specs.Prelude.{◌≡◌, IfOk, IfSome, IfNone};
-ghost use Rattle.osi_judge.specs.Following.{first_in};
 ghost use Rattle.osi_c.specs.LentJudge.{KeepsSlot};
 ghost use Rattle.osi_c.specs.Watched.{feeding_of};
 ghost use Rattle.osi_c.specs.Verdicts.{reference_in};

@@ -16,9 +16,9 @@ use Rattle.osi_judge.specs.declared.directions.Direction.TheVariants.{Left, Righ
 use Rattle.osi_tap.specs.declared.rooms.Room.{Room}
 use Rattle.osi_tap.specs.declared.rooms.Room.TheVariants.{All, Octets, Over}
 use Rattle.osi_tap.specs.Bounds.{kept_of, IsWithin}
-use Rattle.osi_tap.specs.Connections.{Joined, Sessions, asked, asked_at, placed, changed, packet_begins, all_begin, adds, adds_all, adds_if}
+use Rattle.osi_tap.specs.Connections.{Joined, Sessions, asked, placed, changed, packet_begins, adds_all, adds_if}
 use Rattle.osi_tap.specs.Connections.{has_number, meant, numbered, source_of, taken, taken_at, count}
-use Rattle.osi_tap.specs.Lines.{Spoken, Said, Begun, added, before, begun_octets, heard, octets_of}
+use Rattle.osi_tap.specs.Lines.{Spoken, Said, added, before, begun_octets, heard, octets_of}
 use Rattle.osi_tap.specs.Rooms.{counted, fits, spent}
 use Rattle.osi_tap.specs.Tapping.{after, begin_within}
 use Rattle.osi_tap.proofs.a_claim_on_connections_holds_of_captures.{IsClaim, after_kept}

@@ -174,6 +174,22 @@ impl Sessions {
         number_in(&self.live, place)
     }
 
+    /// Those that have a place, by their places.
+    pub(crate) fn placed(&self) -> &[Connection]
+        ensures held { (s : Passed) → HoldsSessions self.now s → HoldAll result.now s.live }
+        ensures heard { AllHeard self.now → AreHeard result.now }
+    {
+        &self.live
+    }
+
+    /// Those whose place was given to another.
+    pub(crate) fn replaced(&self) -> &[Connection]
+        ensures held { (s : Passed) → HoldsSessions self.now s → HoldAll result.now s.done }
+        ensures heard { AllHeard self.now → AreHeard result.now }
+    {
+        &self.done
+    }
+
     /// The connection with a number.
     pub(crate) fn numbered(&self, number: usize) -> Option<&Connection>
         ensures held { (s : Passed) → HoldsSessions self.now s → HoldsFound (option_copied result) (numbered number s) }

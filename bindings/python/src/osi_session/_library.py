@@ -153,6 +153,8 @@ class WatchVerdictOfC(ctypes.Structure):
 
 # OSI_NO_CONNECTION
 NO_CONNECTION = 2**64 - 1
+# OSI_WATCH_VERDICT_TEXT
+VERDICT_TEXT = 96
 
 STRUCTS = {
     "osi_end": Slot,
@@ -243,6 +245,10 @@ WATCHES: Dict[str, Tuple[List[Any], Any]] = {
     "osi_watch_feed": ([c_uint32, *_DATA, POINTER(c_size_t)], c_uint32),
     "osi_watch_next": ([POINTER(WatchVerdictOfC)], c_uint32),
 }
+# The same for the function that takes a verdict of a watch in place of a slot.
+LINES: Dict[str, Tuple[List[Any], Any]] = {
+    "osi_watch_verdict_text": ([c_char_p, c_size_t], c_size_t),
+}
 # The argument of each function that needs no slot and returns a text.
 TEXTS: Dict[str, List[Any]] = {
     "osi_version": [],
@@ -300,7 +306,7 @@ def load() -> ctypes.CDLL:
         except OSError as error:
             tried.append(str(error))
             continue
-        for slot, functions in ((Slot, FUNCTIONS), (JudgeSlot, JUDGES), (WatchSlot, WATCHES)):
+        for slot, functions in ((Slot, FUNCTIONS), (JudgeSlot, JUDGES), (WatchSlot, WATCHES), (WatchVerdictOfC, LINES)):
             for name, (takes, answers) in functions.items():
                 function = getattr(library, name)
                 function.argtypes = [POINTER(slot), *takes]

@@ -1,17 +1,13 @@
 """The watch of a byte connection of other programs, with all its connections, while it passes."""
 from __future__ import annotations
 
-import threading
-import weakref
-from ctypes import byref, c_size_t
+from ctypes import byref, create_string_buffer
 from dataclasses import dataclass
-from typing import Iterator, NoReturn, Optional, TypeVar
+from typing import Iterator, Optional
 
-from ._codes import Code, Rule, Said, SessionError, TapSide, VerdictKind
-from ._end import _address, _octets
-from ._library import NO_CONNECTION, WatchSlot, WatchVerdictOfC, library
-
-T = TypeVar("T", bound="Watch")
+from ._codes import Code, Rule, Said, TapSide, VerdictKind
+from ._library import NO_CONNECTION, VERDICT_TEXT, WatchSlot, WatchVerdictOfC, library
+from ._tapped import Tapped
 
 
 @dataclass(frozen=True)
@@ -50,16 +46,22 @@ class WatchVerdict:
             shown.right or None,
         )
 
+    def _shown(self) -> WatchVerdictOfC:
+        """The verdict as the library has it."""
+        connection = NO_CONNECTION if self.connection is None else self.connection
+        return WatchVerdictOfC(
+            self.offset, connection, self.kind, self.side, self.by, self.rule, self.said, self.left or 0, self.right or 0
+        )
+
     def __str__(self) -> str:
-        where = "" if self.connection is None else f"connection {self.connection} "
-        where += f"{self.side.name} {self.kind.name}"
-        if self.said is Said.NOTHING:
-            return where if self.rule is Rule.NONE else f"{where}: {self.rule.name}"
-        by = "" if self.by is self.side else f"{self.by.name} "
-        return f"{where} {by}packet {self.offset}: {self.said.name} {self.rule.name}"
+        """The line of the verdict, in the words of ``osi judge``, such as
+        ``left 1 broke packet 143 Data TokenNotHeld``; ``osi.h`` lists the forms."""
+        text = create_string_buffer(VERDICT_TEXT)
+        library().osi_watch_verdict_text(byref(self._shown()), text, VERDICT_TEXT)
+        return text.value.decode()
 
 
-class Watch:
+class Watch(Tapped[WatchVerdict]):
     """Watches a byte connection of other programs, of either class and with any number of connections on it. It judges
     the transport of each side, and the session of each side of each connection. It needs no ``End``, no key and no
     clock.
@@ -77,63 +79,16 @@ class Watch:
     threads wait for each other.
     """
 
-    def __init__(self) -> None:
-        """The watch of a byte connection on which nothing has passed. NO_MEMORY."""
-        self._osi = library()
-        self._slot = WatchSlot()
-        self._lock = threading.Lock()
-        code = self._osi.osi_watch_new(byref(self._slot))
-        if code != Code.OK:
-            raise SessionError(Code(code))
-        self._free = weakref.finalize(self, self._osi.osi_watch_free, self._slot)
-
-    def close(self) -> None:
-        """Frees the watch. Each call then raises SLOT_EMPTY."""
-        with self._lock:
-            self._free()
-
-    @property
-    def closed(self) -> bool:
-        """Whether it was freed."""
-        return not self._free.alive
-
-    def __enter__(self: T) -> T:
-        return self
-
-    def __exit__(self, *raised: object) -> None:
-        self.close()
-
-    def __copy__(self) -> NoReturn:
-        raise TypeError("a watch is not copied")
-
-    def __deepcopy__(self, memo: object) -> NoReturn:
-        raise TypeError("a watch is not copied")
-
-    def __reduce__(self) -> NoReturn:
-        raise TypeError("a watch is not pickled")
-
-    def feed(self, side: TapSide, piece: bytes) -> Iterator[WatchVerdict]:
-        """Feeds octets of a side, in the order in which they passed the tap, cut in any way, and returns an iterator
-        over the verdicts that are certain by then. They are fed even if you don't iterate. SLOT_EMPTY, NO_MEMORY (the
-        octets before have passed)."""
-        octets, used = _octets(piece), c_size_t()
-        with self._lock:
-            code = self._osi.osi_watch_feed(
-                byref(self._slot), TapSide(side), _address(octets), len(octets), byref(used)
-            )
-        if code != Code.OK:
-            raise SessionError(Code(code))
-        return self.verdicts()
+    _slot_of = WatchSlot
+    _name = "watch"
 
     def verdicts(self) -> Iterator[WatchVerdict]:
         """The verdicts that are certain, whatever passes later: each once, that on the break that passed first before
         the others, and never KEPT. SLOT_EMPTY, NO_MEMORY (the next call goes on)."""
         while True:
             shown = WatchVerdictOfC()
-            with self._lock:
-                code = self._osi.osi_watch_next(byref(self._slot), byref(shown))
+            code = self._call("next", byref(shown))
             if code == Code.NOTHING:
                 return
-            if code != Code.OK:
-                raise SessionError(Code(code))
+            self._check(code)
             yield WatchVerdict.of(shown)

@@ -1,22 +1,10 @@
-use Rattle.std.proofs.Common.{◌≡◌, ◌∙◌, ◌≤◌, sym, true, false, is_some, arith}
-use Rattle.osi_c.specs.TapWatching.{HasNoneOf, HasNoneOfSessions}
-use Rattle.osi_c.proofs.what_is_fetched_of_a_tap.{one_more, all_of, some_is, none_is}
+use Rattle.osi_c.specs.TapWatching.{HasNoneByEach, HasNoneOfSessions}
+use Rattle.osi_c.proofs.each_connection_is_looked_at.{none_as, of_any_number}
 use Rattle.osi_c.proofs.tap_watching.sessions_due.Goals as goal
 
-pub returns-then-is_some-clause-none : goal.returns-then-is_some-clause-none
-returns-then-is_some-clause-none c =
-    some_is c.session_due-due.result (HasNoneOfSessions c.args.tap.now c.args.told.now) (sym c.is_some.ensures ∙ c.if-is_some.true)
-
-pub connections-preserved : goal.connections-preserved
-connections-preserved c =
-    one_more c.args.tap.now c.args.told.now c.connections.number c.connections.invariant
-    (none_is c.session_due-due.result (HasNoneOf c.args.tap.now c.args.told.now c.connections.number)
-    (sym c.is_some.ensures ∙ c.if-is_some.false) c.session_due-due.ensures.none)
-
-pub returns-clause-none : goal.returns-clause-none
-returns-clause-none c =
-    let le : c.count-count.result ≤ c.connections.number = omega arith in
-    all_of c.args.tap.now c.args.told.now c.connections.number c.count-count.result le c.count-count.ensures c.connections.invariant
-
-pub connections-init : goal.connections-init
-connections-init c = λ n lt. absurd (omega (arith, lt))
+pub returns-in-None-clause-none : goal.returns-in-None-clause-none
+returns-in-None-clause-none c =
+    none_as c.due_of_each-in-None.result (HasNoneByEach c.args.tap.now c.args.told.now c.replaced.result.now)
+    (HasNoneOfSessions c.args.tap.now c.args.told.now)
+    (of_any_number c.args.tap.now c.args.told.now c.placed.result.now c.replaced.result.now c.placed.ensures.held c.placed.ensures.heard
+    c.replaced.ensures.held c.replaced.ensures.heard c.in-None.ensures.none) c.due_of_each-in-None.ensures.none

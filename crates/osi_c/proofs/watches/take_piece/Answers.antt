@@ -1,5 +1,5 @@
 use Rattle.std.proofs.Common.{◌≡◌, ◌<◌, ◌-◌, refl, sym, subst, arith, List, ℕ, [], length}
-use Rattle.osi_c.specs.Watched.{room_in, Passes}
+use Rattle.osi_c.specs.Watched.{room_in}
 use Rattle.osi_c.proofs.a_piece_passes_turn_by_turn.{IsPassing, nothing_passed, more_passed, front_passed, all_passed, no_room, refused}
 use Rattle.osi_c.proofs.a_piece_passes_turn_by_turn.{empty_yes, some_left}
 use Rattle.osi_c.proofs.watches.take_piece.Goals as goal

@@ -1,4 +1,4 @@
--- `get_mut` lends the contents behind the pointer, and the slot follows their value.
+-- `get_mut` lends what the pointer points to; after the loan the slot holds its last value.
 use Rattle.std.proofs.Common.{◌≡◌, ℕ, List, [], ◌∷◌, refl, sym, ◌∙◌}
 use Rattle.std.proofs.raw_atomic.Walks.{proved}
 use seplogic.Ra.Ura.{Ura}
