@@ -8,3 +8,4 @@ pub mod what_is_put_is_what_is_written
 pub mod steps_are_events
 pub mod the_first_break_is_not_of_an_end
 pub mod no_unit_of_a_whole_end_is_a_break
+pub mod sessions

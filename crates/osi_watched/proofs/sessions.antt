@@ -1,0 +1,7 @@
+-- The session of an end is not to blame for what a tap has joined of it.
+pub mod a_session_that_is_shown_is_not_to_blame
+pub mod how_many_tsdus_were_begun
+pub mod what_a_tap_shows_goes_on
+pub mod connections_have_the_same_places
+pub mod a_unit_is_joined_where_it_is_named
+pub mod a_right_dt_has_one_place
