@@ -5,3 +5,5 @@ pub mod what_a_tap_shows_goes_on
 pub mod connections_have_the_same_places
 pub mod a_unit_is_joined_where_it_is_named
 pub mod a_right_dt_has_one_place
+pub mod a_dt_that_is_no_break_is_right
+pub mod what_stands_of_a_connection

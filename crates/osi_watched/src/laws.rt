@@ -1,18 +1,19 @@
 //! Laws of an end and of a tap on its byte connection. Each function does nothing: its clauses are the laws.
 
-ghost use Rattle.std.specs.Prelude.{◌≡◌, ◌<◌, ◌^◌, ◌++◌, ◌∷◌, [], ℕ, Bool, List, Some, false, true, length, set, slice_get};
+ghost use Rattle.std.specs.Prelude.{◌≡◌, ◌≢◌, ◌<◌, ◌^◌, ◌++◌, ◌∷◌, [], ℕ, Bool, List, Some, false, true, length, slice_get};
 ghost use Rattle.osi_class.specs.Runs.{parts_in, unit_parts};
 ghost use Rattle.osi_class.specs.Tsdus.{Part};
 ghost use Rattle.osi_judge.specs.Captures.{Capture, other};
 ghost use Rattle.osi_judge.specs.declared.directions.Direction.{Direction};
-ghost use Rattle.osi_rules.specs.Traffic.{takes};
+ghost use Rattle.osi_rules.specs.Traffic.{is_stopped, takes};
 ghost use Rattle.osi_rules.specs.declared.connections.Connection.{Connection};
 ghost use Rattle.osi_rules.specs.Sides.{is_open, own};
 ghost use Rattle.osi_rules.specs.declared.findings.Finding.{Finding};
+ghost use Rattle.osi_rules.specs.declared.findings.Rule.{Rule};
 ghost use Rattle.osi_stack.specs.State.{End, Holding};
 ghost use Rattle.osi_honest.specs.Courses.{Course, Deeds, then_did};
 ghost use Rattle.osi_tap.specs.Blaming.{IsToBlame};
-ghost use Rattle.osi_tap.specs.Connections.{Joined, Sessions, adds, packet_begins, reference_of, spoken, user_of};
+ghost use Rattle.osi_tap.specs.Connections.{Joined, adds, packet_begins, reference_of, spoken, user_of};
 ghost use Rattle.osi_tap.specs.Courses.{Course as Passed, unit_passes, way_of};
 ghost use Rattle.osi_tap.specs.Lines.{heard};
 ghost use Rattle.osi_tap.specs.Tapping.{comes_to};
@@ -93,7 +94,8 @@ pub fn what_a_tap_shows_goes_on()
 
 /// The connections of a capture have the same places for the rules of transport and for what is joined of them, with the references of
 /// their CRs and CCs ([`HaveSamePlaces`], `capture`), whatever passes; also after any unit (`unit`). A DT that is right is joined at the
-/// place that the rules tell ([`IsJoinedAt`], `dt`). A unit with a reference, at the place that they tell, is for the connection that the
+/// place that the rules tell ([`IsJoinedAt`], `dt`); and it is right if it breaks no rule, as long as its side is judged and no
+/// connection has lost its judgement (`right`). A unit with a reference, at the place that they tell, is for the connection that the
 /// other side gave this reference, if the connection is judged (`named`). Of the connections that a side has not closed, only one has
 /// this reference of the other side (`one`).
 ///
@@ -106,6 +108,10 @@ pub fn connections_have_the_same_places()
         HaveSamePlaces (unit_passes d at v c).traffic.connections (unit_passes d at v c).sessions.live }
     ensures dt { (d : Direction) (at : ℕ) (v : Value) (end : Bool) (c : Passed) → HaveSamePlaces c.traffic.connections c.sessions.live →
         unit_parts v ≡ (end, user_of v) ∷ [] → (takes (way_of d) v c.traffic).told.finding ≡ Finding.Kept → IsJoinedAt d at v end c }
+    ensures right { (d : Direction) (v : Value) (end : Bool) (capture : Capture) → unit_parts v ≡ (end, user_of v) ∷ [] →
+        is_stopped (way_of d) (comes_to capture).course.traffic.course ≡ false → (comes_to capture).course.traffic.course.loose ≡ false →
+        ((rule : Rule) → (takes (way_of d) v (comes_to capture).course.traffic).told.finding ≢ Finding.Broke rule) →
+        (takes (way_of d) v (comes_to capture).course.traffic).told.finding ≡ Finding.Kept }
     ensures named { (d : Direction) (v : Value) (c : Passed) (n place : ℕ) (connection : Connection) (j : Joined) →
         HaveSamePlaces c.traffic.connections c.sessions.live → destination_of v ≡ Some n →
         (takes (way_of d) v c.traffic).told.place ≡ Some place → slice_get c.traffic.connections place ≡ Some connection →

@@ -24,7 +24,6 @@ use Rattle.osi_rules.specs.declared.findings.Rule.TheVariants as rule
 use Rattle.osi_rules.specs.declared.halves.Phase.{Phase}
 use Rattle.osi_rules.specs.declared.halves.Phase.TheVariants as phase
 use Rattle.osi_rules.specs.declared.routes.Route.{Route}
-use Rattle.osi_rules.specs.declared.routes.Route.TheVariants.{Asks, Named, Only, Unnamed}
 use Rattle.osi_rules.specs.Reaches.{is_applied}
 use Rattle.osi_rules.specs.Rows.{Test, first_failed, fits_size, fits_tsdu, has_credit, is_tellable}
 use Rattle.osi_rules.specs.Sides.{is_closed, is_closing, is_live, is_named, is_open, is_over_by, is_refused, is_silent, own, uses}
@@ -37,7 +36,7 @@ use Rattle.osi_fair.proofs.a_reference_names_one_connection.{fresh_apart, passes
 use Rattle.osi_fair.proofs.what_keeps_names_apart.{AreApart, Sound}
 use Rattle.osi_tap.specs.declared.marks.Cause.{Cause}
 use Rattle.osi_tap.specs.Connections.{Joined, reference_of, user_of}
-use Rattle.osi_tap.specs.Courses.{Course, marked, marks_of, moved, packet_begins, unit_passes, unread, unread_mark, unread_moment, way_of}
+use Rattle.osi_tap.specs.Courses.{Course, marked, marks_of, moved, packet_begins, unit_passes, unread_mark, unread_moment, way_of}
 use Rattle.osi_tap.specs.Tapping.{begin, comes_to}
 use Rattle.osi_watched.specs.ShownPlaces.{HaveSamePlaces, IsJoinedAt, IsOneOf, named_by}
 use Rattle.osi_watched.proofs.what_passes_keeps_a_claim.{IsClaim, after_kept}

@@ -2,10 +2,9 @@
 -- For the law on a connection of an end and a tap.
 use Rattle.std.proofs.Common.{◌≡◌, ◌∙◌, refl, sym, ap, subst, ℕ, ◌+◌, ◌≤◌, ◌&&◌, nat_lt, Bool, true, false, List, [], ◌∷◌, ◌++◌}
 use Rattle.std.proofs.Common.{length, map, take, drop, inl, inr, append_assoc}
-use Rattle.std.specs.List.{AllByRecursion, flat_map}
+use Rattle.std.specs.List.{AllByRecursion}
 use Rattle.std.proofs.lemmas.Grind.{flat_map-append}
 use Rattle.std.proofs.lemmas.List.{append-nil, take-append-drop}
-use Rattle.osi_tpdu.specs.Value.{Value}
 use Rattle.osi_class.specs.Link.{Given, ack, part0, part2, unit_of}
 use Rattle.osi_class.specs.Runs.{Move, give_out, given_parts, hand_in, hand_out, parts_in, parts_out, take_in, tsdus_in, tsdus_out}
 use Rattle.osi_class.specs.Runs.{unit_parts}
@@ -41,11 +40,11 @@ use Rattle.osi_honest.proofs.courses.what_calls_of_a_link_say.{none_said, out_mo
 use Rattle.osi_honest.proofs.courses.what_was_said_is_explained.{IsSaid, nothing, shown_said, something, units_came, units_put}
 use Rattle.osi_honest.proofs.opening.the_session_of_a_request_is_a_caller.{opens_so}
 use Rattle.osi_honest.proofs.sessions.a_history_is_a_run.{history_runs}
-use Rattle.osi_tap.specs.Blaming.{IsFoundOf, IsToBlame}
+use Rattle.osi_tap.specs.Blaming.{IsToBlame}
 use Rattle.osi_tap.specs.Connections.{Joined, spoken}
 use Rattle.osi_tap.specs.Lines.{Spoken, heard, told}
 use Rattle.osi_tap.specs.Lines as lines
-use Rattle.osi_watched.specs.Shown.{AreAfter, IsJoinedFrom, IsShownOf, all_before, before_of, calls_from, left_over, parts_of}
+use Rattle.osi_watched.specs.Shown.{AreAfter, IsShownOf, before_of, calls_from, left_over, parts_of}
 
 -- ---- what was said is a run of a session, also if more was heard than it took
 
@@ -137,17 +136,21 @@ module _ (d : Direction) (r : ℕ) (deeds : Deeds) (e : End) (j : Joined) (cours
       let all : tsdus_in deeds.calls ≡ tsdus (parts_of shown.passed ++ (parts_of shown.waiting ++ uncut unsent)) =
       sym put.3 ∙ ap (λ (l : List Part). tsdus (l ++ uncut unsent)) parts
       ∙ ap tsdus (append_assoc (parts_of shown.passed) (parts_of shown.waiting) (uncut unsent)) in
-      let more = tsdus_after (left_over [] (parts_of shown.passed)) (parts_of shown.waiting ++ uncut unsent) in
-      (more, ap (λ (l : List (List ℕ)). l ++ more) shown.said.whole
-      ∙ sym (tsdus_more [] (parts_of shown.passed) (parts_of shown.waiting ++ uncut unsent))
-      ∙ sym all ∙ sym (octets_in 0 deeds.calls))
+      let more = tsdus_after (left_over [] (parts_of shown.passed)) (parts_of shown.waiting ++ uncut unsent) in (
+        more,
+        ap (λ (l : List (List ℕ)). l ++ more) shown.said.whole
+            ∙ sym (tsdus_more [] (parts_of shown.passed) (parts_of shown.waiting ++ uncut unsent))
+            ∙ sym all ∙ sym (octets_in 0 deeds.calls),
+      )
 
   -- what was taken comes first of what is heard
   other_more : (more : List (List ℕ)) × (heard (spoken (other d) j) ≡ tsdus_out deeds.calls ++ more)
   other_more =
-      let more = tsdus_after (left_over [] (parts_in deeds.calls)) shown.later in
-      (more, shown.came.whole ∙ tsdus_more [] (parts_in deeds.calls) shown.later
-      ∙ ap (λ (l : List (List ℕ)). l ++ more) (units_came (calls_from d) r deeds e course))
+      let more = tsdus_after (left_over [] (parts_in deeds.calls)) shown.later in (
+        more,
+        shown.came.whole ∙ tsdus_more [] (parts_in deeds.calls) shown.later
+            ∙ ap (λ (l : List (List ℕ)). l ++ more) (units_came (calls_from d) r deeds e course),
+      )
 
   pub joined_said : IsSaid (calls_from d) (heard (spoken (other d) j)) (told (spoken d j))
   joined_said =

@@ -14,13 +14,12 @@ use Rattle.osi_rules.specs.declared.directions.Direction.{Direction as Way}
 use Rattle.osi_rules.specs.declared.directions.Direction.TheVariants as way
 use Rattle.osi_rules.specs.declared.findings.Finding.{Finding}
 use Rattle.osi_rules.specs.declared.findings.Finding.TheVariants.{NotJudged}
-use Rattle.osi_rules.specs.declared.halves.Half.{Half}
 use Rattle.osi_rules.specs.declared.halves.Phase.{Phase}
 use Rattle.osi_rules.specs.declared.halves.Phase.TheVariants as phase
 use Rattle.osi_rules.specs.declared.routes.Route.{Route}
-use Rattle.osi_rules.specs.declared.routes.Route.TheVariants.{Asks, Named, Only, Unnamed}
+use Rattle.osi_rules.specs.declared.routes.Route.TheVariants.{Named, Unnamed}
 use Rattle.osi_rules.specs.Sides.{is_named, is_over_by, is_refused, is_silent}
-use Rattle.osi_rules.specs.Traffic.{Outcome, State, at_found, at_place, class_for, is_stopped, none_told, route, route_in, routed, takes}
+use Rattle.osi_rules.specs.Traffic.{State, at_found, at_place, class_for, is_stopped, none_told, route, route_in, routed, takes}
 use Rattle.osi_rules.specs.Sides as sides
 use Rattle.osi_fair.proofs.what_holds_of_one_item.{first_true}
 use Rattle.osi_tap.specs.Connections.{Joined, reference_of}

@@ -1,9 +1,9 @@
 -- A unit leaves each connection at one place for the rules of transport and for what is joined of it; and a DT that is right is
 -- joined at the place that the rules tell.
 -- For the law on places.
-use Rattle.std.proofs.Common.{◌≡◌, ◌∙◌, refl, sym, ap, subst, ℕ, zero, suc, ◌<◌, ◌≤◌, Bool, true, false, if◌then◌else◌, is_some}
+use Rattle.std.proofs.Common.{◌≡◌, ◌∙◌, refl, sym, ap, subst, ℕ, zero, suc, Bool, true, false, if◌then◌else◌, is_some}
 use Rattle.std.proofs.Common.{List, [], ◌∷◌, ◌++◌, length, map, set, Option, Some, None, arith}
-use Rattle.std.specs.Prelude.{◌&&◌, ◌||◌, ◌==◌, nat_le, not, position, slice_get}
+use Rattle.std.specs.Prelude.{◌&&◌, ◌||◌, nat_le, not, position, slice_get}
 use Rattle.std.proofs.lemmas.Option.{slice_get_past}
 use Rattle.osi_tpdu.specs.Value.{Value, Connect, request, confirm, disconnect, disconnected, data0, data2, acknowledge, error}
 use Rattle.osi_judge.specs.Captures.{Capture}
@@ -11,11 +11,9 @@ use Rattle.osi_judge.specs.declared.directions.Direction.{Direction}
 use Rattle.osi_judge.specs.declared.directions.Direction.TheVariants.{Left, Right}
 use Rattle.osi_rules.specs.declared.connections.Connection.{Connection}
 use Rattle.osi_rules.specs.declared.courses.Course.{Course as Rules}
-use Rattle.osi_rules.specs.declared.directions.Direction.{Direction as Way}
 use Rattle.osi_rules.specs.declared.directions.Direction.TheVariants as way
 use Rattle.osi_rules.specs.declared.findings.Finding.{Finding}
 use Rattle.osi_rules.specs.declared.findings.Finding.TheVariants as finding
-use Rattle.osi_rules.specs.declared.findings.Meaning.{Meaning}
 use Rattle.osi_rules.specs.declared.findings.Meaning.TheVariants as meaning
 use Rattle.osi_rules.specs.declared.findings.Reach.{Reach}
 use Rattle.osi_rules.specs.declared.findings.Reach.TheVariants as reach
@@ -42,7 +40,7 @@ use Rattle.osi_tap.specs.declared.rooms.Room.{Room}
 use Rattle.osi_tap.specs.Connections.{Joined, Sessions, adds, adds_all, adds_if, all_begin, asked, asked_at, changed, count, opened, placed}
 use Rattle.osi_tap.specs.Connections.{shut, source_of, taken, taken_at, user_of}
 use Rattle.osi_tap.specs.Connections as joined
-use Rattle.osi_tap.specs.Courses.{Course, applied, breaks, cause_of, changes, first_marked, halts, marked, marks_of, moved, noted_by}
+use Rattle.osi_tap.specs.Courses.{Course, breaks, cause_of, changes, first_marked, halts, marked, marks_of, moved, noted_by}
 use Rattle.osi_tap.specs.Courses.{packet_begins, reached, unit_passes, units_pass, unread, unread_mark}
 use Rattle.osi_tap.specs.Courses.{unread_moment, way_of}
 use Rattle.osi_tap.specs.Rooms.{fits, spent}

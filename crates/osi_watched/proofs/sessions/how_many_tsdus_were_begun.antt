@@ -1,14 +1,14 @@
 -- A session has said each TSDU of which a unit was put, and by then it had taken no more than its link has handed out.
 -- For what a tap shows of a session.
-use Rattle.std.proofs.Common.{◌≡◌, ◌∙◌, refl, sym, ap, subst, ℕ, suc, ◌+◌, ◌<◌, ◌≤◌, Bool, true, false, if◌then◌else◌, nat_lt}
-use Rattle.std.proofs.Common.{List, [], ◌∷◌, ◌++◌, length, map, take, drop, Option, Some, None, IfSome, arith}
-use Rattle.std.specs.List.{AllByRecursion, flat_map}
+use Rattle.std.proofs.Common.{◌≡◌, ◌∙◌, refl, sym, ap, subst, ℕ, suc, ◌+◌, ◌≤◌, Bool, true, false, if◌then◌else◌, nat_lt}
+use Rattle.std.proofs.Common.{List, [], ◌∷◌, ◌++◌, length, take, drop, Option, Some, None, IfSome, arith}
+use Rattle.std.specs.List.{AllByRecursion}
 use Rattle.std.proofs.lemmas.Grind.{flat_map-append}
 use Rattle.std.proofs.lemmas.List.{append-nil, length-append, length-map}
 use Rattle.osi_tpdu.specs.Value.{Value}
 use Rattle.osi_class.specs.Ends.{Ends}
 use Rattle.osi_class.specs.Flow.{Flow, ack_number, after_acked}
-use Rattle.osi_class.specs.Link.{Given, Standing, ack, given_part, next, next_by, part0, part2, sent_flow, two_standing, unit_of, with_tsdu}
+use Rattle.osi_class.specs.Link.{Given, Standing, ack, given_part, next, next_by, sent_flow, two_standing}
 use Rattle.osi_class.specs.Runs.{Move, Moves, MovesAlong, give_out, given_parts, hand_in, hand_out, part_out, parts_out, take_in, tsdus_in}
 use Rattle.osi_class.specs.Runs.{tsdus_out, unit_parts}
 use Rattle.osi_class.specs.Tsdus.{Part, give, tsdus, tsdus_after, uncut}
@@ -16,11 +16,10 @@ use Rattle.osi_class.proofs.between.parts_stay_in_order.{at_some, choose_some}
 use Rattle.osi_class.proofs.bounds.what_a_call_preserves.{Sends, move_keeps}
 use Rattle.osi_class.proofs.giving.what_calls_send.{all as all_sent}
 use Rattle.osi_stack.specs.State.{End}
-use Rattle.osi_honest.specs.Courses.{AreCalls, Course, Deeds, Gone, no_deeds, said_in, units_given}
+use Rattle.osi_honest.specs.Courses.{AreCalls, Course, Deeds, said_in}
 use Rattle.osi_honest.specs.Courses.Course.{awaited, is_gone, is_open, unknown}
 use Rattle.osi_honest.specs.Courses.Gone.{closed, never, over}
 use Rattle.osi_honest.specs.Parts.{ends_whole}
-use Rattle.osi_honest.specs.Stretches.{octets_said}
 use Rattle.osi_honest.specs.Talking.{Said}
 use Rattle.osi_honest.proofs.courses.what_calls_of_a_link_say.{fresh_of}
 use Rattle.osi_honest.proofs.courses.what_units_do_to_a_course.{no_calls}

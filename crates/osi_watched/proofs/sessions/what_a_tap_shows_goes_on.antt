@@ -1,14 +1,14 @@
 -- What a tap shows of a session as packets of both sides begin and pass, and as the end does more.
 -- For the law on a connection of an end and a tap.
-use Rattle.std.proofs.Common.{◌≡◌, ◌∙◌, refl, sym, ap, subst, ℕ, suc, ◌+◌, ◌-◌, ◌^◌, ◌<◌, ◌≤◌, min, Bool, true, false, List, [], ◌∷◌, ◌++◌}
+use Rattle.std.proofs.Common.{◌≡◌, ◌∙◌, refl, sym, ap, subst, ℕ, ◌+◌, ◌^◌, ◌<◌, ◌≤◌, Bool, true, false, List, [], ◌∷◌, ◌++◌}
 use Rattle.std.proofs.Common.{length, map, Option, Some, None, append_assoc, arith}
 use Rattle.std.specs.Prelude.{is_none}
-use Rattle.std.specs.List.{AllByRecursion, flat_map}
+use Rattle.std.specs.List.{AllByRecursion}
 use Rattle.std.proofs.lemmas.Grind.{flat_map-append}
 use Rattle.std.proofs.lemmas.List.{append-nil, length-append, length-map, map-append}
 use Rattle.osi_tpkt.specs.Stream.{offset_of}
 use Rattle.osi_tpdu.specs.Value.{Value}
-use Rattle.osi_class.specs.Runs.{Move, part_in, parts_in, tsdus_out, unit_parts}
+use Rattle.osi_class.specs.Runs.{part_in, parts_in, tsdus_out, unit_parts}
 use Rattle.osi_class.specs.Tsdus.{Part, tsdus, tsdus_after}
 use Rattle.osi_judge.specs.Captures.{other}
 use Rattle.osi_judge.specs.declared.directions.Direction.{Direction}
@@ -23,9 +23,8 @@ use Rattle.osi_tap.specs.declared.rooms.Room.{Room}
 use Rattle.osi_tap.specs.declared.rooms.Room.TheVariants.{All}
 use Rattle.osi_tap.specs.Connections.{Joined, adds, adds_all, adds_if, packet_begins, reference_of, spoken, user_of}
 use Rattle.osi_tap.specs.Lines.{Begun, Spoken, added, before, begins, begun_before, begun_octets, heard, octets_of}
-use Rattle.osi_tap.specs.Lines as lines
 use Rattle.osi_tap.specs.Rooms.{fits, spent}
-use Rattle.osi_watched.specs.Shown.{AreAfter, IsJoinedFrom, IsShownNow, IsShownOf, all_before, before_begun, before_of, calls_from, left_over}
+use Rattle.osi_watched.specs.Shown.{AreAfter, IsJoinedFrom, IsShownNow, all_before, before_begun, before_of, calls_from, left_over}
 use Rattle.osi_watched.specs.Shown.{parts_of, with_next}
 use Rattle.osi_watched.proofs.sessions.a_session_that_is_shown_is_not_to_blame.{tsdus_more}
 use Rattle.osi_watched.proofs.sessions.how_many_tsdus_were_begun.{all_taken_by, begun_within, ends_more, left_more, one_if}
