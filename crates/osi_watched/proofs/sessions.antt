@@ -7,3 +7,6 @@ pub mod a_unit_is_joined_where_it_is_named
 pub mod a_right_dt_has_one_place
 pub mod a_dt_that_is_no_break_is_right
 pub mod what_stands_of_a_connection
+pub mod what_a_unit_does_at_its_place
+pub mod all_connections_stand
+pub mod right_units_leave_all_standing

@@ -204,13 +204,13 @@ closing_reference true half = refl
 closing_reference false half = refl
 
 -- a CC is the first answer
-first_answer : (a b i u z : Bool) →
+pub first_answer : (a b i u z : Bool) →
     is_applied (first_failed ((a, finding.Broke rule.WrongForm) ∷ (b, finding.Broke rule.BadAnswer) ∷ (i, finding.Outside)
     ∷ (u, finding.Broke rule.ReferenceInUse) ∷ (z, finding.Broke rule.LargerSize) ∷ [])) ≡ true → a ≡ true
 first_answer false b i u z h = cc
 first_answer true b i u z h = refl
 
-none_given : (p : Phase) (r : ℕ) → is_silent p ≡ true → named_by p r ≡ None
+pub none_given : (p : Phase) (r : ℕ) → is_silent p ≡ true → named_by p r ≡ None
 none_given phase.Silent r h = refl
 none_given phase.Open r h = absurd (cc)
 none_given phase.Refused r h = absurd (cc)
@@ -286,7 +286,7 @@ module _ (course : Rules) (in_use : Bool) (at : ℕ) (c : Connection) (j : Joine
 -- ---- a unit at a place
 
 -- a unit means something for its connection, or nothing, but it doesn't ask for one
-not_asked : (d : Direction) (at : ℕ) (v : Value) (b : Bool) (i : ℕ) (s : Sessions) →
+pub not_asked : (d : Direction) (at : ℕ) (v : Value) (b : Bool) (i : ℕ) (s : Sessions) →
     taken_at d at v (meaning_if b (meant v)) i s ≡ changed i (joined.meant d at v (meaning_if b (meant v))) s (slice_get s.live i)
 not_asked d at v false i s = refl
 not_asked d at (request x) true i s = refl

@@ -120,7 +120,7 @@ module _ (at : ℕ) (end : Bool) (octets : List ℕ) where
   own_kept Left j room = ap (spoken Left) (all_added Right j room)
   own_kept Right j room = ap (spoken Right) (all_added Left j room)
 
-  named_added : (d e : Direction) (j : Joined) → j.room ≡ All → reference_of d (adds e at end octets j) ≡ reference_of d j
+  pub named_added : (d e : Direction) (j : Joined) → j.room ≡ All → reference_of d (adds e at end octets j) ≡ reference_of d j
   named_added Left Left j room = ap (reference_of Left) (all_added Left j room)
   named_added Left Right j room = ap (reference_of Left) (all_added Right j room)
   named_added Right Left j room = ap (reference_of Right) (all_added Left j room)

@@ -5,6 +5,7 @@ use Rattle.std.proofs.Common.{◌≡◌, ◌∙◌, ◌⊎◌, inl, inr, refl, s
 use Rattle.std.proofs.Common.{length, map, Option, Some, None}
 use Rattle.std.specs.Prelude.{◌&&◌, ◌==◌, is_some}
 use Rattle.std.specs.List.{AllByRecursion}
+use Rattle.osi_tpkt.specs.Stream.{offset_of}
 use Rattle.osi_tpdu.specs.Value.{Value, acknowledge, confirm, data0, data2, disconnect, disconnected, error, request}
 use Rattle.osi_class.specs.Runs.{parts_in, unit_parts}
 use Rattle.osi_class.specs.Tsdus.{Part}
@@ -69,6 +70,7 @@ is_next o begun put = begun && leads (adds_to o) put
 pub record IsUnsaid (s : Spoken) : Type 0 where
   pub said : s.said ≡ []
   pub begun : s.begun ≡ None
+  pub since : s.since ≡ 0
 
 -- what is known of the parts in flight to the end at the connection with a reference of this side
 abbrev pub Known : Type 1
@@ -122,7 +124,7 @@ like_unsaid : (s t : Spoken) → t ≡ s → IsUnsaid s → IsUnsaid t
 like_unsaid s t e h = subst IsUnsaid (sym e) h
 
 -- the next unit is another one
-no_next : (d : Direction) (r : ℕ) (deeds : Deeds) (waiting : List Value) (later : List Part) (b : Bool) (j : Joined) →
+pub no_next : (d : Direction) (r : ℕ) (deeds : Deeds) (waiting : List Value) (later : List Part) (b : Bool) (j : Joined) →
     IsShownNow d r deeds waiting later b j → IsShownNow d r deeds waiting later false j
 no_next d r deeds waiting later b j h = record {
   shown = h.shown;
@@ -151,11 +153,16 @@ open_begun Left Right c = refl
 open_begun Right Left c = refl
 open_begun Right Right c = refl
 
-unsaid_begun : (d e : Direction) (j : Joined) → IsUnsaid (spoken d j) → IsUnsaid (spoken d (packet_begins e j))
-unsaid_begun Left Left j h = record { said = h.said; begun = h.begun }
-unsaid_begun Left Right j h = h
-unsaid_begun Right Left j h = h
-unsaid_begun Right Right j h = record { said = h.said; begun = h.begun }
+unsaid_begun : (d e : Direction) (j : Joined) → IsUnsaid (spoken d j) → IsUnsaid (spoken (other d) j) → IsUnsaid (spoken d (packet_begins e j))
+unsaid_begun Left Left j h o = record { said = h.said; begun = h.begun; since = ap (λ (l : List lines.Said). offset_of (length l)) o.said }
+unsaid_begun Left Right j h o = h
+unsaid_begun Right Left j h o = h
+unsaid_begun Right Right j h o = record { said = h.said; begun = h.begun; since = ap (λ (l : List lines.Said). offset_of (length l)) o.said }
+
+other_unsaid_begun : (d e : Direction) (j : Joined) → IsUnsaid (spoken d j) → IsUnsaid (spoken (other d) j) →
+    IsUnsaid (spoken (other d) (packet_begins e j))
+other_unsaid_begun Left e j h o = unsaid_begun Right e j o h
+other_unsaid_begun Right e j h o = unsaid_begun Left e j o h
 
 room_begun : (e : Direction) (j : Joined) → (packet_begins e j).room ≡ j.room
 room_begun Left j = refl
@@ -204,7 +211,7 @@ pub stands_begins : (d : Direction) (deeds : ℕ → Deeds) (known : Known) (put
     ((r : ℕ) → Course (calls_from d) r (deeds r) e) → length (heard (spoken (other d) j)) < 2 ^ 64 → Stands d deeds known put false c j →
     Stands d deeds known put true (begins (way_of d) c) (packet_begins d j)
 stands_begins d deeds known put e c j courses few (unnamed none mine theirs room) =
-    unnamed (named_begun d d j ∙ none) (unsaid_begun d d j mine) (unsaid_begun (other d) d j theirs) (room_begun d j ∙ room)
+    unnamed (named_begun d d j ∙ none) (unsaid_begun d d j mine theirs) (other_unsaid_begun d d j mine theirs) (room_begun d j ∙ room)
 stands_begins d deeds known put e c j courses few (lives r o is live later sure h) =
     lives r o (named_begun (other d) d j ∙ is) (is_open_begun d d c true live) later sure
     (begins_now d r (deeds r) later o e j (courses r) few put h)
@@ -216,7 +223,7 @@ stands_begins d deeds known put e c j courses few (past r closed waiting later s
 pub stands_other_begins : (d : Direction) (deeds : ℕ → Deeds) (known : Known) (put : List Value) (b : Bool) (c : Connection) (j : Joined) →
     Stands d deeds known put b c j → Stands d deeds known put b (begins (way_of (other d)) c) (packet_begins (other d) j)
 stands_other_begins d deeds known put b c j (unnamed none mine theirs room) =
-    unnamed (named_begun d (other d) j ∙ none) (unsaid_begun d (other d) j mine) (unsaid_begun (other d) (other d) j theirs)
+    unnamed (named_begun d (other d) j ∙ none) (unsaid_begun d (other d) j mine theirs) (other_unsaid_begun d (other d) j mine theirs)
     (room_begun (other d) j ∙ room)
 stands_other_begins d deeds known put b c j (lives r o is live later sure h) =
     lives r o (named_begun (other d) (other d) j ∙ is) (is_open_begun d (other d) c true live) later sure
