@@ -163,7 +163,7 @@ module _ (d : Direction) (r : ℕ) (deeds : Deeds) (e : End) (j : Joined) (cours
 
 -- ---- what was said by a session of an end is not blamed
 
-not_both : (b : Bool) → b ≡ true → b ≡ false → ⊥
+pub not_both : (b : Bool) → b ≡ true → b ≡ false → ⊥
 not_both true h k = cc
 not_both false h k = cc
 
@@ -196,7 +196,7 @@ no_break begin us told (Left i) e a f =
     absurd (elim f.2 [ inl n ↦ not_broken begin us told i e n | inr s ↦ front_outside us told (i + 1) a s ])
 no_break begin us told TooMany e a f = refl
 
-none_broken : (begin : Seen) (us : List (List ℕ)) (told : List Told) (finding : Finding) → told ≡ [] → IsFound begin us told finding →
+pub none_broken : (begin : Seen) (us : List (List ℕ)) (told : List Told) (finding : Finding) → told ≡ [] → IsFound begin us told finding →
     broke_session finding ≡ false
 none_broken begin us told finding none f =
     no_break begin us [] finding (done 0 begin) tt (subst (λ (x : List Told). IsFound begin us x finding) none f)

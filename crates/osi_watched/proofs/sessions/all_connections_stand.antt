@@ -347,9 +347,9 @@ pub record Leaves (d : Direction) (deeds : ℕ → Deeds) (known then_known : Kn
       (takes (way_of e) v s).told.finding ≡ found_on (way_of e) s first v → slice_get s.connections i ≡ Some c →
       slice_get t.live i ≡ Some j → IsOneOf c j → Stands d deeds known put b c j → Stands d deeds then_known later then_begun c j
   pub here : (p : ℕ) (c : Connection) (j : Joined) (x : Bool) (r : Reach) → (takes (way_of e) v s).told.place ≡ Some p →
-      slice_get s.connections p ≡ Some c → IsOneOf c j → (takes (way_of e) v s).told.finding ≡ found_on (way_of e) s c v →
-      is_applied (found_on (way_of e) s c v) ≡ x → Stands d deeds known put b c j →
-      Stands d deeds then_known later then_begun (connection_after (way_of e) v x r c) (joined.meant e at v (meaning_if x (meant v)) j)
+      slice_get s.connections p ≡ Some c → slice_get t.live p ≡ Some j → IsOneOf c j →
+      (takes (way_of e) v s).told.finding ≡ found_on (way_of e) s c v → is_applied (found_on (way_of e) s c v) ≡ x →
+      Stands d deeds known put b c j → Stands d deeds then_known later then_begun (connection_after (way_of e) v x r c) (joined.meant e at v (meaning_if x (meant v)) j)
   pub asked_so : (x : Connect) (number : ℕ) → v ≡ request x →
       Stands d deeds then_known later then_begun (asked_by x) (asked number x.source All)
   pub others : (x : Connect) → v ≡ request x → (c : Connection) (j : Joined) → Stands d deeds known put b c j →
@@ -407,7 +407,7 @@ module _ (d : Direction) (deeds : ℕ → Deeds) (known then_known : Known) (put
   place_by p first k x r told there here one finding is i c j (inl (m, so)) (inl (n, same)) =
       subst (λ (z : Connection). Goes z j) (sym so)
       (subst (λ (z : Joined). Goes (connection_after (way_of e) v x r first) z) (sym same)
-      (l.here p first k x r told there one finding is (a.live p first k there here)))
+      (l.here p first k x r told there here one finding is (a.live p first k there here)))
   place_by p first k x r told there here one finding is i c j (inl (m, so)) (inr (n, same)) = absurd (n m)
   place_by p first k x r told there here one finding is i c j (inr (m, so)) (inl (n, same)) = absurd (m n)
   place_by p first k x r told there here one finding is i c j (inr (m, so)) (inr (n, same)) =

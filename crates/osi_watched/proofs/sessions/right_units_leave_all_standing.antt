@@ -187,7 +187,7 @@ module _ (d : Direction) (deeds : ℕ → Deeds) (known : Known) (at : ℕ) (v :
     elsewhere = λ p i first c k j apart place there one at_k finding at_c at_j another h.
         stands_elsewhere d deeds known v rest true c j
         (link_elsewhere n link kept p i first c k j apart place there one finding at_c another) h;
-    here = here;
+    here = λ p c j x r place there at_j one finding is h. here p c j x r place there one finding is h;
     asked_so = λ x number is. absurd (no_cr x is);
     others = λ x is c j h. absurd (no_cr x is);
     moves = λ x is j h. h;
@@ -236,7 +236,7 @@ own_close d deeds known at v rest s t a plain not_for no_cr = record {
   all = λ e c j h. stands_elsewhere d deeds known v rest true c j (λ live. not_for (reference_of (other d) j)) h;
   elsewhere = λ p i first c k j apart place there one at_k finding at_c at_j another h.
       stands_elsewhere d deeds known v rest true c j (λ live. not_for (reference_of (other d) j)) h;
-  here = λ p c j x r place there one finding is h. own_plain d deeds known at v rest x true r c j (plain x) h;
+  here = λ p c j x r place there at_j one finding is h. own_plain d deeds known at v rest x true r c j (plain x) h;
   asked_so = λ x number is. absurd (no_cr x is);
   others = λ x is c j h. absurd (no_cr x is);
   moves = λ x is j h. h;
@@ -249,7 +249,7 @@ other_twice : (d : Direction) (j : Joined) → reference_of (other (other d)) j 
 other_twice Left j = refl
 other_twice Right j = refl
 
-rests_on : (d : Direction) (deeds : ℕ → Deeds) (known then_known : Known) (j : Joined) →
+pub rests_on : (d : Direction) (deeds : ℕ → Deeds) (known then_known : Known) (j : Joined) →
     ((r : ℕ) (later : List Part) → reference_of d j ≡ Some r → known r later → then_known r later) → Rests d deeds known j →
     Rests d deeds then_known j
 rests_on d deeds known then_known j keeps (quiet none mine theirs) = quiet none mine theirs
@@ -273,7 +273,7 @@ other_dt d deeds known then_known at n number end user put b s t a firm kept gro
   all = λ e c j h. link_placed (way_of (other d)) (data2 n number end user) n s (dt number end user refl) kept e;
   elsewhere = λ p i first c k j apart place there one at_k finding at_c at_j another h.
       stands_other_none d deeds known then_known put b c c j j (like_same d j) refl refl (stays.live p i j apart place at_j) h;
-  here = λ p c j x r place there one finding is h. by x (sym (ap is_applied (sym finding ∙ kept)) ∙ is) p c j r place there one h;
+  here = λ p c j x r place there at_j one finding is h. by x (sym (ap is_applied (sym finding ∙ kept)) ∙ is) p c j r place there one h;
   asked_so = λ x number is. absurd (cc);
   others = λ x is c j h. absurd (cc);
   moves = λ x is j h. absurd (cc);
@@ -299,7 +299,7 @@ other_close d deeds known then_known at v put b s t a plain no_cr stays = record
   all = λ e c j h. stands_other_none d deeds known then_known put b c c j j (like_same d j) refl refl (λ r later is. stays r later) h;
   elsewhere = λ p i first c k j apart place there one at_k finding at_c at_j another h.
       stands_other_none d deeds known then_known put b c c j j (like_same d j) refl refl (λ r later is. stays r later) h;
-  here = λ p c j x r place there one finding is h.
+  here = λ p c j x r place there at_j one finding is h.
       other_plain d deeds known then_known at v put x b r c j (plain x) (λ n later is. stays n later) h;
   asked_so = λ x number is. absurd (no_cr x is);
   others = λ x is c j h. absurd (no_cr x is);
