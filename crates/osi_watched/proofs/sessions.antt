@@ -11,4 +11,6 @@ pub mod what_a_unit_does_at_its_place
 pub mod all_connections_stand
 pub mod right_units_leave_all_standing
 pub mod ccs_and_crs_leave_all_standing
+pub mod what_passes_leaves_all_standing
 pub mod a_turn_leaves_all_standing
+pub mod steps_leave_all_standing

@@ -10,6 +10,14 @@
 //!   reports nothing and hands nothing over: what a turn does to the carrier of an end is units that arrive and calls. So as
 //!   long as nobody has broken a rule at the tap, both sides are judged there, and no unit of the end is a break:
 //!   [`laws::the_transport_of_an_end_is_never_blamed_first`]. What comes after the first break doesn't change it.
+//! - **The session of an end is not to blame for what a tap shows of it.** `IsShownOf` (`specs/Shown`) says what a tap has joined of a
+//!   connection beside what was done there: [`laws::a_session_that_is_shown_is_not_to_blame`]. It goes on so packet by packet:
+//!   [`laws::what_a_tap_shows_goes_on`]. A unit is joined at the place that the rules of transport tell:
+//!   [`laws::connections_have_the_same_places`]. In `proofs/sessions`, `Standing` says this of all connections of a `Joint` in
+//!   class 2, and steps leave it so.
+//!
+//! What is not here: that the units which wait at each connection are those that the end put there, and that it takes those in flight
+//! to it, for every run of an end.
 #![tactic(auto)]
 
 pub mod laws;

@@ -45,7 +45,7 @@ clear_by : (b : Bool) (f g : Finding) → IsClear f → IsClear g → IsClear (i
 clear_by true f g h k = h
 clear_by false f g h k = k
 
-clear_tests : (ts : List Test) → AllByRecursion BreaksARule ts → IsClear (first_failed ts)
+pub clear_tests : (ts : List Test) → AllByRecursion BreaksARule ts → IsClear (first_failed ts)
 clear_tests [] h = inl refl
 clear_tests (t ∷ ts) h = clear_by t.0 (first_failed ts) t.1 (clear_tests ts h.1) (inr h.0)
 
@@ -92,7 +92,7 @@ module _ (d : Way) (v : Value) (s : State) (firm : s.course.loose ≡ false) (ju
   clear_one i (Some c) e =
       judged_clear c.is_judged (found d s.course (uses_source d s.connections v) c v) (judged firm i c e) (clear c)
 
-  clear_any : (o : Option ℕ) → IsClear (at_place d v s o).told.finding
+  pub clear_any : (o : Option ℕ) → IsClear (at_place d v s o).told.finding
   clear_any None = loose_clear s.course.loose (unnamed_by s.course.strays v) firm nowhere
   clear_any (Some i) = clear_one i (slice_get s.connections i) refl
 
@@ -131,12 +131,12 @@ routed_zero (Some Zero) way.Right b end user s firm judged =
 routed_zero (Some Two) way.Left b end user s firm judged = inr (rule.UnexpectedUnit, refl)
 routed_zero (Some Two) way.Right b end user s firm judged = inr (rule.UnexpectedUnit, refl)
 
-goes_clear : (b : Bool) (d : Way) (s : State) (o : traffic.Outcome) → b ≡ false → IsClear o.told.finding →
+pub goes_clear : (b : Bool) (d : Way) (s : State) (o : traffic.Outcome) → b ≡ false → IsClear o.told.finding →
     IsClear (if b then none_told d NotJudged s else o).told.finding
 goes_clear true d s o h k = absurd (cc)
 goes_clear false d s o h k = k
 
-dt_clear : (d : Way) (v : Value) (end : Bool) (s : State) → unit_parts v ≡ (end, user_of v) ∷ [] → is_stopped d s.course ≡ false →
+pub dt_clear : (d : Way) (v : Value) (end : Bool) (s : State) → unit_parts v ≡ (end, user_of v) ∷ [] → is_stopped d s.course ≡ false →
     s.course.loose ≡ false → AreJudged s → IsClear (takes d v s).told.finding
 dt_clear d (data0 e user) end s parts goes firm judged =
     goes_clear (is_stopped d s.course) d s (routed d (data0 e user) s (route d s.course (data0 e user))) goes

@@ -1,6 +1,6 @@
 -- A turn of an end leaves all its connections standing at a tap; and while they stand, no session of the end is to blame.
 -- For the session of each connection of an end.
-use Rattle.std.proofs.Common.{◌≡◌, ◌∙◌, refl, sym, ap, subst, ℕ, Bool, true, false, List, [], ◌∷◌, ◌++◌, map, Some}
+use Rattle.std.proofs.Common.{◌≡◌, ap, ℕ, Bool, true, false, List, [], ◌++◌, map, Some}
 use Rattle.std.specs.Prelude.{slice_get}
 use Rattle.osi_tpdu.specs.Value.{Value}
 use Rattle.osi_class.specs.Tsdus.{Part}

@@ -1,41 +1,30 @@
 -- All connections of an end of class 2 stand at a tap as packets begin and as units pass that are right.
 -- For the session of each connection of an end.
-use Rattle.std.proofs.Common.{◌≡◌, ◌∙◌, ◌⊎◌, inl, inr, refl, sym, ap, subst, ℕ, zero, suc, ◌^◌, ◌<◌, ◌≤◌, Bool, true, false, if◌then◌else◌, List, [], ◌∷◌}
-use Rattle.std.proofs.Common.{◌++◌, length, map, set, Option, Some, None, arith}
-use Rattle.std.specs.Prelude.{◌&&◌, ◌||◌, ◌==◌, is_some, not, position, slice_get}
-use Rattle.std.specs.List.{AllByRecursion, flat_map}
-use Rattle.std.proofs.lemmas.Bool.{eq-eqb, eqb-true}
+use Rattle.std.proofs.Common.{◌≡◌, ◌∙◌, ◌⊎◌, inl, inr, refl, sym, ap, subst, ℕ, zero, suc, ◌^◌, ◌<◌, ◌≤◌, Bool, true, false, List, [], ◌∷◌}
+use Rattle.std.proofs.Common.{◌++◌, length, map, Option, Some, None, arith}
+use Rattle.std.specs.Prelude.{is_some, slice_get}
+use Rattle.std.proofs.lemmas.Bool.{eq-eqb}
 use Rattle.std.proofs.lemmas.Option.{slice_get_within}
-use Rattle.osi_tpdu.specs.Value.{Connect, Value, acknowledge, confirm, data0, data2, destination_of, disconnect, disconnected, error, request}
-use Rattle.osi_class.specs.Runs.{parts_in, unit_parts}
-use Rattle.osi_class.specs.Tsdus.{Part, tsdus}
-use Rattle.osi_class.specs.declared.terms.Class.{Class}
-use Rattle.osi_class.specs.declared.terms.Class.TheVariants.{Two, Zero}
+use Rattle.osi_tpdu.specs.Value.{Connect, Value, acknowledge, confirm, data0, data2, disconnect, disconnected, error, request}
+use Rattle.osi_class.specs.Runs.{unit_parts}
+use Rattle.osi_class.specs.Tsdus.{Part}
 use Rattle.osi_judge.specs.Captures.{other}
 use Rattle.osi_judge.specs.declared.directions.Direction.{Direction}
 use Rattle.osi_judge.specs.declared.directions.Direction.TheVariants.{Left, Right}
 use Rattle.osi_rules.specs.declared.connections.Connection.{Connection}
-use Rattle.osi_rules.specs.declared.courses.Course.{Course as Rules}
-use Rattle.osi_rules.specs.declared.directions.Direction.{Direction as Way}
 use Rattle.osi_rules.specs.declared.directions.Direction.TheVariants as way
-use Rattle.osi_rules.specs.declared.findings.Finding.{Finding}
-use Rattle.osi_rules.specs.declared.findings.Finding.TheVariants.{Broke, Kept, NotJudged}
-use Rattle.osi_rules.specs.declared.findings.Meaning.{Meaning}
-use Rattle.osi_rules.specs.declared.findings.Meaning.TheVariants as meaning
 use Rattle.osi_rules.specs.declared.findings.Reach.{Reach}
 use Rattle.osi_rules.specs.declared.findings.Reach.TheVariants as reach
-use Rattle.osi_rules.specs.declared.findings.Rule.{Rule}
-use Rattle.osi_rules.specs.declared.findings.Rule.TheVariants as rule
 use Rattle.osi_rules.specs.declared.halves.Half.{Half}
 use Rattle.osi_rules.specs.declared.halves.Phase.{Phase}
 use Rattle.osi_rules.specs.declared.halves.Phase.TheVariants as phase
 use Rattle.osi_rules.specs.Reaches.{is_applied}
-use Rattle.osi_rules.specs.Sides.{begins, is_named, is_open, is_silent, own}
+use Rattle.osi_rules.specs.Sides.{begins, is_open, is_silent, own}
 use Rattle.osi_rules.specs.Traffic.{State, asked_by, closing_phase, connection_after, found, found_on, half_after, judged_on, meaning_if, meant}
 use Rattle.osi_rules.specs.Traffic.{sent_on, takes, uses_source}
 use Rattle.osi_rules.specs.Traffic as traffic
 use Rattle.osi_fair.specs.Naming.{packet, unit}
-use Rattle.osi_fair.proofs.a_reference_names_one_connection.{applied_found, passes_apart}
+use Rattle.osi_fair.proofs.a_reference_names_one_connection.{passes_apart}
 use Rattle.osi_fair.proofs.all_are_judged_unless_one_broke.{AreJudged, still_judged}
 use Rattle.osi_fair.proofs.what_holds_of_one_item.{after_add, after_map}
 use Rattle.osi_fair.proofs.what_keeps_names_apart.{AreApart}
@@ -47,16 +36,15 @@ use Rattle.osi_tap.specs.declared.rooms.Room.TheVariants.{All}
 use Rattle.osi_tap.specs.Connections.{Joined, Sessions, adds, all_begin, asked, opened, packet_begins, reference_of, shut, spoken, taken, user_of}
 use Rattle.osi_tap.specs.Connections as joined
 use Rattle.osi_tap.specs.Courses.{way_of}
-use Rattle.osi_tap.specs.Lines.{Spoken, heard}
+use Rattle.osi_tap.specs.Lines.{heard}
 use Rattle.osi_watched.specs.Shown.{IsShownNow, calls_from}
 use Rattle.osi_watched.specs.ShownPlaces.{HaveSamePlaces, IsOneOf, named_by}
-use Rattle.osi_watched.proofs.sessions.a_unit_is_joined_where_it_is_named.{named_there, names_there}
 use Rattle.osi_watched.proofs.sessions.connections_have_the_same_places.{as_long, at_same, begun_same, unit_places}
 use Rattle.osi_watched.proofs.sessions.what_a_tap_shows_goes_on.{named_added}
 use Rattle.osi_watched.proofs.sessions.what_a_unit_does_at_its_place.{Does, asks_again, asks_more, nowhere, somewhere, unit_does}
-use Rattle.osi_watched.proofs.sessions.what_stands_of_a_connection.{IsLike, IsUnsaid, Known, Stands, is_for, is_next, is_part, lives, names_it, no_next}
+use Rattle.osi_watched.proofs.sessions.what_stands_of_a_connection.{IsLike, IsUnsaid, Known, Stands, is_next, lives, names_it, no_next}
 use Rattle.osi_watched.proofs.sessions.what_stands_of_a_connection.{past}
-use Rattle.osi_watched.proofs.sessions.what_stands_of_a_connection.{stands_begins, stands_elsewhere, stands_none, stands_other_begins}
+use Rattle.osi_watched.proofs.sessions.what_stands_of_a_connection.{stands_begins, stands_none, stands_other_begins}
 use Rattle.osi_watched.proofs.sessions.what_stands_of_a_connection.{stands_other_none, stands_other_part, stands_part, unnamed, waiting_for}
 
 -- ---- what a unit leaves of the half of a side

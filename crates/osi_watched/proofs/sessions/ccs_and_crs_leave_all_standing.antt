@@ -1,8 +1,8 @@
 -- A CR and a CC leave all connections of an end standing at a tap: those of the end, and those of the other side.
 -- For the session of each connection of an end.
-use Rattle.std.proofs.Common.{◌≡◌, ◌∙◌, refl, sym, ap, subst, ℕ, ◌<◌, ◌≤◌, Bool, true, false, List, [], ◌∷◌, ◌++◌, length, map, Option, Some}
+use Rattle.std.proofs.Common.{◌≡◌, ◌∙◌, refl, sym, ap, subst, ℕ, ◌≤◌, Bool, true, false, List, [], ◌∷◌, ◌++◌, length, map, Option, Some}
 use Rattle.std.proofs.Common.{None, arith}
-use Rattle.std.specs.Prelude.{◌&&◌, ◌==◌, is_none, nat_le, not, slice_get}
+use Rattle.std.specs.Prelude.{◌&&◌, is_none, nat_le, not, slice_get}
 use Rattle.std.specs.List.{AllByRecursion}
 use Rattle.std.proofs.lemmas.List.{append-nil}
 use Rattle.osi_tpdu.specs.Value.{Connect, Value, acknowledge, confirm, data0, data2, disconnect, disconnected, error, request}
@@ -14,25 +14,22 @@ use Rattle.osi_judge.specs.declared.directions.Direction.{Direction}
 use Rattle.osi_judge.specs.declared.directions.Direction.TheVariants.{Left, Right}
 use Rattle.osi_rules.specs.declared.connections.Connection.{Connection}
 use Rattle.osi_rules.specs.declared.directions.Direction.TheVariants as way
-use Rattle.osi_rules.specs.declared.findings.Finding.{Finding}
-use Rattle.osi_rules.specs.declared.findings.Finding.TheVariants.{NotJudged}
 use Rattle.osi_rules.specs.declared.findings.Reach.{Reach}
 use Rattle.osi_rules.specs.declared.halves.Half.{Half}
 use Rattle.osi_rules.specs.Reaches.{is_applied}
 use Rattle.osi_rules.specs.Rows.{code_named, is_inside, is_offered}
-use Rattle.osi_rules.specs.Sides.{is_open, is_silent, own}
+use Rattle.osi_rules.specs.Sides.{is_open, is_silent}
 use Rattle.osi_rules.specs.Traffic.{State, asked_by, connection_after, found, found_on, meaning_if, meant, takes, uses_source}
 use Rattle.osi_fair.proofs.a_reference_names_one_connection.{applied_found}
-use Rattle.osi_fair.proofs.which_units_are_for_a_connection.{leads, picked, picked_first, picked_rest}
+use Rattle.osi_fair.proofs.which_units_are_for_a_connection.{picked_first, picked_rest}
 use Rattle.osi_honest.specs.Courses.{Deeds, said_in}
 use Rattle.osi_tap.specs.declared.rooms.Room.TheVariants.{All}
 use Rattle.osi_tap.specs.Connections.{Joined, Sessions, asked, class_of, opened, reference_of, spoken}
 use Rattle.osi_tap.specs.Connections as joined
-use Rattle.osi_tap.specs.Courses.{way_of}
 use Rattle.osi_tap.specs.Lines.{Said, Spoken, begun_octets, heard, octets_of}
 use Rattle.osi_watched.specs.Shown.{AreAfter, IsJoinedFrom, IsShownNow, all_before, before_begun, before_of}
 use Rattle.osi_watched.specs.ShownPlaces.{IsOneOf}
-use Rattle.osi_watched.proofs.sessions.all_connections_stand.{AllStand, IsPlain, Leaves, like_same, other_after, other_plain, own_after}
+use Rattle.osi_watched.proofs.sessions.all_connections_stand.{AllStand, Leaves, like_same, other_after, other_plain, own_after}
 use Rattle.osi_watched.proofs.sessions.all_connections_stand.{own_plain}
 use Rattle.osi_watched.proofs.sessions.connections_have_the_same_places.{first_answer, none_given}
 use Rattle.osi_watched.proofs.sessions.right_units_leave_all_standing.{rests_on}

@@ -1,14 +1,11 @@
 -- Units of class 2 that are right leave all connections of an end standing at a tap: units of the end, and of the other side.
 -- For the session of each connection of an end.
-use Rattle.std.proofs.Common.{◌≡◌, ◌∙◌, ◌⊎◌, inl, inr, refl, sym, ap, subst, ℕ, ◌<◌, ◌≤◌, Bool, true, false, if◌then◌else◌, List, [], ◌∷◌}
-use Rattle.std.proofs.Common.{◌++◌, length, map, Option, Some, None, arith}
-use Rattle.std.specs.Prelude.{◌&&◌, ◌||◌, ◌==◌, is_some, not, position, slice_get}
-use Rattle.std.specs.List.{AllByRecursion}
+use Rattle.std.proofs.Common.{◌≡◌, ◌∙◌, refl, sym, ap, subst, ℕ, Bool, true, false, if◌then◌else◌, List, [], ◌∷◌}
+use Rattle.std.proofs.Common.{◌++◌, Option, Some, None}
+use Rattle.std.specs.Prelude.{not, position, slice_get}
 use Rattle.std.proofs.lemmas.Bool.{eqb-true}
-use Rattle.std.proofs.lemmas.List.{append-nil}
-use Rattle.osi_tpdu.specs.Value.{Connect, Value, acknowledge, confirm, data0, data2, destination_of, disconnect, disconnected, error, request}
-use Rattle.osi_class.specs.Runs.{parts_in}
-use Rattle.osi_class.specs.Tsdus.{Part, tsdus}
+use Rattle.osi_tpdu.specs.Value.{Connect, Value, acknowledge, data2, destination_of, request}
+use Rattle.osi_class.specs.Tsdus.{Part}
 use Rattle.osi_class.specs.declared.terms.Class.{Class}
 use Rattle.osi_class.specs.declared.terms.Class.TheVariants.{Two, Zero}
 use Rattle.osi_judge.specs.Captures.{other}
@@ -23,29 +20,24 @@ use Rattle.osi_rules.specs.declared.findings.Finding.TheVariants.{Broke, Kept, N
 use Rattle.osi_rules.specs.declared.findings.Reach.{Reach}
 use Rattle.osi_rules.specs.declared.findings.Rule.{Rule}
 use Rattle.osi_rules.specs.declared.findings.Rule.TheVariants as rule
-use Rattle.osi_rules.specs.declared.halves.Half.{Half}
 use Rattle.osi_rules.specs.declared.routes.Route.{Route}
 use Rattle.osi_rules.specs.Reaches.{is_applied}
 use Rattle.osi_rules.specs.Rows.{Test, first_failed, has_passed, keeps_credit}
 use Rattle.osi_rules.specs.Sides.{is_named, is_open, is_silent, own}
 use Rattle.osi_rules.specs.Sides as sides
-use Rattle.osi_rules.specs.Traffic.{Outcome, State, asked_by, at_found, at_place, class_for, connection_after, found, found_on, is_stopped, meaning_if}
+use Rattle.osi_rules.specs.Traffic.{State, at_found, at_place, class_for, connection_after, found, found_on, is_stopped, meaning_if}
 use Rattle.osi_rules.specs.Traffic.{meant, none_told, route, route_in, routed, takes, unnamed_by, uses_source}
-use Rattle.osi_stack.specs.State.{End}
-use Rattle.osi_honest.specs.Courses.{Deeds, said_in}
-use Rattle.osi_tap.specs.declared.rooms.Room.TheVariants.{All}
+use Rattle.osi_honest.specs.Courses.{Deeds}
 use Rattle.osi_tap.specs.Connections.{Joined, Sessions, asked, opened, class_of, reference_of, spoken}
 use Rattle.osi_tap.specs.Connections as joined
 use Rattle.osi_tap.specs.Courses.{way_of}
-use Rattle.osi_tap.specs.Lines.{Begun, Said, Spoken, begun_octets, heard, octets_of}
-use Rattle.osi_watched.specs.Shown.{AreAfter, IsJoinedFrom, IsShownNow, all_before, before_begun, before_of, left_over}
 use Rattle.osi_watched.specs.ShownPlaces.{IsOneOf}
 use Rattle.osi_watched.proofs.sessions.a_right_dt_has_one_place.{one_place, two_open, two_placed}
 use Rattle.osi_watched.proofs.sessions.a_unit_is_joined_where_it_is_named.{named_there, names_there}
 use Rattle.osi_watched.proofs.sessions.all_connections_stand.{AllStand, IsPlain, Leaves, Rests, like_same, other_part, other_plain, own_part}
 use Rattle.osi_watched.proofs.sessions.all_connections_stand.{own_plain, quiet, rests}
-use Rattle.osi_watched.proofs.sessions.what_stands_of_a_connection.{IsUnsaid, Known, Stands, is_for, names_it, stands_elsewhere}
-use Rattle.osi_watched.proofs.sessions.what_stands_of_a_connection.{stands_other_none, waiting_for}
+use Rattle.osi_watched.proofs.sessions.what_stands_of_a_connection.{Known, Stands, is_for, names_it, stands_elsewhere}
+use Rattle.osi_watched.proofs.sessions.what_stands_of_a_connection.{stands_other_none}
 
 -- ---- an AK that is right
 

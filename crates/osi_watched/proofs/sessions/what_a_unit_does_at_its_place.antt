@@ -1,18 +1,13 @@
 -- What a unit that passes does to the connections: nothing, or to the one at its place, or it asks for a new one; for the rules of
 -- transport and for what is joined alike.
 -- For all connections of an end and a tap.
-use Rattle.std.proofs.Common.{◌≡◌, ◌∙◌, refl, sym, ap, subst, ℕ, Bool, true, false, if◌then◌else◌, List, [], ◌∷◌, ◌++◌, length, set, arith}
+use Rattle.std.proofs.Common.{◌≡◌, ◌∙◌, refl, ap, ℕ, Bool, true, false, if◌then◌else◌, [], ◌∷◌, ◌++◌, length, set, arith}
 use Rattle.std.proofs.Common.{Option, Some, None}
 use Rattle.std.specs.Prelude.{position, slice_get}
 use Rattle.std.proofs.lemmas.Option.{slice_get_past}
-use Rattle.osi_tpdu.specs.Value.{Connect, Value, acknowledge, confirm, data0, data2, destination_of, disconnect, disconnected, error, request}
-use Rattle.osi_class.specs.declared.terms.Class.{Class}
-use Rattle.osi_class.specs.declared.terms.Class.TheVariants.{Two, Zero}
+use Rattle.osi_tpdu.specs.Value.{Connect, Value, acknowledge, confirm, data0, data2, disconnect, disconnected, error, request}
 use Rattle.osi_judge.specs.declared.directions.Direction.{Direction}
-use Rattle.osi_judge.specs.declared.directions.Direction.TheVariants.{Left, Right}
 use Rattle.osi_rules.specs.declared.connections.Connection.{Connection}
-use Rattle.osi_rules.specs.declared.directions.Direction.{Direction as Way}
-use Rattle.osi_rules.specs.declared.directions.Direction.TheVariants as way
 use Rattle.osi_rules.specs.declared.findings.Finding.{Finding}
 use Rattle.osi_rules.specs.declared.findings.Finding.TheVariants.{Broke, Kept, NotJudged, Outside, TooMany}
 use Rattle.osi_rules.specs.declared.findings.Reach.{Reach}
@@ -21,17 +16,15 @@ use Rattle.osi_rules.specs.declared.routes.Route.TheVariants.{Asks, Named, Only,
 use Rattle.osi_rules.specs.Reaches.{is_applied, reach_of}
 use Rattle.osi_rules.specs.Rows.{first_failed}
 use Rattle.osi_rules.specs.Sides.{is_free, is_live, is_named}
-use Rattle.osi_rules.specs.Sides as sides
 use Rattle.osi_rules.specs.Traffic.{Outcome, State, asked_by, asks_by, asks_kept, asks_of, at_found, at_place, class_for, connection_after}
 use Rattle.osi_rules.specs.Traffic.{found_on, is_stopped, meaning_if, meant, none_told, request_tests, route, routed, takes}
 use Rattle.osi_fair.proofs.a_right_unit_is_not_blamed.{first_there}
-use Rattle.osi_tap.specs.declared.rooms.Room.{Room}
 use Rattle.osi_tap.specs.Connections.{Joined, Sessions, asked, changed, count, placed, taken, taken_at}
 use Rattle.osi_tap.specs.Connections as joined
-use Rattle.osi_tap.specs.Courses.{Course, unit_passes, way_of}
+use Rattle.osi_tap.specs.Courses.{way_of}
 use Rattle.osi_tpkt.specs.Stream.{offset_of}
 use Rattle.osi_watched.specs.ShownPlaces.{HaveSamePlaces, IsOneOf}
-use Rattle.osi_watched.proofs.sessions.connections_have_the_same_places.{as_long, at_same, not_asked, unit_joins, unit_knows}
+use Rattle.osi_watched.proofs.sessions.connections_have_the_same_places.{as_long, at_same, not_asked}
 
 -- what a unit does of which this is told
 pub data Does (d : Direction) (at : ℕ) (v : Value) (s : State) (t : Sessions) (o : Outcome) : Type 0 where
