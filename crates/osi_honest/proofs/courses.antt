@@ -1,8 +1,14 @@
 -- What happens at one connection of an end, in either class and among others.
+pub mod units_of_each_connection
 pub mod what_calls_of_a_link_say
+pub mod the_connections_of_each_class
 pub mod what_a_unit_does_to_a_connection
-pub mod what_a_link_takes_and_is_handed
+pub mod how_long_a_connection_is_open
 pub mod steps_of_a_course
+pub mod what_a_session_puts
+pub mod a_connection_without_a_unit
+pub mod which_connection_a_unit_is_for
+pub mod what_a_link_takes_and_is_handed
 pub mod what_another_connection_leaves
 pub mod what_its_own_session_does
 pub mod what_waits_to_be_heard

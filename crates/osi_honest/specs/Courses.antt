@@ -1,6 +1,6 @@
 -- The course of one connection of an end, of either class and among any number of others: the calls of its link, and what its
 -- session took and sent by them.
-use Rattle.std.specs.Prelude.{◌≡◌, ◌+◌, ℕ, Bool, true, false, List, [], ◌∷◌, ◌++◌, map, Option, Some, None, IsSome, Result, Ok, Err}
+use Rattle.std.specs.Prelude.{◌≡◌, ◌+◌, ◌<◌, ℕ, Bool, true, false, List, [], ◌∷◌, ◌++◌, map, Option, Some, None, IsSome, Result, Ok, Err}
 use Rattle.std.specs.List.{flat_map}
 use Rattle.osi_tpkt.specs.Stream.{ArePackets}
 use Rattle.osi_tpdu.specs.Packet.{units_of}
@@ -13,7 +13,7 @@ use Rattle.osi_class.specs.declared.terms.Class.{Class}
 use Rattle.osi_class.specs.declared.terms.Local.{Local}
 use Rattle.osi_carrier.specs.Negotiation.{opened_link}
 use Rattle.osi_carrier.specs.Rows.{value_at}
-use Rattle.osi_carrier.specs.State.{Connection, asked, closing, linked, packets}
+use Rattle.osi_carrier.specs.State.{Connection, State, asked, closing, linked, packets}
 use Rattle.osi_session.specs.Listening.{Listener}
 use Rattle.osi_session.specs.Phases.{is_wait_transport}
 use Rattle.osi_session.specs.Sessions.{awaits}
@@ -21,6 +21,8 @@ use Rattle.osi_stack.specs.Calls.{calls_with, has_given, terms_error}
 use Rattle.osi_stack.specs.Messages.{kept_at}
 use Rattle.osi_stack.specs.State.{End, Holding}
 use Rattle.osi_stack.specs.declared.connecting.Connect.{Connect}
+use Rattle.osi_honest.specs.Arriving.{Lives}
+use Rattle.osi_honest.specs.Marked.{AreByLinks, Marked, all_units, units_at}
 use Rattle.osi_honest.specs.Talking.{History, Said}
 use Rattle.osi_honest.specs.Turns.{Takes, Turn}
 
@@ -132,12 +134,6 @@ pub data Course (is_caller : Bool) (r : ℕ) (deeds : Deeds) (e : End) : Type 0 
 
 -- ---- a turn
 
--- these units stand among those, in order
-pub data IsWithin : List Value → List Value → Type 0 where
-  none : (all : List Value) → IsWithin [] all
-  here : (unit : Value) (units all : List Value) → IsWithin units all → IsWithin (unit ∷ units) (unit ∷ all)
-  later : (unit : Value) (units all : List Value) → IsWithin units all → IsWithin units (unit ∷ all)
-
 -- the units of these packets that can be read
 abbrev pub units_read : Result (List Value) TpduFault → List Value
 units_read (Ok units) = units
@@ -146,22 +142,42 @@ units_read (Err fault) = []
 abbrev pub units_in : List (List ℕ) → List Value
 units_in packets = flat_map (λ packet. units_read (units_of packet)) packets
 
--- More is done at the connection. What was put for it stands among all that was put, in order; and what its link took, among
--- the units of the packets in the octets that were used.
-pub record Continues (is_caller : Bool) (r : ℕ) (deeds : Deeds) (old : Holding) (turn : Turn) (new : Holding) : Type 0 where
-  pub more : Deeds
-  pub course : Course is_caller r (then_did deeds more) new.end
-  pub units : List Value
-  pub written : turn.put ≡ packets units
-  pub within : IsWithin more.put units
+-- More is done at each connection of an end.
+pub record Continues (is_caller : Bool) (deeds : ℕ → Deeds) (old : Holding) (turn : Turn) (new : Holding) : Type 0 where
+  pub more : ℕ → Deeds
+  pub course : (r : ℕ) → Course is_caller r (then_did (deeds r) (more r)) new.end
+  -- All that was put is these units: those of a connection are all that was put for it, and those of none are no DTs and no AKs.
+  pub put : List Marked
+  pub written : turn.put ≡ packets (all_units put)
+  pub by_links : AreByLinks put
+  pub own : (r : ℕ) → 0 < r → (more r).put ≡ units_at r put
+  -- What was used is these packets and a rest, which is held unless the end is over. Those of their units that are of a connection
+  -- are all that its link took.
   pub used : List (List ℕ)
   pub rest : List ℕ
   pub cut : ArePackets used (old.held.octets ++ turn.used) rest
   pub held : new.end.carrier.ended ≡ None → rest ≡ new.held.octets
-  pub taken : IsWithin (units_taken more.calls) (units_in used)
+  pub took : List Marked
+  pub all : all_units took ≡ units_in used
+  pub taken : (r : ℕ) → 0 < r → units_taken (more r).calls ≡ units_at r took
+  -- While it is open, its link takes all that is for it.
+  pub lives : (r : ℕ) → 0 < r → Lives is_caller r old.end.carrier took put new.end.carrier
 
--- the same of turns one after the other
-abbrev pub ContinuesAlong : Bool → ℕ → Deeds → Holding → List Turn → Holding → Type 0
-ContinuesAlong is_caller r deeds old [] new = new ≡ old
-ContinuesAlong is_caller r deeds old (turn ∷ turns) new = (mid : Holding) × Takes old turn mid
-    × (on : Continues is_caller r deeds old turn mid) × ContinuesAlong is_caller r (then_did deeds on.more) mid turns new
+-- and then more, at each connection
+abbrev pub all_did : (ℕ → Deeds) → (ℕ → Deeds) → ℕ → Deeds
+all_did some more r = then_did (some r) (more r)
+
+-- All that was done since this carrier, when these units were used and put: those of a connection are all that was put for it and
+-- that its link took.
+pub record SoFar (is_caller : Bool) (first : State) (deeds : ℕ → Deeds) (took put : List Marked) (new : Holding) : Type 0 where
+  pub own : (r : ℕ) → 0 < r → (deeds r).put ≡ units_at r put
+  pub taken : (r : ℕ) → 0 < r → units_taken (deeds r).calls ≡ units_at r took
+  pub lives : (r : ℕ) → 0 < r → Lives is_caller r first took put new.end.carrier
+
+-- turns one after the other, and all that was done since this carrier
+abbrev pub ContinuesAlong : Bool → State → (ℕ → Deeds) → (took put : List Marked) → Holding → List Turn → Holding → Type 0
+ContinuesAlong is_caller first deeds took put old [] new = new ≡ old
+ContinuesAlong is_caller first deeds took put old (turn ∷ turns) new = (mid : Holding) × Takes old turn mid
+    × (on : Continues is_caller deeds old turn mid)
+    × SoFar is_caller first (all_did deeds on.more) (took ++ on.took) (put ++ on.put) mid
+    × ContinuesAlong is_caller first (all_did deeds on.more) (took ++ on.took) (put ++ on.put) mid turns new

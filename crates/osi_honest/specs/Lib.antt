@@ -6,4 +6,6 @@ pub mod Reading
 pub mod Showing
 pub mod Openings
 pub mod Seeing
+pub mod Marked
+pub mod Arriving
 pub mod Courses

@@ -210,19 +210,30 @@ pub fn an_honest_end_is_never_blamed()
     the_transport_of_an_end_is_not_blamed();
 }
 
-/// What the session of one connection hands to its link, in either class and among any number of other connections. Take any
-/// run of an end of this library from its beginning, and any reference. Nothing is done at a connection before it is open. Then
-/// its session takes the TSDUs that its link hands out, in order, and no others. What is handed in is what the session sends, in
-/// order, each TSDU when it had taken so many ([`Course`]). In each turn the units that its link gives are put, in order, with
-/// the peer's reference; and the units that its link takes are among those of the packets that were used, in order
+/// What the session of each connection hands to its link, in either class and among any number of other connections. Take any run of
+/// an end of this library from its beginning. Nothing is done at a connection before it is open. Then its session takes the TSDUs that
+/// its link hands out, in order, and no others. What is handed in is what the session sends, in order, each TSDU when it had taken so
+/// many ([`Course`]).
+///
+/// All that is put in a turn is accounted for. Each unit is marked with the reference of the connection whose link gave it, or with 0 if
+/// none did. The units with the mark of a connection are all that was put for it, in order. The units with the mark 0 are no DTs and no
+/// AKs: CRs, CCs, DRs and DCs. The units of the packets that were used are marked too, with the connection whose link took them
 /// ([`Continues`]).
+///
+/// A link takes and gives no unit before its connection is open, and none after it was closed. A connection opens with its CC, or at a
+/// called end with a CR, for which a CC is put. While it is open, its link takes each DT and AK that is for it, and no other unit; and
+/// what it gives is for the reference that the peer gave in that CC or CR ([`Lives`]).
+///
+/// All of this holds of the units of each turn, and of all units from the beginning of the run up to the end of that turn ([`SoFar`]).
 ///
 /// [`Course`]: ../specs/Courses.antt
 /// [`Continues`]: ../specs/Courses.antt
+/// [`Lives`]: ../specs/Arriving.antt
+/// [`SoFar`]: ../specs/Courses.antt
 pub fn what_a_session_hands_to_its_link()
     ensures begins { (is_caller : Bool) (local : Local) (r : ℕ) → Course is_caller r no_deeds (fresh_end is_caller local) }
-    ensures run { (is_caller : Bool) (local : Local) (r : ℕ) (begin end : Holding) (turns : List Turn) → IsFresh is_caller local begin →
-        Run begin turns end → ContinuesAlong is_caller r no_deeds begin turns end }
+    ensures run { (is_caller : Bool) (local : Local) (begin end : Holding) (turns : List Turn) → IsFresh is_caller local begin →
+        Run begin turns end → ContinuesAlong is_caller begin.end.carrier (λ (r : ℕ). no_deeds) [] [] begin turns end }
 {
     few_octets_fit();
     serial_digits();

@@ -28,13 +28,15 @@
 //!
 //! - The `Course` of a connection (`specs/Courses.antt`) is what was done there since it was opened (`Deeds`): the calls of its link
 //!   and the units that were put for it, with what its session took and sent by them. Every connection of an end has a course, in
-//!   either class, however many others there are, in any run of the end: [`laws::what_a_session_hands_to_its_link`].
+//!   either class, however many others there are, in any run of the end. Each unit that the end puts, and each that arrives, is
+//!   marked with the connection whose link gave or took it (`specs/Marked.antt`). While a connection is open, its link takes all
+//!   DTs and AKs that are for it, and gives units for the peer's reference (`specs/Arriving.antt`):
+//!   [`laws::what_a_session_hands_to_its_link`].
 //! - So what such a session sent is explained by what it had taken: [`laws::what_a_connection_said_is_explained`].
 //! - The units that were put for it carry the TSDUs that were handed in, and those that its link took carry the TSDUs that it handed
 //!   out: [`laws::what_the_units_of_a_connection_carry`].
 //!
-//! What is not here: that what else is put is of other connections, or no data; and so, that the judge finds just these units for
-//! the connection in a capture.
+//! What is not here: that a judge of many connections finds just these units for the connection in a capture.
 #![tactic(auto)]
 
 pub mod laws;

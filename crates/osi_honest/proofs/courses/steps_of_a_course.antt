@@ -1,142 +1,209 @@
--- Steps of a connection one after the other, each with the calls of its link and with what was put.
+-- Steps of all connections of an end, one after the other, each with the calls of their links and with what was put and taken.
 -- For the course of a connection.
-use Rattle.std.proofs.Common.{◌≡◌, ◌∙◌, sym, ap, subst, ℕ, List, [], ◌++◌}
-use Rattle.std.proofs.Common.{append_assoc, map}
+use Rattle.std.proofs.Common.{◌≡◌, ◌∙◌, refl, sym, ap, subst, ℕ, ◌<◌, Bool, List, [], ◌++◌, append_assoc, map}
+use Rattle.std.proofs.Common.{IsSome, inl}
 use Rattle.std.proofs.lemmas.List.{append-nil}
 use Rattle.osi_tpdu.specs.Value.{Value}
 use Rattle.osi_class.specs.Link.{unit_of}
 use Rattle.osi_class.specs.Runs.{Move}
-use Rattle.osi_carrier.specs.State.{packets}
-use Rattle.osi_session.specs.Listening.{Input}
-use Rattle.osi_stack.specs.Moving.{to_session}
+use Rattle.osi_carrier.specs.State.{State as Carrier, packets}
 use Rattle.osi_stack.specs.State.{End}
-use Rattle.osi_stack.proofs.carried.what_each_step_preserves.{session_carried}
-use Rattle.osi_honest.specs.Courses.{Deeds, IsWithin, no_deeds, then_did, units_given, units_taken}
-use Rattle.osi_honest.specs.Courses.IsWithin.{none}
+use Rattle.osi_honest.specs.Courses.{Deeds, all_did, no_deeds, then_did, units_given, units_taken}
+use Rattle.osi_honest.specs.Marked.{AreByLinks, Marked, all_units, units_at}
 use Rattle.osi_honest.proofs.class_0.what_class_0_writes_of_a_tsdu.{packets_joined}
-use Rattle.osi_honest.proofs.courses.what_calls_of_a_link_say.{all_within, taken_more, then_joined, then_none, within_more}
-use Rattle.osi_honest.proofs.keeping.what_a_unit_keeps_a_turn_keeps.{IsKept}
-use Rattle.osi_honest.proofs.keeping.what_was_put_stays_in_front.{out_kept}
+use Rattle.osi_honest.proofs.courses.how_long_a_connection_is_open.{Life, Rests, Stage, life_rests, life_then, life_then_rests}
+use Rattle.osi_honest.proofs.courses.how_long_a_connection_is_open.{life_to_past, rests_over, stage_at, stage_over}
+use Rattle.osi_honest.proofs.courses.how_long_a_connection_is_open.Stage.{past}
+use Rattle.osi_honest.proofs.courses.units_of_each_connection.{all_units_more, by_links_more, marked, marked_all, none_marked, nowhere}
+use Rattle.osi_honest.proofs.courses.units_of_each_connection.{units_more}
+use Rattle.osi_honest.proofs.courses.what_calls_of_a_link_say.{taken_more, then_joined, then_none}
 
--- ---- what was put
+-- ---- one connection
 
--- packets stand after these octets
-abbrev pub Adds : (before after : List ℕ) → Type 0
-Adds before after = (units : List Value) × (after ≡ before ++ packets units)
-
-pub adds_none : (before : List ℕ) → Adds before before
-adds_none before = ([], sym (append-nil before))
-
-adds_on : (before after : List ℕ) (units : List Value) → Adds before after → Adds before (after ++ packets units)
-adds_on before after units a = (
-  a.0 ++ units,
-  ap (λ (l : List ℕ). l ++ packets units) a.1 ∙ append_assoc before (packets a.0) (packets units)
-      ∙ ap (λ (l : List ℕ). before ++ l) (sym (packets_joined a.0 units)),
-)
-
-pub adds_kept : (before : List ℕ) → IsKept (λ c. Adds before c.outgoing)
-adds_kept before = out_kept (Adds before) (adds_on before)
-
-pub session_adds : (q : ℕ) (input : Input) (e : End) → Adds e.carrier.outgoing (to_session q input e).carrier.outgoing
-session_adds q input e =
-    session_carried (λ c. Adds e.carrier.outgoing c.outgoing) (adds_kept e.carrier.outgoing).carries q input e
-    (adds_none e.carrier.outgoing)
-
--- ---- steps
-
--- More is done at the connection, after which this holds. What was put stands after these octets, and what was put for the
--- connection among it, in order. What its link took is among these units.
-pub record StepsBy (used : List Value) (T : Deeds → End → Type 0) (deeds : Deeds) (before : List ℕ) (e : End) : Type 0 where
+-- More is done at the connection, after which this holds: of the units that were put, and of those that were taken, its link gave and
+-- took those of this connection.
+pub record StepAt (r : ℕ) (put took : List Marked) (T : Deeds → End → Type 0) (deeds : Deeds) (e : End) : Type 0 where
   pub more : Deeds
   pub there : T (then_did deeds more) e
-  pub units : List Value
-  pub written : e.carrier.outgoing ≡ before ++ packets units
-  pub within : IsWithin more.put units
-  pub taken : IsWithin (units_taken more.calls) used
+  pub own : 0 < r → more.put ≡ units_at r put
+  pub taken : 0 < r → units_taken more.calls ≡ units_at r took
 
--- no unit arrives
-abbrev pub Steps : (Deeds → End → Type 0) → Deeds → List ℕ → End → Type 0
-Steps T deeds before e = StepsBy [] T deeds before e
+-- none of these units is of this connection
+abbrev pub HasNone : ℕ → List Marked → Type 0
+HasNone r units = 0 < r → units_at r units ≡ []
 
 -- nothing is done there
-pub step_idle : (used : List Value) (T : Deeds → End → Type 0) (deeds : Deeds) (before : List ℕ) (e : End) →
-    Adds before e.carrier.outgoing → T deeds e → StepsBy used T deeds before e
-step_idle used T deeds before e adds there = record {
+pub step_idle : (r : ℕ) (put took : List Marked) (T : Deeds → End → Type 0) (deeds : Deeds) (e : End) → HasNone r put → HasNone r took →
+    T deeds e → StepAt r put took T deeds e
+step_idle r put took T deeds e none_put none_taken there = record {
   more = no_deeds;
   there = subst (λ (d : Deeds). T d e) (sym (then_none deeds)) there;
-  units = adds.0;
-  written = adds.1;
-  within = none adds.0;
-  taken = none used;
+  own = λ some. sym (none_put some);
+  taken = λ some. sym (none_taken some);
 }
-
-pub step_none : (T : Deeds → End → Type 0) (deeds : Deeds) (before : List ℕ) (e : End) → Adds before e.carrier.outgoing →
-    T deeds e → Steps T deeds before e
-step_none T deeds before e adds there = step_idle [] T deeds before e adds there
 
 -- what is done with these calls: what the link gave is put for the connection
 abbrev pub done_by : (peer : ℕ) → List Move → Deeds
 done_by peer calls = record { calls = calls; put = map (unit_of peer) (units_given calls) }
 
--- and nothing else is put
-pub step_own : (used : List Value) (T : Deeds → End → Type 0) (deeds : Deeds) (calls : List Move) (before : List ℕ) (e : End)
-    (peer : ℕ) → units_taken calls ≡ used → e.carrier.outgoing ≡ before ++ packets (map (unit_of peer) (units_given calls)) →
-    T (then_did deeds (done_by peer calls)) e → StepsBy used T deeds before e
-step_own used T deeds calls before e peer took written there = record {
-  more = done_by peer calls;
-  there = there;
-  units = map (unit_of peer) (units_given calls);
+-- the same with another end
+pub step_on : (r : ℕ) (put took : List Marked) (S T : Deeds → End → Type 0) (deeds : Deeds) (e new : End) → StepAt r put took S deeds e →
+    ((after : Deeds) → S after e → T after new) → StepAt r put took T deeds new
+step_on r put took S T deeds e new a next =
+    record { more = a.more; there = next (then_did deeds a.more) a.there; own = a.own; taken = a.taken }
+
+-- ---- all connections
+
+-- what holds of each connection and what was done there
+abbrev pub States : Type 1
+States = ℕ → Deeds → End → Type 0
+
+abbrev pub HoldEach : States → (ℕ → Deeds) → End → Type 0
+HoldEach T deeds e = (r : ℕ) → T r (deeds r) e
+
+-- More is done at each connection, after which this holds. What the carrier put is the units of `put`, and the units that it used are
+-- those of `took`; each connection gave and took those of its reference.
+pub record StepsBy (is_caller : Bool) (used : List Value) (T : States) (deeds : ℕ → Deeds) (before : Carrier) (e : End) : Type 0 where
+  pub more : ℕ → Deeds
+  pub there : HoldEach T (all_did deeds more) e
+  pub put : List Marked
+  pub written : e.carrier.outgoing ≡ before.outgoing ++ packets (all_units put)
+  pub by_links : AreByLinks put
+  pub own : (r : ℕ) → 0 < r → (more r).put ≡ units_at r put
+  pub took : List Marked
+  pub all : all_units took ≡ used
+  pub taken : (r : ℕ) → 0 < r → units_taken (more r).calls ≡ units_at r took
+  pub life : (r : ℕ) → 0 < r → Life is_caller r (stage_at r before) took put (stage_at r e.carrier)
+
+-- each connection is as open as it was, or past
+abbrev pub AllRest : Carrier → Carrier → Type 0
+AllRest old new = (r : ℕ) → Rests (stage_at r old) (stage_at r new)
+
+pub same_rest : (c : Carrier) → AllRest c c
+same_rest c = λ r. inl refl
+
+pub over_rest : (old new : Carrier) → IsSome new.ended → AllRest old new
+over_rest old new ended = λ r. rests_over r (stage_at r old) new ended
+
+-- no unit arrives
+abbrev pub Steps : Bool → States → (ℕ → Deeds) → Carrier → End → Type 0
+Steps is_caller T deeds before e = StepsBy is_caller [] T deeds before e
+
+pub step_each : (is_caller : Bool) (used : List Value) (T : States) (deeds : ℕ → Deeds) (before : Carrier) (e : End)
+    (put took : List Marked) →
+    e.carrier.outgoing ≡ before.outgoing ++ packets (all_units put) → AreByLinks put → all_units took ≡ used →
+    ((r : ℕ) → 0 < r → Life is_caller r (stage_at r before) took put (stage_at r e.carrier)) →
+    ((r : ℕ) → StepAt r put took (T r) (deeds r) e) → StepsBy is_caller used T deeds before e
+step_each is_caller used T deeds before e put took written by_links all life each = record {
+  more = λ r. (each r).more;
+  there = λ r. (each r).there;
+  put = put;
   written = written;
-  within = all_within (map (unit_of peer) (units_given calls));
-  taken = subst (IsWithin (units_taken calls)) took (all_within (units_taken calls));
+  by_links = by_links;
+  own = λ r. (each r).own;
+  took = took;
+  all = all;
+  taken = λ r. (each r).taken;
+  life = life;
 }
 
-pub step_then : (used others : List Value) (S T : Deeds → End → Type 0) (deeds : Deeds) (before : List ℕ) (mid new : End) →
-    StepsBy used S deeds before mid → ((after : Deeds) → S after mid → StepsBy others T after mid.carrier.outgoing new) →
-    StepsBy (used ++ others) T deeds before new
-step_then used others S T deeds before mid new a next =
-    let b = next (then_did deeds a.more) a.there in
+-- nothing is done at any, and nothing is put
+pub step_none : (is_caller : Bool) (T : States) (deeds : ℕ → Deeds) (before : Carrier) (e : End) →
+    e.carrier.outgoing ≡ before.outgoing → AllRest before e.carrier → HoldEach T deeds e → Steps is_caller T deeds before e
+step_none is_caller T deeds before e same rest there =
+    step_each is_caller [] T deeds before e [] [] (same ∙ sym (append-nil before.outgoing)) tt refl
+    (λ r some. life_rests is_caller r (stage_at r before) (stage_at r e.carrier) [] tt (rest r))
+    (λ r. step_idle r [] [] (T r) (deeds r) e (λ some. refl) (λ some. refl) (there r))
+
+pub step_then : (is_caller : Bool) (used others : List Value) (S T : States) (deeds : ℕ → Deeds) (before : Carrier) (mid new : End) →
+    StepsBy is_caller used S deeds before mid →
+    ((after : ℕ → Deeds) → HoldEach S after mid → StepsBy is_caller others T after mid.carrier new) →
+    StepsBy is_caller (used ++ others) T deeds before new
+step_then is_caller used others S T deeds before mid new a next =
+    let b = next (all_did deeds a.more) a.there in
     record {
-      more = then_did a.more b.more;
-      there = subst (λ (d : Deeds). T d new) (then_joined deeds a.more b.more) b.there;
-      units = a.units ++ b.units;
-      written = b.written ∙ ap (λ (l : List ℕ). l ++ packets b.units) a.written
-          ∙ append_assoc before (packets a.units) (packets b.units)
-          ∙ ap (λ (l : List ℕ). before ++ l) (sym (packets_joined a.units b.units));
-      within = within_more a.more.put a.units b.more.put b.units a.within b.within;
-      taken = subst (λ (l : List Value). IsWithin l (used ++ others)) (sym (taken_more a.more.calls b.more.calls))
-          (within_more (units_taken a.more.calls) used (units_taken b.more.calls) others a.taken b.taken);
+      more = all_did a.more b.more;
+      there = λ r. subst (λ (d : Deeds). T r d new) (then_joined (deeds r) (a.more r) (b.more r)) (b.there r);
+      put = a.put ++ b.put;
+      written = b.written ∙ ap (λ (l : List ℕ). l ++ packets (all_units b.put)) a.written
+          ∙ append_assoc before.outgoing (packets (all_units a.put)) (packets (all_units b.put))
+          ∙ ap (λ (l : List ℕ). before.outgoing ++ l) (sym (packets_joined (all_units a.put) (all_units b.put)))
+          ∙ ap (λ (l : List Value). before.outgoing ++ packets l) (sym (all_units_more a.put b.put));
+      by_links = by_links_more a.put b.put a.by_links b.by_links;
+      own = λ r some. ap (λ (l : List Value). l ++ (b.more r).put) (a.own r some)
+          ∙ ap (λ (l : List Value). units_at r a.put ++ l) (b.own r some) ∙ sym (units_more r a.put b.put);
+      took = a.took ++ b.took;
+      all = all_units_more a.took b.took ∙ ap (λ (l : List Value). l ++ all_units b.took) a.all
+          ∙ ap (λ (l : List Value). used ++ l) b.all;
+      taken = λ r some. taken_more (a.more r).calls (b.more r).calls
+          ∙ ap (λ (l : List Value). l ++ units_taken (b.more r).calls) (a.taken r some)
+          ∙ ap (λ (l : List Value). units_at r a.took ++ l) (b.taken r some) ∙ sym (units_more r a.took b.took);
+      life = λ r some. life_then is_caller r (stage_at r before) a.took a.put (stage_at r mid.carrier) b.took b.put
+          (stage_at r new.carrier) (a.life r some) (b.life r some);
     }
 
 -- units arrived before
-pub step_after : (used : List Value) (S T : Deeds → End → Type 0) (deeds : Deeds) (before : List ℕ) (mid new : End) →
-    StepsBy used S deeds before mid → ((after : Deeds) → S after mid → Steps T after mid.carrier.outgoing new) →
-    StepsBy used T deeds before new
-step_after used S T deeds before mid new a next =
-    subst (λ (l : List Value). StepsBy l T deeds before new) (append-nil used) (step_then used [] S T deeds before mid new a next)
+pub step_after : (is_caller : Bool) (used : List Value) (S T : States) (deeds : ℕ → Deeds) (before : Carrier) (mid new : End) →
+    StepsBy is_caller used S deeds before mid → ((after : ℕ → Deeds) → HoldEach S after mid → Steps is_caller T after mid.carrier new) →
+    StepsBy is_caller used T deeds before new
+step_after is_caller used S T deeds before mid new a next =
+    subst (λ (l : List Value). StepsBy is_caller l T deeds before new) (append-nil used)
+    (step_then is_caller used [] S T deeds before mid new a next)
 
--- more units arrived, of which the link took none
-pub step_more : (used others : List Value) (T : Deeds → End → Type 0) (deeds : Deeds) (before : List ℕ) (e : End) →
-    StepsBy used T deeds before e → StepsBy (used ++ others) T deeds before e
-step_more used others T deeds before e a = record {
+-- the carrier has ended, and more units had arrived
+pub step_more : (is_caller : Bool) (used others : List Value) (T : States) (deeds : ℕ → Deeds) (before : Carrier) (e : End) →
+    IsSome e.carrier.ended → StepsBy is_caller used T deeds before e → StepsBy is_caller (used ++ others) T deeds before e
+step_more is_caller used others T deeds before e ended a = record {
   more = a.more;
   there = a.there;
-  units = a.units;
+  put = a.put;
   written = a.written;
-  within = a.within;
-  taken = subst (λ (l : List Value). IsWithin l (used ++ others)) (append-nil (units_taken a.more.calls))
-      (within_more (units_taken a.more.calls) used [] others a.taken (none others));
+  by_links = a.by_links;
+  own = a.own;
+  took = a.took ++ marked 0 others;
+  all = all_units_more a.took (marked 0 others) ∙ ap (λ (l : List Value). l ++ all_units (marked 0 others)) a.all
+      ∙ ap (λ (l : List Value). used ++ l) (marked_all 0 others);
+  taken = λ r some. a.taken r some ∙ sym (append-nil (units_at r a.took))
+      ∙ ap (λ (l : List Value). units_at r a.took ++ l) (sym (nowhere r others some)) ∙ sym (units_more r a.took (marked 0 others));
+  life = λ r some. subst (λ (l : List Marked). Life is_caller r (stage_at r before) (a.took ++ marked 0 others) l (stage_at r e.carrier))
+      (append-nil a.put)
+      (life_then is_caller r (stage_at r before) a.took a.put (stage_at r e.carrier) (marked 0 others) [] (stage_at r e.carrier)
+      (a.life r some)
+      (subst (λ (s : Stage). Life is_caller r s (marked 0 others) [] s) (sym (stage_over r e.carrier ended))
+      (life_to_past is_caller r past (marked 0 others) [] (none_marked r others some) tt)));
 }
 
 -- the same with another end that has put as much
-pub step_as : (used : List Value) (S T : Deeds → End → Type 0) (deeds : Deeds) (before : List ℕ) (e new : End) →
-    StepsBy used S deeds before e → new.carrier.outgoing ≡ e.carrier.outgoing → ((after : Deeds) → S after e → T after new) →
-    StepsBy used T deeds before new
-step_as used S T deeds before e new a same next = record {
+pub step_as : (is_caller : Bool) (used : List Value) (S T : States) (deeds : ℕ → Deeds) (before : Carrier) (e new : End) →
+    StepsBy is_caller used S deeds before e → new.carrier.outgoing ≡ e.carrier.outgoing → AllRest e.carrier new.carrier →
+    ((r : ℕ) (after : Deeds) → S r after e → T r after new) → StepsBy is_caller used T deeds before new
+step_as is_caller used S T deeds before e new a same rest next = record {
   more = a.more;
-  there = next (then_did deeds a.more) a.there;
-  units = a.units;
+  there = λ r. next r (then_did (deeds r) (a.more r)) (a.there r);
+  put = a.put;
   written = same ∙ a.written;
-  within = a.within;
+  by_links = a.by_links;
+  own = a.own;
+  took = a.took;
+  all = a.all;
   taken = a.taken;
+  life = λ r some. life_then_rests is_caller r (stage_at r before) a.took a.put (stage_at r e.carrier) (stage_at r new.carrier)
+      (a.life r some) (rest r);
+}
+
+-- the same since another carrier that had put as much
+pub step_since : (is_caller : Bool) (used : List Value) (T : States) (deeds : ℕ → Deeds) (before other : Carrier) (e : End) →
+    other.outgoing ≡ before.outgoing → ((r : ℕ) → stage_at r other ≡ stage_at r before) → StepsBy is_caller used T deeds other e →
+    StepsBy is_caller used T deeds before e
+step_since is_caller used T deeds before other e same as_open a = record {
+  more = a.more;
+  there = a.there;
+  put = a.put;
+  written = a.written ∙ ap (λ (l : List ℕ). l ++ packets (all_units a.put)) same;
+  by_links = a.by_links;
+  own = a.own;
+  took = a.took;
+  all = a.all;
+  taken = a.taken;
+  life = λ r some. subst (λ (s : Stage). Life is_caller r s a.took a.put (stage_at r e.carrier)) (as_open r) (a.life r some);
 }

@@ -1,14 +1,15 @@
 -- A call of the user: what becomes of the course of one connection, whichever connection the call is for.
 -- For the course of a connection.
-use Rattle.std.proofs.Common.{◌≡◌, ◌≢◌, ◌∙◌, refl, sym, ap, subst, ℕ, ◌+◌, ◌==◌, ◌&&◌, Bool, true, false, if◌then◌else◌, not, nat_le}
+use Rattle.std.proofs.Common.{◌≡◌, ◌≢◌, ◌∙◌, refl, sym, ap, subst, ℕ, ◌+◌, ◌<◌, ◌==◌, ◌&&◌, Bool, true, false, if◌then◌else◌, not, nat_le}
 use Rattle.std.proofs.Common.{nat_lt, List, [], ◌∷◌, ◌++◌, length, Option, Some, None, is_some, option_map}
-use Rattle.std.proofs.lemmas.Bool.{eq-eqb, eqb-true}
+use Rattle.std.proofs.lemmas.Bool.{eqb-true}
 use Rattle.osi_tpdu.specs.Limits.{tsap_octets}
 use Rattle.osi_tpdu.specs.Value.{Value, request}
 use Rattle.osi_class.specs.Link.{Standing}
 use Rattle.osi_class.specs.Runs.{tsdus_out}
 use Rattle.osi_carrier.specs.Calls.{closed_on, closed_with, link_of, may_connect, open_link}
 use Rattle.osi_carrier.specs.Negotiation.{proposal}
+use Rattle.osi_carrier.specs.Orderly.{IsOrderly}
 use Rattle.osi_carrier.specs.Rows.{value_at}
 use Rattle.osi_carrier.specs.State.{Connection, State as Carrier, asked}
 use Rattle.osi_carrier.specs.declared.ends.EndReason.{EndReason}
@@ -38,53 +39,56 @@ use Rattle.osi_stack.proofs.sound.the_invariant_is_kept.{closed_given, open_none
 use Rattle.osi_honest.specs.Courses.{Course, Deeds, Gone, IsOpen, IsShut, said_in}
 use Rattle.osi_honest.specs.Courses.Course.{awaited, is_gone, is_open, unknown}
 use Rattle.osi_honest.specs.Courses.Gone.{closed, never, over}
+use Rattle.osi_honest.specs.Marked.{AreByLinks, Marked}
 use Rattle.osi_honest.specs.Talking.{History, said_after}
 use Rattle.osi_honest.specs.Talking as history
 use Rattle.osi_honest.specs.Turns.{HasSerialIn}
 use Rattle.osi_honest.proofs.class_0.a_session_of_class_0_puts_what_it_sends.{still_begun}
 use Rattle.osi_honest.proofs.class_0.what_a_call_does_in_class_0.{granted_proper}
 use Rattle.osi_honest.proofs.class_0.what_packets_do_in_class_0.{never_lasts}
-use Rattle.osi_honest.proofs.courses.steps_of_a_course.{Adds, Steps, adds_kept, adds_none, session_adds, step_none}
+use Rattle.osi_honest.proofs.courses.a_connection_without_a_unit.{connect_rests, given_up_rests, session_life}
+use Rattle.osi_honest.proofs.courses.steps_of_a_course.{HasNone, HoldEach, StepAt, Steps, step_each, step_idle}
+use Rattle.osi_honest.proofs.courses.units_of_each_connection.{marked, none_marked, nowhere, unequal}
+use Rattle.osi_honest.proofs.courses.what_a_session_puts.{Puts, closing_by_links, closing_puts, put_closing, puts_none}
+use Rattle.osi_honest.proofs.courses.what_a_session_puts.{session_by_links, session_others, session_puts, session_written}
+use Rattle.osi_honest.proofs.courses.what_sessions_hear_of_it.{CourseAll, course_given}
 use Rattle.osi_honest.proofs.courses.what_a_link_takes_and_is_handed.{Leaves, closed_leaves, closed_shut, link_shut}
 use Rattle.osi_honest.proofs.courses.what_a_unit_does_to_a_connection.{given_before, given_next, next_ungiven}
 use Rattle.osi_honest.proofs.courses.what_another_connection_leaves.{Beside, course_beside, course_over, gone_same, session_beside}
 use Rattle.osi_honest.proofs.courses.what_another_connection_leaves.{used_none}
+use Rattle.osi_honest.proofs.courses.how_long_a_connection_is_open.{Life, life_rests, rests_over, stage_at}
 use Rattle.osi_honest.proofs.courses.what_its_own_session_does.{CanSpeak, session_speaks}
 
 -- no connection has two states
 two_states : {A : Type 0} (o x y : Option Connection) → o ≡ x → o ≡ y → (x ≡ y → A) → A
 two_states o x y a b differ = differ (sym a ∙ b)
 
--- a reference is this one or another
-unequal : (q r : ℕ) → (r == q) ≡ false → r ≢ q
-unequal q r e same = both (r == q) (eq-eqb r q same) e
+-- the CR of a request
+abbrev request_put : Connect → End → List Value
+request_put c e =
+    request (proposal e.carrier.local e.carrier.class (option_map tsap_octets c.calling_tsap) (option_map tsap_octets c.called_tsap)
+    (e.carrier.given + 1)) ∷ []
 
 module _ (is_caller : Bool) (r : ℕ) (moves : Deeds) (e : End) (lasts : e.carrier.ended ≡ None) where
-  abbrev Then : End → Type 0
-  Then new = Steps (Course is_caller r) moves e.carrier.outgoing new
+  abbrev Then : List Marked → End → Type 0
+  Then put new = StepAt r put [] (Course is_caller r) moves new
+
+  -- nothing is done at this connection
+  idle : (put : List Marked) (new : End) → HasNone r put → Course is_caller r moves new → Then put new
+  idle put new none course = step_idle r put [] (Course is_caller r) moves new none (λ some. refl) course
 
   -- a call for another connection
-  others_by : (new : End) (o : Option EndReason) → new.carrier.ended ≡ o → Adds e.carrier.outgoing new.carrier.outgoing →
-      (new.carrier.ended ≡ None → Beside r e new) → Course is_caller r moves e → Then new
-  others_by new None is adds b course =
-      step_none (Course is_caller r) moves e.carrier.outgoing new adds (course_beside is_caller r moves e new (b is) course)
-  others_by new (Some reason) is adds b course =
-      step_none (Course is_caller r) moves e.carrier.outgoing new adds
-      (is_gone (course_over is_caller r moves e new course (ap is_some is)))
+  others_by : (put : List Marked) (new : End) (o : Option EndReason) → new.carrier.ended ≡ o → HasNone r put →
+      (new.carrier.ended ≡ None → Beside r e new) → Course is_caller r moves e → Then put new
+  others_by put new None is none b course = idle put new none (course_beside is_caller r moves e new (b is) course)
+  others_by put new (Some reason) is none b course =
+      idle put new none (is_gone (course_over is_caller r moves e new course (ap is_some is)))
 
-  others : (new : End) → Adds e.carrier.outgoing new.carrier.outgoing → (new.carrier.ended ≡ None → Beside r e new) →
-      Course is_caller r moves e → Then new
-  others new adds b course = others_by new new.carrier.ended refl adds b course
+  others : (put : List Marked) (new : End) → HasNone r put → (new.carrier.ended ≡ None → Beside r e new) →
+      Course is_caller r moves e → Then put new
+  others put new none b course = others_by put new new.carrier.ended refl none b course
 
   -- ---- a request
-
-  abbrev request_put : Connect → List Value
-  request_put c =
-      request (proposal e.carrier.local e.carrier.class (option_map tsap_octets c.calling_tsap) (option_map tsap_octets c.called_tsap)
-      (e.carrier.given + 1)) ∷ []
-
-  connect_adds : (c : Connect) → Adds e.carrier.outgoing (connects c e).carrier.outgoing
-  connect_adds c = (request_put c, refl)
 
   caller_by : (b has_ended : Bool) (error : Option OpenError) →
       (if not b then Some NotCaller else (if has_ended then Some Ended else error)) ≡ None → b ≡ true
@@ -139,12 +143,13 @@ module _ (is_caller : Bool) (r : ℕ) (moves : Deeds) (e : End) (lasts : e.carri
       }
 
   connect_steps : (c : Connect) (b : Bool) → (r == e.carrier.given + 1) ≡ b → connect_error c e ≡ None → Course is_caller r moves e →
-      Then (connects c e)
+      Then (marked 0 (request_put c e)) (connects c e)
   connect_steps c true is allowed course =
-      step_none (Course is_caller r) moves e.carrier.outgoing (connects c e) (connect_adds c)
+      idle (marked 0 (request_put c e)) (connects c e) (nowhere r (request_put c e))
       (connects_next c allowed (eqb-true r (e.carrier.given + 1) is) course)
   connect_steps c false is allowed course =
-      others (connects c e) (connect_adds c) (λ still. connects_other c (unequal (e.carrier.given + 1) r is)) course
+      others (marked 0 (request_put c e)) (connects c e) (nowhere r (request_put c e))
+      (λ still. connects_other c (unequal (e.carrier.given + 1) r is)) course
 
   -- ---- a call of the session
 
@@ -176,7 +181,8 @@ module _ (is_caller : Bool) (r : ℕ) (moves : Deeds) (e : End) (lasts : e.carri
         (sym g.closes) (history.calls (tsdus_out moves.calls) (said_in 0 moves.calls) false o.session call o.speaks.history serial);
   }
 
-  own_call : (call : Call) → call_error r call e ≡ None → HasSerial call → Course is_caller r moves e → Then (to_session r (called call) e)
+  own_call : (call : Call) → call_error r call e ≡ None → HasSerial call → Course is_caller r moves e →
+      Then (session_puts r (called call) e) (to_session r (called call) e)
   own_call call allowed serial (unknown none side free live lines) =
       absurd (never_lasts (open_link r e.carrier) (says_is r call e allowed).granted.opened (unlinked None live refl))
   own_call call allowed serial (awaited none c terms side was given here kept) =
@@ -195,21 +201,19 @@ module _ (is_caller : Bool) (r : ℕ) (moves : Deeds) (e : End) (lasts : e.carri
       (open_speaks call o given serial (subst (λ (s : Listener). IsGranted r call s e.carrier) same says.granted))
 
   call_steps : (q : ℕ) (call : Call) (b : Bool) → (r == q) ≡ b → call_error q call e ≡ None → HasSerial call →
-      Course is_caller r moves e → Then (to_session q (called call) e)
+      Course is_caller r moves e → Then (session_puts q (called call) e) (to_session q (called call) e)
   call_steps q call true is allowed serial course =
       let same = eqb-true r q is in
-      subst (λ (n : ℕ). Then (to_session n (called call) e)) same
+      subst (λ (n : ℕ). Then (session_puts n (called call) e) (to_session n (called call) e)) same
       (own_call call (ap (λ (n : ℕ). call_error n call e) same ∙ allowed) serial course)
   call_steps q call false is allowed serial course =
-      others (to_session q (called call) e) (session_adds q (called call) e)
+      others (session_puts q (called call) e) (to_session q (called call) e) (session_others q r (called call) e (unequal q r is))
       (λ still. session_beside q r (unequal q r is) (called call) e still) course
 
   -- ---- a connection is given up
 
-  disconnect_adds : (q : ℕ) → Adds e.carrier.outgoing (disconnects q e).carrier.outgoing
-  disconnect_adds q =
-      subst (λ (c : Carrier). Adds e.carrier.outgoing c.outgoing) (sym (disconnect_carrier q e))
-      ((adds_kept e.carrier.outgoing).carries.closes q e.carrier (adds_none e.carrier.outgoing))
+  abbrev closed_puts : ℕ → List Value
+  closed_puts q = put_closing q (open_link q e.carrier) e.carrier
 
   waits_still : (b : Bool) (o : Option Listener) (c : Connect) → b ≡ true → o ≡ Some (calls_with c) →
       awaits_transport (if b then o else None) ≡ true
@@ -263,28 +267,62 @@ module _ (is_caller : Bool) (r : ℕ) (moves : Deeds) (e : End) (lasts : e.carri
         kept = λ some. ap session_in lines;
       }
 
-  given_steps : (q : ℕ) (b : Bool) → (r == q) ≡ b → disconnect_error q e ≡ None → Course is_caller r moves e → Then (disconnects q e)
+  given_steps : (q : ℕ) (b : Bool) → (r == q) ≡ b → disconnect_error q e ≡ None → Course is_caller r moves e →
+      Then (marked 0 (closed_puts q)) (disconnects q e)
   given_steps q true is allowed course =
       let same = eqb-true r q is in
-      subst (λ (n : ℕ). Then (disconnects n e)) same
-      (step_none (Course is_caller r) moves e.carrier.outgoing (disconnects r e) (disconnect_adds r)
+      subst (λ (n : ℕ). Then (marked 0 (closed_puts n)) (disconnects n e)) same
+      (idle (marked 0 (closed_puts r)) (disconnects r e) (nowhere r (closed_puts r))
       (own_given (disconnects r e).carrier.ended refl (ap (λ (n : ℕ). disconnect_error n e) same ∙ allowed) course))
   given_steps q false is allowed course =
-      others (disconnects q e) (disconnect_adds q) (λ still. other_given q (unequal q r is) still) course
+      others (marked 0 (closed_puts q)) (disconnects q e) (nowhere r (closed_puts q)) (λ still. other_given q (unequal q r is) still) course
 
   -- ---- the byte connection breaks
 
   break_is : breaks e ≡ ends Broken e
   break_is = ap (λ (b : Bool). if b then e else ends Broken e) (ap is_some lasts)
 
-  break_steps : Course is_caller r moves e → Then (breaks e)
+  break_steps : Course is_caller r moves e → Then [] (breaks e)
   break_steps course =
-      subst Then (sym break_is)
-      (step_none (Course is_caller r) moves e.carrier.outgoing (ends Broken e) (adds_none e.carrier.outgoing)
-      (is_gone (course_over is_caller r moves e (ends Broken e) course refl)))
+      subst (Then []) (sym break_is)
+      (idle [] (ends Broken e) (λ some. refl) (is_gone (course_over is_caller r moves e (ends Broken e) course refl)))
 
-  pub user_steps : (call : UserCall) → IsAccepted call e → HasSerialIn call → Course is_caller r moves e → Then (user_does call e)
-  user_steps (connecting c) allowed serial course = connect_steps c (r == e.carrier.given + 1) refl allowed course
-  user_steps (calling q call) allowed serial course = call_steps q call (r == q) refl allowed serial course
-  user_steps (disconnecting q) allowed serial course = given_steps q (r == q) refl allowed course
-  user_steps breaking allowed serial course = break_steps course
+-- ---- at all connections
+
+module _ (is_caller : Bool) (moves : ℕ → Deeds) (e : End) (lasts : e.carrier.ended ≡ None)
+    (orderly : IsOrderly e.carrier) (course : HoldEach (CourseAll is_caller) moves e) where
+  abbrev AllThen : End → Type 0
+  AllThen new = Steps is_caller (CourseAll is_caller) moves e.carrier new
+
+  each_then : (new : End) (put : List Marked) → Puts e.carrier put new.carrier → AreByLinks put →
+      ((r : ℕ) → 0 < r → Life is_caller r (stage_at r e.carrier) [] put (stage_at r new.carrier)) →
+      ((r : ℕ) → StepAt r put [] (Course is_caller r) (moves r) new) → AllThen new
+  each_then new put written by_links life each =
+      step_each is_caller [] (CourseAll is_caller) moves e.carrier new put [] written by_links refl life each
+
+  pub user_steps : (call : UserCall) → IsAccepted call e → HasSerialIn call → AllThen (user_does call e)
+  user_steps (connecting c) allowed serial =
+      each_then (connects c e) (marked 0 (request_put c e)) refl (refl, tt)
+      (λ r some. life_rests is_caller r (stage_at r e.carrier) (stage_at r (connects c e).carrier) (marked 0 (request_put c e))
+      (none_marked r (request_put c e) some) (connect_rests r c e orderly lasts))
+      (λ r. connect_steps is_caller r (moves r) e lasts c (r == e.carrier.given + 1) refl allowed (course r))
+  user_steps (calling q call) allowed serial =
+      each_then (to_session q (called call) e) (session_puts q (called call) e) (session_written q (called call) e)
+      (session_by_links q (called call) e (course_given is_caller q (moves q) e (course q)))
+      (λ r some. session_life is_caller q r some (called call) e)
+      (λ r. call_steps is_caller r (moves r) e lasts q call (r == q) refl allowed serial (course r))
+  user_steps (disconnecting q) allowed serial =
+      let put : List Marked = marked 0 (put_closing q (open_link q e.carrier) e.carrier) in
+      each_then (disconnects q e) put
+      (subst (Puts e.carrier put) (sym (disconnect_carrier q e)) (closing_puts q e.carrier)) (closing_by_links q e.carrier)
+      (λ r some. subst (λ (c : Carrier). Life is_caller r (stage_at r e.carrier) [] put (stage_at r c)) (sym (disconnect_carrier q e))
+      (life_rests is_caller r (stage_at r e.carrier) (stage_at r (closed_with q 128 e.carrier)) put
+      (none_marked r (put_closing q (open_link q e.carrier) e.carrier) some) (given_up_rests q r e.carrier)))
+      (λ r. given_steps is_caller r (moves r) e lasts q (r == q) refl allowed (course r))
+  user_steps breaking allowed serial =
+      each_then (breaks e) []
+      (subst (λ (x : End). Puts e.carrier [] x.carrier) (sym (break_is is_caller 0 (moves 0) e lasts)) (puts_none e.carrier)) tt
+      (λ r some. life_rests is_caller r (stage_at r e.carrier) (stage_at r (breaks e).carrier) [] tt
+      (rests_over r (stage_at r e.carrier) (breaks e).carrier
+      (ap (λ (x : End). is_some x.carrier.ended) (break_is is_caller 0 (moves 0) e lasts))))
+      (λ r. break_steps is_caller r (moves r) e lasts (course r))

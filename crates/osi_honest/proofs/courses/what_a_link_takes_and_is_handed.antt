@@ -2,7 +2,7 @@
 -- connection leaves of it.
 -- For the course of a connection.
 use Rattle.std.proofs.Common.{◌≡◌, ◌≢◌, ◌∙◌, refl, sym, ap, subst, ℕ, ◌+◌, Bool, true, false, if◌then◌else◌, nat_lt, List, [], ◌∷◌}
-use Rattle.std.proofs.Common.{◌++◌, length, drop, map, Option, Some, None, is_some, Result, Ok, Err, inl, inr, ◌⊎◌, append_assoc}
+use Rattle.std.proofs.Common.{◌++◌, length, drop, map, Option, Some, None, is_some, Result, Ok, Err, inl, inr, ◌⊎◌, IsSome}
 use Rattle.std.proofs.lemmas.List.{append-nil, map-append}
 use Rattle.osi_tpdu.specs.Value.{Value, acknowledge, confirm, data0, data2, disconnect, disconnected, error, may_be_followed, request}
 use Rattle.osi_class.specs.Ends.{Ends}
@@ -10,7 +10,7 @@ use Rattle.osi_class.specs.Flow.{Flow, Sender, acknowledged, is_awaited}
 use Rattle.osi_class.specs.Giving.{all_given}
 use Rattle.osi_class.specs.Joining.{Joining, joined, with_part}
 use Rattle.osi_class.specs.Limits.{longest_tsdu}
-use Rattle.osi_class.specs.Link.{Given, Standing, taken, taken_by, taken_flow, unit_of, with_joined, with_sender, with_tsdu}
+use Rattle.osi_class.specs.Link.{Standing, taken, taken_by, taken_flow, unit_of, with_joined, with_sender, with_tsdu}
 use Rattle.osi_class.specs.Runs.{Move, MovesAlong, hand_out, take_in, tsdus_in, tsdus_out}
 use Rattle.osi_class.specs.declared.faults.LinkFault.{LinkFault}
 use Rattle.osi_class.specs.declared.faults.LinkFault.TheVariants.{OutOfSequence, TsduTooLong}
@@ -18,16 +18,16 @@ use Rattle.osi_class.specs.declared.terms.Class.{Class}
 use Rattle.osi_class.specs.declared.terms.Class.TheVariants.{Two, Zero}
 use Rattle.osi_class.proofs.giving.a_link_gives_finitely_many_units.{drained_leaves, drained_moves}
 use Rattle.osi_carrier.specs.Calls.{closed_on, closed_with, closes, link_of, open_link, send_all_error, sent, sent_all, sent_on}
-use Rattle.osi_carrier.specs.Pump.{pumped}
+use Rattle.osi_carrier.specs.Pump.{pumped, written_by}
 use Rattle.osi_carrier.specs.React.{handed_out}
 use Rattle.osi_carrier.specs.Rows.{value_at}
-use Rattle.osi_carrier.specs.State.{Connection, State as Carrier, asked, closing, linked, packets}
+use Rattle.osi_carrier.specs.State.{Connection, State as Carrier, asked, closing, linked}
 use Rattle.osi_carrier.specs.declared.faults.SendError.{SendError}
 use Rattle.osi_carrier.proofs.references.rows_after_a_change.{put_other}
 use Rattle.osi_carrier.proofs.references.what_a_change_leaves_there.{put_here}
 use Rattle.osi_stack.specs.Transport.{answers_by, sent_unless}
 use Rattle.osi_honest.specs.Courses.{IsShut, units_given, units_taken}
-use Rattle.osi_honest.proofs.class_0.what_class_0_writes_of_a_tsdu.{packets_joined}
+use Rattle.osi_honest.proofs.courses.what_a_session_puts.{all_put, one_puts}
 use Rattle.osi_honest.proofs.courses.what_calls_of_a_link_say.{HandsIn, given_more, gives, gives_none_in, gives_none_out, gives_units}
 use Rattle.osi_honest.proofs.courses.what_calls_of_a_link_say.{gives_untaken}
 use Rattle.osi_honest.proofs.courses.what_calls_of_a_link_say.{hands_more, hands_none, hands_one, one_in}
@@ -158,6 +158,10 @@ unlinked_by false (Some asked) shut = absurd shut
 unlinked_by false (Some (linked peer link)) shut = absurd shut
 unlinked_by false (Some (closing peer)) shut = refl
 
+-- nor is one of a carrier that has ended
+pub over_unlinked : (r : ℕ) (c : Carrier) → IsSome c.ended → open_link r c ≡ None
+over_unlinked r c ended = ap (λ (b : Bool). if b then None else link_of (value_at r c.live)) ended
+
 pub link_shut : (r : ℕ) (c : Carrier) → IsShut (value_at r c.live) → open_link r c ≡ None
 link_shut r c shut = unlinked_by (is_some c.ended) (value_at r c.live) shut
 
@@ -181,7 +185,7 @@ pub record Sends (r peer : ℕ) (link : Standing) (tsdus : List (List ℕ)) (old
   pub after : Standing
   pub hands : HandsIn link tsdus after moves
   pub here : value_at r new.live ≡ Some (linked peer after)
-  pub outgoing : new.outgoing ≡ old.outgoing ++ packets (map (unit_of peer) (units_given moves))
+  pub put : map (unit_of peer) (units_given moves) ≡ all_put r tsdus old
   pub same : IsSameBeside old new
 
 sends_none : (r peer : ℕ) (link : Standing) (c : Carrier) → value_at r c.live ≡ Some (linked peer link) → Sends r peer link [] c c
@@ -190,7 +194,7 @@ sends_none r peer link c here = record {
   after = link;
   hands = hands_none link;
   here = here;
-  outgoing = sym (append-nil c.outgoing);
+  put = refl;
   same = record { given = refl; side = refl; ended = refl; events = refl };
 }
 
@@ -203,24 +207,23 @@ sends_one r peer link tsdu c lasts here =
       after = pumped (with_tsdu link tsdu);
       hands = hands_one link tsdu;
       here = put_here r (linked peer (pumped (with_tsdu link tsdu))) (linked peer link) c.live here;
-      outgoing = ap (λ (units : List Given). c.outgoing ++ packets (map (unit_of peer) units))
-          (sym (gives_units (all_given (with_tsdu link tsdu))));
+      put = ap (map (unit_of peer)) (gives_units (all_given (with_tsdu link tsdu)))
+          ∙ sym (append-nil (written_by peer (with_tsdu link tsdu)))
+          ∙ ap (λ (o : Option (ℕ × Standing)). one_puts tsdu o ++ []) (sym (link_open r peer link c lasts here));
       same = record { given = refl; side = refl; ended = refl; events = refl };
     })
 
-sends_more : (r peer : ℕ) (link : Standing) (tsdus others : List (List ℕ)) (old mid new : Carrier) (a : Sends r peer link tsdus old mid) →
-    Sends r peer a.after others mid new → Sends r peer link (tsdus ++ others) old new
-sends_more r peer link tsdus others old mid new a b = record {
+sends_more : (r peer : ℕ) (link : Standing) (tsdu : List ℕ) (others : List (List ℕ)) (old new : Carrier)
+    (a : Sends r peer link (tsdu ∷ []) old (sent r tsdu old)) → Sends r peer a.after others (sent r tsdu old) new →
+    Sends r peer link (tsdu ∷ others) old new
+sends_more r peer link tsdu others old new a b = record {
   moves = a.moves ++ b.moves;
   after = b.after;
-  hands = hands_more link a.after b.after tsdus others a.moves b.moves a.hands b.hands;
+  hands = hands_more link a.after b.after (tsdu ∷ []) others a.moves b.moves a.hands b.hands;
   here = b.here;
-  outgoing = b.outgoing ∙ ap (λ (l : List ℕ). l ++ packets (map (unit_of peer) (units_given b.moves))) a.outgoing
-      ∙ append_assoc old.outgoing (packets (map (unit_of peer) (units_given a.moves))) (packets (map (unit_of peer) (units_given b.moves)))
-      ∙ ap (λ (l : List ℕ). old.outgoing ++ l)
-      (sym (packets_joined (map (unit_of peer) (units_given a.moves)) (map (unit_of peer) (units_given b.moves)))
-      ∙ ap packets (sym (map-append (unit_of peer) (units_given a.moves) (units_given b.moves)))
-      ∙ ap (λ (units : List Given). packets (map (unit_of peer) units)) (sym (given_more a.moves b.moves)));
+  put = ap (map (unit_of peer)) (given_more a.moves b.moves) ∙ map-append (unit_of peer) (units_given a.moves) (units_given b.moves)
+      ∙ ap (λ (l : List Value). l ++ map (unit_of peer) (units_given b.moves)) (a.put ∙ append-nil (one_puts tsdu (open_link r old)))
+      ∙ ap (λ (l : List Value). one_puts tsdu (open_link r old) ++ l) b.put;
   same = record {
     given = b.same.given ∙ a.same.given;
     side = b.same.side ∙ a.same.side;
@@ -234,7 +237,7 @@ pub sends_all : (r peer : ℕ) (link : Standing) (tsdus : List (List ℕ)) (c : 
 sends_all r peer link [] c lasts here = sends_none r peer link c here
 sends_all r peer link (tsdu ∷ tsdus) c lasts here =
     let one = sends_one r peer link tsdu c lasts here in
-    sends_more r peer link (tsdu ∷ []) tsdus c (sent r tsdu c) (sent_all r tsdus (sent r tsdu c)) one
+    sends_more r peer link tsdu tsdus c (sent_all r tsdus (sent r tsdu c)) one
     (sends_all r peer one.after tsdus (sent r tsdu c) (one.same.ended ∙ lasts) one.here)
 
 -- ---- it closes its connection

@@ -32,17 +32,18 @@ use Rattle.osi_stack.proofs.stream.an_end_is_what_its_packets_make.{none_ended}
 use Rattle.osi_stack.proofs.stream.the_room_for_a_packet.{found_how}
 use Rattle.osi_stack.proofs.stream.what_feeding_keeps.{packets_kept}
 use Rattle.osi_stack.proofs.stream.what_was_written_is_read.{attended_kept}
-use Rattle.osi_honest.specs.Courses.{Course, Deeds, units_in, units_read}
+use Rattle.osi_honest.specs.Courses.{Deeds, units_in, units_read}
 use Rattle.osi_honest.specs.Courses.Course.{is_gone}
 use Rattle.osi_honest.specs.Talking as history
 use Rattle.osi_honest.proofs.class_0.what_a_shortage_of_memory_leaves.{starves_same}
 use Rattle.osi_honest.proofs.class_0.what_a_turn_does_in_class_0.{all_octets, more_used, stopped_within}
 use Rattle.osi_honest.proofs.class_0.what_packets_do_in_class_0.{never_lasts}
-use Rattle.osi_honest.proofs.courses.steps_of_a_course.{Steps, StepsBy, adds_none, step_after, step_as, step_more}
+use Rattle.osi_honest.proofs.courses.steps_of_a_course.{HoldEach, Steps, StepsBy, over_rest, same_rest, step_after, step_as, step_more}
 use Rattle.osi_honest.proofs.courses.steps_of_a_course.{step_none, step_then}
+use Rattle.osi_honest.proofs.courses.the_connections_of_each_class.{IsSound, class_kept, sound_unit}
 use Rattle.osi_honest.proofs.courses.what_another_connection_leaves.{course_over}
-use Rattle.osi_honest.proofs.courses.what_sessions_hear_of_it.{Known, attended, times_heard}
-use Rattle.osi_honest.proofs.courses.what_units_do_to_a_course.{Calm, Now, calm_over, leads_step, units_step}
+use Rattle.osi_honest.proofs.courses.what_sessions_hear_of_it.{CourseAll, Known, attended, times_heard}
+use Rattle.osi_honest.proofs.courses.what_units_do_to_a_course.{CalmAll, NowAll, calm_over, leads_step, units_step}
 use Rattle.osi_honest.proofs.courses.what_units_do_to_a_course.Calm.{is_still}
 use Rattle.osi_honest.proofs.courses.what_a_unit_does_to_a_connection.{NoneOf}
 use Rattle.osi_honest.proofs.courses.what_waits_to_be_heard.{waits_over}
@@ -50,7 +51,7 @@ use Rattle.osi_honest.proofs.courses.what_waits_to_be_heard.Waits.{away}
 use Rattle.osi_honest.proofs.reading.two_readings_of_a_stream_agree.{packets_on, packets_then}
 use Rattle.osi_honest.proofs.keeping.what_a_unit_keeps_a_turn_keeps.{IsKept, kept_takes}
 
--- ---- live connections stay in order
+-- ---- what holds of each carrier
 
 pub orderly_kept : IsKept IsOrderly
 orderly_kept = record {
@@ -60,59 +61,76 @@ orderly_kept = record {
   ends_so = λ reason c h. orderly_end reason c h;
 }
 
+pub sound_kept : IsKept IsSound
+sound_kept = record {
+  reacts_to = sound_unit;
+  carries = record {
+    sends = λ r tsdu c h. record {
+      orderly = orderly_kept.carries.sends r tsdu c h.orderly;
+      by_class = class_kept.carries.sends r tsdu c h.by_class;
+    };
+    closes = λ r c h. record { orderly = orderly_kept.carries.closes r c h.orderly; by_class = class_kept.carries.closes r c h.by_class };
+  };
+  untold = λ events c h. record { orderly = orderly_kept.untold events c h.orderly; by_class = class_kept.untold events c h.by_class };
+  ends_so = λ reason c h. record { orderly = orderly_kept.ends_so reason c h.orderly; by_class = class_kept.ends_so reason c h.by_class };
+}
+
 -- an end between two packets
 pub record Between (e : End) : Type 0 where
-  pub orderly : IsOrderly e.carrier
+  pub sound : IsSound e.carrier
   pub attended : IsAttended e
 
 pub takes_between : (units : List (List ℕ)) (old new : End) → Between old → TakesPackets old units new → Between new
 takes_between units old new b takes = record {
-  orderly = kept_takes IsOrderly orderly_kept units old new b.orderly takes;
+  sound = kept_takes IsSound sound_kept units old new b.sound takes;
   attended = packets_kept IsAttended attended_kept units old new takes b.attended;
 }
 
-module _ (known : Known) (is_caller : Bool) (r : ℕ) where
-  abbrev CourseSteps : List Value → Deeds → End → End → Type 0
-  CourseSteps used moves old new = StepsBy used (Course is_caller r) moves old.carrier.outgoing new
+module _ (known : Known) (is_caller : Bool) where
+  abbrev CourseSteps : List Value → (ℕ → Deeds) → End → End → Type 0
+  CourseSteps used moves old new = StepsBy is_caller used (CourseAll is_caller) moves old.carrier new
 
-  calm_of : (moves : Deeds) (e : End) → e.carrier.events ≡ [] → Course is_caller r moves e → Calm is_caller r moves e
-  calm_of moves e none course = is_still (subst (NoneOf r) (sym none) tt) course
+  abbrev Courses : (ℕ → Deeds) → End → Type 0
+  Courses moves e = HoldEach (CourseAll is_caller) moves e
+
+  calm_of : (moves : ℕ → Deeds) (e : End) → e.carrier.events ≡ [] → Courses moves e → HoldEach (CalmAll is_caller) moves e
+  calm_of moves e none course = λ r. is_still (subst (NoneOf r) (sym none) tt) (course r)
 
   -- ---- one packet
 
-  acted : (u : List ℕ) (found : Result (List Value) TpduFault) (moves : Deeds) (e : End) → IsOctets u → units_of u ≡ found →
-      IsOrderly e.carrier → Calm is_caller r moves e →
-      StepsBy (units_read found) (Now is_caller r) moves e.carrier.outgoing (with_carrier (carriers.acts_by found e.carrier) e)
-  acted u (Ok units) moves e octets is h calm = units_step is_caller r units u (units_found u units octets is) moves e h calm
+  acted : (u : List ℕ) (found : Result (List Value) TpduFault) (moves : ℕ → Deeds) (e : End) → IsOctets u → units_of u ≡ found →
+      IsSound e.carrier → HoldEach (CalmAll is_caller) moves e →
+      StepsBy is_caller (units_read found) (NowAll is_caller) moves e.carrier (with_carrier (carriers.acts_by found e.carrier) e)
+  acted u (Ok units) moves e octets is h calm = units_step is_caller units u (units_found u units octets is) moves e h calm
   acted u (Err fault) moves e octets is h calm =
-      step_none (Now is_caller r) moves e.carrier.outgoing (with_carrier (carriers.acts_by (Err fault) e.carrier) e)
-      (adds_none e.carrier.outgoing)
-      (away (calm_over is_caller r moves e (with_carrier (carriers.acts_by (Err fault) e.carrier) e) calm refl))
+      step_none is_caller (NowAll is_caller) moves e.carrier (with_carrier (carriers.acts_by (Err fault) e.carrier) e) refl
+      (over_rest e.carrier (carriers.acts_by (Err fault) e.carrier) refl)
+      (λ r. away (calm_over is_caller r (moves r) e (with_carrier (carriers.acts_by (Err fault) e.carrier) e) (calm r) refl))
 
-  carried_out : (u : List ℕ) (moves : Deeds) (e : End) → IsOctets u → IsOrderly e.carrier → Calm is_caller r moves e →
-      StepsBy (units_read (units_of u)) (Now is_caller r) moves e.carrier.outgoing
+  carried_out : (u : List ℕ) (moves : ℕ → Deeds) (e : End) → IsOctets u → IsSound e.carrier → HoldEach (CalmAll is_caller) moves e →
+      StepsBy is_caller (units_read (units_of u)) (NowAll is_caller) moves e.carrier
       (with_carrier (carriers.after_packet e.carrier u) e)
   unfolding carriers.after_packet
   carried_out u moves e octets h calm = acted u (units_of u) moves e octets refl h calm
 
-  packet_steps : (u : List ℕ) (moves : Deeds) (e : End) → IsOctets u → Between e → e.carrier.ended ≡ None → Course is_caller r moves e →
+  packet_steps : (u : List ℕ) (moves : ℕ → Deeds) (e : End) → IsOctets u → Between e → e.carrier.ended ≡ None → Courses moves e →
       CourseSteps (units_read (units_of u)) moves e (after_packet e u)
   packet_steps u moves e octets b lasts course =
       let mid = with_carrier (carriers.after_packet e.carrier u) e in
-      step_after (units_read (units_of u)) (Now is_caller r) (Course is_caller r) moves e.carrier.outgoing mid (after_packet e u)
-      (carried_out u moves e octets b.orderly (calm_of moves e (b.attended lasts) course))
-      (λ after w. subst (Steps (Course is_caller r) after mid.carrier.outgoing) (sym (packet_is e u))
-      (attended known is_caller r after mid w))
+      step_after is_caller (units_read (units_of u)) (NowAll is_caller) (CourseAll is_caller) moves e.carrier mid (after_packet e u)
+      (carried_out u moves e octets b.sound (calm_of moves e (b.attended lasts) course))
+      (λ after w. subst (Steps is_caller (CourseAll is_caller) after mid.carrier) (sym (packet_is e u))
+      (attended known is_caller after mid w))
 
-  takes_steps : (packets : List (List ℕ)) (moves : Deeds) (old new : End) → AllByRecursion IsOctets packets → Between old →
-      Course is_caller r moves old → TakesPackets old packets new → CourseSteps (units_in packets) moves old new
+  takes_steps : (packets : List (List ℕ)) (moves : ℕ → Deeds) (old new : End) → AllByRecursion IsOctets packets → Between old →
+      Courses moves old → TakesPackets old packets new → CourseSteps (units_in packets) moves old new
   takes_steps [] moves old new octets b course takes =
       subst (CourseSteps [] moves old) (sym takes)
-      (step_none (Course is_caller r) moves old.carrier.outgoing old (adds_none old.carrier.outgoing) course)
+      (step_none is_caller (CourseAll is_caller) moves old.carrier old refl (same_rest old.carrier) course)
   takes_steps (u ∷ packets) moves old new octets b course takes =
       let mid = after_packet old u in
       let lasts = lasting_of old.carrier.ended (waits old.lines) takes.0 in
-      step_then (units_read (units_of u)) (units_in packets) (Course is_caller r) (Course is_caller r) moves old.carrier.outgoing mid new
+      step_then is_caller (units_read (units_of u)) (units_in packets) (CourseAll is_caller) (CourseAll is_caller) moves old.carrier mid new
       (packet_steps u moves old octets.0 b lasts course)
       (λ after then_course. takes_steps packets after mid new octets.1 (takes_between (u ∷ []) old mid b (takes.0, refl)) then_course
       takes.1)
@@ -120,55 +138,58 @@ module _ (known : Known) (is_caller : Bool) (r : ℕ) where
   -- ---- memory runs out
 
   -- for a unit
-  unit_starved : (u : List ℕ) (units : List Value) (moves : Deeds) (e : End) (c : Carrier) → AreUnits units u → IsOrderly e.carrier →
-      Calm is_caller r moves e → carriers.RunsOut e.carrier units c →
-      StepsBy units (Now is_caller r) moves e.carrier.outgoing (with_carrier c e)
+  unit_starved : (u : List ℕ) (units : List Value) (moves : ℕ → Deeds) (e : End) (c : Carrier) → AreUnits units u → IsSound e.carrier →
+      HoldEach (CalmAll is_caller) moves e → carriers.RunsOut e.carrier units c →
+      StepsBy is_caller units (NowAll is_caller) moves e.carrier (with_carrier c e)
   unit_starved u units moves e c us h calm out =
       let before = with_carrier (reacts out.done e.carrier) e in
       let over_now = with_carrier (states.ends NoMemory (reacts out.done e.carrier)) e in
-      subst (λ (x : Carrier). StepsBy units (Now is_caller r) moves e.carrier.outgoing (with_carrier x e)) (sym out.ended)
-      (subst (λ (l : List Value). StepsBy l (Now is_caller r) moves e.carrier.outgoing over_now) (sym out.all)
-      (step_more out.done (out.next ∷ out.more) (Now is_caller r) moves e.carrier.outgoing over_now
-      (step_as out.done (Calm is_caller r) (Now is_caller r) moves e.carrier.outgoing before over_now
-      (leads_step is_caller r out.done out.next out.more u (subst (λ (l : List Value). AreUnits l u) out.all us) moves e h calm) refl
-      (λ after then_calm. away (calm_over is_caller r after before over_now then_calm refl)))))
+      subst (λ (x : Carrier). StepsBy is_caller units (NowAll is_caller) moves e.carrier (with_carrier x e)) (sym out.ended)
+      (subst (λ (l : List Value). StepsBy is_caller l (NowAll is_caller) moves e.carrier over_now) (sym out.all)
+      (step_more is_caller out.done (out.next ∷ out.more) (NowAll is_caller) moves e.carrier over_now refl
+      (step_as is_caller out.done (CalmAll is_caller) (NowAll is_caller) moves e.carrier before over_now
+      (leads_step is_caller out.done out.next out.more u (subst (λ (l : List Value). AreUnits l u) out.all us) moves e h calm) refl
+      (over_rest before.carrier over_now.carrier refl)
+      (λ r after then_calm. away (calm_over is_caller r after before over_now then_calm refl)))))
 
   -- for an event
-  event_starved : (moves : Deeds) (e new : End) → Now is_caller r moves e → RunsOut e new → CourseSteps [] moves e new
+  event_starved : (moves : ℕ → Deeds) (e new : End) → HoldEach (NowAll is_caller) moves e → RunsOut e new → CourseSteps [] moves e new
   event_starved moves e new w out =
       let mid = hears_times out.heard e in
       let over_now = starves (with_events out.more mid) in
       subst (CourseSteps [] moves e) (sym out.starved)
-      (step_as [] (Now is_caller r) (Course is_caller r) moves e.carrier.outgoing mid over_now
-      (times_heard known is_caller r out.heard e.carrier.events moves e refl w) (starves_same out.more mid)
-      (λ after then_now. is_gone (waits_over is_caller r after mid over_now mid.carrier.events then_now
+      (step_as is_caller [] (NowAll is_caller) (CourseAll is_caller) moves e.carrier mid over_now
+      (times_heard known is_caller out.heard e.carrier.events moves e refl w) (starves_same out.more mid)
+      (over_rest mid.carrier over_now.carrier (starved_over (with_events out.more mid)))
+      (λ r after then_now. is_gone (waits_over is_caller r after mid over_now mid.carrier.events then_now
       (starved_over (with_events out.more mid)))))
 
-  starved_steps : (u : List ℕ) (moves : Deeds) (e new : End) → IsOctets u → Between e → e.carrier.ended ≡ None →
-      Course is_caller r moves e → Starves e u new → CourseSteps (units_read (units_of u)) moves e new
+  starved_steps : (u : List ℕ) (moves : ℕ → Deeds) (e new : End) → IsOctets u → Between e → e.carrier.ended ≡ None →
+      Courses moves e → Starves e u new → CourseSteps (units_read (units_of u)) moves e new
   starved_steps u moves e new octets b lasts course (inl (c, (units, is, out), there)) =
       let mid = with_carrier c e in
       subst (λ (l : List Value). CourseSteps l moves e new) (sym (ap units_read is))
       (subst (CourseSteps units moves e) (sym there)
-      (step_after units (Now is_caller r) (Course is_caller r) moves e.carrier.outgoing mid (attends mid)
-      (unit_starved u units moves e c (units_found u units octets is) b.orderly (calm_of moves e (b.attended lasts) course) out)
-      (λ after w. attended known is_caller r after mid w)))
+      (step_after is_caller units (NowAll is_caller) (CourseAll is_caller) moves e.carrier mid (attends mid)
+      (unit_starved u units moves e c (units_found u units octets is) b.sound (calm_of moves e (b.attended lasts) course) out)
+      (λ after w. attended known is_caller after mid w)))
   starved_steps u moves e new octets b lasts course (inr (c, acts, out)) =
       let mid = with_carrier c e in
       let calm = calm_of moves e (b.attended lasts) course in
-      let now : StepsBy (units_read (units_of u)) (Now is_caller r) moves e.carrier.outgoing mid = elim (acts_cases e.carrier c u acts) [
-        | inl is ↦ subst (λ (x : Carrier). StepsBy (units_read (units_of u)) (Now is_caller r) moves e.carrier.outgoing (with_carrier x e))
-            (sym is) (carried_out u moves e octets b.orderly calm)
-        | inr short ↦ subst (λ (l : List Value). StepsBy l (Now is_caller r) moves e.carrier.outgoing mid) (sym (ap units_read short.1))
-            (unit_starved u short.0 moves e c (units_found u short.0 octets short.1) b.orderly calm short.2)
+      let now : StepsBy is_caller (units_read (units_of u)) (NowAll is_caller) moves e.carrier mid = elim (acts_cases e.carrier c u acts) [
+        | inl is ↦ subst
+            (λ (x : Carrier). StepsBy is_caller (units_read (units_of u)) (NowAll is_caller) moves e.carrier (with_carrier x e))
+            (sym is) (carried_out u moves e octets b.sound calm)
+        | inr short ↦ subst (λ (l : List Value). StepsBy is_caller l (NowAll is_caller) moves e.carrier mid) (sym (ap units_read short.1))
+            (unit_starved u short.0 moves e c (units_found u short.0 octets short.1) b.sound calm short.2)
       ] in
-      step_after (units_read (units_of u)) (Now is_caller r) (Course is_caller r) moves e.carrier.outgoing mid new now
+      step_after is_caller (units_read (units_of u)) (NowAll is_caller) (CourseAll is_caller) moves e.carrier mid new now
       (λ after w. event_starved after mid new w out)
 
   -- ---- a piece
 
   -- packets stand in what was held and used, and their units were taken
-  pub record FeedSteps (moves : Deeds) (octets : List ℕ) (old new : Holding) : Type 0 where
+  pub record FeedSteps (moves : ℕ → Deeds) (octets : List ℕ) (old new : Holding) : Type 0 where
     pub used : List (List ℕ)
     pub rest : List ℕ
     pub cut : ArePackets used (old.held.octets ++ octets) rest
@@ -176,7 +197,7 @@ module _ (known : Known) (is_caller : Bool) (r : ℕ) where
     pub steps : CourseSteps (units_in used) moves old.end new.end
 
   -- the whole piece was used, and the end is over
-  all_used : (moves : Deeds) (used : List (List ℕ)) (piece rest : List ℕ) (n : ℕ) (old new : Holding) → n ≡ length piece →
+  all_used : (moves : ℕ → Deeds) (used : List (List ℕ)) (piece rest : List ℕ) (n : ℕ) (old new : Holding) → n ≡ length piece →
       ArePackets used (old.held.octets ++ piece) rest → IsSome new.end.carrier.ended → CourseSteps (units_in used) moves old.end new.end →
       FeedSteps moves (take n piece) old new
   all_used moves used piece rest n old new all cut ended steps =
@@ -190,16 +211,16 @@ module _ (known : Known) (is_caller : Bool) (r : ℕ) where
       }
 
   -- packets, and then the end
-  then_over : (packets : List (List ℕ)) (moves : Deeds) (old before new : End) → AllByRecursion IsOctets packets → Between old →
-      Course is_caller r moves old → TakesPackets old packets before → new.carrier.outgoing ≡ before.carrier.outgoing →
+  then_over : (packets : List (List ℕ)) (moves : ℕ → Deeds) (old before new : End) → AllByRecursion IsOctets packets → Between old →
+      Courses moves old → TakesPackets old packets before → new.carrier.outgoing ≡ before.carrier.outgoing →
       IsSome new.carrier.ended → CourseSteps (units_in packets) moves old new
   then_over packets moves old before new octets b course takes same ended =
-      step_as (units_in packets) (Course is_caller r) (Course is_caller r) moves old.carrier.outgoing before new
-      (takes_steps packets moves old before octets b course takes) same
-      (λ after then_course. is_gone (course_over is_caller r after before new then_course ended))
+      step_as is_caller (units_in packets) (CourseAll is_caller) (CourseAll is_caller) moves old.carrier before new
+      (takes_steps packets moves old before octets b course takes) same (over_rest before.carrier new.carrier ended)
+      (λ r after then_course. is_gone (course_over is_caller r after before new then_course ended))
 
-  module _ (moves : Deeds) (piece : List ℕ) (n : ℕ) (old new : Holding) (b : Between old.end)
-      (course : Course is_caller r moves old.end) where
+  module _ (moves : ℕ → Deeds) (piece : List ℕ) (n : ℕ) (old new : Holding) (b : Between old.end)
+      (course : Courses moves old.end) where
     dry_steps : RunsDry old piece n new → FeedSteps moves (take n piece) old new
     dry_steps dry =
         let whole : take n piece ≡ piece = let all = dry.all in take_all n piece (omega arith) in
@@ -257,8 +278,8 @@ module _ (known : Known) (is_caller : Bool) (r : ℕ) where
         all_used moves (f.units ++ packet ∷ []) piece ([] ++ drop f.within piece) n old new f.all (one_more f packet one)
         (none_ended old piece n new f)
         (subst (λ (l : List Value). CourseSteps l moves old.end new.end) (units_one_more f.units packet)
-        (step_then (units_in f.units) (units_read (units_of packet)) (Course is_caller r) (Course is_caller r) moves
-        old.end.carrier.outgoing f.before new.end
+        (step_then is_caller (units_in f.units) (units_read (units_of packet)) (CourseAll is_caller) (CourseAll is_caller) moves
+        old.end.carrier f.before new.end
         (takes_steps f.units moves old.end f.before (all_octets f.units _ _ f.packets) b course f.taken)
         (λ after then_course. starved_steps packet after f.before new.end (all_octets (packet ∷ []) f.rest [] one).0
         (takes_between f.units old.end f.before b f.taken) (lasting_of f.before.carrier.ended (waits f.before.lines) f.quiet)
@@ -271,7 +292,7 @@ module _ (known : Known) (is_caller : Bool) (r : ℕ) where
     goes_steps (inr (inr f)) = short_steps f (found_how old piece n new f)
 
   -- nothing happens at the end
-  same_steps : (moves : Deeds) (octets : List ℕ) (old new : Holding) → Course is_caller r moves old.end → new ≡ old →
+  same_steps : (moves : ℕ → Deeds) (octets : List ℕ) (old new : Holding) → Courses moves old.end → new ≡ old →
       (new.end.carrier.ended ≡ None → octets ≡ []) → FeedSteps moves octets old new
   same_steps moves octets old new course is none = record {
     used = [];
@@ -280,11 +301,11 @@ module _ (known : Known) (is_caller : Bool) (r : ℕ) where
     held = λ lasts. ap (λ (l : List ℕ). old.held.octets ++ l) (none lasts) ∙ append-nil old.held.octets
         ∙ sym (ap (λ (x : Holding). x.held.octets) is);
     steps = subst (λ (x : Holding). CourseSteps [] moves old.end x.end) (sym is)
-        (step_none (Course is_caller r) moves old.end.carrier.outgoing old.end (adds_none old.end.carrier.outgoing) course);
+        (step_none is_caller (CourseAll is_caller) moves old.end.carrier old.end refl (same_rest old.end.carrier) course);
   }
 
-  pub feeds_steps : (moves : Deeds) (piece : List ℕ) (fed : Fed) (old new : Holding) → Between old.end →
-      Course is_caller r moves old.end → Feeds old piece fed new → FeedSteps moves (take fed.used piece) old new
+  pub feeds_steps : (moves : ℕ → Deeds) (piece : List ℕ) (fed : Fed) (old new : Holding) → Between old.end →
+      Courses moves old.end → Feeds old piece fed new → FeedSteps moves (take fed.used piece) old new
   feeds_steps moves piece fed old new b course f = by old.end.carrier.ended refl (waits old.end.lines) refl
     where
       by : (o : Option EndReason) → old.end.carrier.ended ≡ o → (w : Bool) → waits old.end.lines ≡ w →

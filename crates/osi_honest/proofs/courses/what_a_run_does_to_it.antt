@@ -1,64 +1,88 @@
 -- Each turn of an end, and a run: what becomes of the course of one connection.
 -- For the laws of an end and its captures.
-use Rattle.std.proofs.Common.{◌≡◌, ◌∙◌, refl, sym, ap, subst, ℕ, ◌==◌, Bool, List, [], ◌∷◌, ◌++◌, take}
-use Rattle.std.proofs.Common.{None}
+use Rattle.std.proofs.Common.{◌≡◌, ◌∙◌, refl, sym, ap, subst, ℕ, ◌<◌, ◌==◌, Bool, true, false, if◌then◌else◌, List, [], ◌∷◌, ◌++◌, take}
+use Rattle.std.proofs.Common.{None, inl, is_some, option_map}
 use Rattle.std.proofs.lemmas.List.{append-nil, append_cancel_left}
 use Rattle.osi_tpkt.specs.Stream.{ArePackets}
 use Rattle.osi_class.specs.declared.terms.Local.{Local}
-use Rattle.osi_carrier.specs.Orderly.{IsOrderly}
+use Rattle.osi_carrier.specs.Calls.{may_connect}
 use Rattle.osi_carrier.specs.Rows.{Rows, value_at}
-use Rattle.osi_carrier.specs.State.{packets}
-use Rattle.osi_carrier.proofs.effects.a_unit_touches_one_connection.{orderly_fresh, orderly_same}
+use Rattle.osi_carrier.specs.State.{State as Carrier, packets}
+use Rattle.osi_carrier.specs.declared.ends.EndReason.TheVariants.{Broken}
+use Rattle.osi_carrier.proofs.effects.a_unit_touches_one_connection.{orderly_fresh}
 use Rattle.osi_session.specs.Listening.{called}
-use Rattle.osi_stack.specs.Calls.{without_first}
+use Rattle.osi_tpdu.specs.Limits.{tsap_octets}
+use Rattle.osi_tpdu.specs.Value.{Value}
+use Rattle.osi_stack.specs.Calls.{terms_error, without_first}
+use Rattle.osi_stack.specs.Hearing.{ends}
 use Rattle.osi_stack.specs.Inputs.{IsAccepted}
 use Rattle.osi_stack.specs.Rounds.{UserCall, user_does}
 use Rattle.osi_stack.specs.Rounds.UserCall.{breaking, calling, connecting, disconnecting}
 use Rattle.osi_stack.specs.Runs.{Call, Calls, carried_in, put_back, used_in}
 use Rattle.osi_stack.specs.Runs.Call.{carrying, feeding, telling}
-use Rattle.osi_stack.specs.State.{End, Holding, Line, fresh_end}
+use Rattle.osi_stack.specs.State.{End, Holding, IsAttended, Line, fresh_end}
 use Rattle.osi_stack.proofs.carried.all_events_are_handled.{breaks_attended, connect_attended, feeds_attended, session_attended}
 use Rattle.osi_stack.proofs.carried.what_a_move_leaves.{first_keep, kept_first}
-use Rattle.osi_stack.proofs.given_up.the_invariant_stays.{disconnect_attended, disconnect_orderly}
-use Rattle.osi_stack.proofs.sound.the_invariant_between_calls.{breaks_orderly, connect_orderly, session_orderly}
-use Rattle.osi_honest.specs.Courses.{Continues, ContinuesAlong, Course, Deeds, no_deeds, then_did}
+use Rattle.osi_stack.proofs.carried.what_each_step_preserves.{session_carried}
+use Rattle.osi_stack.proofs.given_up.the_invariant_stays.{disconnect_attended, disconnect_carrier}
+use Rattle.osi_stack.proofs.sound.the_invariant_is_kept.{open_none}
+use Rattle.osi_stack.proofs.sound.the_invariant_between_calls.{connect_orderly}
+use Rattle.osi_honest.specs.Courses.{Continues, ContinuesAlong, Course, Deeds, SoFar, all_did, no_deeds, units_taken}
 use Rattle.osi_honest.specs.Courses.Course.{unknown}
-use Rattle.osi_honest.specs.Courses.IsWithin.{none as none_within}
+use Rattle.osi_honest.specs.Marked.{Marked, all_units, units_at}
 use Rattle.osi_honest.specs.Turns.{Act, Acts, Run, Takes, Turn, carried_by, used_by}
 use Rattle.osi_honest.specs.Turns.Act.{serving, using}
-use Rattle.osi_honest.proofs.courses.steps_of_a_course.{Steps}
+use Rattle.osi_honest.proofs.courses.steps_of_a_course.{AllRest, HoldEach, Steps}
+use Rattle.osi_honest.proofs.courses.the_connections_of_each_class.{IsSound, request_class, sound_same}
+use Rattle.osi_honest.proofs.courses.the_connections_of_each_class.ByClass.{none as no_connection}
 use Rattle.osi_honest.proofs.courses.what_a_call_does_to_it.{user_steps}
-use Rattle.osi_honest.proofs.courses.what_a_packet_does_to_it.{Between, FeedSteps, feeds_steps, orderly_kept}
+use Rattle.osi_honest.proofs.courses.what_a_packet_does_to_it.{Between, FeedSteps, feeds_steps, sound_kept}
 use Rattle.osi_honest.proofs.courses.what_a_unit_does_to_a_connection.{none_given}
 use Rattle.osi_honest.proofs.courses.what_another_connection_leaves.{Beside, course_beside, none_before, none_behind}
-use Rattle.osi_honest.proofs.courses.what_calls_of_a_link_say.{then_none}
-use Rattle.osi_honest.proofs.courses.what_sessions_hear_of_it.{Known}
+use Rattle.osi_honest.proofs.courses.how_long_a_connection_is_open.{Life, life_rests, life_then, lives, stage_at}
+use Rattle.osi_honest.proofs.courses.units_of_each_connection.{units_more}
+use Rattle.osi_honest.proofs.courses.what_calls_of_a_link_say.{taken_more, then_none}
+use Rattle.osi_honest.proofs.courses.what_sessions_hear_of_it.{CourseAll, Known}
 use Rattle.osi_honest.proofs.keeping.what_a_unit_keeps_a_turn_keeps.{kept_feeds}
 
 -- ---- between two turns
 
 call_between : (call : Call) (old new : Holding) → Between old.end → Calls old call new → Between new.end
 call_between (feeding piece fed) old new b c = record {
-  orderly = kept_feeds IsOrderly orderly_kept piece fed old new b.orderly c;
+  sound = kept_feeds IsSound sound_kept piece fed old new b.sound c;
   attended = feeds_attended old new piece fed c b.attended;
 }
 call_between (telling shown) old new b c =
-    subst (λ (x : Holding). Between x.end) (sym c.1) (record { orderly = b.orderly; attended = b.attended })
+    subst (λ (x : Holding). Between x.end) (sym c.1) (record { sound = b.sound; attended = b.attended })
 call_between (carrying octets) old new b c =
     let was : Between (put_back octets new.end) = subst (λ (x : Holding). Between x.end) c b in
     record {
-      orderly = orderly_same (put_back octets new.end).carrier new.end.carrier.outgoing new.end.carrier.events was.orderly;
+      sound = sound_same (put_back octets new.end).carrier new.end.carrier.outgoing was.sound;
       attended = was.attended;
     }
 
+user_sound : (call : UserCall) (e : End) → IsAccepted call e → IsSound e.carrier → IsSound (user_does call e).carrier
+user_sound (connecting c) e allowed h = record {
+  orderly = connect_orderly c e allowed h.orderly;
+  by_class = request_class (option_map tsap_octets c.calling_tsap) (option_map tsap_octets c.called_tsap) e.carrier
+      (open_none (may_connect e.carrier) (terms_error c) allowed) h.by_class;
+}
+user_sound (calling q call) e allowed h = session_carried IsSound sound_kept.carries q (called call) e h
+user_sound (disconnecting q) e allowed h = subst IsSound (sym (disconnect_carrier q e)) (sound_kept.carries.closes q e.carrier h)
+user_sound breaking e allowed h = by (is_some e.carrier.ended)
+  where
+    by : (b : Bool) → IsSound (if b then e else ends Broken e).carrier
+    by true = h
+    by false = sound_kept.ends_so Broken e.carrier h
+
 user_between : (call : UserCall) (e : End) → IsAccepted call e → Between e → Between (user_does call e)
-user_between (connecting c) e allowed b =
-    record { orderly = connect_orderly c e allowed b.orderly; attended = connect_attended c e b.attended }
-user_between (calling q call) e allowed b =
-    record { orderly = session_orderly q (called call) e b.orderly; attended = session_attended q (called call) e b.attended }
-user_between (disconnecting q) e allowed b =
-    record { orderly = disconnect_orderly q e b.orderly; attended = disconnect_attended q e b.attended }
-user_between breaking e allowed b = record { orderly = breaks_orderly e b.orderly; attended = breaks_attended e b.attended }
+user_between call e allowed b = record { sound = user_sound call e allowed b.sound; attended = user_attended call e allowed b.attended }
+  where
+    user_attended : (call : UserCall) (e : End) → IsAccepted call e → IsAttended e → IsAttended (user_does call e)
+    user_attended (connecting c) e allowed h = connect_attended c e h
+    user_attended (calling q call) e allowed h = session_attended q (called call) e h
+    user_attended (disconnecting q) e allowed h = disconnect_attended q e h
+    user_attended breaking e allowed h = breaks_attended e h
 
 act_between : (act : Act) (old new : Holding) → Between old.end → Acts old act new → Between new.end
 act_between (serving call) old new b acts = call_between call old new b acts
@@ -66,7 +90,10 @@ act_between (using call) old new b acts =
     subst (λ (x : Holding). Between x.end) (sym acts.3) (user_between call old.end acts.1 b)
 
 pub fresh_between : (is_caller : Bool) (local : Local) → Between (fresh_end is_caller local)
-fresh_between is_caller local = record { orderly = orderly_fresh is_caller local; attended = λ lasts. refl }
+fresh_between is_caller local = record {
+  sound = record { orderly = orderly_fresh is_caller local; by_class = no_connection refl };
+  attended = λ lasts. refl;
+}
 
 -- ---- indications and octets are fetched
 
@@ -94,104 +121,178 @@ carried_beside r octets e =
 
 -- ---- a turn
 
-module _ (known : Known) (is_caller : Bool) (r : ℕ) (moves : Deeds) where
+module _ (known : Known) (is_caller : Bool) (moves : ℕ → Deeds) where
+  abbrev Courses : (ℕ → Deeds) → End → Type 0
+  Courses moves e = HoldEach (CourseAll is_caller) moves e
+
+  -- a turn, and what it is for each connection
+  pub record TurnOf (turn : Turn) (old new : Holding) : Type 0 where
+    pub on : Continues is_caller moves old turn new
+    pub life : (r : ℕ) → 0 < r → Life is_caller r (stage_at r old.end.carrier) on.took on.put (stage_at r new.end.carrier)
+
   -- nothing was used
   as_turn : (turn : Turn) (old new : Holding) → turn.used ≡ [] → new.held.octets ≡ old.held.octets →
-      Steps (Course is_caller r) moves old.end.carrier.outgoing new.end →
-      new.end.carrier.outgoing ≡ old.end.carrier.outgoing ++ turn.put → Continues is_caller r moves old turn new
+      Steps is_caller (CourseAll is_caller) moves old.end.carrier new.end →
+      new.end.carrier.outgoing ≡ old.end.carrier.outgoing ++ turn.put → TurnOf turn old new
   as_turn turn old new none same s is = record {
-    more = s.more;
-    course = s.there;
-    units = s.units;
-    written = append_cancel_left old.end.carrier.outgoing turn.put (packets s.units) (sym is ∙ s.written);
-    within = s.within;
-    used = [];
-    rest = old.held.octets ++ turn.used;
-    cut = refl;
-    held = λ lasts. ap (λ (l : List ℕ). old.held.octets ++ l) none ∙ append-nil old.held.octets ∙ sym same;
-    taken = s.taken;
+    on = record {
+      more = s.more;
+      course = s.there;
+      put = s.put;
+      written = append_cancel_left old.end.carrier.outgoing turn.put (packets (all_units s.put)) (sym is ∙ s.written);
+      by_links = s.by_links;
+      own = s.own;
+      used = [];
+      rest = old.held.octets ++ turn.used;
+      cut = refl;
+      held = λ lasts. ap (λ (l : List ℕ). old.held.octets ++ l) none ∙ append-nil old.held.octets ∙ sym same;
+      took = s.took;
+      all = s.all;
+      taken = s.taken;
+      lives = λ r some. lives is_caller r some old.end.carrier new.end.carrier s.took s.put (s.life r some);
+    };
+    life = s.life;
   }
 
   -- a piece was fed
-  fed_turn : (turn : Turn) (octets : List ℕ) (old new : Holding) → turn.used ≡ octets → FeedSteps known is_caller r moves octets old new →
-      new.end.carrier.outgoing ≡ old.end.carrier.outgoing ++ turn.put → Continues is_caller r moves old turn new
+  fed_turn : (turn : Turn) (octets : List ℕ) (old new : Holding) → turn.used ≡ octets → FeedSteps known is_caller moves octets old new →
+      new.end.carrier.outgoing ≡ old.end.carrier.outgoing ++ turn.put → TurnOf turn old new
   fed_turn turn octets old new used f is = record {
-    more = f.steps.more;
-    course = f.steps.there;
-    units = f.steps.units;
-    written = append_cancel_left old.end.carrier.outgoing turn.put (packets f.steps.units) (sym is ∙ f.steps.written);
-    within = f.steps.within;
-    used = f.used;
-    rest = f.rest;
-    cut = subst (λ (l : List ℕ). ArePackets f.used (old.held.octets ++ l) f.rest) (sym used) f.cut;
-    held = f.held;
-    taken = f.steps.taken;
+    on = record {
+      more = f.steps.more;
+      course = f.steps.there;
+      put = f.steps.put;
+      written = append_cancel_left old.end.carrier.outgoing turn.put (packets (all_units f.steps.put)) (sym is ∙ f.steps.written);
+      by_links = f.steps.by_links;
+      own = f.steps.own;
+      used = f.used;
+      rest = f.rest;
+      cut = subst (λ (l : List ℕ). ArePackets f.used (old.held.octets ++ l) f.rest) (sym used) f.cut;
+      held = f.held;
+      took = f.steps.took;
+      all = f.steps.all;
+      taken = f.steps.taken;
+      lives = λ r some. lives is_caller r some old.end.carrier new.end.carrier f.steps.took f.steps.put (f.steps.life r some);
+    };
+    life = f.steps.life;
   }
 
   -- nothing was used or put
   quiet_turn : (turn : Turn) (old new : Holding) → turn.used ≡ [] → turn.put ≡ [] → new.held.octets ≡ old.held.octets →
-      Course is_caller r moves new.end → Continues is_caller r moves old turn new
-  quiet_turn turn old new none nothing same course = record {
-    more = no_deeds;
-    course = subst (λ (d : Deeds). Course is_caller r d new.end) (sym (then_none moves)) course;
-    units = [];
-    written = nothing;
-    within = none_within [];
-    used = [];
-    rest = old.held.octets ++ turn.used;
-    cut = refl;
-    held = λ lasts. ap (λ (l : List ℕ). old.held.octets ++ l) none ∙ append-nil old.held.octets ∙ sym same;
-    taken = none_within [];
+      Courses moves new.end → AllRest old.end.carrier new.end.carrier → TurnOf turn old new
+  quiet_turn turn old new none nothing same course rest = record {
+    on = record {
+      more = λ r. no_deeds;
+      course = λ r. subst (λ (d : Deeds). Course is_caller r d new.end) (sym (then_none (moves r))) (course r);
+      put = [];
+      written = nothing;
+      by_links = tt;
+      own = λ r some. refl;
+      used = [];
+      rest = old.held.octets ++ turn.used;
+      cut = refl;
+      held = λ lasts. ap (λ (l : List ℕ). old.held.octets ++ l) none ∙ append-nil old.held.octets ∙ sym same;
+      took = [];
+      all = refl;
+      taken = λ r some. refl;
+      lives = λ r some. lives is_caller r some old.end.carrier new.end.carrier [] []
+          (life_rests is_caller r (stage_at r old.end.carrier) (stage_at r new.end.carrier) [] tt (rest r));
+    };
+    life = λ r some. life_rests is_caller r (stage_at r old.end.carrier) (stage_at r new.end.carrier) [] tt (rest r);
   }
 
   nothing_put : (old new put : List ℕ) → new ≡ old ++ put → new ≡ old → put ≡ []
   nothing_put old new put is same = append_cancel_left old put [] (sym is ∙ same ∙ sym (append-nil old))
 
   serving_turn : (turn : Turn) (call : Call) (old new : Holding) → turn.used ≡ used_in call → Between old.end →
-      Course is_caller r moves old.end → Calls old call new →
-      carried_in call ++ new.end.carrier.outgoing ≡ old.end.carrier.outgoing ++ turn.put → Continues is_caller r moves old turn new
+      Courses moves old.end → Calls old call new →
+      carried_in call ++ new.end.carrier.outgoing ≡ old.end.carrier.outgoing ++ turn.put → TurnOf turn old new
   serving_turn turn (feeding piece fed) old new used b course c is =
-      fed_turn turn (take fed.used piece) old new used (feeds_steps known is_caller r moves piece fed old new b course c) is
+      fed_turn turn (take fed.used piece) old new used (feeds_steps known is_caller moves piece fed old new b course c) is
   serving_turn turn (telling shown) old new used b course c is =
       quiet_turn turn old new used
       (nothing_put old.end.carrier.outgoing new.end.carrier.outgoing turn.put is (ap (λ (x : Holding). x.end.carrier.outgoing) c.1))
       (ap (λ (x : Holding). x.held.octets) c.1)
-      (subst (λ (x : Holding). Course is_caller r moves x.end) (sym c.1)
-      (course_beside is_caller r moves old.end (record old.end { lines = without_first old.end.lines }) (told_beside r old.end) course))
+      (subst (λ (x : Holding). Courses moves x.end) (sym c.1)
+      (λ r. course_beside is_caller r (moves r) old.end (record old.end { lines = without_first old.end.lines }) (told_beside r old.end)
+      (course r)))
+      (λ r. inl (ap (λ (x : Holding). stage_at r x.end.carrier) c.1))
   serving_turn turn (carrying octets) old new used b course c is =
       quiet_turn turn old new used
       (nothing_put old.end.carrier.outgoing (octets ++ new.end.carrier.outgoing) turn.put is
       (sym (ap (λ (x : Holding). x.end.carrier.outgoing) c)))
       (sym (ap (λ (x : Holding). x.held.octets) c))
-      (course_beside is_caller r moves (put_back octets new.end) new.end (carried_beside r octets new.end)
-      (subst (λ (x : Holding). Course is_caller r moves x.end) c course))
+      (λ r. course_beside is_caller r (moves r) (put_back octets new.end) new.end (carried_beside r octets new.end)
+      (subst (λ (x : Holding). Course is_caller r (moves r) x.end) c (course r)))
+      (λ r. inl (sym (ap (λ (x : Holding). stage_at r x.end.carrier) c)))
 
-  act_turn : (turn : Turn) (act : Act) (old new : Holding) → turn.used ≡ used_by act → Between old.end → Course is_caller r moves old.end →
+  act_turn : (turn : Turn) (act : Act) (old new : Holding) → turn.used ≡ used_by act → Between old.end → Courses moves old.end →
       Acts old act new → carried_by act ++ new.end.carrier.outgoing ≡ old.end.carrier.outgoing ++ turn.put →
-      Continues is_caller r moves old turn new
+      TurnOf turn old new
   act_turn turn (serving call) old new used b course acts is = serving_turn turn call old new used b course acts is
   act_turn turn (using call) old new used b course acts is =
       as_turn turn old new used (ap (λ (x : Holding). x.held.octets) acts.3)
-      (subst (λ (x : Holding). Steps (Course is_caller r) moves old.end.carrier.outgoing x.end) (sym acts.3)
-      (user_steps is_caller r moves old.end acts.0 call acts.1 acts.2 course)) is
+      (subst (λ (x : Holding). Steps is_caller (CourseAll is_caller) moves old.end.carrier x.end) (sym acts.3)
+      (user_steps is_caller moves old.end acts.0 b.sound.orderly course call acts.1 acts.2)) is
 
-  pub turn_continues : (turn : Turn) (old new : Holding) → Between old.end → Course is_caller r moves old.end → Takes old turn new →
-      Continues is_caller r moves old turn new
+  pub turn_continues : (turn : Turn) (old new : Holding) → Between old.end → Courses moves old.end → Takes old turn new →
+      TurnOf turn old new
   turn_continues turn old new b course takes = act_turn turn takes.act old new takes.used b course takes.acts takes.put
 
 -- ---- a run
 
-pub run_continues : Known → (is_caller : Bool) (r : ℕ) (moves : Deeds) (turns : List Turn) (old new : Holding) → Between old.end →
-    Course is_caller r moves old.end → Run old turns new → ContinuesAlong is_caller r moves old turns new
-run_continues known is_caller r moves [] old new b course run = run
-run_continues known is_caller r moves (turn ∷ turns) old new b course run =
-    let on = turn_continues known is_caller r moves turn old run.0 b course run.1 in (
-      run.0,
+-- what was done since this carrier
+pub record Since (is_caller : Bool) (first : Carrier) (moves : ℕ → Deeds) (took put : List Marked) (e : End) : Type 0 where
+  pub own : (r : ℕ) → 0 < r → (moves r).put ≡ units_at r put
+  pub taken : (r : ℕ) → 0 < r → units_taken (moves r).calls ≡ units_at r took
+  pub life : (r : ℕ) → 0 < r → Life is_caller r (stage_at r first) took put (stage_at r e.carrier)
+
+since_then : (known : Known) (is_caller : Bool) (first : Carrier) (moves : ℕ → Deeds) (took put : List Marked) (turn : Turn)
+    (old mid : Holding) → Since is_caller first moves took put old.end → (at : TurnOf known is_caller moves turn old mid) →
+    Since is_caller first (all_did moves at.on.more) (took ++ at.on.took) (put ++ at.on.put) mid.end
+since_then known is_caller first moves took put turn old mid s at =
+    let on = at.on in
+    record {
+      own = λ r some. ap (λ (l : List Value). l ++ (on.more r).put) (s.own r some)
+          ∙ ap (λ (l : List Value). units_at r put ++ l) (on.own r some) ∙ sym (units_more r put on.put);
+      taken = λ r some. taken_more (moves r).calls (on.more r).calls
+          ∙ ap (λ (l : List Value). l ++ units_taken (on.more r).calls) (s.taken r some)
+          ∙ ap (λ (l : List Value). units_at r took ++ l) (on.taken r some) ∙ sym (units_more r took on.took);
+      life = λ r some. life_then is_caller r (stage_at r first) took put (stage_at r old.end.carrier) on.took on.put
+          (stage_at r mid.end.carrier) (s.life r some) (at.life r some);
+    }
+
+so_far : (is_caller : Bool) (first : Carrier) (moves : ℕ → Deeds) (took put : List Marked) (new : Holding) →
+    Since is_caller first moves took put new.end → SoFar is_caller first moves took put new
+so_far is_caller first moves took put new s = record {
+  own = s.own;
+  taken = s.taken;
+  lives = λ r some. lives is_caller r some first new.end.carrier took put (s.life r some);
+}
+
+pub run_continues : Known → (is_caller : Bool) (first : Carrier) (moves : ℕ → Deeds) (took put : List Marked) (turns : List Turn)
+    (old new : Holding) → Between old.end → HoldEach (CourseAll is_caller) moves old.end →
+    Since is_caller first moves took put old.end → Run old turns new → ContinuesAlong is_caller first moves took put old turns new
+run_continues known is_caller first moves took put [] old new b course s run = run
+run_continues known is_caller first moves took put (turn ∷ turns) old new b course s run =
+    let mid = run.0 in
+    let at = turn_continues known is_caller moves turn old mid b course run.1 in
+    let on = at.on in
+    let then_since = since_then known is_caller first moves took put turn old mid s at in (
+      mid,
       run.1,
       on,
-      run_continues known is_caller r (then_did moves on.more) turns run.0 new (act_between run.1.act old run.0 b run.1.acts) on.course
-          run.2,
+      so_far is_caller first (all_did moves on.more) (took ++ on.took) (put ++ on.put) mid then_since,
+      run_continues known is_caller first (all_did moves on.more) (took ++ on.took) (put ++ on.put) turns mid new
+          (act_between run.1.act old mid b run.1.acts) on.course then_since run.2,
     )
+
+pub nothing_since : (is_caller : Bool) (e : End) → Since is_caller e.carrier (λ r. no_deeds) [] [] e
+nothing_since is_caller e = record {
+  own = λ r some. refl;
+  taken = λ r some. refl;
+  life = λ r some. life_rests is_caller r (stage_at r e.carrier) (stage_at r e.carrier) [] tt (inl refl);
+}
 
 pub fresh_course : (is_caller : Bool) (local : Local) (r : ℕ) → Course is_caller r no_deeds (fresh_end is_caller local)
 fresh_course is_caller local r = unknown refl refl (none_given r) refl refl

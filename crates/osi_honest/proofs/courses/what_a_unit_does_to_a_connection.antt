@@ -1,10 +1,10 @@
 -- What a unit that arrives does to one connection of a carrier, of either class: nothing; it opens it; the link takes it; or the
--- connection or the carrier ends.
+-- connection or the carrier ends. And what is put then.
 -- For the course of a connection.
-use Rattle.std.proofs.Common.{◌≡◌, ◌≢◌, ◌∙◌, refl, sym, ap, subst, ℕ, ◌+◌, ◌==◌, ◌&&◌, Bool, true, false, if◌then◌else◌, nat_le, nat_lt}
+use Rattle.std.proofs.Common.{◌≡◌, ◌≢◌, ◌∙◌, refl, sym, ap, subst, ℕ, ◌+◌, ◌&&◌, Bool, true, false, if◌then◌else◌, nat_le, nat_lt}
 use Rattle.std.proofs.Common.{List, [], ◌∷◌, ◌++◌, Option, Some, None, is_some, IsSome, Result, Ok, Err, inl, inr, arith}
 use Rattle.std.specs.List.{AllByRecursion}
-use Rattle.std.proofs.lemmas.Bool.{eq-eqb, eqb-true}
+use Rattle.std.proofs.lemmas.Bool.{eq-eqb}
 use Rattle.std.proofs.lemmas.Bool.Decides.{nat_tests}
 use Rattle.std.proofs.lemmas.List.{append-nil}
 use Rattle.osi_tpdu.specs.Value.{Connect, Value, acknowledge, confirm, data0, data2, disconnect, disconnected, error, may_be_followed}
@@ -16,19 +16,23 @@ use Rattle.osi_class.specs.declared.terms.Class.{Class}
 use Rattle.osi_class.specs.declared.terms.Class.TheVariants.{Two, Zero}
 use Rattle.osi_class.specs.declared.terms.Local.{Local}
 use Rattle.osi_carrier.specs.Happenings.{Happening, opened}
-use Rattle.osi_carrier.specs.Negotiation.{agreed_size, confirmed, opened_link}
-use Rattle.osi_carrier.specs.Orderly.{IsOrderly, RiseFrom, connection_by, connection_of, only_of, told_of}
+use Rattle.osi_carrier.specs.Negotiation.{acceptance, agreed_size, confirmed, opened_link}
+use Rattle.osi_carrier.specs.Orderly.{RiseFrom, connection_by, connection_of, only_of, told_of}
 use Rattle.osi_carrier.specs.React.{answers, answers_request, before_class, breaks, denies, has_peer, in_class, in_two, in_zero}
 use Rattle.osi_carrier.specs.React.{is_full, leaves, opens, react, settles, taking, to_asked, to_closing, to_connection, to_linked}
 use Rattle.osi_carrier.specs.React.{to_only, to_reference, to_unknown}
 use Rattle.osi_carrier.specs.Rows.{Rows, put, value_at, without}
-use Rattle.osi_carrier.specs.State.{Connection, State as Carrier, asked, closing, linked}
+use Rattle.osi_carrier.specs.State.{Connection, State as Carrier, asked, closing, linked, packets}
 use Rattle.osi_carrier.proofs.effects.a_unit_touches_one_connection.{How, changes_one, effect}
 use Rattle.osi_carrier.proofs.effects.units_one_after_the_other.{react_quiet}
 use Rattle.osi_carrier.proofs.references.what_a_change_leaves_there.{push_here, put_here, without_here}
 use Rattle.osi_stack.specs.Calls.{has_given}
 use Rattle.osi_honest.specs.Courses.{IsFreshLink}
 use Rattle.osi_honest.specs.Courses.{IsShut}
+use Rattle.osi_honest.specs.Arriving.{Answers, Opens, is_for}
+use Rattle.osi_honest.specs.Marked.{is_of_link}
+use Rattle.osi_honest.proofs.courses.the_connections_of_each_class.{IsSound, zero_asks_none}
+use Rattle.osi_honest.proofs.courses.units_of_each_connection.{ArePlain, marked}
 
 -- ---- events
 
@@ -65,26 +69,34 @@ fresh_link class size local credit = record { class = class; size = size; local 
 
 -- ---- what may happen
 
-pub data Acts (r : ℕ) (v : Value) (old new : Carrier) : Type 0 where
+-- a unit is not for a connection that is open
+abbrev pub IsDeaf : ℕ → Value → Carrier → Type 0
+IsDeaf r v s = (peer : ℕ) (link : Standing) → value_at r s.live ≡ Some (linked peer link) → is_for r v ≡ false
+
+-- `put`: the units that are put then
+pub data Acts (r : ℕ) (v : Value) (put : List Value) (old new : Carrier) : Type 0 where
   -- the carrier ends
-  over : IsSome new.ended → Acts r v old new
+  over : IsSome new.ended → Acts r v put old new
   -- nothing happens to the connection
   rests : value_at r new.live ≡ value_at r old.live → has_given r new ≡ has_given r old → (told : List Happening) →
-      new.events ≡ old.events ++ told → NoneOf r told → Acts r v old new
+      new.events ≡ old.events ++ told → NoneOf r told → IsDeaf r v old → Acts r v put old new
   -- a CR is accepted at a called end, and this is the next reference
   joins : old.is_caller ≡ false → may_be_followed v ≡ false → has_given r old ≡ false → has_given r new ≡ true → (peer : ℕ)
       (first : Standing) → IsFreshLink first → (value_at r old.live ≡ None → value_at r new.live ≡ Some (linked peer first)) →
-      new.events ≡ old.events ++ opened r ∷ [] → Acts r v old new
+      new.events ≡ old.events ++ opened r ∷ [] → Opens false r peer v → Answers r peer v (marked 0 put) → Acts r v put old new
   -- its CC arrives
   answers_it : may_be_followed v ≡ false → value_at r old.live ≡ Some asked → has_given r new ≡ has_given r old → (peer : ℕ)
       (first : Standing) → IsFreshLink first → value_at r new.live ≡ Some (linked peer first) → new.events ≡ old.events ++ opened r ∷ [] →
-      Acts r v old new
-  -- its link takes the unit
-  takes : (peer : ℕ) (link after : Standing) → value_at r old.live ≡ Some (linked peer link) → taken link v ≡ Ok after →
-      new ≡ settles r peer after old → Acts r v old new
+      ((b : Bool) → Opens b r peer v) → Answers r peer v [] → Acts r v put old new
   -- it ends
   leaves_it : (x : Connection) → value_at r old.live ≡ Some x → has_given r new ≡ has_given r old → IsShut (value_at r new.live) →
-      Acts r v old new
+      Acts r v put old new
+
+-- the link takes the unit; or it doesn't, and what is put is no DT and no AK
+pub data Does (r : ℕ) (v : Value) (old new : Carrier) : Type 0 where
+  takes : (peer : ℕ) (link after : Standing) → value_at r old.live ≡ Some (linked peer link) → taken link v ≡ Ok after →
+      new ≡ settles r peer after old → Does r v old new
+  passes : (units : List Value) → new.outgoing ≡ old.outgoing ++ packets units → ArePlain units → Acts r v units old new → Does r v old new
 
 -- ---- a unit of another connection
 
@@ -96,117 +108,156 @@ given_by_how q r old new ne lasts (inr (inl joined)) =
 given_by_how q r old new ne lasts (inr (inr gone)) =
     absurd (let some = gone.ended in let none : is_some new.ended ≡ false = ap is_some lasts in cc)
 
-pub acts_elsewhere : (r : ℕ) (v : Value) (s : Carrier) → r ≢ connection_of v s → (react v s).ended ≡ None → Acts r v s (react v s)
-acts_elsewhere r v s ne lasts =
+pub acts_elsewhere : (r : ℕ) (v : Value) (units : List Value) (s : Carrier) → r ≢ connection_of v s → (react v s).ended ≡ None →
+    IsDeaf r v s → Acts r v units s (react v s)
+acts_elsewhere r v units s ne lasts deaf =
     let e = effect v s in
     let c = changes_one v s lasts in
     rests (c.others r ne) (given_by_how (connection_of v s) r s (react v s) ne lasts e.how) e.told e.events
-    (none_about (connection_of v s) r e.told ne e.about)
+    (none_about (connection_of v s) r e.told ne e.about) deaf
 
 -- ---- a unit of this connection
 
+-- the CC names the connection
+abbrev IsNamed : ℕ → Value → Type 0
+IsNamed r (confirm destination c) = destination ≡ r
+IsNamed r v = Unit {0}
+
 module _ (s : Carrier) (rise : RiseFrom 0 s.live) where
-  acts_none : (r : ℕ) (v : Value) (t : Carrier) → t.live ≡ s.live → t.given ≡ s.given → t.events ≡ s.events → Acts r v s t
-  acts_none r v t live given events =
-      rests (ap (value_at r) live) (ap (λ (n : ℕ). nat_lt 0 r && nat_le r n) given) [] (events ∙ sym (append-nil s.events)) tt
+  acts_none : (r : ℕ) (v : Value) (units : List Value) (t : Carrier) → t.live ≡ s.live → t.given ≡ s.given → t.events ≡ s.events →
+      IsDeaf r v s → Acts r v units s t
+  acts_none r v units t live given events deaf =
+      rests (ap (value_at r) live) (ap (λ (n : ℕ). nat_lt 0 r && nat_le r n) given) [] (events ∙ sym (append-nil s.events)) tt deaf
+
+  -- nothing is put, or one unit
+  nothing : (r : ℕ) (v : Value) (t : Carrier) → t.outgoing ≡ s.outgoing → Acts r v [] s t → Does r v s t
+  nothing r v t same act = passes [] (same ∙ sym (append-nil s.outgoing)) tt act
+
+  puts : (r : ℕ) (v u : Value) (t : Carrier) → t.outgoing ≡ s.outgoing ++ packets (u ∷ []) → is_of_link u ≡ false →
+      Acts r v (u ∷ []) s t → Does r v s t
+  puts r v u t is plain act = passes (u ∷ []) is (plain, tt) act
+
+  ends_it : (r : ℕ) (v : Value) (t : Carrier) → t.outgoing ≡ s.outgoing → IsSome t.ended → Does r v s t
+  ends_it r v t same ended = nothing r v t same (over ended)
 
   -- a CR
   acts_accepts : (class : Class) (size : Option ℕ) (c : Connect) → s.is_caller ≡ false →
-      Acts (s.given + 1) (request c) s (answers c (accept class size) None s)
+      Does (s.given + 1) (request c) s (answers c (accept class size) None s)
   acts_accepts Zero size c called =
-      joins called refl (next_ungiven s.given) (given_next s.given) c.source (opened_link Zero size s.local c.credit)
+      puts (s.given + 1) (request c) (confirm c.source (acceptance Zero size c s.local (s.given + 1))) _ refl refl
+      (joins called refl (next_ungiven s.given) (given_next s.given) c.source (opened_link Zero size s.local c.credit)
       (fresh_link Zero size s.local c.credit)
-      (λ none. push_here (s.given + 1) (linked c.source (opened_link Zero size s.local c.credit)) s.live none) refl
+      (λ none. push_here (s.given + 1) (linked c.source (opened_link Zero size s.local c.credit)) s.live none) refl (refl, refl)
+      (acceptance Zero size c s.local (s.given + 1), refl, refl))
   acts_accepts Two size c called =
-      joins called refl (next_ungiven s.given) (given_next s.given) c.source (opened_link Two size s.local c.credit)
+      puts (s.given + 1) (request c) (confirm c.source (acceptance Two size c s.local (s.given + 1))) _ refl refl
+      (joins called refl (next_ungiven s.given) (given_next s.given) c.source (opened_link Two size s.local c.credit)
       (fresh_link Two size s.local c.credit)
-      (λ none. push_here (s.given + 1) (linked c.source (opened_link Two size s.local c.credit)) s.live none) refl
+      (λ none. push_here (s.given + 1) (linked c.source (opened_link Two size s.local c.credit)) s.live none) refl (refl, refl)
+      (acceptance Two size c s.local (s.given + 1), refl, refl))
+
+  acts_denies : (c : Connect) (reason : ℕ) → Does (s.given + 1) (request c) s (denies reason c.source s)
+  acts_denies c reason =
+      puts (s.given + 1) (request c) (disconnect c.source 0 reason []) _ refl refl
+      (acts_none (s.given + 1) (request c) _ (denies reason c.source s) refl refl refl (λ peer link here. refl))
 
   acts_selected : (c : Connect) (selection : Selection) (held : Option Class) → s.is_caller ≡ false →
-      Acts (s.given + 1) (request c) s (answers c selection held s)
-  acts_selected c (refuse reason) held called = acts_none (s.given + 1) (request c) _ refl refl refl
+      Does (s.given + 1) (request c) s (answers c selection held s)
+  acts_selected c (refuse reason) held called = acts_denies c reason
   acts_selected c (accept Two size) held called = acts_accepts Two size c called
   acts_selected c (accept Zero size) None called = acts_accepts Zero size c called
-  acts_selected c (accept Zero size) (Some class) called = acts_none (s.given + 1) (request c) _ refl refl refl
+  acts_selected c (accept Zero size) (Some class) called = acts_denies c 136
 
   request_by : (c : Connect) (in_use full : Bool) → s.is_caller ≡ false →
-      Acts (s.given + 1) (request c) s
+      Does (s.given + 1) (request c) s
       (if in_use then denies 131 c.source s else (if full then denies 1 c.source s else answers c (selected_by c s.local) s.class s))
-  request_by c true full called = acts_none (s.given + 1) (request c) _ refl refl refl
-  request_by c false true called = acts_none (s.given + 1) (request c) _ refl refl refl
+  request_by c true full called = acts_denies c 131
+  request_by c false true called = acts_denies c 1
   request_by c false false called = acts_selected c (selected_by c s.local) s.class called
 
-  acts_request : (c : Connect) → s.is_caller ≡ false → Acts (s.given + 1) (request c) s (answers_request c s)
+  acts_request : (c : Connect) → s.is_caller ≡ false → Does (s.given + 1) (request c) s (answers_request c s)
   acts_request c called = request_by c (has_peer c.source s.live) (is_full s) called
 
   -- a reference that is not live
-  acts_unknown : (r : ℕ) (v : Value) → Acts r v s (to_unknown v s)
-  acts_unknown r (disconnect destination source reason user) = acts_none r (disconnect destination source reason user) _ refl refl refl
-  acts_unknown r (disconnected destination source) = acts_none r (disconnected destination source) _ refl refl refl
-  acts_unknown r (request c) = over refl
-  acts_unknown r (confirm destination c) = over refl
-  acts_unknown r (data0 end user) = over refl
-  acts_unknown r (data2 destination number end user) = over refl
-  acts_unknown r (acknowledge credit destination number) = over refl
-  acts_unknown r (error destination cause) = over refl
+  acts_unknown : (r : ℕ) (v : Value) → Does r v s (to_unknown v s)
+  acts_unknown r (disconnect destination source reason user) =
+      puts r (disconnect destination source reason user) (disconnected source destination) _ refl refl
+      (acts_none r (disconnect destination source reason user) _ (to_unknown (disconnect destination source reason user) s) refl refl refl
+      (λ peer link here. refl))
+  acts_unknown r (disconnected destination source) =
+      nothing r (disconnected destination source) s refl
+      (acts_none r (disconnected destination source) _ s refl refl refl (λ peer link here. refl))
+  acts_unknown r (request c) = ends_it r (request c) _ refl refl
+  acts_unknown r (confirm destination c) = ends_it r (confirm destination c) _ refl refl
+  acts_unknown r (data0 end user) = ends_it r (data0 end user) _ refl refl
+  acts_unknown r (data2 destination number end user) = ends_it r (data2 destination number end user) _ refl refl
+  acts_unknown r (acknowledge credit destination number) = ends_it r (acknowledge credit destination number) _ refl refl
+  acts_unknown r (error destination cause) = ends_it r (error destination cause) _ refl refl
 
   -- the CC is awaited
-  acts_opens : (r destination : ℕ) (c : Connect) (class : Option Class) → value_at r s.live ≡ Some asked →
-      Acts r (confirm destination c) s (opens r c class s)
-  acts_opens r destination c None here = over refl
-  acts_opens r destination c (Some Zero) here =
+  acts_opens : (r destination : ℕ) (c : Connect) (class : Option Class) → destination ≡ r → value_at r s.live ≡ Some asked →
+      Does r (confirm destination c) s (opens r c class s)
+  acts_opens r destination c None named here = ends_it r (confirm destination c) _ refl refl
+  acts_opens r destination c (Some Zero) named here =
       let first = opened_link Zero (agreed_size c.parameters.size s.local) s.local c.credit in
-      answers_it refl here refl c.source first (fresh_link Zero (agreed_size c.parameters.size s.local) s.local c.credit)
-      (put_here r (linked c.source first) asked s.live here) refl
-  acts_opens r destination c (Some Two) here =
+      nothing r (confirm destination c) (opens r c (Some Zero) s) refl
+      (answers_it refl here refl c.source first (fresh_link Zero (agreed_size c.parameters.size s.local) s.local c.credit)
+      (put_here r (linked c.source first) asked s.live here) refl (λ b. (named, refl)) refl)
+  acts_opens r destination c (Some Two) named here =
       let first = opened_link Two (agreed_size c.parameters.size s.local) s.local c.credit in
-      answers_it refl here refl c.source first (fresh_link Two (agreed_size c.parameters.size s.local) s.local c.credit)
-      (put_here r (linked c.source first) asked s.live here) refl
+      nothing r (confirm destination c) (opens r c (Some Two) s) refl
+      (answers_it refl here refl c.source first (fresh_link Two (agreed_size c.parameters.size s.local) s.local c.credit)
+      (put_here r (linked c.source first) asked s.live here) refl (λ b. (named, refl)) refl)
 
-  dropped : (r : ℕ) (v : Value) (x : Connection) (t : Carrier) → value_at r s.live ≡ Some x → t.live ≡ without r s.live →
-      t.given ≡ s.given →
-      Acts r v s t
-  dropped r v x t here live given =
+  dropped : (r : ℕ) (v : Value) (units : List Value) (x : Connection) (t : Carrier) → value_at r s.live ≡ Some x →
+      t.live ≡ without r s.live → t.given ≡ s.given → Acts r v units s t
+  dropped r v units x t here live given =
       leaves_it x here (ap (λ (n : ℕ). nat_lt 0 r && nat_le r n) given)
       (subst IsShut (sym (ap (value_at r) live ∙ without_here r s.live rise)) tt)
 
-  acts_asked : (r : ℕ) (v : Value) → value_at r s.live ≡ Some asked → Acts r v s (to_asked r v s)
-  acts_asked r (confirm destination c) here = acts_opens r destination c (confirmed c s.local s.class) here
-  acts_asked r (disconnect destination source reason user) here =
-      dropped r (disconnect destination source reason user) asked _ here refl refl
-  acts_asked r (error destination cause) here = dropped r (error destination cause) asked _ here refl refl
-  acts_asked r (request c) here = acts_unknown r (request c)
-  acts_asked r (disconnected destination source) here = acts_unknown r (disconnected destination source)
-  acts_asked r (data0 end user) here = acts_unknown r (data0 end user)
-  acts_asked r (data2 destination number end user) here = acts_unknown r (data2 destination number end user)
-  acts_asked r (acknowledge credit destination number) here = acts_unknown r (acknowledge credit destination number)
+  acts_asked : (r : ℕ) (v : Value) → IsNamed r v → value_at r s.live ≡ Some asked → Does r v s (to_asked r v s)
+  acts_asked r (confirm destination c) named here = acts_opens r destination c (confirmed c s.local s.class) named here
+  acts_asked r (disconnect destination source reason user) named here =
+      nothing r (disconnect destination source reason user) (to_asked r (disconnect destination source reason user) s) refl
+      (dropped r (disconnect destination source reason user) _ asked _ here refl refl)
+  acts_asked r (error destination cause) named here =
+      nothing r (error destination cause) (to_asked r (error destination cause) s) refl
+      (dropped r (error destination cause) _ asked _ here refl refl)
+  acts_asked r (request c) named here = acts_unknown r (request c)
+  acts_asked r (disconnected destination source) named here = acts_unknown r (disconnected destination source)
+  acts_asked r (data0 end user) named here = acts_unknown r (data0 end user)
+  acts_asked r (data2 destination number end user) named here = acts_unknown r (data2 destination number end user)
+  acts_asked r (acknowledge credit destination number) named here = acts_unknown r (acknowledge credit destination number)
 
   -- it is open
-  closes_to : (r peer : ℕ) (v : Value) (x : Connection) (t : Carrier) → value_at r s.live ≡ Some x → t.live ≡ put r (closing peer) s.live →
-      t.given ≡ s.given → Acts r v s t
-  closes_to r peer v x t here live given =
+  closes_to : (r peer : ℕ) (v : Value) (units : List Value) (x : Connection) (t : Carrier) → value_at r s.live ≡ Some x →
+      t.live ≡ put r (closing peer) s.live → t.given ≡ s.given → Acts r v units s t
+  closes_to r peer v units x t here live given =
       leaves_it x here (ap (λ (n : ℕ). nat_lt 0 r && nat_le r n) given)
       (subst IsShut (sym (ap (value_at r) live ∙ put_here r (closing peer) x s.live here)) tt)
 
   acts_breaks : (r peer : ℕ) (link : Standing) (v : Value) (fault : LinkFault) (held : Option Class) →
-      value_at r s.live ≡ Some (linked peer link) → Acts r v s (breaks r peer fault held s)
-  acts_breaks r peer link v fault (Some Two) here = closes_to r peer v (linked peer link) _ here refl refl
-  acts_breaks r peer link v fault (Some Zero) here = over refl
-  acts_breaks r peer link v fault None here = over refl
+      value_at r s.live ≡ Some (linked peer link) → Does r v s (breaks r peer fault held s)
+  acts_breaks r peer link v fault (Some Two) here =
+      puts r v (disconnect peer r 133 []) (breaks r peer fault (Some Two) s) refl refl
+      (closes_to r peer v _ (linked peer link) _ here refl refl)
+  acts_breaks r peer link v fault (Some Zero) here = ends_it r v _ refl refl
+  acts_breaks r peer link v fault None here = ends_it r v _ refl refl
 
   acts_taking : (r peer : ℕ) (link : Standing) (v : Value) (result : Result Standing LinkFault) →
-      value_at r s.live ≡ Some (linked peer link) → taken link v ≡ result → Acts r v s (taking r peer result s)
+      value_at r s.live ≡ Some (linked peer link) → taken link v ≡ result → Does r v s (taking r peer result s)
   acts_taking r peer link v (Ok after) here is = takes peer link after here is refl
   acts_taking r peer link v (Err fault) here is = acts_breaks r peer link v fault s.class here
 
   acts_leaves : (r peer reason : ℕ) (link : Standing) (v : Value) (held : Option Class) → value_at r s.live ≡ Some (linked peer link) →
-      Acts r v s (leaves r peer reason held s)
-  acts_leaves r peer reason link v (Some Two) here = dropped r v (linked peer link) _ here refl refl
-  acts_leaves r peer reason link v (Some Zero) here = over refl
-  acts_leaves r peer reason link v None here = over refl
+      Does r v s (leaves r peer reason held s)
+  acts_leaves r peer reason link v (Some Two) here =
+      puts r v (disconnected peer r) (leaves r peer reason (Some Two) s) refl refl (dropped r v _ (linked peer link) _ here refl refl)
+  acts_leaves r peer reason link v (Some Zero) here = ends_it r v _ refl refl
+  acts_leaves r peer reason link v None here = ends_it r v _ refl refl
 
   acts_linked : (r peer : ℕ) (link : Standing) (v : Value) → value_at r s.live ≡ Some (linked peer link) →
-      Acts r v s (to_linked r peer link v s)
+      Does r v s (to_linked r peer link v s)
   acts_linked r peer link (disconnect destination source reason user) here =
       acts_leaves r peer reason link (disconnect destination source reason user) s.class here
   acts_linked r peer link (request c) here = acts_taking r peer link (request c) _ here refl
@@ -220,95 +271,113 @@ module _ (s : Carrier) (rise : RiseFrom 0 s.live) where
   acts_linked r peer link (error destination cause) here = acts_taking r peer link (error destination cause) _ here refl
 
   -- it is closing
-  acts_closing : (r peer : ℕ) (v : Value) → value_at r s.live ≡ Some (closing peer) → Acts r v s (to_closing r v s)
-  acts_closing r peer (disconnected destination source) here = dropped r (disconnected destination source) (closing peer) _ here refl refl
+  closing_deaf : (r peer : ℕ) (v : Value) → value_at r s.live ≡ Some (closing peer) → IsDeaf r v s
+  closing_deaf r peer v here q link is = absurd (let both : Some (closing peer) ≡ Some (linked q link) = sym here ∙ is in cc)
+
+  acts_closing : (r peer : ℕ) (v : Value) → value_at r s.live ≡ Some (closing peer) → Does r v s (to_closing r v s)
+  acts_closing r peer (disconnected destination source) here =
+      nothing r (disconnected destination source) (to_closing r (disconnected destination source) s) refl
+      (dropped r (disconnected destination source) _ (closing peer) _ here refl refl)
   acts_closing r peer (disconnect destination source reason user) here =
-      dropped r (disconnect destination source reason user) (closing peer) _ here refl refl
-  acts_closing r peer (request c) here = acts_none r (request c) s refl refl refl
-  acts_closing r peer (confirm destination c) here = acts_none r (confirm destination c) s refl refl refl
-  acts_closing r peer (data0 end user) here = acts_none r (data0 end user) s refl refl refl
-  acts_closing r peer (data2 destination number end user) here = acts_none r (data2 destination number end user) s refl refl refl
-  acts_closing r peer (acknowledge credit destination number) here = acts_none r (acknowledge credit destination number) s refl refl refl
-  acts_closing r peer (error destination cause) here = acts_none r (error destination cause) s refl refl refl
+      nothing r (disconnect destination source reason user) (to_closing r (disconnect destination source reason user) s) refl
+      (dropped r (disconnect destination source reason user) _ (closing peer) _ here refl refl)
+  acts_closing r peer (request c) here =
+      nothing r (request c) s refl (acts_none r (request c) _ s refl refl refl (closing_deaf r peer (request c) here))
+  acts_closing r peer (confirm destination c) here =
+      nothing r (confirm destination c) s refl
+      (acts_none r (confirm destination c) _ s refl refl refl (closing_deaf r peer (confirm destination c) here))
+  acts_closing r peer (data0 end user) here =
+      nothing r (data0 end user) s refl (acts_none r (data0 end user) _ s refl refl refl (closing_deaf r peer (data0 end user) here))
+  acts_closing r peer (data2 destination number end user) here =
+      nothing r (data2 destination number end user) s refl
+      (acts_none r (data2 destination number end user) _ s refl refl refl (closing_deaf r peer (data2 destination number end user) here))
+  acts_closing r peer (acknowledge credit destination number) here =
+      nothing r (acknowledge credit destination number) s refl
+      (acts_none r (acknowledge credit destination number) _ s refl refl refl
+      (closing_deaf r peer (acknowledge credit destination number) here))
+  acts_closing r peer (error destination cause) here =
+      nothing r (error destination cause) s refl
+      (acts_none r (error destination cause) _ s refl refl refl (closing_deaf r peer (error destination cause) here))
 
-  acts_connection : (r : ℕ) (o : Option Connection) (v : Value) → value_at r s.live ≡ o → Acts r v s (to_connection r o v s)
-  acts_connection r None v here = acts_unknown r v
-  acts_connection r (Some asked) v here = acts_asked r v here
-  acts_connection r (Some (linked peer link)) v here = acts_linked r peer link v here
-  acts_connection r (Some (closing peer)) v here = acts_closing r peer v here
+  acts_connection : (r : ℕ) (o : Option Connection) (v : Value) → (o ≡ Some asked → IsNamed r v) → value_at r s.live ≡ o →
+      Does r v s (to_connection r o v s)
+  acts_connection r None v named here = acts_unknown r v
+  acts_connection r (Some asked) v named here = acts_asked r v (named refl) here
+  acts_connection r (Some (linked peer link)) v named here = acts_linked r peer link v here
+  acts_connection r (Some (closing peer)) v named here = acts_closing r peer v here
 
-  acts_reference : (r : ℕ) (v : Value) → Acts r v s (to_reference r v s)
-  acts_reference r v = acts_connection r (value_at r s.live) v refl
+  acts_reference : (r : ℕ) (v : Value) → IsNamed r v → Does r v s (to_reference r v s)
+  acts_reference r v named = acts_connection r (value_at r s.live) v (λ was. named) refl
 
   -- ---- by class
 
-  acts_before : (b : Bool) (v : Value) → s.is_caller ≡ b → Acts (connection_by None v s) v s (before_class b v s)
-  acts_before true (confirm destination c) is = acts_reference destination (confirm destination c)
-  acts_before true (disconnect destination source reason user) is = acts_reference destination (disconnect destination source reason user)
-  acts_before true (error destination cause) is = acts_reference destination (error destination cause)
-  acts_before true (request c) is = over refl
-  acts_before true (disconnected destination source) is = over refl
-  acts_before true (data0 end user) is = over refl
-  acts_before true (data2 destination number end user) is = over refl
-  acts_before true (acknowledge credit destination number) is = over refl
+  acts_before : (b : Bool) (v : Value) → s.is_caller ≡ b → Does (connection_by None v s) v s (before_class b v s)
+  acts_before true (confirm destination c) is = acts_reference destination (confirm destination c) refl
+  acts_before true (disconnect destination source reason user) is =
+      acts_reference destination (disconnect destination source reason user) tt
+  acts_before true (error destination cause) is = acts_reference destination (error destination cause) tt
+  acts_before true (request c) is = ends_it _ (request c) _ refl refl
+  acts_before true (disconnected destination source) is = ends_it _ (disconnected destination source) _ refl refl
+  acts_before true (data0 end user) is = ends_it _ (data0 end user) _ refl refl
+  acts_before true (data2 destination number end user) is = ends_it _ (data2 destination number end user) _ refl refl
+  acts_before true (acknowledge credit destination number) is = ends_it _ (acknowledge credit destination number) _ refl refl
   acts_before false (request c) is = acts_request c is
-  acts_before false (confirm destination c) is = over refl
-  acts_before false (disconnect destination source reason user) is = over refl
-  acts_before false (disconnected destination source) is = over refl
-  acts_before false (data0 end user) is = over refl
-  acts_before false (data2 destination number end user) is = over refl
-  acts_before false (acknowledge credit destination number) is = over refl
-  acts_before false (error destination cause) is = over refl
+  acts_before false (confirm destination c) is = ends_it _ (confirm destination c) _ refl refl
+  acts_before false (disconnect destination source reason user) is = ends_it _ (disconnect destination source reason user) _ refl refl
+  acts_before false (disconnected destination source) is = ends_it _ (disconnected destination source) _ refl refl
+  acts_before false (data0 end user) is = ends_it _ (data0 end user) _ refl refl
+  acts_before false (data2 destination number end user) is = ends_it _ (data2 destination number end user) _ refl refl
+  acts_before false (acknowledge credit destination number) is = ends_it _ (acknowledge credit destination number) _ refl refl
+  acts_before false (error destination cause) is = ends_it _ (error destination cause) _ refl refl
 
   first_here : (r : ℕ) (x : Connection) (rows : Rows Connection) → value_at r ((r, x) ∷ rows) ≡ Some x
   first_here r x rows = ap (λ (b : Bool). if b then Some x else value_at r rows) (eq-eqb r r refl)
 
-  acts_only : (rows : Rows Connection) (v : Value) → s.live ≡ rows → Acts (only_of rows) v s (to_only rows v s)
-  acts_only [] v is = acts_none 0 v s refl refl refl
-  acts_only ((r, x) ∷ rows) v is = acts_connection r (Some x) v (ap (value_at r) is ∙ first_here r x rows)
+  module _ (never : (r : ℕ) → value_at r s.live ≡ Some asked → ⊥) where
+    acts_only : (rows : Rows Connection) (v : Value) → s.live ≡ rows → Does (only_of rows) v s (to_only rows v s)
+    acts_only [] v is =
+        nothing 0 v s refl (acts_none 0 v [] s refl refl refl
+        (λ peer link here. absurd (let both : None ≡ Some (linked peer link) = sym (ap (value_at 0) is) ∙ here in cc)))
+    acts_only ((r, x) ∷ rows) v is =
+        let here : value_at r s.live ≡ Some x = ap (value_at r) is ∙ first_here r x rows in
+        acts_connection r (Some x) v (λ was. absurd (never r (here ∙ was))) here
 
-  acts_zero : (b : Bool) (v : Value) → Acts (only_of s.live) v s (in_zero b v s)
-  acts_zero true (request c) = over refl
-  acts_zero true (confirm destination c) = acts_only s.live (confirm destination c) refl
-  acts_zero true (disconnect destination source reason user) = acts_only s.live (disconnect destination source reason user) refl
-  acts_zero true (disconnected destination source) = acts_only s.live (disconnected destination source) refl
-  acts_zero true (data0 end user) = acts_only s.live (data0 end user) refl
-  acts_zero true (data2 destination number end user) = acts_only s.live (data2 destination number end user) refl
-  acts_zero true (acknowledge credit destination number) = acts_only s.live (acknowledge credit destination number) refl
-  acts_zero true (error destination cause) = acts_only s.live (error destination cause) refl
-  acts_zero false v = acts_only s.live v refl
+    acts_zero : (b : Bool) (v : Value) → Does (only_of s.live) v s (in_zero b v s)
+    acts_zero true (request c) = ends_it _ (request c) _ refl refl
+    acts_zero true (confirm destination c) = acts_only s.live (confirm destination c) refl
+    acts_zero true (disconnect destination source reason user) = acts_only s.live (disconnect destination source reason user) refl
+    acts_zero true (disconnected destination source) = acts_only s.live (disconnected destination source) refl
+    acts_zero true (data0 end user) = acts_only s.live (data0 end user) refl
+    acts_zero true (data2 destination number end user) = acts_only s.live (data2 destination number end user) refl
+    acts_zero true (acknowledge credit destination number) = acts_only s.live (acknowledge credit destination number) refl
+    acts_zero true (error destination cause) = acts_only s.live (error destination cause) refl
+    acts_zero false v = acts_only s.live v refl
 
-  acts_two : (b : Bool) (v : Value) → s.is_caller ≡ b → Acts (connection_by (Some Two) v s) v s (in_two b v s)
-  acts_two true (request c) is = over refl
+  acts_two : (b : Bool) (v : Value) → s.is_caller ≡ b → Does (connection_by (Some Two) v s) v s (in_two b v s)
+  acts_two true (request c) is = ends_it _ (request c) _ refl refl
   acts_two false (request c) is = acts_request c is
-  acts_two true (data0 end user) is = over refl
-  acts_two false (data0 end user) is = over refl
-  acts_two true (confirm destination c) is = acts_reference destination (confirm destination c)
-  acts_two false (confirm destination c) is = acts_reference destination (confirm destination c)
-  acts_two true (disconnect destination source reason user) is = acts_reference destination (disconnect destination source reason user)
-  acts_two false (disconnect destination source reason user) is = acts_reference destination (disconnect destination source reason user)
-  acts_two true (disconnected destination source) is = acts_reference destination (disconnected destination source)
-  acts_two false (disconnected destination source) is = acts_reference destination (disconnected destination source)
-  acts_two true (data2 destination number end user) is = acts_reference destination (data2 destination number end user)
-  acts_two false (data2 destination number end user) is = acts_reference destination (data2 destination number end user)
-  acts_two true (acknowledge credit destination number) is = acts_reference destination (acknowledge credit destination number)
-  acts_two false (acknowledge credit destination number) is = acts_reference destination (acknowledge credit destination number)
-  acts_two true (error destination cause) is = acts_reference destination (error destination cause)
-  acts_two false (error destination cause) is = acts_reference destination (error destination cause)
+  acts_two true (data0 end user) is = ends_it _ (data0 end user) _ refl refl
+  acts_two false (data0 end user) is = ends_it _ (data0 end user) _ refl refl
+  acts_two true (confirm destination c) is = acts_reference destination (confirm destination c) refl
+  acts_two false (confirm destination c) is = acts_reference destination (confirm destination c) refl
+  acts_two true (disconnect destination source reason user) is = acts_reference destination (disconnect destination source reason user) tt
+  acts_two false (disconnect destination source reason user) is = acts_reference destination (disconnect destination source reason user) tt
+  acts_two true (disconnected destination source) is = acts_reference destination (disconnected destination source) tt
+  acts_two false (disconnected destination source) is = acts_reference destination (disconnected destination source) tt
+  acts_two true (data2 destination number end user) is = acts_reference destination (data2 destination number end user) tt
+  acts_two false (data2 destination number end user) is = acts_reference destination (data2 destination number end user) tt
+  acts_two true (acknowledge credit destination number) is = acts_reference destination (acknowledge credit destination number) tt
+  acts_two false (acknowledge credit destination number) is = acts_reference destination (acknowledge credit destination number) tt
+  acts_two true (error destination cause) is = acts_reference destination (error destination cause) tt
+  acts_two false (error destination cause) is = acts_reference destination (error destination cause) tt
 
-  acts_class : (held : Option Class) (v : Value) → Acts (connection_by held v s) v s (in_class held v s)
-  acts_class None v = acts_before s.is_caller v refl
-  acts_class (Some Zero) v = acts_zero s.is_caller v
-  acts_class (Some Two) v = acts_two s.is_caller v refl
+  acts_class : (held : Option Class) (v : Value) → (held ≡ Some Zero → (r : ℕ) → value_at r s.live ≡ Some asked → ⊥) →
+      Does (connection_by held v s) v s (in_class held v s)
+  acts_class None v never = acts_before s.is_caller v refl
+  acts_class (Some Zero) v never = acts_zero (never refl) s.is_caller v
+  acts_class (Some Two) v never = acts_two s.is_caller v refl
 
-acts_by : (r : ℕ) (v : Value) (s : Carrier) (b : Bool) → (r == connection_of v s) ≡ b → IsOrderly s → s.ended ≡ None →
-    (react v s).ended ≡ None →
-    Acts r v s (react v s)
-acts_by r v s true e h lasts then_lasts =
-    subst (λ (n : ℕ). Acts n v s (react v s)) (sym (eqb-true r (connection_of v s) e))
-    (subst (Acts (connection_of v s) v s) (sym (react_quiet v s lasts)) (acts_class s h.rise s.class v))
-acts_by r v s false e h lasts then_lasts =
-    acts_elsewhere r v s (λ same. let both : true ≡ false = sym (eq-eqb r (connection_of v s) same) ∙ e in absurd (cc)) then_lasts
-
-pub unit_acts : (r : ℕ) (v : Value) (s : Carrier) → IsOrderly s → s.ended ≡ None → (react v s).ended ≡ None → Acts r v s (react v s)
-unit_acts r v s h lasts then_lasts = acts_by r v s (r == connection_of v s) refl h lasts then_lasts
+pub unit_does : (v : Value) (s : Carrier) → IsSound s → s.ended ≡ None → Does (connection_of v s) v s (react v s)
+unit_does v s h lasts =
+    subst (Does (connection_of v s) v s) (sym (react_quiet v s lasts))
+    (acts_class s h.orderly.rise s.class v (λ is r was. zero_asks_none s r h.by_class is was))

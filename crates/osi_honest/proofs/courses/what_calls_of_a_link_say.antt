@@ -16,8 +16,7 @@ use Rattle.osi_class.specs.declared.terms.Local.{Local}
 use Rattle.osi_carrier.specs.Negotiation.{opened_link}
 use Rattle.osi_carrier.specs.Pump.{pumped}
 use Rattle.osi_honest.specs.Courses.{IsFreshLink}
-use Rattle.osi_honest.specs.Courses.{Deeds, IsWithin, no_deeds, said_in, taken_in, then_did, units_given, units_taken}
-use Rattle.osi_honest.specs.Courses.IsWithin.{here, later, none}
+use Rattle.osi_honest.specs.Courses.{Deeds, no_deeds, said_in, taken_in, then_did, units_given, units_taken}
 use Rattle.osi_honest.specs.Talking.{Said, said_after}
 
 -- ---- one list after another
@@ -101,21 +100,6 @@ opened_fresh Two size local credit = (refl, refl, refl)
 
 pub fresh_of : (link : Standing) → IsFreshLink link → IsFresh link
 fresh_of link f = subst IsFresh (sym f.is) (opened_fresh f.class f.size f.local f.credit)
-
--- ---- units that stand among others
-
-pub all_within : (units : List Value) → IsWithin units units
-all_within [] = none []
-all_within (unit ∷ units) = here unit units units (all_within units)
-
-pub within_front : (front units all : List Value) → IsWithin units all → IsWithin units (front ++ all)
-within_front [] units all w = w
-within_front (unit ∷ front) units all w = later unit units (front ++ all) (within_front front units all w)
-
-pub within_more : (xs all ys more : List Value) → IsWithin xs all → IsWithin ys more → IsWithin (xs ++ ys) (all ++ more)
-within_more _ _ ys more (none all) w = within_front all ys more w
-within_more _ _ ys more (here unit xs all v) w = here unit (xs ++ ys) (all ++ more) (within_more xs all ys more v w)
-within_more _ _ ys more (later unit xs all v) w = later unit (xs ++ ys) (all ++ more) (within_more xs all ys more v w)
 
 -- ---- TSDUs that are handed in one after the other, each once all was given for the one before
 

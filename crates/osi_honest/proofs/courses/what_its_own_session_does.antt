@@ -6,10 +6,11 @@ use Rattle.std.proofs.lemmas.List.{append-nil}
 use Rattle.osi_class.specs.Joining.{Joining}
 use Rattle.osi_class.specs.Link.{Standing, unit_of}
 use Rattle.osi_class.specs.Runs.{Move, MovesAlong, tsdus_out}
-use Rattle.osi_carrier.specs.Calls.{closed_with, open_link, sent_all}
+use Rattle.osi_carrier.specs.Calls.{closed_with, open_link, send_all_error, sent_all}
 use Rattle.osi_carrier.specs.Rows.{value_at}
 use Rattle.osi_carrier.specs.State.{State as Carrier, linked}
 use Rattle.osi_carrier.specs.declared.ends.EndReason.{EndReason}
+use Rattle.osi_carrier.specs.declared.faults.SendError.{SendError}
 use Rattle.osi_message.specs.Parting.{tsdus_sent}
 use Rattle.osi_session.specs.Listening.{Input, Listener, after_input, react}
 use Rattle.osi_session.specs.Phases.{is_wait_transport}
@@ -17,18 +18,22 @@ use Rattle.osi_judge.specs.Running.{sends}
 use Rattle.osi_stack.specs.Calls.{has_given}
 use Rattle.osi_stack.specs.Messages.{kept_at}
 use Rattle.osi_stack.specs.Moving.{limit_for, to_session}
-use Rattle.osi_stack.specs.State.{End}
+use Rattle.osi_stack.specs.State.{End, Line}
 use Rattle.osi_stack.specs.Transport.{answers_by, hands}
-use Rattle.osi_stack.proofs.called.tsdus_that_are_handed_together.{handed}
+use Rattle.osi_stack.proofs.called.tsdus_that_are_handed_together.{handed, lengths_fit}
 use Rattle.osi_stack.proofs.sound.the_invariant_is_kept.{closed_given}
 use Rattle.osi_honest.specs.Courses.{IsFreshLink}
 use Rattle.osi_honest.specs.Courses.{AreCalls, Course, Deeds, Gone, IsNew, IsShut, Speaks, said_in, units_given}
 use Rattle.osi_honest.specs.Courses.Course.{is_gone, is_open}
 use Rattle.osi_honest.specs.Courses.Gone.{closed, over}
+use Rattle.osi_honest.specs.Marked.{units_at}
 use Rattle.osi_honest.specs.Talking.{History, Said, said_after}
 use Rattle.osi_honest.proofs.class_0.a_session_of_class_0_puts_what_it_sends.{HasLine, IsProper, kept_then, line_there, moved_by}
-use Rattle.osi_honest.proofs.courses.steps_of_a_course.{Steps, session_adds, step_none, step_own}
-use Rattle.osi_honest.proofs.courses.what_a_link_takes_and_is_handed.{Sends, closed_shut, sends_all}
+use Rattle.osi_honest.proofs.courses.steps_of_a_course.{HasNone, StepAt, done_by, step_idle}
+use Rattle.osi_honest.proofs.courses.units_of_each_connection.{marked, marked_own, nowhere}
+use Rattle.osi_honest.proofs.courses.what_a_session_puts.{all_put, answer_puts, line_puts, move_puts, put_closing, put_unless}
+use Rattle.osi_honest.proofs.courses.what_a_session_puts.{session_puts}
+use Rattle.osi_honest.proofs.courses.what_a_link_takes_and_is_handed.{Sends, closed_shut, link_open, sends_all}
 use Rattle.osi_honest.proofs.courses.what_calls_of_a_link_say.{along_more, out_more, put_more, said_more}
 
 -- The connection is open, and this would be said by its session with an input.
@@ -127,34 +132,61 @@ module _ (is_caller : Bool) (r : ℕ) (moves : Deeds) (session : Listener) (inpu
       ∙ ap (λ (l : List (List ℕ)). hands r l e.carrier) t.proper.same
       ∙ handed r (sends session input) e.carrier t.proper.short
 
+  -- what is put then
+  abbrev TSDUS : List (List ℕ)
+  TSDUS = tsdus_sent (limit_for session input) (react session input).reply
+
+  put_is : HasLine r session e.lines → session_puts r input e ≡ answer_puts (react session input).closes r TSDUS e.carrier
+  put_is h =
+      ap (λ (o : Option Line). line_puts r o input e) h.here
+      ∙ ap (λ (o : Option Listener). move_puts r o input e.carrier) h.is
+
+  none_put : (react session input).closes ≡ true → HasLine r session e.lines → HasNone r (session_puts r input e)
+  none_put closes h = λ some.
+      ap (units_at r) (put_is h ∙ ap (λ (b : Bool). answer_puts b r TSDUS e.carrier) closes)
+      ∙ nowhere r (put_closing r (open_link r e.carrier) e.carrier) some
+
+  all_sent : (react session input).closes ≡ false → HasLine r session e.lines →
+      session_puts r input e ≡ marked r (all_put r (sends session input) e.carrier)
+  all_sent closes h =
+      put_is h ∙ ap (λ (b : Bool). answer_puts b r TSDUS e.carrier) closes
+      ∙ ap (λ (l : List (List ℕ)). answer_puts false r l e.carrier) t.proper.same
+      ∙ ap (λ (o : Option (ℕ × Standing)). marked r (put_unless (send_all_error (sends session input) o) r (sends session input) e.carrier))
+      (link_open r t.peer t.link e.carrier t.lasts t.here)
+      ∙ ap (λ (o : Option SendError). marked r (put_unless o r (sends session input) e.carrier))
+      (lengths_fit (sends session input) t.proper.short)
+
   speaks_by : (b : Bool) → (react session input).closes ≡ b → HasLine r session e.lines →
-      Steps (Course is_caller r) moves e.carrier.outgoing there
+      StepAt r (session_puts r input e) [] (Course is_caller r) moves there
   speaks_by true closes h =
-      step_none (Course is_caller r) moves e.carrier.outgoing there (session_adds r input e)
+      step_idle r (session_puts r input e) [] (Course is_caller r) moves there (none_put closes h) (λ some. refl)
       (is_gone (closes_by there.carrier.ended refl closes h))
   speaks_by false closes h =
       let is = sent_is closes h in
-      let s : Sends r t.peer t.link (sends session input) e.carrier there.carrier =
-      subst (Sends r t.peer t.link (sends session input) e.carrier) (sym is)
-      (sends_all r t.peer t.link (sends session input) e.carrier t.lasts t.here) in
-      step_own [] (Course is_caller r) moves s.moves e.carrier.outgoing there t.peer s.hands.taken s.outgoing
-      (is_open (ap (λ (n : ℕ). nat_lt 0 r && nat_le r n) s.same.given ∙ t.given) (record {
-        peer = t.peer;
-        calls = record {
-          first = t.first;
-          link = s.after;
-          fresh = t.fresh;
-          along = along_more moves.calls s.moves t.first t.link s.after t.along s.hands.along;
-          handed = ap (λ (j : Joining). j.whole) s.hands.joining ∙ t.handed;
-          put = put_more t.peer moves.calls s.moves moves.put t.put;
-        };
-        session = after_input session input;
-        lasts = s.same.ended ∙ t.lasts;
-        here = s.here;
-        kept = ap (λ (x : End). kept_at r x.lines) (moved_by r session input e h) ∙ kept_then r session input e.lines h;
-        speaks = said_then s.moves s.hands.out s.hands.said closes;
-        begun = t.begun;
-      }))
+      let s : Sends r t.peer t.link (sends session input) e.carrier (sent_all r (sends session input) e.carrier) =
+      sends_all r t.peer t.link (sends session input) e.carrier t.lasts t.here in
+      record {
+        more = done_by t.peer s.moves;
+        own = λ some. s.put ∙ sym (ap (units_at r) (all_sent closes h) ∙ marked_own r (all_put r (sends session input) e.carrier));
+        taken = λ some. s.hands.taken;
+        there = is_open (ap (has_given r) is ∙ ap (λ (n : ℕ). nat_lt 0 r && nat_le r n) s.same.given ∙ t.given) (record {
+          peer = t.peer;
+          calls = record {
+            first = t.first;
+            link = s.after;
+            fresh = t.fresh;
+            along = along_more moves.calls s.moves t.first t.link s.after t.along s.hands.along;
+            handed = ap (λ (j : Joining). j.whole) s.hands.joining ∙ t.handed;
+            put = put_more t.peer moves.calls s.moves moves.put t.put;
+          };
+          session = after_input session input;
+          lasts = ap (λ (c : Carrier). c.ended) is ∙ s.same.ended ∙ t.lasts;
+          here = ap (λ (c : Carrier). value_at r c.live) is ∙ s.here;
+          kept = ap (λ (x : End). kept_at r x.lines) (moved_by r session input e h) ∙ kept_then r session input e.lines h;
+          speaks = said_then s.moves s.hands.out s.hands.said closes;
+          begun = t.begun;
+        });
+      }
 
-  pub session_speaks : Steps (Course is_caller r) moves e.carrier.outgoing there
+  pub session_speaks : StepAt r (session_puts r input e) [] (Course is_caller r) moves there
   session_speaks = speaks_by (react session input).closes refl (line_there r session e.lines t.kept)

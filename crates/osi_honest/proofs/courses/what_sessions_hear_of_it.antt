@@ -6,6 +6,7 @@ use Rattle.std.proofs.lemmas.Bool.{eq-eqb, eqb-true}
 use Rattle.std.proofs.lemmas.List.{append-nil}
 use Rattle.osi_class.specs.Link.{unit_of}
 use Rattle.osi_class.specs.Runs.{MovesAlong, tsdus_out}
+use Rattle.osi_carrier.specs.Calls.{open_link}
 use Rattle.osi_carrier.specs.Happenings.{Happening, opened, tsdu}
 use Rattle.osi_carrier.specs.Happenings as told
 use Rattle.osi_carrier.specs.Orderly.{told_of}
@@ -30,19 +31,28 @@ use Rattle.osi_stack.proofs.carried.what_a_move_leaves.{used_live}
 use Rattle.osi_stack.proofs.carried.what_sessions_leave_of_the_carrier.{hears_keep}
 use Rattle.osi_stack.proofs.sound.the_invariant_is_kept.{concludes_lasting}
 use Rattle.osi_honest.specs.Courses.{Course, Deeds, Gone, IsNew, IsShut, no_deeds, said_in, units_given}
-use Rattle.osi_honest.specs.Courses.Course.{is_gone, is_open}
+use Rattle.osi_honest.specs.Courses.Course.{awaited, is_gone, is_open, unknown}
 use Rattle.osi_honest.specs.Courses.Gone.{closed, never, over}
+use Rattle.osi_honest.specs.Marked.{Marked, units_at}
 use Rattle.osi_honest.specs.Talking.{History, Said, said_after}
 use Rattle.osi_honest.specs.Talking as history
 use Rattle.osi_honest.proofs.class_0.a_session_of_class_0_puts_what_it_sends.{still_begun}
 use Rattle.osi_honest.proofs.class_0.what_a_packet_does_in_class_0.{AllProper}
 use Rattle.osi_honest.proofs.class_0.what_packets_do_in_class_0.{never_lasts}
-use Rattle.osi_honest.proofs.courses.steps_of_a_course.{Adds, Steps, adds_none, session_adds, step_as, step_none, step_then}
+use Rattle.osi_honest.proofs.courses.a_connection_without_a_unit.{event_life}
+use Rattle.osi_honest.proofs.courses.steps_of_a_course.{HasNone, HoldEach, StepAt, States, Steps, same_rest, step_as, step_each, step_idle}
+use Rattle.osi_honest.proofs.courses.steps_of_a_course.{step_none, step_on, step_since, step_then}
+use Rattle.osi_honest.proofs.courses.units_of_each_connection.{unequal}
+use Rattle.osi_honest.proofs.courses.what_a_link_takes_and_is_handed.{link_shut, over_unlinked}
+use Rattle.osi_honest.proofs.courses.what_a_session_puts.{IsGivenIfOpen, event_by_links, event_others, event_puts, event_unlinked}
+use Rattle.osi_honest.proofs.courses.what_a_session_puts.{event_written, opening_puts, session_puts}
+use Rattle.osi_honest.proofs.courses.what_a_unit_does_to_a_connection.{NoneOf}
 use Rattle.osi_honest.proofs.courses.what_another_connection_leaves.{Beside, course_over, gone_beside, gone_over, gone_same}
 use Rattle.osi_honest.proofs.courses.what_another_connection_leaves.{joins_beside, session_beside, shut_session}
+use Rattle.osi_honest.proofs.courses.how_long_a_connection_is_open.{stage_at}
 use Rattle.osi_honest.proofs.courses.what_calls_of_a_link_say.{fresh_of, none_said, out_more, said_more}
 use Rattle.osi_honest.proofs.courses.what_its_own_session_does.{CanSpeak, session_speaks}
-use Rattle.osi_honest.proofs.courses.what_units_do_to_a_course.{Now, request_new, unsaid}
+use Rattle.osi_honest.proofs.courses.what_units_do_to_a_course.{NowAll, request_new, unsaid}
 use Rattle.osi_honest.proofs.courses.what_waits_to_be_heard.{HasCome, JustOpened, Waits, waits_as, waits_beside}
 use Rattle.osi_honest.proofs.courses.what_waits_to_be_heard.{waits_none, waits_over}
 use Rattle.osi_honest.proofs.courses.what_waits_to_be_heard.Waits.{answered, away, called, came as has_come, still}
@@ -51,13 +61,13 @@ use Rattle.osi_honest.proofs.opening.how_a_caller_opens.{CanBegin}
 -- ---- an event of another connection
 
 abbrev LeavesIt : ℕ → End → End → Type 0
-LeavesIt r old new = Adds old.carrier.outgoing new.carrier.outgoing × (new.carrier.ended ≡ None → Beside r old new)
+LeavesIt r old new = new.carrier.ended ≡ None → Beside r old new
 
 session_leaves_it : (q r : ℕ) (input : Input) (e : End) → r ≢ q → LeavesIt r e (to_session q input e)
-session_leaves_it q r input e ne = (session_adds q input e, λ lasts. session_beside q r ne input e lasts)
+session_leaves_it q r input e ne = λ lasts. session_beside q r ne input e lasts
 
 opened_leaves_it : (q r : ℕ) (o : Option Line) (e : End) → r ≢ q → LeavesIt r e (opens q o e)
-opened_leaves_it q r None e ne = (adds_none e.carrier.outgoing, λ lasts. joins_beside q r awaits e ne)
+opened_leaves_it q r None e ne = λ lasts. joins_beside q r awaits e ne
 opened_leaves_it q r (Some line) e ne = session_leaves_it q r linked_up e ne
 
 hears_elsewhere : (r : ℕ) (x : Happening) (e : End) → r ≢ told_of x → LeavesIt r e (hears x e)
@@ -80,17 +90,6 @@ hears_same (told.tsdu q octets) e shut = shut_session q (came octets) e shut
 hears_same (told.closed q reason) e shut = shut_session q broken e shut
 hears_same (told.faulted q fault) e shut = shut_session q broken e shut
 
-opened_adds : (q : ℕ) (o : Option Line) (e : End) → Adds e.carrier.outgoing (opens q o e).carrier.outgoing
-opened_adds q None e = adds_none e.carrier.outgoing
-opened_adds q (Some line) e = session_adds q linked_up e
-
-hears_adds : (x : Happening) (e : End) → Adds e.carrier.outgoing (hears x e).carrier.outgoing
-hears_adds (told.opened q) e = opened_adds q (value_at q e.lines) e
-hears_adds (told.refused q reason) e = session_adds q (refused reason) e
-hears_adds (told.tsdu q octets) e = session_adds q (came octets) e
-hears_adds (told.closed q reason) e = session_adds q broken e
-hears_adds (told.faulted q fault) e = session_adds q broken e
-
 module _ (is_caller : Bool) (r : ℕ) (moves : Deeds) (x : Happening) (e : End) where
   shut_hears : (b : Bool) → (r == told_of x) ≡ b → (hears x e).carrier.ended ≡ None → (closed_so : Bool) (session : Listener) →
       Gone is_caller r moves e → IsShut (value_at r e.carrier.live) → Gone is_caller r moves (hears x e)
@@ -99,7 +98,7 @@ module _ (is_caller : Bool) (r : ℕ) (moves : Deeds) (x : Happening) (e : End) 
       (hears_same x e (subst (λ (n : ℕ). IsShut (value_at n e.carrier.live)) (eqb-true r (told_of x) is) shut)) g
   shut_hears false is lasts closed_so session g shut =
       gone_beside is_caller r moves e (hears x e)
-      ((hears_elsewhere r x e (λ same. let both : true ≡ false = sym (eq-eqb r (told_of x) same) ∙ is in absurd (cc))).1 lasts) g
+      ((hears_elsewhere r x e (λ same. let both : true ≡ false = sym (eq-eqb r (told_of x) same) ∙ is in absurd (cc))) lasts) g
 
   gone_hears_by : (o : Option EndReason) → (hears x e).carrier.ended ≡ o → Gone is_caller r moves e → Gone is_caller r moves (hears x e)
   gone_hears_by (Some reason) ended g = gone_over is_caller r moves e (hears x e) g (ap is_some ended)
@@ -226,89 +225,93 @@ opened_of r (Some line) session e h = refl
 opened_new : (r : ℕ) (e : End) → value_at r e.lines ≡ None → hears (opened r) e ≡ joins r awaits e
 opened_new r e none = ap (λ (o : Option Line). opens r o e) none
 
+-- a connection that is gone is not open
+gone_unlinked : (is_caller : Bool) (r : ℕ) (moves : Deeds) (e : End) → Gone is_caller r moves e → open_link r e.carrier ≡ None
+gone_unlinked is_caller r moves e (closed at calls is session speaks given shut) = link_shut r e.carrier shut
+gone_unlinked is_caller r moves e (over at calls heard unheard is session speaks parts none ended) = over_unlinked r e.carrier ended
+gone_unlinked is_caller r moves e (never none ended) = over_unlinked r e.carrier ended
+
 module _ (known : Known) (is_caller : Bool) (r : ℕ) where
+  abbrev HeardAt : Happening → List Happening → Deeds → End → Type 0
+  HeardAt x rest moves e = StepAt r (event_puts x e) [] (Waits is_caller r rest) moves (hears x e)
+
+  -- nothing is done at this connection
+  idle_heard : (x : Happening) (rest : List Happening) (moves : Deeds) (e : End) → HasNone r (event_puts x e) →
+      Waits is_caller r rest moves (hears x e) → HeardAt x rest moves e
+  idle_heard x rest moves e none w = step_idle r (event_puts x e) [] (Waits is_caller r rest) moves (hears x e) none (λ some. refl) w
+
   -- one event of this connection that was due; no other is
   own_heard : (x : Happening) (rest : List Happening) (moves : Deeds) (e : End) →
-      Steps (Course is_caller r) moves e.carrier.outgoing (hears x e) → ((ms : Deeds) → Course is_caller r ms (hears x e) →
-      Waits is_caller r rest ms (hears x e)) → Steps (Waits is_caller r rest) moves e.carrier.outgoing (hears x e)
-  own_heard x rest moves e s next =
-      step_as [] (Course is_caller r) (Waits is_caller r rest) moves e.carrier.outgoing (hears x e) (hears x e) s refl next
+      StepAt r (event_puts x e) [] (Course is_caller r) moves (hears x e) → NoneOf r rest → HeardAt x rest moves e
+  own_heard x rest moves e s none =
+      step_on r (event_puts x e) [] (Course is_caller r) (Waits is_caller r rest) moves (hears x e) (hears x e) s
+      (λ after course. still none course)
 
   elsewhere_by : (x : Happening) (rest : List Happening) (moves : Deeds) (e : End) (o : Option EndReason) → r ≢ told_of x →
-      (hears x e).carrier.ended ≡ o → Waits is_caller r (x ∷ rest) moves e →
-      Steps (Waits is_caller r rest) moves e.carrier.outgoing (hears x e)
+      (hears x e).carrier.ended ≡ o → Waits is_caller r (x ∷ rest) moves e → HeardAt x rest moves e
   elsewhere_by x rest moves e (Some reason) ne ended w =
-      step_none (Waits is_caller r rest) moves e.carrier.outgoing (hears x e) (hears_adds x e)
+      idle_heard x rest moves e (event_others r x e ne)
       (away (waits_over is_caller r moves e (hears x e) (x ∷ rest) w (ap is_some ended)))
   elsewhere_by x rest moves e None ne lasts w =
-      step_none (Waits is_caller r rest) moves e.carrier.outgoing (hears x e) (hears_adds x e)
-      (waits_beside is_caller r moves e (hears x e) x rest (λ same. ne (sym same)) ((hears_elsewhere r x e ne).1 lasts) w)
+      idle_heard x rest moves e (event_others r x e ne)
+      (waits_beside is_caller r moves e (hears x e) x rest (λ same. ne (sym same)) (hears_elsewhere r x e ne lasts) w)
 
   elsewhere : (x : Happening) (rest : List Happening) (moves : Deeds) (e : End) → told_of x ≢ r →
-      Waits is_caller r (x ∷ rest) moves e → Steps (Waits is_caller r rest) moves e.carrier.outgoing (hears x e)
+      Waits is_caller r (x ∷ rest) moves e → HeardAt x rest moves e
   elsewhere x rest moves e ne w = elsewhere_by x rest moves e (hears x e).carrier.ended (λ same. ne (sym same)) refl w
 
+  -- a connection that is gone puts nothing
+  gone_none : (x : Happening) (moves : Deeds) (e : End) (b : Bool) → (r == told_of x) ≡ b → Gone is_caller r moves e →
+      HasNone r (event_puts x e)
+  gone_none x moves e false is g = event_others r x e (unequal (told_of x) r is)
+  gone_none x moves e true is g =
+      let none : open_link (told_of x) e.carrier ≡ None =
+      ap (λ (n : ℕ). open_link n e.carrier) (sym (eqb-true r (told_of x) is)) ∙ gone_unlinked is_caller r moves e g in
+      λ some. ap (units_at r) (event_unlinked x e none)
+
+  -- what its session does then
+  spoke : (x : Happening) (input : Input) (moves : Deeds) (e : End) → hears x e ≡ to_session r input e →
+      event_puts x e ≡ session_puts r input e →
+      StepAt r (session_puts r input e) [] (Course is_caller r) moves (to_session r input e) →
+      StepAt r (event_puts x e) [] (Course is_caller r) moves (hears x e)
+  spoke x input moves e is puts s =
+      subst (λ (l : List Marked). StepAt r l [] (Course is_caller r) moves (hears x e)) (sym puts)
+      (subst (StepAt r (session_puts r input e) [] (Course is_caller r) moves) (sym is) s)
+
+  opening_of : (o : Option Line) (session : Listener) (e : End) → session_in o ≡ Some session →
+      opening_puts r o e ≡ session_puts r linked_up e
+  opening_of None session e h = absurd (cc)
+  opening_of (Some line) session e h = refl
+
   one_heard : (x : Happening) (rest : List Happening) (moves : Deeds) (e : End) → Waits is_caller r (x ∷ rest) moves e →
-      Steps (Waits is_caller r rest) moves e.carrier.outgoing (hears x e)
+      HeardAt x rest moves e
   one_heard x rest moves e (still none course) = elsewhere x rest moves e none.0 (still none course)
   one_heard x rest moves e (away g) =
-      step_none (Waits is_caller r rest) moves e.carrier.outgoing (hears x e) (hears_adds x e) (away (gone_hears is_caller r moves x e g))
+      idle_heard x rest moves e (gone_none x moves e (r == told_of x) refl g) (away (gone_hears is_caller r moves x e g))
   one_heard x rest moves e (called (inl due) side none just) = elsewhere x rest moves e due.0 (called (inl due) side none just)
   one_heard x rest moves e (called (inr due) side none just) =
       let is : hears x e ≡ joins r awaits e = ap (λ (y : Happening). hears y e) due.0 ∙ opened_new r e none in
-      own_heard x rest moves e
-      (step_none (Course is_caller r) moves e.carrier.outgoing (hears x e) (hears_adds x e)
-      (subst (Course is_caller r moves) (sym is) (called_hears is_caller r moves e side none just))) (λ ms course. still due.1 course)
+      let puts : event_puts x e ≡ [] = ap (λ (y : Happening). event_puts y e) due.0 ∙ ap (λ (o : Option Line). opening_puts r o e) none in
+      idle_heard x rest moves e (λ some. ap (units_at r) puts)
+      (still due.1 (subst (Course is_caller r moves) (sym is) (called_hears is_caller r moves e side none just)))
   one_heard x rest moves e (answered (inl due) side c terms kept just) =
       elsewhere x rest moves e due.0 (answered (inl due) side c terms kept just)
   one_heard x rest moves e (answered (inr due) side c terms kept just) =
-      let is : hears x e ≡ to_session r linked_up e =
-      ap (λ (y : Happening). hears y e) due.0 ∙ opened_of r (value_at r e.lines) (calls_with c) e kept in
       own_heard x rest moves e
-      (subst (Steps (Course is_caller r) moves e.carrier.outgoing) (sym is)
+      (spoke x linked_up moves e
+      (ap (λ (y : Happening). hears y e) due.0 ∙ opened_of r (value_at r e.lines) (calls_with c) e kept)
+      (ap (λ (y : Happening). event_puts y e) due.0 ∙ opening_of (value_at r e.lines) (calls_with c) e kept)
       (session_speaks is_caller r moves (calls_with c) linked_up e
-      (answered_speaks is_caller r moves e c side terms (known.can c terms) kept just))) (λ ms course. still due.1 course)
+      (answered_speaks is_caller r moves e c side terms (known.can c terms) kept just))) due.1
   one_heard x rest moves e (has_come octets (inl due) h) = elsewhere x rest moves e due.0 (has_come octets (inl due) h)
   one_heard x rest moves e (has_come octets (inr due) h) =
-      let is : hears x e ≡ to_session r (came octets) e = ap (λ (y : Happening). hears y e) due.0 in
       own_heard x rest moves e
-      (subst (Steps (Course is_caller r) moves e.carrier.outgoing) (sym is)
-      (session_speaks is_caller r moves h.session (came octets) e (come_speaks known.proper is_caller r octets moves e h)))
-      (λ ms course. still due.1 course)
+      (spoke x (came octets) moves e (ap (λ (y : Happening). hears y e) due.0) (ap (λ (y : Happening). event_puts y e) due.0)
+      (session_speaks is_caller r moves h.session (came octets) e (come_speaks known.proper is_caller r octets moves e h))) due.1
 
   untold_beside : (events : List Happening) (e : End) → Beside r e (with_events events e)
   untold_beside events e =
       record { live = refl; given = refl; side = refl; ended = refl; unlined = λ none. none; kept = λ some. refl }
-
-  -- so many of the events
-  pub times_heard : (n : ℕ) (events : List Happening) (moves : Deeds) (e : End) → e.carrier.events ≡ events →
-      Waits is_caller r events moves e → Steps (Now is_caller r) moves e.carrier.outgoing (hears_times n e)
-  times_heard zero events moves e is w =
-      step_none (Now is_caller r) moves e.carrier.outgoing e (adds_none e.carrier.outgoing)
-      (subst (λ (l : List Happening). Waits is_caller r l moves e) (sym is) w)
-  times_heard (suc n) [] moves e is w =
-      subst (Steps (Now is_caller r) moves e.carrier.outgoing) (sym (times_quiet (suc n) e is))
-      (step_none (Now is_caller r) moves e.carrier.outgoing e (adds_none e.carrier.outgoing)
-      (subst (λ (l : List Happening). Waits is_caller r l moves e) (sym is) w))
-  times_heard (suc n) (x ∷ rest) moves e is w =
-      let mid = hears_next e in
-      let one : Steps (Waits is_caller r rest) moves e.carrier.outgoing mid =
-      subst (Steps (Waits is_caller r rest) moves e.carrier.outgoing) (sym (first_is x rest e is))
-      (one_heard x rest moves (with_events rest e)
-      (waits_as is_caller r moves e (with_events rest e) (x ∷ rest) (untold_beside rest e) w)) in
-      step_then [] [] (Waits is_caller r rest) (Now is_caller r) moves e.carrier.outgoing mid (hears_times n mid) one
-      (λ after v. times_heard n rest after mid (rest_is x rest e is) v)
-
-  none_left : (events : List Happening) (e : End) → e.carrier.events ≡ events → (hears_times (length events) e).carrier.events ≡ []
-  none_left [] e is = is
-  none_left (x ∷ rest) e is = none_left rest (hears_next e) (rest_is x rest e is)
-
-  all_heard : (moves : Deeds) (e : End) → Now is_caller r moves e → Steps (Course is_caller r) moves e.carrier.outgoing (hears_all e)
-  all_heard moves e w =
-      step_as [] (Now is_caller r) (Course is_caller r) moves e.carrier.outgoing (hears_all e) (hears_all e)
-      (times_heard (length e.carrier.events) e.carrier.events moves e refl w) refl
-      (λ after v. waits_none is_caller r after (hears_all e)
-      (subst (λ (l : List Happening). Waits is_caller r l after (hears_all e)) (none_left e.carrier.events e refl) v))
 
   -- and if the carrier has ended, all sessions are lost
   concluded_by : (o : Option EndReason) (moves : Deeds) (e : End) → e.carrier.ended ≡ o → Course is_caller r moves e →
@@ -318,8 +321,73 @@ module _ (known : Known) (is_caller : Bool) (r : ℕ) where
       is_gone (gone_same is_caller r moves e (concludes e) (concluded_carrier e)
       (course_over is_caller r moves e e course (ap is_some ended)))
 
-  pub attended : (moves : Deeds) (e : End) → Now is_caller r moves e → Steps (Course is_caller r) moves e.carrier.outgoing (attends e)
+-- ---- at all connections
+
+pub course_given : (is_caller : Bool) (r : ℕ) (moves : Deeds) (e : End) → Course is_caller r moves e → IsGivenIfOpen r e.carrier
+course_given is_caller r moves e (unknown none side free live lines) = inl (link_shut r e.carrier (subst IsShut (sym live) tt))
+course_given is_caller r moves e (awaited none c terms side lasts given here kept) = inr given
+course_given is_caller r moves e (is_open given o) = inr given
+course_given is_caller r moves e (is_gone g) = inl (gone_unlinked is_caller r moves e g)
+
+waits_given : (is_caller : Bool) (r : ℕ) (events : List Happening) (moves : Deeds) (e : End) → Waits is_caller r events moves e →
+    IsGivenIfOpen r e.carrier
+waits_given is_caller r events moves e (still none course) = course_given is_caller r moves e course
+waits_given is_caller r events moves e (away g) = inl (gone_unlinked is_caller r moves e g)
+waits_given is_caller r events moves e (called due side none just) = inr just.given
+waits_given is_caller r events moves e (answered due side c terms kept just) = inr just.given
+waits_given is_caller r events moves e (has_come octets due h) = inr h.given
+
+abbrev pub CourseAll : Bool → States
+CourseAll is_caller r moves e = Course is_caller r moves e
+
+module _ (known : Known) (is_caller : Bool) where
+  abbrev WaitAll : List Happening → States
+  WaitAll events r moves e = Waits is_caller r events moves e
+
+  event_heard : (x : Happening) (rest : List Happening) (moves : ℕ → Deeds) (e : End) → HoldEach (WaitAll (x ∷ rest)) moves e →
+      Steps is_caller (WaitAll rest) moves e.carrier (hears x e)
+  event_heard x rest moves e w =
+      step_each is_caller [] (WaitAll rest) moves e.carrier (hears x e) (event_puts x e) [] (event_written x e)
+      (event_by_links x e (waits_given is_caller (told_of x) (x ∷ rest) (moves (told_of x)) e (w (told_of x)))) refl
+      (λ r some. event_life is_caller r some x e)
+      (λ r. one_heard known is_caller r x rest (moves r) e (w r))
+
+  -- so many of the events
+  pub times_heard : (n : ℕ) (events : List Happening) (moves : ℕ → Deeds) (e : End) → e.carrier.events ≡ events →
+      HoldEach (WaitAll events) moves e → Steps is_caller (NowAll is_caller) moves e.carrier (hears_times n e)
+  times_heard zero events moves e is w =
+      step_none is_caller (NowAll is_caller) moves e.carrier e refl (same_rest e.carrier)
+      (λ r. subst (λ (l : List Happening). Waits is_caller r l (moves r) e) (sym is) (w r))
+  times_heard (suc n) [] moves e is w =
+      subst (Steps is_caller (NowAll is_caller) moves e.carrier) (sym (times_quiet (suc n) e is))
+      (step_none is_caller (NowAll is_caller) moves e.carrier e refl (same_rest e.carrier)
+      (λ r. subst (λ (l : List Happening). Waits is_caller r l (moves r) e) (sym is) (w r)))
+  times_heard (suc n) (x ∷ rest) moves e is w =
+      let mid = hears_next e in
+      let one : Steps is_caller (WaitAll rest) moves e.carrier mid =
+      subst (Steps is_caller (WaitAll rest) moves e.carrier) (sym (first_is x rest e is))
+      (step_since is_caller [] (WaitAll rest) moves e.carrier (with_events rest e).carrier (hears x (with_events rest e)) refl (λ r. refl)
+      (event_heard x rest moves (with_events rest e)
+      (λ r. waits_as is_caller r (moves r) e (with_events rest e) (x ∷ rest) (untold_beside known is_caller r rest e) (w r)))) in
+      step_then is_caller [] [] (WaitAll rest) (NowAll is_caller) moves e.carrier mid (hears_times n mid) one
+      (λ after v. times_heard n rest after mid (rest_is x rest e is) v)
+
+  none_left : (events : List Happening) (e : End) → e.carrier.events ≡ events → (hears_times (length events) e).carrier.events ≡ []
+  none_left [] e is = is
+  none_left (x ∷ rest) e is = none_left rest (hears_next e) (rest_is x rest e is)
+
+  all_heard : (moves : ℕ → Deeds) (e : End) → HoldEach (NowAll is_caller) moves e →
+      Steps is_caller (CourseAll is_caller) moves e.carrier (hears_all e)
+  all_heard moves e w =
+      step_as is_caller [] (NowAll is_caller) (CourseAll is_caller) moves e.carrier (hears_all e) (hears_all e)
+      (times_heard (length e.carrier.events) e.carrier.events moves e refl w) refl (same_rest (hears_all e).carrier)
+      (λ r after v. waits_none is_caller r after (hears_all e)
+      (subst (λ (l : List Happening). Waits is_caller r l after (hears_all e)) (none_left e.carrier.events e refl) v))
+
+  pub attended : (moves : ℕ → Deeds) (e : End) → HoldEach (NowAll is_caller) moves e →
+      Steps is_caller (CourseAll is_caller) moves e.carrier (attends e)
   attended moves e w =
-      step_as [] (Course is_caller r) (Course is_caller r) moves e.carrier.outgoing (hears_all e) (attends e) (all_heard moves e w)
+      step_as is_caller [] (CourseAll is_caller) (CourseAll is_caller) moves e.carrier (hears_all e) (attends e) (all_heard moves e w)
       (ap (λ (c : Carrier). c.outgoing) (concluded_carrier (hears_all e)))
-      (λ after course. concluded_by (hears_all e).carrier.ended after (hears_all e) refl course)
+      (λ r. inl (ap (stage_at r) (concluded_carrier (hears_all e))))
+      (λ r after course. concluded_by known is_caller r (hears_all e).carrier.ended after (hears_all e) refl course)

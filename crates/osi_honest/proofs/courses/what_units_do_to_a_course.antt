@@ -1,25 +1,26 @@
 -- Units that arrive, one after the other: what becomes of the course of one connection, before the sessions hear of it.
 -- For the course of a connection.
-use Rattle.std.proofs.Common.{◌≡◌, ◌∙◌, refl, sym, ap, subst, ℕ, ◌+◌, Bool, true, false, List, [], ◌∷◌, ◌++◌, length, map, take, Option}
-use Rattle.std.proofs.Common.{Some, None, is_some, IsSome, IsTrue, Ok, inl, inr}
+use Rattle.std.proofs.Common.{◌≡◌, ◌≢◌, ◌∙◌, refl, sym, ap, subst, ℕ, zero, suc, ◌+◌, ◌<◌, ◌==◌, Bool, true, false, List, [], ◌∷◌, ◌++◌}
+use Rattle.std.proofs.Common.{length, map, take, Option, Some, None, is_some, IsSome, IsTrue, Ok, inl, inr, arith}
+use Rattle.std.proofs.lemmas.Bool.{eqb-true}
 use Rattle.std.proofs.lemmas.List.{append-nil}
 use Rattle.osi_tpdu.specs.Packet.{AreUnits}
 use Rattle.osi_tpdu.specs.Value.{Value, may_be_followed}
-use Rattle.osi_class.specs.Link.{Given, Standing, taken, unit_of}
+use Rattle.osi_class.specs.Giving.{all_given}
+use Rattle.osi_class.specs.Link.{Standing, taken, unit_of}
 use Rattle.osi_class.specs.Runs.{Move, tsdus_in, tsdus_out}
 use Rattle.osi_carrier.specs.Happenings.{opened, tsdu}
 use Rattle.osi_class.specs.declared.terms.Class.TheVariants.{Zero}
 use Rattle.osi_class.specs.declared.terms.Local.{Local}
 use Rattle.osi_carrier.specs.Negotiation.{opened_link}
-use Rattle.osi_carrier.specs.Orderly.{IsOrderly}
-use Rattle.osi_carrier.specs.Pump.{pumped}
+use Rattle.osi_carrier.specs.Orderly.{RiseFrom, connection_of}
+use Rattle.osi_carrier.specs.Pump.{pumped, written_by}
 use Rattle.osi_carrier.specs.React.{handed_out, react, reacts, settles}
-use Rattle.osi_carrier.specs.Rows.{value_at}
+use Rattle.osi_carrier.specs.Rows.{Rows, value_at}
 use Rattle.osi_carrier.specs.State.{Connection, State as Carrier, asked, linked, packets}
 use Rattle.osi_carrier.specs.declared.ends.EndReason.{EndReason}
-use Rattle.osi_carrier.proofs.effects.a_unit_touches_one_connection.{orderly_unit}
 use Rattle.osi_carrier.proofs.effects.units_one_after_the_other.{react_over}
-use Rattle.osi_carrier.proofs.references.what_a_change_leaves_there.{put_here}
+use Rattle.osi_carrier.proofs.references.what_a_change_leaves_there.{absent, put_here}
 use Rattle.osi_session.specs.Listening.{Listener}
 use Rattle.osi_stack.specs.Calls.{calls_with, has_given, terms_error}
 use Rattle.osi_stack.specs.Hearing.{with_carrier}
@@ -29,22 +30,28 @@ use Rattle.osi_stack.proofs.carried.packets_without_events.{both}
 use Rattle.osi_stack.proofs.opening.connections_that_units_open.{along_units}
 use Rattle.osi_honest.specs.Courses.{IsFreshLink}
 use Rattle.osi_honest.specs.Courses.{AreCalls, Course, Deeds, Gone, IsNew, IsOpen, IsShut, Speaks, no_deeds, said_in, then_did}
+use Rattle.osi_honest.specs.Courses.{units_given, units_taken}
 use Rattle.osi_honest.specs.Courses.Course.{awaited, is_gone, is_open, unknown}
 use Rattle.osi_honest.specs.Courses.Gone.{closed, never, over}
 use Rattle.osi_honest.specs.Talking.{History, Said}
 use Rattle.osi_honest.specs.Talking as history
 use Rattle.osi_honest.proofs.class_0.what_packets_do_in_class_0.{never_lasts}
-use Rattle.osi_honest.proofs.courses.steps_of_a_course.{Adds, StepsBy, adds_kept, adds_none, done_by, step_as, step_idle}
-use Rattle.osi_honest.proofs.courses.steps_of_a_course.{step_own}
-use Rattle.osi_honest.proofs.courses.steps_of_a_course.{step_then}
+use Rattle.osi_honest.proofs.courses.how_long_a_connection_is_open.{Life, life_to_past, stage_at, stage_over}
+use Rattle.osi_honest.proofs.courses.steps_of_a_course.{HoldEach, StepAt, States, StepsBy, done_by, same_rest, step_as, step_each}
+use Rattle.osi_honest.proofs.courses.steps_of_a_course.{step_idle, step_none, step_then}
+use Rattle.osi_honest.proofs.courses.the_connections_of_each_class.{IsSound, sound_unit}
+use Rattle.osi_honest.proofs.courses.units_of_each_connection.{elsewhere, given_by_links, marked, marked_all, marked_own, none_marked}
+use Rattle.osi_honest.proofs.courses.units_of_each_connection.{nowhere, plain_by_links, unequal}
 use Rattle.osi_honest.proofs.courses.what_a_link_takes_and_is_handed.{HasFew, has_few, takes_in}
-use Rattle.osi_honest.proofs.courses.what_a_unit_does_to_a_connection.{Acts, NoneOf, none_more, unit_acts}
-use Rattle.osi_honest.proofs.courses.what_a_unit_does_to_a_connection.Acts.{answers_it, joins, leaves_it, rests, takes}
+use Rattle.osi_honest.proofs.courses.what_a_unit_does_to_a_connection.{Acts, Does, NoneOf, acts_elsewhere, none_more, unit_does}
+use Rattle.osi_honest.proofs.courses.what_a_unit_does_to_a_connection.Acts.{answers_it, joins, leaves_it, rests}
 use Rattle.osi_honest.proofs.courses.what_a_unit_does_to_a_connection.Acts.{over as carrier_over}
+use Rattle.osi_honest.proofs.courses.what_a_unit_does_to_a_connection.Does.{passes, takes}
 use Rattle.osi_honest.proofs.courses.what_another_connection_leaves.{Beside, course_beside, course_over, gone_beside, gone_over}
 use Rattle.osi_honest.proofs.courses.what_calls_of_a_link_say.{along_more, none_said, out_more, put_more, said_more}
 use Rattle.osi_honest.proofs.courses.what_waits_to_be_heard.{Due, JustOpened, Waits, due_last}
 use Rattle.osi_honest.proofs.courses.what_waits_to_be_heard.Waits.{answered, away, called, came, still}
+use Rattle.osi_honest.proofs.courses.which_connection_a_unit_is_for.{elsewhere_deaf, passed_life, taken_life}
 
 -- ---- no event of this connection waits
 
@@ -118,29 +125,24 @@ request_new is_caller c side terms = subst (λ (b : Bool). IsNew b (calls_with c
 
 -- ---- one unit
 
-module _ (is_caller : Bool) (r : ℕ) (moves : Deeds) (v : Value) (e : End) (h : IsOrderly e.carrier) where
+module _ (is_caller : Bool) (r : ℕ) (moves : Deeds) (v : Value) (e : End) (h : IsSound e.carrier) where
   abbrev new : End
   new = with_carrier (react v e.carrier) e
 
-  abbrev Then : Type 0
-  Then = StepsBy (v ∷ []) (After is_caller r v) moves e.carrier.outgoing new
+  -- its link takes the unit, and gives these
+  abbrev Took : ℕ → Standing → Type 0
+  Took peer after = StepAt r (marked r (written_by peer (handed_out after))) (marked r (v ∷ [])) (After is_caller r v) moves new
 
-  adds : Adds e.carrier.outgoing new.carrier.outgoing
-  adds = (adds_kept e.carrier.outgoing).reacts_to v e.carrier (adds_none e.carrier.outgoing)
-
-  as_calm : Calm is_caller r moves new → Then
-  as_calm calm = step_idle (v ∷ []) (After is_caller r v) moves e.carrier.outgoing new adds (calm_after is_caller r v moves new calm)
-
-  as_last : may_be_followed v ≡ false → Now is_caller r moves new → Then
-  as_last alone now =
-      step_idle (v ∷ []) (After is_caller r v) moves e.carrier.outgoing new adds (last_after is_caller r v moves new alone now)
+  -- its link takes no unit
+  abbrev Idle : Type 0
+  Idle = After is_caller r v moves new
 
   module _ (lasts : new.carrier.ended ≡ None) (lasted : e.carrier.ended ≡ None) where
     beside : value_at r new.carrier.live ≡ value_at r e.carrier.live → has_given r new.carrier ≡ has_given r e.carrier → Beside r e new
     beside live given = record {
       live = live;
       given = given;
-      side = (along_units (v ∷ []) e.carrier h).side;
+      side = (along_units (v ∷ []) e.carrier h.orderly).side;
       ended = lasts ∙ sym lasted;
       unlined = λ none. none;
       kept = λ some. refl;
@@ -148,16 +150,25 @@ module _ (is_caller : Bool) (r : ℕ) (moves : Deeds) (v : Value) (e : End) (h :
 
     -- ---- its link takes the unit
 
+    -- what is done with these calls
+    own_step : (peer : ℕ) (calls : List Move) (after : Standing) → units_taken calls ≡ v ∷ [] →
+        units_given calls ≡ all_given (handed_out after) → After is_caller r v (then_did moves (done_by peer calls)) new → Took peer after
+    own_step peer calls after took given there = record {
+      more = done_by peer calls;
+      there = there;
+      own = λ some. ap (map (unit_of peer)) given ∙ sym (marked_own r (written_by peer (handed_out after)));
+      taken = λ some. took ∙ sym (marked_own r (v ∷ []));
+    }
+
     took : has_given r e.carrier ≡ true → (o : IsOpen is_caller r moves e) → (after : Standing) → taken o.calls.link v ≡ Ok after →
-        react v e.carrier ≡ settles r o.peer after e.carrier → NoneOf r e.carrier.events → HasFew v after.ends.joining.whole → Then
+        react v e.carrier ≡ settles r o.peer after e.carrier → NoneOf r e.carrier.events →
+        HasFew v after.ends.joining.whole → Took o.peer after
     took given o after is then_is none (inl nothing) =
         let t = takes_in o.calls.link after v [] nothing (inl refl) is in
         let events : new.carrier.events ≡ e.carrier.events =
         ap (λ (c : Carrier). c.events) then_is ∙ ap (λ (l : List (List ℕ)). e.carrier.events ++ map (tsdu r) (take 1 l)) nothing
         ∙ append-nil e.carrier.events in
-        step_own (v ∷ []) (After is_caller r v) moves t.moves e.carrier.outgoing new o.peer t.took
-        (ap (λ (c : Carrier). c.outgoing) then_is
-        ∙ ap (λ (units : List Given). e.carrier.outgoing ++ packets (map (unit_of o.peer) units)) (sym t.given))
+        own_step o.peer t.moves after t.took t.given
         (calm_after is_caller r v (then_did moves (done_by o.peer t.moves)) new (is_still (subst (NoneOf r) (sym events) none)
         (is_open (ap (has_given r) then_is ∙ given) (record {
           peer = o.peer;
@@ -181,9 +192,7 @@ module _ (is_caller : Bool) (r : ℕ) (moves : Deeds) (v : Value) (e : End) (h :
         let t = takes_in o.calls.link after v (octets ∷ []) one (inr (octets, refl, alone)) is in
         let events : new.carrier.events ≡ e.carrier.events ++ tsdu r octets ∷ [] =
         ap (λ (c : Carrier). c.events) then_is ∙ ap (λ (l : List (List ℕ)). e.carrier.events ++ map (tsdu r) (take 1 l)) one in
-        step_own (v ∷ []) (After is_caller r v) moves t.moves e.carrier.outgoing new o.peer t.took
-        (ap (λ (c : Carrier). c.outgoing) then_is
-        ∙ ap (λ (units : List Given). e.carrier.outgoing ++ packets (map (unit_of o.peer) units)) (sym t.given))
+        own_step o.peer t.moves after t.took t.given
         (last_after is_caller r v (then_did moves (done_by o.peer t.moves)) new alone
         (came octets (subst (Due r (tsdu r octets)) (sym events) (due_last r (tsdu r octets) e.carrier.events none)) (record {
           peer = o.peer;
@@ -216,14 +225,15 @@ module _ (is_caller : Bool) (r : ℕ) (moves : Deeds) (v : Value) (e : End) (h :
 
     takes_open : has_given r e.carrier ≡ true → (o : IsOpen is_caller r moves e) → (peer : ℕ) (link after : Standing) →
         value_at r e.carrier.live ≡ Some (linked peer link) → taken link v ≡ Ok after →
-        react v e.carrier ≡ settles r peer after e.carrier → NoneOf r e.carrier.events → Then
+        react v e.carrier ≡ settles r peer after e.carrier → NoneOf r e.carrier.events → Took peer after
     takes_open given o peer link after here is then_is none =
         let one : Some (linked peer link) ≡ Some (linked o.peer o.calls.link) = sym here ∙ o.here in
         let peers : peer ≡ o.peer = cc in
         let links : link ≡ o.calls.link = cc in
         let took_it : taken o.calls.link v ≡ Ok after = ap (λ (l : Standing). taken l v) (sym links) ∙ is in
-        took given o after took_it (then_is ∙ ap (λ (p : ℕ). settles r p after e.carrier) peers) none
-        (has_few o.calls.link after v o.calls.handed took_it)
+        subst (λ (p : ℕ). Took p after) (sym peers)
+        (took given o after took_it (then_is ∙ ap (λ (p : ℕ). settles r p after e.carrier) peers) none
+        (has_few o.calls.link after v o.calls.handed took_it))
 
     opens_now : may_be_followed v ≡ false → has_given r new.carrier ≡ true → (peer : ℕ) (first : Standing) → IsFreshLink first →
         moves ≡ no_deeds →
@@ -235,9 +245,9 @@ module _ (is_caller : Bool) (r : ℕ) (moves : Deeds) (v : Value) (e : End) (h :
       joins_now : Course is_caller r moves e → e.carrier.is_caller ≡ false → may_be_followed v ≡ false → has_given r e.carrier ≡ false →
           has_given r new.carrier ≡ true → (peer : ℕ) (first : Standing) → IsFreshLink first →
           (value_at r e.carrier.live ≡ None → value_at r new.carrier.live ≡ Some (linked peer first)) →
-          new.carrier.events ≡ e.carrier.events ++ opened r ∷ [] → Then
+          new.carrier.events ≡ e.carrier.events ++ opened r ∷ [] → Idle
       joins_now (unknown no_moves side ungiven live lines) called_end alone free given peer first fresh here events =
-          as_last alone
+          last_after is_caller r v moves new alone
           (called (subst (Due r (opened r)) (sym events) (due_last r (opened r) e.carrier.events none)) (sym side ∙ called_end)
           lines
           (opens_now alone given peer first fresh no_moves (here live)))
@@ -254,11 +264,12 @@ module _ (is_caller : Bool) (r : ℕ) (moves : Deeds) (v : Value) (e : End) (h :
 
       answers_now : Course is_caller r moves e → may_be_followed v ≡ false → value_at r e.carrier.live ≡ Some asked →
           has_given r new.carrier ≡ has_given r e.carrier → (peer : ℕ) (first : Standing) → IsFreshLink first →
-          value_at r new.carrier.live ≡ Some (linked peer first) → new.carrier.events ≡ e.carrier.events ++ opened r ∷ [] → Then
+          value_at r new.carrier.live ≡ Some (linked peer first) → new.carrier.events ≡ e.carrier.events ++ opened r ∷ [] → Idle
       answers_now (unknown no_moves side ungiven live lines) alone was same peer first fresh here events =
           two_states (Some asked) None was live (λ no. absurd (cc))
       answers_now (awaited no_moves c terms side lasts given live kept) alone was same peer first fresh here events =
-          as_last alone (answered (subst (Due r (opened r)) (sym events) (due_last r (opened r) e.carrier.events none)) side c terms kept
+          last_after is_caller r v moves new alone
+          (answered (subst (Due r (opened r)) (sym events) (due_last r (opened r) e.carrier.events none)) side c terms kept
           (opens_now alone (same ∙ given) peer first fresh no_moves here))
       answers_now (is_open given o) alone was same peer first fresh here events =
           two_states (Some asked) (Some (linked o.peer o.calls.link)) was o.here (λ no. absurd (cc))
@@ -270,7 +281,7 @@ module _ (is_caller : Bool) (r : ℕ) (moves : Deeds) (v : Value) (e : End) (h :
           absurd (never_lasts e.carrier.ended ended lasted)
 
       takes_now : Course is_caller r moves e → (peer : ℕ) (link after : Standing) → value_at r e.carrier.live ≡ Some (linked peer link) →
-          taken link v ≡ Ok after → react v e.carrier ≡ settles r peer after e.carrier → Then
+          taken link v ≡ Ok after → react v e.carrier ≡ settles r peer after e.carrier → Took peer after
       takes_now (unknown no_moves side ungiven live lines) peer link after here is then_is =
           two_states (Some (linked peer link)) None here live (λ no. absurd (cc))
       takes_now (awaited no_moves c terms side lasts given live kept) peer link after here is then_is =
@@ -296,84 +307,203 @@ module _ (is_caller : Bool) (r : ℕ) (moves : Deeds) (v : Value) (e : End) (h :
           absurd (never_lasts e.carrier.ended ended lasted)
       leaves_now (is_gone (never no_moves ended)) x here same then_shut = absurd (never_lasts e.carrier.ended ended lasted)
 
-      on_still : Course is_caller r moves e → Acts r v e.carrier (react v e.carrier) → Then
+      on_still : {units : List Value} → Course is_caller r moves e → Acts r v units e.carrier (react v e.carrier) → Idle
       on_still course (carrier_over ended) = absurd (never_lasts new.carrier.ended ended lasts)
-      on_still course (rests live given told events others) =
-          as_calm (is_still (subst (NoneOf r) (sym events) (none_more r e.carrier.events told none others))
+      on_still course (rests live given told events others deaf) =
+          calm_after is_caller r v moves new
+          (is_still (subst (NoneOf r) (sym events) (none_more r e.carrier.events told none others))
           (course_beside is_caller r moves e new (beside live given) course))
-      on_still course (joins called_end alone free given peer first fresh here events) =
+      on_still course (joins called_end alone free given peer first fresh here events opener answer) =
           joins_now course called_end alone free given peer first fresh here events
-      on_still course (answers_it alone was same peer first fresh here events) =
+      on_still course (answers_it alone was same peer first fresh here events opener answer) =
           answers_now course alone was same peer first fresh here events
-      on_still course (takes peer link after here is then_is) = takes_now course peer link after here is then_is
-      on_still course (leaves_it x here same shut) = as_calm (is_away (leaves_now course x here same shut))
+      on_still course (leaves_it x here same shut) = calm_after is_caller r v moves new (is_away (leaves_now course x here same shut))
 
-    on_away : Gone is_caller r moves e → Acts r v e.carrier (react v e.carrier) → Then
+    on_away : {units : List Value} → Gone is_caller r moves e → Acts r v units e.carrier (react v e.carrier) → Idle
     on_away (over at calls heard unheard is session speaks parts into ended) act = absurd (never_lasts e.carrier.ended ended lasted)
     on_away (never no_moves ended) act = absurd (never_lasts e.carrier.ended ended lasted)
     on_away (closed at calls is session speaks given shut) (carrier_over ended) = absurd (never_lasts new.carrier.ended ended lasts)
-    on_away (closed at calls is session speaks given shut) (rests live same told events others) =
-        as_calm (is_away (gone_beside is_caller r moves e new (beside live same) (closed at calls is session speaks given shut)))
-    on_away (closed at calls is session speaks given shut) (joins called_end alone free then_given peer first fresh here events) =
+    on_away (closed at calls is session speaks given shut) (rests live same told events others deaf) =
+        calm_after is_caller r v moves new
+        (is_away (gone_beside is_caller r moves e new (beside live same) (closed at calls is session speaks given shut)))
+    on_away (closed at calls is session speaks given shut) (joins called_end alone free then_given peer first fresh here events opener
+        answer) =
         both (has_given r e.carrier) given free
-    on_away (closed at calls is session speaks given shut) (answers_it alone was same peer first fresh here events) =
+    on_away (closed at calls is session speaks given shut) (answers_it alone was same peer first fresh here events opener answer) =
         absurd (subst IsShut was shut)
-    on_away (closed at calls is session speaks given shut) (takes peer link after here is_ok then_is) = absurd (subst IsShut here shut)
     on_away (closed at calls is session speaks given shut) (leaves_it x here same then_shut) =
-        as_calm (is_away (closed at calls is session speaks (same ∙ given) then_shut))
+        calm_after is_caller r v moves new (is_away (closed at calls is session speaks (same ∙ given) then_shut))
 
-    on_calm : Calm is_caller r moves e → Acts r v e.carrier (react v e.carrier) → Then
+    on_calm : {units : List Value} → Calm is_caller r moves e → Acts r v units e.carrier (react v e.carrier) → Idle
     on_calm (is_still none course) act = on_still none course act
     on_calm (is_away g) act = on_away g act
 
-  -- ---- any unit
+    take_calm : Calm is_caller r moves e → (peer : ℕ) (link after : Standing) → value_at r e.carrier.live ≡ Some (linked peer link) →
+        taken link v ≡ Ok after → react v e.carrier ≡ settles r peer after e.carrier → Took peer after
+    take_calm (is_still none course) peer link after here is then_is = takes_now none course peer link after here is then_is
+    take_calm (is_away (over at calls heard unheard is_closed session speaks parts into ended)) peer link after here is then_is =
+        absurd (never_lasts e.carrier.ended ended lasted)
+    take_calm (is_away (never no_moves ended)) peer link after here is then_is = absurd (never_lasts e.carrier.ended ended lasted)
+    take_calm (is_away (closed at calls is_closed session speaks given shut)) peer link after here is then_is =
+        absurd (subst IsShut here shut)
 
-  lasted_by : (o : Option EndReason) → e.carrier.ended ≡ o → new.carrier.ended ≡ None → e.carrier.ended ≡ None
-  lasted_by None is lasts = is
-  lasted_by (Some reason) is lasts = sym (ap (λ (c : Carrier). c.ended) (react_over v e.carrier (ap is_some is))) ∙ lasts
+  -- ---- a unit that its link doesn't take
 
-  unit_by : (o : Option EndReason) → new.carrier.ended ≡ o → Calm is_caller r moves e → Then
-  unit_by (Some reason) ended calm = as_calm (is_away (calm_over is_caller r moves e new calm (ap is_some ended)))
-  unit_by None lasts calm =
-      let lasted = lasted_by e.carrier.ended refl lasts in
-      on_calm lasts lasted calm (unit_acts r v e.carrier h lasted lasts)
+  ended_idle : Calm is_caller r moves e → IsSome new.carrier.ended → Idle
+  ended_idle calm ended = calm_after is_caller r v moves new (is_away (calm_over is_caller r moves e new calm ended))
 
-  pub unit_steps : Calm is_caller r moves e → Then
-  unit_steps calm = unit_by new.carrier.ended refl calm
+  idle_by : {units : List Value} (o : Option EndReason) → new.carrier.ended ≡ o → e.carrier.ended ≡ None → Calm is_caller r moves e →
+      (new.carrier.ended ≡ None → Acts r v units e.carrier (react v e.carrier)) → Idle
+  idle_by (Some reason) ended lasted calm act = ended_idle calm (ap is_some ended)
+  idle_by None lasts lasted calm act = on_calm lasts lasted calm (act lasts)
+
+  -- as of its own connection, or as of another one
+  idle_at : (units : List Value) (q : ℕ) (b : Bool) → (r == q) ≡ b → q ≡ connection_of v e.carrier → e.carrier.ended ≡ None →
+      Calm is_caller r moves e →
+      Acts q v units e.carrier (react v e.carrier) → Idle
+  idle_at units q true same is lasted calm act =
+      idle_by new.carrier.ended refl lasted calm
+      (λ lasts. subst (λ (n : ℕ). Acts n v units e.carrier (react v e.carrier)) (sym (eqb-true r q same)) act)
+  idle_at units q false same is lasted calm act =
+      let ne : r ≢ connection_of v e.carrier = λ one. unequal q r same (one ∙ sym is) in
+      idle_by new.carrier.ended refl lasted calm
+      (λ lasts. acts_elsewhere r v units e.carrier ne lasts (elsewhere_deaf v e.carrier lasted lasts r h.by_class ne))
+
+  -- the link of this or of another connection takes it
+  taken_at : (q : ℕ) (b : Bool) → (r == q) ≡ b → q ≡ connection_of v e.carrier → e.carrier.ended ≡ None → Calm is_caller r moves e →
+      (peer : ℕ) (link after : Standing) → value_at q e.carrier.live ≡ Some (linked peer link) → taken link v ≡ Ok after →
+      react v e.carrier ≡ settles q peer after e.carrier →
+      StepAt r (marked q (written_by peer (handed_out after))) (marked q (v ∷ [])) (After is_caller r v) moves new
+  taken_at q true same is lasted calm peer link after here took then_is =
+      let one = eqb-true r q same in
+      let lasts : new.carrier.ended ≡ None = ap (λ (c : Carrier). c.ended) then_is ∙ lasted in
+      subst (λ (n : ℕ). StepAt r (marked n (written_by peer (handed_out after))) (marked n (v ∷ [])) (After is_caller r v) moves new) one
+      (take_calm lasts lasted calm peer link after (ap (λ (n : ℕ). value_at n e.carrier.live) one ∙ here) took
+      (then_is ∙ ap (λ (n : ℕ). settles n peer after e.carrier) (sym one)))
+  taken_at q false same is lasted calm peer link after here took then_is =
+      let lasts : new.carrier.ended ≡ None = ap (λ (c : Carrier). c.ended) then_is ∙ lasted in
+      let ne = unequal q r same in
+      let other : r ≢ connection_of v e.carrier = λ one. ne (one ∙ sym is) in
+      step_idle r (marked q (written_by peer (handed_out after))) (marked q (v ∷ [])) (After is_caller r v) moves new
+      (λ some. elsewhere q r (written_by peer (handed_out after)) ne) (λ some. elsewhere q r (v ∷ []) ne)
+      (on_calm lasts lasted calm
+      (acts_elsewhere r v [] e.carrier other lasts (elsewhere_deaf v e.carrier lasted lasts r h.by_class other)))
+
+  passed : (units : List Value) → Idle → StepAt r (marked 0 units) (marked 0 (v ∷ [])) (After is_caller r v) moves new
+  passed units idle =
+      step_idle r (marked 0 units) (marked 0 (v ∷ [])) (After is_caller r v) moves new (nowhere r units) (nowhere r (v ∷ [])) idle
+
+-- ---- at all connections
+
+above_zero : (q : ℕ) (x : Connection) (rows : Rows Connection) → RiseFrom 0 rows → value_at q rows ≡ Some x → 0 < q
+above_zero zero x rows rise here = absurd (let none : value_at 0 rows ≡ None = absent 0 0 rows (omega arith) rise in cc)
+above_zero (suc n) x rows rise here = omega arith
+
+module _ (is_caller : Bool) where
+  abbrev pub CalmAll : States
+  CalmAll r moves e = Calm is_caller r moves e
+
+  abbrev pub NowAll : States
+  NowAll r moves e = Now is_caller r moves e
+
+  abbrev AfterAll : Value → States
+  AfterAll v r moves e = After is_caller r v moves e
+
+  module _ (moves : ℕ → Deeds) (v : Value) (e : End) (h : IsSound e.carrier) (calm : HoldEach CalmAll moves e) where
+    abbrev changed : End
+    changed = with_carrier (react v e.carrier) e
+
+    gone_side : (r : ℕ) → e.carrier.ended ≡ None → Gone is_caller r (moves r) e → has_given r e.carrier ≡ false →
+        e.carrier.is_caller ≡ is_caller
+    gone_side r lasted (closed at calls is session speaks given shut) free = both (has_given r e.carrier) given free
+    gone_side r lasted (over at calls heard unheard is session speaks parts into ended) free =
+        absurd (never_lasts e.carrier.ended ended lasted)
+    gone_side r lasted (never no_moves ended) free = absurd (never_lasts e.carrier.ended ended lasted)
+
+    -- if a reference was not given, its course says on which side the end is
+    side_by : (r : ℕ) → e.carrier.ended ≡ None → Calm is_caller r (moves r) e → has_given r e.carrier ≡ false →
+        e.carrier.is_caller ≡ is_caller
+    side_by r lasted (is_still quiet (unknown no_moves side ungiven live lines)) free = side
+    side_by r lasted (is_still quiet (awaited no_moves c terms side lasts given live kept)) free = both (has_given r e.carrier) given free
+    side_by r lasted (is_still quiet (is_open given o)) free = both (has_given r e.carrier) given free
+    side_by r lasted (is_still quiet (is_gone g)) free = gone_side r lasted g free
+    side_by r lasted (is_away g) free = gone_side r lasted g free
+
+    side_of : (r : ℕ) → e.carrier.ended ≡ None → has_given r e.carrier ≡ false → e.carrier.is_caller ≡ is_caller
+    side_of r lasted free = side_by r lasted (calm r) free
+
+    -- the carrier had ended
+    over_life : (r : ℕ) → 0 < r → IsSome e.carrier.ended → IsSome changed.carrier.ended →
+        Life is_caller r (stage_at r e.carrier) (marked 0 (v ∷ [])) [] (stage_at r changed.carrier)
+    over_life r some ended then_ended =
+        subst (Life is_caller r (stage_at r e.carrier) (marked 0 (v ∷ [])) []) (sym (stage_over r changed.carrier then_ended))
+        (life_to_past is_caller r (stage_at r e.carrier) (marked 0 (v ∷ [])) [] (none_marked r (v ∷ []) some) tt)
+
+    does_steps : e.carrier.ended ≡ None → Does (connection_of v e.carrier) v e.carrier (react v e.carrier) →
+        StepsBy is_caller (v ∷ []) (AfterAll v) moves e.carrier changed
+    does_steps lasted (takes peer link after here is then_is) =
+        let q = connection_of v e.carrier in
+        let units = written_by peer (handed_out after) in
+        step_each is_caller (v ∷ []) (AfterAll v) moves e.carrier changed (marked q units) (marked q (v ∷ []))
+        (ap (λ (c : Carrier). c.outgoing) then_is ∙ ap (λ (l : List Value). e.carrier.outgoing ++ packets l) (sym (marked_all q units)))
+        (given_by_links q peer (all_given (handed_out after)) (above_zero q (linked peer link) e.carrier.live h.orderly.rise here))
+        (marked_all q (v ∷ []))
+        (λ r some. taken_life is_caller r some v e.carrier h lasted (side_of r lasted) q refl peer link after here is then_is)
+        (λ r. taken_at is_caller r (moves r) v e h q (r == q) refl refl lasted (calm r) peer link after here is then_is)
+    does_steps lasted (passes units written plain act) =
+        let q = connection_of v e.carrier in
+        step_each is_caller (v ∷ []) (AfterAll v) moves e.carrier changed (marked 0 units) (marked 0 (v ∷ []))
+        (written ∙ ap (λ (l : List Value). e.carrier.outgoing ++ packets l) (sym (marked_all 0 units)))
+        (plain_by_links units plain) (marked_all 0 (v ∷ []))
+        (λ r some. passed_life is_caller r some v e.carrier h lasted (side_of r lasted) units q refl act)
+        (λ r. passed is_caller r (moves r) v e h units (idle_at is_caller r (moves r) v e h units q (r == q) refl refl lasted (calm r) act))
+
+    unit_by : (o : Option EndReason) → e.carrier.ended ≡ o → StepsBy is_caller (v ∷ []) (AfterAll v) moves e.carrier changed
+    unit_by None lasted = does_steps lasted (unit_does v e.carrier h lasted)
+    unit_by (Some reason) ended =
+        let same = react_over v e.carrier (ap is_some ended) in
+        step_each is_caller (v ∷ []) (AfterAll v) moves e.carrier changed [] (marked 0 (v ∷ []))
+        (ap (λ (c : Carrier). c.outgoing) same ∙ sym (append-nil e.carrier.outgoing)) tt (marked_all 0 (v ∷ []))
+        (λ r some. over_life r some (ap is_some ended) (ap (λ (c : Carrier). is_some c.ended) same ∙ ap is_some ended))
+        (λ r. passed is_caller r (moves r) v e h []
+        (ended_idle is_caller r (moves r) v e h (calm r) (ap (λ (c : Carrier). is_some c.ended) same ∙ ap is_some ended)))
+
+    unit_steps : StepsBy is_caller (v ∷ []) (AfterAll v) moves e.carrier changed
+    unit_steps = unit_by e.carrier.ended refl
 
 -- ---- the units of a packet
 
 followed_is : (b : Bool) → IsTrue b → b ≡ true
 followed_is b h = h
 
-module _ (is_caller : Bool) (r : ℕ) where
-  pub units_step : (units : List Value) (u : List ℕ) → AreUnits units u → (moves : Deeds) (e : End) → IsOrderly e.carrier →
-      Calm is_caller r moves e → StepsBy units (Now is_caller r) moves e.carrier.outgoing (with_carrier (reacts units e.carrier) e)
+module _ (is_caller : Bool) where
+  pub units_step : (units : List Value) (u : List ℕ) → AreUnits units u → (moves : ℕ → Deeds) (e : End) → IsSound e.carrier →
+      HoldEach (CalmAll is_caller) moves e →
+      StepsBy is_caller units (NowAll is_caller) moves e.carrier (with_carrier (reacts units e.carrier) e)
   units_step [] u us moves e h calm = absurd us
   units_step (v ∷ []) u us moves e h calm =
-      let s = unit_steps is_caller r moves v e h calm in
-      step_as (v ∷ []) (After is_caller r v) (Now is_caller r) moves e.carrier.outgoing (with_carrier (react v e.carrier) e)
-      (with_carrier (react v e.carrier) e) s refl (λ after t. t.0)
+      step_as is_caller (v ∷ []) (AfterAll is_caller v) (NowAll is_caller) moves e.carrier (with_carrier (react v e.carrier) e)
+      (with_carrier (react v e.carrier) e) (unit_steps is_caller moves v e h calm) refl (same_rest (react v e.carrier)) (λ r after t. t.0)
   units_step (v ∷ w ∷ vs) u us moves e h calm =
       let mid = with_carrier (react v e.carrier) e in
-      step_then (v ∷ []) (w ∷ vs) (After is_caller r v) (Now is_caller r) moves e.carrier.outgoing mid
-      (with_carrier (reacts (v ∷ w ∷ vs) e.carrier) e) (unit_steps is_caller r moves v e h calm)
-      (λ after t. units_step (w ∷ vs) us.2 us.5 after mid (orderly_unit v e.carrier h) (t.1 (followed_is (may_be_followed v) us.0)))
+      step_then is_caller (v ∷ []) (w ∷ vs) (AfterAll is_caller v) (NowAll is_caller) moves e.carrier mid
+      (with_carrier (reacts (v ∷ w ∷ vs) e.carrier) e) (unit_steps is_caller moves v e h calm)
+      (λ after t. units_step (w ∷ vs) us.2 us.5 after mid (sound_unit v e.carrier h)
+      (λ r. (t r).1 (followed_is (may_be_followed v) us.0)))
 
   -- units before others
   pub leads_step : (done : List Value) (next : Value) (more : List Value) (u : List ℕ) → AreUnits (done ++ (next ∷ more)) u →
-      (moves : Deeds) (e : End) → IsOrderly e.carrier → Calm is_caller r moves e →
-      StepsBy done (Calm is_caller r) moves e.carrier.outgoing (with_carrier (reacts done e.carrier) e)
-  leads_step [] next more u us moves e h calm =
-      step_idle [] (Calm is_caller r) moves e.carrier.outgoing e (adds_none e.carrier.outgoing) calm
+      (moves : ℕ → Deeds) (e : End) → IsSound e.carrier → HoldEach (CalmAll is_caller) moves e →
+      StepsBy is_caller done (CalmAll is_caller) moves e.carrier (with_carrier (reacts done e.carrier) e)
+  leads_step [] next more u us moves e h calm = step_none is_caller (CalmAll is_caller) moves e.carrier e refl (same_rest e.carrier) calm
   leads_step (v ∷ []) next more u us moves e h calm =
       let mid = with_carrier (react v e.carrier) e in
-      step_as (v ∷ []) (After is_caller r v) (Calm is_caller r) moves e.carrier.outgoing mid mid
-      (unit_steps is_caller r moves v e h calm) refl
-      (λ after t. t.1 (followed_is (may_be_followed v) us.0))
+      step_as is_caller (v ∷ []) (AfterAll is_caller v) (CalmAll is_caller) moves e.carrier mid mid
+      (unit_steps is_caller moves v e h calm) refl (same_rest (react v e.carrier))
+      (λ r after t. t.1 (followed_is (may_be_followed v) us.0))
   leads_step (v ∷ w ∷ done) next more u us moves e h calm =
       let mid = with_carrier (react v e.carrier) e in
-      step_then (v ∷ []) (w ∷ done) (After is_caller r v) (Calm is_caller r) moves e.carrier.outgoing mid
-      (with_carrier (reacts (v ∷ w ∷ done) e.carrier) e) (unit_steps is_caller r moves v e h calm)
-      (λ after t. leads_step (w ∷ done) next more us.2 us.5 after mid (orderly_unit v e.carrier h)
-      (t.1 (followed_is (may_be_followed v) us.0)))
+      step_then is_caller (v ∷ []) (w ∷ done) (AfterAll is_caller v) (CalmAll is_caller) moves e.carrier mid
+      (with_carrier (reacts (v ∷ w ∷ done) e.carrier) e) (unit_steps is_caller moves v e h calm)
+      (λ after t. leads_step (w ∷ done) next more us.2 us.5 after mid (sound_unit v e.carrier h)
+      (λ r. (t r).1 (followed_is (may_be_followed v) us.0)))

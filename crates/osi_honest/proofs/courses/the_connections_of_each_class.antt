@@ -1,0 +1,470 @@
+-- Which connections a carrier has: before a class is selected at most one, which was requested; in class 0 at most one, whose link is
+-- of class 0.
+-- For the units that arrive for a connection.
+use Rattle.std.proofs.Common.{◌≡◌, ◌∙◌, refl, sym, ap, subst, ℕ, ◌+◌, ◌==◌, ◌&&◌, Bool, true, false, if◌then◌else◌, List, [], ◌∷◌, ◌++◌}
+use Rattle.std.proofs.Common.{◌||◌, Option, Some, None, is_some, not, Result, Ok, Err}
+use Rattle.std.proofs.lemmas.Bool.{eq-eqb, eqb-true}
+use Rattle.osi_tpdu.specs.Value.{Connect, Value, acknowledge, confirm, data0, data2, disconnect, disconnected, error, request}
+use Rattle.osi_class.specs.Link.{Standing, taken, with_tsdu}
+use Rattle.osi_class.specs.Negotiation.{Selection, accept, refuse, selected_by}
+use Rattle.osi_class.specs.declared.faults.LinkFault.{LinkFault}
+use Rattle.osi_class.specs.declared.terms.Class.{Class}
+use Rattle.osi_class.specs.declared.terms.Class.TheVariants.{Two, Zero}
+use Rattle.osi_carrier.specs.Calls.{class_error, closed_on, closes, link_of, may_connect, open_link, or_else, room_error, sent_on}
+use Rattle.osi_carrier.specs.Calls.{asks as requests}
+use Rattle.osi_carrier.specs.Happenings.{Happening}
+use Rattle.osi_carrier.specs.Negotiation.{agreed_size, confirmed, opened_link, proposes_two, selects_expedited}
+use Rattle.osi_carrier.specs.Orderly.{IsOrderly}
+use Rattle.osi_carrier.specs.Pump.{pumped}
+use Rattle.osi_carrier.specs.React.{answers, before_class, breaks, denies, handed_out, has_peer, in_class, in_two, in_zero}
+use Rattle.osi_carrier.specs.React.{is_full, leaves, opens, react, settles, taking, to_asked, to_closing, to_connection, to_linked}
+use Rattle.osi_carrier.specs.React.{to_only, to_unknown}
+use Rattle.osi_carrier.specs.Rows.{Rows, put, value_at, without}
+use Rattle.osi_carrier.specs.State.{Connection, State as Carrier, asked, closing, linked}
+use Rattle.osi_carrier.specs.declared.ends.EndReason.{EndReason}
+use Rattle.osi_carrier.specs.declared.faults.OpenError.{OpenError}
+use Rattle.osi_carrier.specs.declared.faults.OpenError.TheVariants.{Ended, NotCaller}
+use Rattle.osi_carrier.proofs.effects.a_unit_touches_one_connection.{orderly_same, orderly_unit}
+use Rattle.osi_carrier.proofs.effects.units_one_after_the_other.{react_over, react_quiet}
+use Rattle.osi_honest.proofs.keeping.what_a_unit_keeps_a_turn_keeps.{IsKept}
+use Rattle.osi_honest.proofs.reading.what_a_link_gives_can_be_written.{gives_data, taken_zero}
+
+pub data ByClass (c : Carrier) : Type 0 where
+  -- it has class 2
+  two : c.class ≡ Some Two → ByClass c
+  -- it has no connection
+  none : c.live ≡ [] → ByClass c
+  -- one was requested
+  asks : (r : ℕ) → c.class ≡ None → c.is_caller ≡ true → c.live ≡ (r, asked) ∷ [] → ByClass c
+  -- one is open in class 0
+  zero : (r peer : ℕ) (link : Standing) → c.class ≡ Some Zero → link.flow ≡ None → c.live ≡ (r, linked peer link) ∷ [] → ByClass c
+
+-- ---- rows
+
+pub one_here : (q r : ℕ) (x : Connection) (y : Connection) → value_at q ((r, x) ∷ []) ≡ Some y → (r ≡ q) × (x ≡ y)
+one_here q r x y h = by (r == q) refl h
+  where
+    by : (b : Bool) → (r == q) ≡ b → (if b then Some x else None) ≡ Some y → (r ≡ q) × (x ≡ y)
+    by true e h = (eqb-true r q e, cc)
+    by false e h = absurd (cc)
+
+put_one : (r : ℕ) (x y : Connection) → put r x ((r, y) ∷ []) ≡ (r, x) ∷ []
+put_one r x y = ap (λ (b : Bool). if b then (r, x) ∷ [] else (r, y) ∷ []) (eq-eqb r r refl)
+
+-- ---- a unit in class 2
+
+never_zero : (a b d : Bool) → (if a then Some Two else (if b && (false && d) then Some Zero else None)) ≡ Some Zero →
+    (if a then Some Two else (if b && (false && d) then Some Zero else None)) ≡ Some Two
+never_zero true b d h = refl
+never_zero false true d h = absurd (cc)
+never_zero false false d h = absurd (cc)
+
+module _ (s : Carrier) (is : s.class ≡ Some Two) where
+  two_accepts : (c : Connect) (selection : Selection) (held : Option Class) → held ≡ Some Two → ByClass (answers c selection held s)
+  two_accepts c (refuse reason) held e = two is
+  two_accepts c (accept Two size) held e = two refl
+  two_accepts c (accept Zero size) (Some class) e = two is
+  two_accepts c (accept Zero size) None e = absurd (cc)
+
+  two_answers : (c : Connect) (in_use full : Bool) →
+      ByClass (if in_use then denies 131 c.source s
+      else (if full then denies 1 c.source s else answers c (selected_by c s.local) s.class s))
+  two_answers c true full = two is
+  two_answers c false true = two is
+  two_answers c false false = two_accepts c (selected_by c s.local) s.class is
+
+  two_unknown : (v : Value) → ByClass (to_unknown v s)
+  two_unknown (disconnect destination source reason user) = two is
+  two_unknown (disconnected destination source) = two is
+  two_unknown (request c) = two is
+  two_unknown (confirm destination c) = two is
+  two_unknown (data0 end user) = two is
+  two_unknown (data2 destination number end user) = two is
+  two_unknown (acknowledge credit destination number) = two is
+  two_unknown (error destination cause) = two is
+
+  confirmed_two : (c : Connect) → confirmed c s.local s.class ≡ Some Zero → confirmed c s.local s.class ≡ Some Two
+  confirmed_two c h =
+      let same = ap (confirmed c s.local) is in
+      same ∙ never_zero ((c.class == 2) && (proposes_two s.local && not (selects_expedited c.parameters.additional))) (c.class == 0)
+      (s.local.class0 || not s.local.class2) (sym same ∙ h)
+
+  two_opens : (r : ℕ) (c : Connect) (class : Option Class) → (class ≡ Some Zero → class ≡ Some Two) → ByClass (opens r c class s)
+  two_opens r c None h = two is
+  two_opens r c (Some Two) h = two refl
+  two_opens r c (Some Zero) h = two (h refl)
+
+  two_asked : (r : ℕ) (v : Value) → ByClass (to_asked r v s)
+  two_asked r (confirm destination c) = two_opens r c (confirmed c s.local s.class) (confirmed_two c)
+  two_asked r (disconnect destination source reason user) = two is
+  two_asked r (error destination cause) = two is
+  two_asked r (request c) = two is
+  two_asked r (disconnected destination source) = two is
+  two_asked r (data0 end user) = two is
+  two_asked r (data2 destination number end user) = two is
+  two_asked r (acknowledge credit destination number) = two is
+
+  two_breaks : (r peer : ℕ) (fault : LinkFault) (held : Option Class) → ByClass (breaks r peer fault held s)
+  two_breaks r peer fault (Some Two) = two is
+  two_breaks r peer fault (Some Zero) = two is
+  two_breaks r peer fault None = two is
+
+  two_taking : (r peer : ℕ) (result : Result Standing LinkFault) → ByClass (taking r peer result s)
+  two_taking r peer (Ok link) = two is
+  two_taking r peer (Err fault) = two_breaks r peer fault s.class
+
+  two_leaves : (r peer reason : ℕ) (held : Option Class) → ByClass (leaves r peer reason held s)
+  two_leaves r peer reason (Some Two) = two is
+  two_leaves r peer reason (Some Zero) = two is
+  two_leaves r peer reason None = two is
+
+  two_linked : (r peer : ℕ) (link : Standing) (v : Value) → ByClass (to_linked r peer link v s)
+  two_linked r peer link (disconnect destination source reason user) = two_leaves r peer reason s.class
+  two_linked r peer link (request c) = two_taking r peer (taken link (request c))
+  two_linked r peer link (confirm destination c) = two_taking r peer (taken link (confirm destination c))
+  two_linked r peer link (disconnected destination source) = two_taking r peer (taken link (disconnected destination source))
+  two_linked r peer link (data0 end user) = two_taking r peer (taken link (data0 end user))
+  two_linked r peer link (data2 destination number end user) = two_taking r peer (taken link (data2 destination number end user))
+  two_linked r peer link (acknowledge credit destination number) =
+      two_taking r peer (taken link (acknowledge credit destination number))
+  two_linked r peer link (error destination cause) = two_taking r peer (taken link (error destination cause))
+
+  two_closing : (r : ℕ) (v : Value) → ByClass (to_closing r v s)
+  two_closing r (disconnected destination source) = two is
+  two_closing r (disconnect destination source reason user) = two is
+  two_closing r (request c) = two is
+  two_closing r (confirm destination c) = two is
+  two_closing r (data0 end user) = two is
+  two_closing r (data2 destination number end user) = two is
+  two_closing r (acknowledge credit destination number) = two is
+  two_closing r (error destination cause) = two is
+
+  two_connection : (r : ℕ) (o : Option Connection) (v : Value) → ByClass (to_connection r o v s)
+  two_connection r None v = two_unknown v
+  two_connection r (Some asked) v = two_asked r v
+  two_connection r (Some (linked peer link)) v = two_linked r peer link v
+  two_connection r (Some (closing peer)) v = two_closing r v
+
+  two_in : (b : Bool) (v : Value) → ByClass (in_two b v s)
+  two_in true (request c) = two is
+  two_in false (request c) = two_answers c (has_peer c.source s.live) (is_full s)
+  two_in true (data0 end user) = two is
+  two_in false (data0 end user) = two is
+  two_in true (confirm d c) = two_connection d (value_at d s.live) (confirm d c)
+  two_in false (confirm d c) = two_connection d (value_at d s.live) (confirm d c)
+  two_in true (disconnect d source reason user) = two_connection d (value_at d s.live) (disconnect d source reason user)
+  two_in false (disconnect d source reason user) = two_connection d (value_at d s.live) (disconnect d source reason user)
+  two_in true (disconnected d source) = two_connection d (value_at d s.live) (disconnected d source)
+  two_in false (disconnected d source) = two_connection d (value_at d s.live) (disconnected d source)
+  two_in true (data2 d number end user) = two_connection d (value_at d s.live) (data2 d number end user)
+  two_in false (data2 d number end user) = two_connection d (value_at d s.live) (data2 d number end user)
+  two_in true (acknowledge credit d number) = two_connection d (value_at d s.live) (acknowledge credit d number)
+  two_in false (acknowledge credit d number) = two_connection d (value_at d s.live) (acknowledge credit d number)
+  two_in true (error d cause) = two_connection d (value_at d s.live) (error d cause)
+  two_in false (error d cause) = two_connection d (value_at d s.live) (error d cause)
+
+-- ---- a unit in class 0
+
+module _ (s : Carrier) (is : s.class ≡ Some Zero) where
+  zero_breaks : (r peer : ℕ) (fault : LinkFault) (held : Option Class) → held ≡ Some Zero → ByClass (breaks r peer fault held s)
+  zero_breaks r peer fault (Some Zero) e = none refl
+  zero_breaks r peer fault (Some Two) e = absurd (cc)
+  zero_breaks r peer fault None e = absurd (cc)
+
+  zero_leaves : (r peer reason : ℕ) (held : Option Class) → held ≡ Some Zero → ByClass (leaves r peer reason held s)
+  zero_leaves r peer reason (Some Zero) e = none refl
+  zero_leaves r peer reason (Some Two) e = absurd (cc)
+  zero_leaves r peer reason None e = absurd (cc)
+
+  module _ (r peer : ℕ) (link : Standing) (flow : link.flow ≡ None) (live : s.live ≡ (r, linked peer link) ∷ []) where
+    zero_put : (after : Standing) (t : Carrier) → after.flow ≡ None → t.class ≡ s.class →
+        t.live ≡ put r (linked peer (pumped after)) s.live → ByClass t
+    zero_put after t empty class then_live =
+        zero r peer (pumped after) (class ∙ is) (gives_data after empty).1
+        (then_live ∙ ap (put r (linked peer (pumped after))) live ∙ put_one r (linked peer (pumped after)) (linked peer link))
+
+    zero_taking : (v : Value) (result : Result Standing LinkFault) → taken link v ≡ result → ByClass (taking r peer result s)
+    zero_taking v (Ok after) e = zero_put (handed_out after) (settles r peer after s) (taken_zero link after v flow e) refl refl
+    zero_taking v (Err fault) e = zero_breaks r peer fault s.class is
+
+    zero_linked : (v : Value) → ByClass (to_linked r peer link v s)
+    zero_linked (disconnect destination source reason user) = zero_leaves r peer reason s.class is
+    zero_linked (request c) = zero_taking (request c) (taken link (request c)) refl
+    zero_linked (confirm destination c) = zero_taking (confirm destination c) (taken link (confirm destination c)) refl
+    zero_linked (disconnected destination source) =
+        zero_taking (disconnected destination source) (taken link (disconnected destination source)) refl
+    zero_linked (data0 end user) = zero_taking (data0 end user) (taken link (data0 end user)) refl
+    zero_linked (data2 destination number end user) =
+        zero_taking (data2 destination number end user) (taken link (data2 destination number end user)) refl
+    zero_linked (acknowledge credit destination number) =
+        zero_taking (acknowledge credit destination number) (taken link (acknowledge credit destination number)) refl
+    zero_linked (error destination cause) = zero_taking (error destination cause) (taken link (error destination cause)) refl
+
+    zero_only : (v : Value) → ByClass (to_only s.live v s)
+    zero_only v = subst (λ (rows : Rows Connection). ByClass (to_only rows v s)) (sym live) (zero_linked v)
+
+  in_zero_by : (b : Bool) (v : Value) → ByClass (to_only s.live v s) → ByClass (in_zero b v s)
+  in_zero_by true (request c) p = none refl
+  in_zero_by false (request c) p = p
+  in_zero_by true (confirm destination c) p = p
+  in_zero_by false (confirm destination c) p = p
+  in_zero_by true (disconnect destination source reason user) p = p
+  in_zero_by false (disconnect destination source reason user) p = p
+  in_zero_by true (disconnected destination source) p = p
+  in_zero_by false (disconnected destination source) p = p
+  in_zero_by true (data0 end user) p = p
+  in_zero_by false (data0 end user) p = p
+  in_zero_by true (data2 destination number end user) p = p
+  in_zero_by false (data2 destination number end user) p = p
+  in_zero_by true (acknowledge credit destination number) p = p
+  in_zero_by false (acknowledge credit destination number) p = p
+  in_zero_by true (error destination cause) p = p
+  in_zero_by false (error destination cause) p = p
+
+-- ---- a unit before a class is selected
+
+module _ (s : Carrier) (is : s.class ≡ None) where
+  first_opens : (r : ℕ) (c : Connect) (class : Option Class) → s.live ≡ (r, asked) ∷ [] → ByClass (opens r c class s)
+  first_opens r c None live = none refl
+  first_opens r c (Some Two) live = two refl
+  first_opens r c (Some Zero) live =
+      let first = opened_link Zero (agreed_size c.parameters.size s.local) s.local c.credit in
+      zero r c.source first refl refl (ap (put r (linked c.source first)) live ∙ put_one r (linked c.source first) asked)
+
+  first_accepts : (c : Connect) (selection : Selection) (held : Option Class) → held ≡ None → s.live ≡ [] →
+      ByClass (answers c selection held s)
+  first_accepts c (refuse reason) held e live = none live
+  first_accepts c (accept Two size) held e live = two refl
+  first_accepts c (accept Zero size) (Some class) e live = none live
+  first_accepts c (accept Zero size) None e live =
+      zero (s.given + 1) c.source (opened_link Zero size s.local c.credit) refl refl
+      (ap (λ (rows : Rows Connection). rows ++ (s.given + 1, linked c.source (opened_link Zero size s.local c.credit)) ∷ []) live)
+
+  first_answers : (c : Connect) (in_use full : Bool) → s.live ≡ [] →
+      ByClass (if in_use then denies 131 c.source s
+      else (if full then denies 1 c.source s else answers c (selected_by c s.local) s.class s))
+  first_answers c true full live = none live
+  first_answers c false true live = none live
+  first_answers c false false live = first_accepts c (selected_by c s.local) s.class is live
+
+  -- no connection has this reference
+  first_unknown : (v : Value) → ByClass s → ByClass (to_unknown v s)
+  first_unknown (disconnect destination source reason user) (two e) = two e
+  first_unknown (disconnect destination source reason user) (none e) = none e
+  first_unknown (disconnect destination source reason user) (asks r class caller live) = asks r class caller live
+  first_unknown (disconnect destination source reason user) (zero r peer link class flow live) = zero r peer link class flow live
+  first_unknown (disconnected destination source) p = p
+  first_unknown (request c) p = none refl
+  first_unknown (confirm destination c) p = none refl
+  first_unknown (data0 end user) p = none refl
+  first_unknown (data2 destination number end user) p = none refl
+  first_unknown (acknowledge credit destination number) p = none refl
+  first_unknown (error destination cause) p = none refl
+
+  -- one was requested
+  module _ (r : ℕ) (caller : s.is_caller ≡ true) (live : s.live ≡ (r, asked) ∷ []) where
+    dropped : (t : Carrier) → t.live ≡ without r s.live → ByClass t
+    dropped t then_live =
+        none (then_live ∙ ap (without r) live ∙ ap (λ (b : Bool). if b then [] else (r, asked) ∷ []) (eq-eqb r r refl))
+
+    first_asked : (v : Value) → ByClass (to_asked r v s)
+    first_asked (confirm destination c) = first_opens r c (confirmed c s.local s.class) live
+    first_asked (disconnect destination source reason user) = dropped _ refl
+    first_asked (error destination cause) = dropped _ refl
+    first_asked (request c) = none refl
+    first_asked (disconnected destination source) = asks r is caller live
+    first_asked (data0 end user) = none refl
+    first_asked (data2 destination number end user) = none refl
+    first_asked (acknowledge credit destination number) = none refl
+
+    first_at : (d : ℕ) (o : Option Connection) (v : Value) → value_at d s.live ≡ o → ByClass (to_connection d o v s)
+    first_at d None v e = first_unknown v (asks r is caller live)
+    first_at d (Some x) v e = by x (one_here d r asked x (ap (value_at d) (sym live) ∙ e))
+      where
+        by : (y : Connection) → (r ≡ d) × (asked ≡ y) → ByClass (to_connection d (Some y) v s)
+        by asked same = subst (λ (n : ℕ). ByClass (to_asked n v s)) same.0 (first_asked v)
+        by (linked peer link) same = absurd (let k = same.1 in cc)
+        by (closing peer) same = absurd (let k = same.1 in cc)
+
+    first_before : (v : Value) → ByClass (before_class true v s)
+    first_before (confirm d c) = first_at d (value_at d s.live) (confirm d c) refl
+    first_before (disconnect d source reason user) = first_at d (value_at d s.live) (disconnect d source reason user) refl
+    first_before (error d cause) = first_at d (value_at d s.live) (error d cause) refl
+    first_before (request c) = none refl
+    first_before (disconnected destination source) = none refl
+    first_before (data0 end user) = none refl
+    first_before (data2 destination number end user) = none refl
+    first_before (acknowledge credit destination number) = none refl
+
+  -- there is none
+  module _ (live : s.live ≡ []) where
+    none_at : (d : ℕ) (v : Value) → ByClass (to_connection d (value_at d s.live) v s)
+    none_at d v =
+        subst (λ (rows : Rows Connection). ByClass (to_connection d (value_at d rows) v s)) (sym live) (first_unknown v (none live))
+
+    none_before : (b : Bool) (v : Value) → ByClass (before_class b v s)
+    none_before true (confirm d c) = none_at d (confirm d c)
+    none_before true (disconnect d source reason user) = none_at d (disconnect d source reason user)
+    none_before true (error d cause) = none_at d (error d cause)
+    none_before true (request c) = none refl
+    none_before true (disconnected destination source) = none refl
+    none_before true (data0 end user) = none refl
+    none_before true (data2 destination number end user) = none refl
+    none_before true (acknowledge credit destination number) = none refl
+    none_before false (request c) = first_answers c (has_peer c.source s.live) (is_full s) live
+    none_before false (confirm d c) = none refl
+    none_before false (disconnect d source reason user) = none refl
+    none_before false (error d cause) = none refl
+    none_before false (disconnected destination source) = none refl
+    none_before false (data0 end user) = none refl
+    none_before false (data2 destination number end user) = none refl
+    none_before false (acknowledge credit destination number) = none refl
+
+-- ---- any unit
+
+-- no carrier has two classes
+two_classes : {A : Type 0} (o x y : Option Class) → o ≡ x → o ≡ y → (x ≡ y → A) → A
+two_classes o x y a b differ = differ (sym a ∙ b)
+
+class_by : (v : Value) (s : Carrier) (o : Option Class) → s.class ≡ o → ByClass s → ByClass (in_class o v s)
+class_by v s (Some Two) is p = two_in s is s.is_caller v
+class_by v s (Some Zero) is (two e) = two_classes s.class (Some Zero) (Some Two) is e (λ differ. absurd (cc))
+class_by v s (Some Zero) is (none live) =
+    in_zero_by s is s.is_caller v (subst (λ (rows : Rows Connection). ByClass (to_only rows v s)) (sym live) (none live))
+class_by v s (Some Zero) is (asks r class caller live) = two_classes s.class (Some Zero) None is class (λ differ. absurd (cc))
+class_by v s (Some Zero) is (zero r peer link class flow live) =
+    in_zero_by s is s.is_caller v (zero_only s is r peer link flow live v)
+class_by v s None is (two e) = two_classes s.class None (Some Two) is e (λ differ. absurd (cc))
+class_by v s None is (none live) = none_before s is live s.is_caller v
+class_by v s None is (asks r class caller live) =
+    subst (λ (b : Bool). ByClass (before_class b v s)) (sym caller) (first_before s is r caller live v)
+class_by v s None is (zero r peer link class flow live) = two_classes s.class None (Some Zero) is class (λ differ. absurd (cc))
+
+pub unit_class : (v : Value) (s : Carrier) → ByClass s → ByClass (react v s)
+unit_class v s p = by s.ended refl
+  where
+    by : (o : Option EndReason) → s.ended ≡ o → ByClass (react v s)
+    by None lasts = subst ByClass (sym (react_quiet v s lasts)) (class_by v s s.class refl p)
+    by (Some reason) ended = subst ByClass (sym (react_over v s (ap is_some ended))) p
+
+-- ---- a session sends, or closes its connection
+
+pub linked_at : (over : Bool) (o : Option Connection) (peer : ℕ) (link : Standing) →
+    (if over then None else link_of o) ≡ Some (peer, link) → o ≡ Some (linked peer link)
+linked_at true o peer link h = absurd (cc)
+linked_at false None peer link h = absurd (cc)
+linked_at false (Some asked) peer link h = absurd (cc)
+linked_at false (Some (closing q)) peer link h = absurd (cc)
+linked_at false (Some (linked q t)) peer link h =
+    let pair : ◌≡◌ {A = ℕ × Standing} (q, t) (peer, link) = cc in
+    λ i. Some (linked (pair i).0 (pair i).1)
+
+module _ (q : ℕ) (s : Carrier) where
+  sent_class : (tsdu : List ℕ) (o : Option (ℕ × Standing)) → open_link q s ≡ o → ByClass s → ByClass (sent_on q tsdu o s)
+  sent_class tsdu None e p = p
+  sent_class tsdu (Some (peer, link)) e (two is) = two is
+  sent_class tsdu (Some (peer, link)) e (none live) = none (ap (put q (linked peer (pumped (with_tsdu link tsdu)))) live)
+  sent_class tsdu (Some (peer, link)) e (asks r class caller live) =
+      let here = linked_at (is_some s.ended) (value_at q s.live) peer link e in
+      let same = one_here q r asked (linked peer link) (ap (value_at q) (sym live) ∙ here) in
+      absurd (let k = same.1 in cc)
+  sent_class tsdu (Some (peer, link)) e (zero r first old class flow live) =
+      let here = linked_at (is_some s.ended) (value_at q s.live) peer link e in
+      let same = one_here q r (linked first old) (linked peer link) (ap (value_at q) (sym live) ∙ here) in
+      let links : old ≡ link = (let k = same.1 in cc) in
+      let none_flow : link.flow ≡ None = ap (λ (l : Standing). l.flow) (sym links) ∙ flow in
+      let then_link = linked peer (pumped (with_tsdu link tsdu)) in
+      zero r peer (pumped (with_tsdu link tsdu)) class (gives_data (with_tsdu link tsdu) none_flow).1
+      (ap (put q then_link) live ∙ ap (λ (n : ℕ). put n then_link ((r, linked first old) ∷ [])) (sym same.0)
+      ∙ put_one r then_link (linked first old))
+
+  closes_class : (peer : ℕ) (link : Standing) (held : Option Class) → s.class ≡ held → open_link q s ≡ Some (peer, link) → ByClass s →
+      ByClass (closes q peer 128 held s)
+  closes_class peer link (Some Zero) is e p = none refl
+  closes_class peer link (Some Two) is e p = two is
+  closes_class peer link None is e (two class) = two_classes s.class None (Some Two) is class (λ differ. absurd (cc))
+  closes_class peer link None is e (none live) = none (ap (put q (closing peer)) live)
+  closes_class peer link None is e (asks r class caller live) =
+      let here = linked_at (is_some s.ended) (value_at q s.live) peer link e in
+      let same = one_here q r asked (linked peer link) (ap (value_at q) (sym live) ∙ here) in
+      absurd (let k = same.1 in cc)
+  closes_class peer link None is e (zero r first old class flow live) =
+      two_classes s.class None (Some Zero) is class (λ differ. absurd (cc))
+
+  closed_class : (o : Option (ℕ × Standing)) → open_link q s ≡ o → ByClass s → ByClass (closed_on q 128 o s)
+  closed_class None e p = p
+  closed_class (Some (peer, link)) e p = closes_class peer link s.class refl e p
+
+untold_class : (events : List Happening) (c : Carrier) → ByClass c → ByClass (record c { events = events })
+untold_class events c (two is) = two is
+untold_class events c (none live) = none live
+untold_class events c (asks r class caller live) = asks r class caller live
+untold_class events c (zero r peer link class flow live) = zero r peer link class flow live
+
+same_class : (c : Carrier) (outgoing : List ℕ) → ByClass c → ByClass (record c { outgoing = outgoing })
+same_class c outgoing (two is) = two is
+same_class c outgoing (none live) = none live
+same_class c outgoing (asks r class caller live) = asks r class caller live
+same_class c outgoing (zero r peer link class flow live) = zero r peer link class flow live
+
+pub class_kept : IsKept ByClass
+class_kept = record {
+  reacts_to = unit_class;
+  carries = record {
+    sends = λ q tsdu c p. sent_class q c tsdu (open_link q c) refl p;
+    closes = λ q c p. closed_class q c (open_link q c) refl p;
+  };
+  untold = untold_class;
+  ends_so = λ reason c p. none refl;
+}
+
+-- ---- a request
+
+may_by : (caller over : Bool) (by_class room : Option OpenError) →
+    (if not caller then Some NotCaller else (if over then Some Ended else or_else by_class room)) ≡ None →
+    (caller ≡ true) × (by_class ≡ None)
+may_by false over by_class room h = absurd (cc)
+may_by true true by_class room h = absurd (cc)
+may_by true false None room h = (refl, refl)
+may_by true false (Some e) room h = absurd (cc)
+
+asked_by : (calling called : Option (List ℕ)) (s : Carrier) (o : Option Class) → s.class ≡ o → s.is_caller ≡ true →
+    class_error s.class s.live ≡ None → ByClass s → ByClass (requests calling called s)
+asked_by calling called s (Some Two) is caller may p = two is
+asked_by calling called s (Some Zero) is caller may p =
+    absurd (let k : class_error (Some Zero) s.live ≡ None = ap (λ (x : Option Class). class_error x s.live) (sym is) ∙ may in cc)
+asked_by calling called s None is caller may (two e) = two_classes s.class None (Some Two) is e (λ differ. absurd (cc))
+asked_by calling called s None is caller may (none live) =
+    asks (s.given + 1) is caller (ap (λ (rows : Rows Connection). rows ++ (s.given + 1, asked) ∷ []) live)
+asked_by calling called s None is caller may (asks r class side live) =
+    absurd (let k : class_error None ((r, asked) ∷ []) ≡ None =
+    sym (ap (class_error None) live) ∙ ap (λ (x : Option Class). class_error x s.live) (sym is) ∙ may in cc)
+asked_by calling called s None is caller may (zero r peer link class flow live) =
+    two_classes s.class None (Some Zero) is class (λ differ. absurd (cc))
+
+pub request_class : (calling called : Option (List ℕ)) (s : Carrier) → may_connect s ≡ None → ByClass s →
+    ByClass (requests calling called s)
+request_class calling called s may p =
+    let h = may_by s.is_caller (is_some s.ended) (class_error s.class s.live) (room_error s) may in
+    asked_by calling called s s.class refl h.0 h.1 p
+
+-- ---- what holds of the carrier of an end
+
+pub record IsSound (c : Carrier) : Type 0 where
+  pub orderly : IsOrderly c
+  pub by_class : ByClass c
+
+pub sound_unit : (v : Value) (c : Carrier) → IsSound c → IsSound (react v c)
+sound_unit v c h = record { orderly = orderly_unit v c h.orderly; by_class = unit_class v c h.by_class }
+
+pub zero_asks_none : (s : Carrier) (r : ℕ) → ByClass s → s.class ≡ Some Zero → value_at r s.live ≡ Some asked → ⊥
+zero_asks_none s r (two e) is was = two_classes s.class (Some Zero) (Some Two) is e (λ differ. absurd (cc))
+zero_asks_none s r (none live) is was = absurd (let both : None ≡ Some asked = sym (ap (value_at r) live) ∙ was in cc)
+zero_asks_none s r (asks q class caller live) is was = two_classes s.class (Some Zero) None is class (λ differ. absurd (cc))
+zero_asks_none s r (zero q peer link class flow live) is was =
+    let same = one_here r q (linked peer link) asked (ap (value_at r) (sym live) ∙ was) in
+    absurd (let k = same.1 in cc)
+
+-- octets were handed over
+pub sound_same : (c : Carrier) (outgoing : List ℕ) → IsSound c → IsSound (record c { outgoing = outgoing })
+sound_same c outgoing h = record { orderly = orderly_same c outgoing c.events h.orderly; by_class = same_class c outgoing h.by_class }

@@ -1,0 +1,104 @@
+-- Units in order, each with the connection that it is of: which are of one connection.
+-- For the course of a connection.
+use Rattle.std.proofs.Common.{◌≡◌, ◌≢◌, ◌∙◌, refl, sym, ap, ℕ, ◌<◌, ◌==◌, Bool, true, false, if◌then◌else◌, nat_lt, List, []}
+use Rattle.std.proofs.Common.{◌∷◌, ◌++◌, map, arith}
+use Rattle.std.specs.List.{AllByRecursion}
+use Rattle.std.proofs.lemmas.Bool.{eq-eqb, eqb-true}
+use Rattle.std.proofs.lemmas.Bool.Decides.{nat_tests}
+use Rattle.std.proofs.lemmas.Grind.{flat_map-append}
+use Rattle.std.proofs.lemmas.List.{map-append}
+use Rattle.osi_tpdu.specs.Value.{Value}
+use Rattle.osi_class.specs.Link.{Given, ack, part0, part2, unit_of}
+use Rattle.osi_honest.specs.Marked.{AreByLinks, Marked, all_units, if_of, is_of_link, units_at}
+
+-- ---- one list after another
+
+pub units_more : (r : ℕ) (xs ys : List Marked) → units_at r (xs ++ ys) ≡ units_at r xs ++ units_at r ys
+units_more r xs ys = flat_map-append (if_of r) xs ys
+
+pub all_units_more : (xs ys : List Marked) → all_units (xs ++ ys) ≡ all_units xs ++ all_units ys
+all_units_more xs ys = map-append (λ (m : Marked). m.1) xs ys
+
+pub all_of_both : {X : Type 0} (P : X → Type 0) (xs ys : List X) → AllByRecursion P xs → AllByRecursion P ys → AllByRecursion P (xs ++ ys)
+all_of_both P [] ys a b = b
+all_of_both P (x ∷ xs) ys a b = (a.0, all_of_both P xs ys a.1 b)
+
+pub by_links_more : (xs ys : List Marked) → AreByLinks xs → AreByLinks ys → AreByLinks (xs ++ ys)
+by_links_more xs ys a b = all_of_both (λ (m : Marked). is_of_link m.1 ≡ nat_lt 0 m.0) xs ys a b
+
+-- ---- units of one connection, or of none
+
+abbrev pub marked : ℕ → List Value → List Marked
+marked q units = map (λ unit. (q, unit)) units
+
+pub marked_all : (q : ℕ) (units : List Value) → all_units (marked q units) ≡ units
+marked_all q [] = refl
+marked_all q (unit ∷ units) = ap (λ (l : List Value). unit ∷ l) (marked_all q units)
+
+-- a reference is this one or another
+pub unequal : (q r : ℕ) → (r == q) ≡ false → r ≢ q
+unequal q r e same = let both : true ≡ false = sym (eq-eqb r q same) ∙ e in absurd (cc)
+
+pub other_mark : (q r : ℕ) → r ≢ q → (q == r) ≡ false
+other_mark q r ne = by (q == r) refl
+  where
+    by : (b : Bool) → (q == r) ≡ b → (q == r) ≡ false
+    by false e = e
+    by true e = absurd (ne (sym (eqb-true q r e)))
+
+one_own : (r : ℕ) (b : Bool) (unit : Value) (units : List Value) → b ≡ true → (if b then unit ∷ [] else []) ++ units ≡ unit ∷ units
+one_own r true unit units e = refl
+one_own r false unit units e = absurd (cc)
+
+one_other : (r : ℕ) (b : Bool) (unit : Value) (units : List Value) → b ≡ false → (if b then unit ∷ [] else []) ++ units ≡ units
+one_other r false unit units e = refl
+one_other r true unit units e = absurd (cc)
+
+pub marked_own : (r : ℕ) (units : List Value) → units_at r (marked r units) ≡ units
+marked_own r [] = refl
+marked_own r (unit ∷ units) =
+    one_own r (r == r) unit (units_at r (marked r units)) (eq-eqb r r refl) ∙ ap (λ (l : List Value). unit ∷ l) (marked_own r units)
+
+marked_other : (q r : ℕ) (units : List Value) → (q == r) ≡ false → units_at r (marked q units) ≡ []
+marked_other q r [] e = refl
+marked_other q r (unit ∷ units) e = one_other r (q == r) unit (units_at r (marked q units)) e ∙ marked_other q r units e
+
+pub elsewhere : (q r : ℕ) (units : List Value) → r ≢ q → units_at r (marked q units) ≡ []
+elsewhere q r units ne = marked_other q r units (other_mark q r ne)
+
+pub none_mark : (r : ℕ) → 0 < r → (0 == r) ≡ false
+none_mark r some = grind (arith, nat_tests)
+
+pub nowhere : (r : ℕ) (units : List Value) → 0 < r → units_at r (marked 0 units) ≡ []
+nowhere r units some = marked_other 0 r units (none_mark r some)
+
+pub none_marked : (r : ℕ) (units : List Value) → 0 < r → AllByRecursion (λ (m : Marked). (m.0 == r) ≡ false) (marked 0 units)
+none_marked r [] some = tt
+none_marked r (unit ∷ units) some = (none_mark r some, none_marked r units some)
+
+pub other_marked : (q r : ℕ) (units : List Value) → r ≢ q → AllByRecursion (λ (m : Marked). (m.0 == r) ≡ false) (marked q units)
+other_marked q r [] ne = tt
+other_marked q r (unit ∷ units) ne = (other_mark q r ne, other_marked q r units ne)
+
+-- ---- DTs and AKs, and others
+
+-- no DT and no AK
+abbrev pub ArePlain : List Value → Type 0
+ArePlain units = AllByRecursion (λ unit. is_of_link unit ≡ false) units
+
+pub plain_by_links : (units : List Value) → ArePlain units → AreByLinks (marked 0 units)
+plain_by_links [] all = tt
+plain_by_links (unit ∷ units) all = (all.0, plain_by_links units all.1)
+
+given_by_link : (peer : ℕ) (given : Given) → is_of_link (unit_of peer given) ≡ true
+given_by_link peer (part0 last octets) = refl
+given_by_link peer (part2 number last octets) = refl
+given_by_link peer (ack number credit) = refl
+
+is_above : (q : ℕ) → 0 < q → nat_lt 0 q ≡ true
+is_above q some = grind (arith, nat_tests)
+
+pub given_by_links : (q peer : ℕ) (units : List Given) → 0 < q → AreByLinks (marked q (map (unit_of peer) units))
+given_by_links q peer [] some = tt
+given_by_links q peer (given ∷ units) some =
+    (given_by_link peer given ∙ sym (is_above q some), given_by_links q peer units some)
