@@ -13,4 +13,6 @@ pub mod right_units_leave_all_standing
 pub mod ccs_and_crs_leave_all_standing
 pub mod what_passes_leaves_all_standing
 pub mod a_turn_leaves_all_standing
+pub mod what_a_turn_puts_waits
+pub mod what_is_in_flight_to_an_end
 pub mod steps_leave_all_standing
