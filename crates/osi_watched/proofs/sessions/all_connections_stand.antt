@@ -361,7 +361,7 @@ there_too (x ∷ cs) [] i j h e = absurd h
 there_too (x ∷ cs) (y ∷ js) zero j h e = (x, refl)
 there_too (x ∷ cs) (y ∷ js) (suc i) j h e = there_too cs js i j h.1 e
 
-one_at : (cs : List Connection) (js : List Joined) (i : ℕ) (c : Connection) (j : Joined) → HaveSamePlaces cs js →
+pub one_at : (cs : List Connection) (js : List Joined) (i : ℕ) (c : Connection) (j : Joined) → HaveSamePlaces cs js →
     slice_get cs i ≡ Some c → slice_get js i ≡ Some j → IsOneOf c j
 one_at cs js i c j h there here =
     let (k, at, one) = at_same cs js i c h there in
