@@ -264,7 +264,7 @@ other_part d deeds known then_known at n number end user put x r c j named grows
 same_item : {X : Type 0} (x y : X) → Some x ≡ Some y → y ≡ x
 same_item x y e = cc
 
-map_of : (f : Joined → Joined) (xs : List Joined) (i : ℕ) (y : Joined) → slice_get (map f xs) i ≡ Some y →
+pub map_of : (f : Joined → Joined) (xs : List Joined) (i : ℕ) (y : Joined) → slice_get (map f xs) i ≡ Some y →
     (x : Joined) × (slice_get xs i ≡ Some x) × (y ≡ f x)
 map_of f [] i y h = absurd (cc)
 map_of f (z ∷ xs) zero y h = (z, refl, same_item (f z) y h)
