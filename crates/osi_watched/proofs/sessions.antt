@@ -15,7 +15,7 @@ pub mod what_passes_leaves_all_standing
 pub mod a_turn_leaves_all_standing
 pub mod what_a_turn_puts_waits
 pub mod what_is_in_flight_to_an_end
-pub mod what_an_open_connection_takes_and_puts
+pub mod what_an_end_takes_at_a_connection
 pub mod references_of_an_end_are_distinct
 pub mod each_unit_of_a_turn_has_one_connection
 pub mod steps_leave_all_standing

@@ -29,7 +29,7 @@ parts_taken (give_out unit ∷ moves) = parts_taken moves
 parts_taken (hand_in tsdu ∷ moves) = parts_taken moves
 parts_taken (hand_out tsdu ∷ moves) = parts_taken moves
 
-in_flight_more : (r : ℕ) (some more : List Value) → in_flight r (some ++ more) ≡ in_flight r some ++ in_flight r more
+pub in_flight_more : (r : ℕ) (some more : List Value) → in_flight r (some ++ more) ≡ in_flight r some ++ in_flight r more
 in_flight_more r some more =
     ap parts_of (picked_join (is_for (Some r)) some more)
     ∙ flat_map-append unit_parts (waiting_for (Some r) some) (waiting_for (Some r) more)
