@@ -22,7 +22,7 @@ use Rattle.osi_tap.specs.Courses.{way_of}
 use Rattle.osi_tap.specs.Lines.{Said, heard, told, told_of}
 use Rattle.osi_watched.specs.Shown.{IsShownNow, calls_from}
 use Rattle.osi_watched.proofs.sessions.a_session_that_is_shown_is_not_to_blame.{none_broken, not_both, not_to_blame}
-use Rattle.osi_watched.proofs.sessions.all_connections_stand.{AllStand, Rests, quiet, rests}
+use Rattle.osi_watched.proofs.sessions.all_connections_stand.{AllStand, Rests, quiet, rests, there_too}
 use Rattle.osi_watched.proofs.sessions.what_a_tap_shows_goes_on.{end_turns}
 use Rattle.osi_watched.proofs.sessions.what_stands_of_a_connection.{IsUnsaid, Known, Stands, Takes, lives, past, stands_turns, unnamed}
 use Rattle.osi_watched.proofs.sessions.what_stands_of_a_connection.{waiting_for}
@@ -78,3 +78,13 @@ module _ (known_of : AsSent) (parts : AsParts) (caller : CallerLaw) (called : Ca
   pub rests_blameless : (j : Joined) → Rests d deeds known j → IsToBlame d j → ⊥
   rests_blameless j (quiet none mine theirs) blame = unsaid_so j mine blame
   rests_blameless j (rests r waiting later sure h) blame = shown_so r waiting later false j h blame
+
+  -- of all connections
+  pub all_blameless : (s : State) (t : Sessions) → AllStand d deeds known put b s t →
+      ((i : ℕ) (j : Joined) → slice_get t.live i ≡ Some j → IsToBlame d j → ⊥)
+      × ((i : ℕ) (j : Joined) → slice_get t.done i ≡ Some j → IsToBlame d j → ⊥)
+  all_blameless s t a = (
+    λ i j here blame. let (c, there) = there_too s.connections t.live i j a.places here in
+        stands_blameless c j (a.live i c j there here) blame,
+    λ i j here blame. rests_blameless j (a.done i j here) blame,
+  )

@@ -353,7 +353,7 @@ stands_rest d deeds known put b c j (lives r o is live later sure h) =
 stands_rest d deeds known put b c j (past r closed waiting later sure h) = rests r waiting later sure h
 
 -- each that is joined has its connection
-there_too : (cs : List Connection) (js : List Joined) (i : ℕ) (j : Joined) → HaveSamePlaces cs js → slice_get js i ≡ Some j →
+pub there_too : (cs : List Connection) (js : List Joined) (i : ℕ) (j : Joined) → HaveSamePlaces cs js → slice_get js i ≡ Some j →
     (c : Connection) × (slice_get cs i ≡ Some c)
 there_too [] [] i j h e = absurd (cc)
 there_too [] (y ∷ js) i j h e = absurd h
