@@ -18,3 +18,4 @@ pub mod steps_are_events
 -- so the end has not broken a rule first
 pub mod the_first_break_is_not_of_an_end
 pub mod no_unit_of_a_whole_end_is_a_break
+pub mod sessions

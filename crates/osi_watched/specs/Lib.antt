@@ -1,2 +1,4 @@
 pub mod Joint
 pub mod Passing
+pub mod Shown
+pub mod ShownPlaces

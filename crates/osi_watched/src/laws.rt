@@ -1,17 +1,33 @@
 //! Laws of an end and of a tap on its byte connection. Each function does nothing: its clauses are the laws.
 
-ghost use Rattle.std.specs.Prelude.{◌≡◌, Bool, false, true, List, None, Some};
+ghost use Rattle.std.specs.Prelude.{◌≡◌, Bool, false, true, List, None, Some, ◌≢◌, ◌<◌, ◌^◌, ◌++◌, ◌∷◌, [], ℕ, length, slice_get};
 ghost use Rattle.osi_class.specs.declared.terms.Local.{Local};
-ghost use Rattle.osi_judge.specs.Captures.{Capture};
+ghost use Rattle.osi_judge.specs.Captures.{Capture, other};
 ghost use Rattle.osi_judge.specs.declared.directions.Direction.{Direction};
-ghost use Rattle.osi_stack.specs.State.{Holding};
+ghost use Rattle.osi_stack.specs.State.{Holding, End};
 ghost use Rattle.osi_honest.specs.Seeing.{IsFresh, IsSeen};
 ghost use Rattle.osi_honest.specs.Turns.{Run, Turn};
 ghost use Rattle.osi_tap.specs.declared.marks.First.{First};
 ghost use Rattle.osi_tap.specs.Tapping.{comes_to};
 ghost use Rattle.osi_watched.specs.Passing.{AreOctets, ComesBySteps};
+ghost use Rattle.osi_class.specs.Runs.{parts_in, unit_parts};
+ghost use Rattle.osi_class.specs.Tsdus.{Part};
+ghost use Rattle.osi_rules.specs.Traffic.{is_stopped, takes};
+ghost use Rattle.osi_rules.specs.declared.connections.Connection.{Connection};
+ghost use Rattle.osi_rules.specs.Sides.{is_open, own};
+ghost use Rattle.osi_rules.specs.declared.findings.Finding.{Finding};
+ghost use Rattle.osi_rules.specs.declared.findings.Rule.{Rule};
+ghost use Rattle.osi_honest.specs.Courses.{Course, Deeds, then_did};
+ghost use Rattle.osi_tap.specs.Blaming.{IsToBlame};
+ghost use Rattle.osi_tap.specs.Connections.{Joined, adds, packet_begins, reference_of, spoken, user_of};
+ghost use Rattle.osi_tap.specs.Courses.{Course as Passed, unit_passes, way_of};
+ghost use Rattle.osi_tap.specs.Lines.{heard};
+ghost use Rattle.osi_tpdu.specs.Value.{Value, destination_of};
+ghost use Rattle.osi_watched.specs.Shown.{IsShownNow, IsShownOf, calls_from};
+ghost use Rattle.osi_watched.specs.ShownPlaces.{HaveSamePlaces, IsJoinedAt, IsOneOf};
 
 use osi_honest::laws::what_a_session_hands_to_its_link;
+use osi_judge::laws::an_honest_session_is_explained;
 use osi_session::laws::what_closes_sends_nothing;
 use osi_spdu::laws::{few_octets_fit, serial_digits};
 
@@ -58,3 +74,79 @@ pub fn the_transport_of_an_end_is_never_blamed_first()
     what_closes_sends_nothing();
     a_capture_of_an_end_is_steps();
 }
+
+/// The session of an end is not to blame for what a tap shows of it. Take a connection of an end, with what was done there, and what a
+/// tap has joined of it ([`IsShownOf`]): of the own side some of what the session sent, each TSDU after those that the session had
+/// taken when it sent it; and of the other side what the session took, or more. Then the session of this side neither broke the protocol
+/// nor left the profile, in either class and among any number of other connections.
+///
+/// [`IsShownOf`]: ../specs/Shown.antt
+pub fn a_session_that_is_shown_is_not_to_blame()
+    ensures { (d : Direction) (r : ℕ) (deeds : Deeds) (e : End) (j : Joined) → Course (calls_from d) r deeds e →
+        IsShownOf d r deeds j → ¬ (IsToBlame d j) }
+{
+    osi_message::laws::what_is_sent_is_read();
+    osi_message::laws::what_a_part_says();
+    osi_message::laws::what_leaves_in_parts();
+    an_honest_session_is_explained();
+}
+
+/// What a tap shows of a session goes on so ([`IsShownNow`]), packet by packet. A packet of the end begins that has a DT of the
+/// connection (`part_begins`), or has none (`own_begins`); and passes (`part_passes`, `none_passes`). A packet of the other side begins,
+/// and a DT of it passes (`other_begins`, `other_passes`). And the session takes some of what is in flight, and says more (`turns`).
+/// It is assumed that fewer than 2^64 TSDUs of the other side have passed on the connection: a tap counts no further.
+///
+/// [`IsShownNow`]: ../specs/Shown.antt
+pub fn what_a_tap_shows_goes_on()
+    ensures part_begins { (d : Direction) (r : ℕ) (deeds : Deeds) (waiting : List Value) (later : List Part) (e : End) (end : Bool)
+        (v : Value) (j : Joined) → Course (calls_from d) r deeds e → unit_parts v ≡ (end, user_of v) ∷ [] →
+        length (heard (spoken (other d) j)) < 2 ^ 64 → IsShownNow d r deeds (v ∷ waiting) later false j →
+        IsShownNow d r deeds (v ∷ waiting) later true (packet_begins d j) }
+    ensures own_begins { (d : Direction) (r : ℕ) (deeds : Deeds) (waiting : List Value) (later : List Part) (j : Joined) →
+        IsShownNow d r deeds waiting later false j → IsShownNow d r deeds waiting later false (packet_begins d j) }
+    ensures part_passes { (d : Direction) (r : ℕ) (deeds : Deeds) (waiting : List Value) (later : List Part) (at : ℕ) (end : Bool)
+        (v : Value) (j : Joined) → unit_parts v ≡ (end, user_of v) ∷ [] → IsShownNow d r deeds (v ∷ waiting) later true j →
+        IsShownNow d r deeds waiting later false (adds d at end (user_of v) j) }
+    ensures none_passes { (d : Direction) (r : ℕ) (deeds : Deeds) (waiting : List Value) (later : List Part) (v : Value) (is_next : Bool)
+        (j : Joined) → unit_parts v ≡ [] → IsShownNow d r deeds (v ∷ waiting) later is_next j →
+        IsShownNow d r deeds waiting later false j }
+    ensures other_begins { (d : Direction) (r : ℕ) (deeds : Deeds) (waiting : List Value) (later : List Part) (is_next : Bool) (j : Joined) →
+        IsShownNow d r deeds waiting later is_next j → IsShownNow d r deeds waiting later is_next (packet_begins (other d) j) }
+    ensures other_passes { (d : Direction) (r : ℕ) (deeds : Deeds) (waiting : List Value) (later : List Part) (at : ℕ) (end : Bool)
+        (octets : List ℕ) (is_next : Bool) (j : Joined) → IsShownNow d r deeds waiting later is_next j →
+        IsShownNow d r deeds waiting (later ++ (end, octets) ∷ []) is_next (adds (other d) at end octets j) }
+    ensures turns { (d : Direction) (r : ℕ) (deeds : Deeds) (waiting : List Value) (later : List Part) (more : Deeds) (rest : List Part)
+        (is_next : Bool) (j : Joined) → later ≡ parts_in more.calls ++ rest → IsShownNow d r deeds waiting later is_next j →
+        IsShownNow d r (then_did deeds more) (waiting ++ more.put) rest is_next j }
+{}
+
+/// The connections of a capture have the same places for the rules of transport and for what is joined of them, with the references of
+/// their CRs and CCs ([`HaveSamePlaces`], `capture`), whatever passes; also after any unit (`unit`). A DT that is right is joined at the
+/// place that the rules tell ([`IsJoinedAt`], `dt`); and it is right if it breaks no rule, as long as its side is judged and no
+/// connection has lost its judgement (`right`). A unit with a reference, at the place that they tell, is for the connection that the
+/// other side gave this reference, if the connection is judged (`named`). Of the connections that a side has not closed, only one has
+/// this reference of the other side (`one`).
+///
+/// [`HaveSamePlaces`]: ../specs/ShownPlaces.antt
+/// [`IsJoinedAt`]: ../specs/ShownPlaces.antt
+pub fn connections_have_the_same_places()
+    ensures capture { (capture : Capture) →
+        HaveSamePlaces (comes_to capture).course.traffic.connections (comes_to capture).course.sessions.live }
+    ensures unit { (d : Direction) (at : ℕ) (v : Value) (c : Passed) → HaveSamePlaces c.traffic.connections c.sessions.live →
+        HaveSamePlaces (unit_passes d at v c).traffic.connections (unit_passes d at v c).sessions.live }
+    ensures dt { (d : Direction) (at : ℕ) (v : Value) (end : Bool) (c : Passed) → HaveSamePlaces c.traffic.connections c.sessions.live →
+        unit_parts v ≡ (end, user_of v) ∷ [] → (takes (way_of d) v c.traffic).told.finding ≡ Finding.Kept → IsJoinedAt d at v end c }
+    ensures right { (d : Direction) (v : Value) (end : Bool) (capture : Capture) → unit_parts v ≡ (end, user_of v) ∷ [] →
+        is_stopped (way_of d) (comes_to capture).course.traffic.course ≡ false → (comes_to capture).course.traffic.course.loose ≡ false →
+        ((rule : Rule) → (takes (way_of d) v (comes_to capture).course.traffic).told.finding ≢ Finding.Broke rule) →
+        (takes (way_of d) v (comes_to capture).course.traffic).told.finding ≡ Finding.Kept }
+    ensures named { (d : Direction) (v : Value) (c : Passed) (n place : ℕ) (connection : Connection) (j : Joined) →
+        HaveSamePlaces c.traffic.connections c.sessions.live → destination_of v ≡ Some n →
+        (takes (way_of d) v c.traffic).told.place ≡ Some place → slice_get c.traffic.connections place ≡ Some connection →
+        connection.is_judged ≡ true → slice_get c.sessions.live place ≡ Some j → reference_of (other d) j ≡ Some n }
+    ensures one { (d : Direction) (n p q : ℕ) (capture : Capture) (a b : Connection) (j k : Joined) →
+        slice_get (comes_to capture).course.traffic.connections p ≡ Some a →
+        slice_get (comes_to capture).course.traffic.connections q ≡ Some b → a.is_judged ≡ true → b.is_judged ≡ true →
+        IsOneOf a j → IsOneOf b k → is_open (own (way_of d) a).phase ≡ true → is_open (own (way_of d) b).phase ≡ true →
+        reference_of (other d) j ≡ Some n → reference_of (other d) k ≡ Some n → p ≡ q }
+{}

@@ -12,6 +12,14 @@
 //!   reports nothing and hands nothing over: what a turn does to the carrier of an end is units that arrive and calls. So as
 //!   long as nobody has broken a rule at the tap, both sides are judged there, and no unit of the end is a break. What comes
 //!   after the first break doesn't change it: [`laws::the_transport_of_an_end_is_never_blamed_first`].
+//! - **The session of an end is not to blame for what a tap shows of it.** `IsShownOf` (`specs/Shown`) says what a tap has joined of a
+//!   connection beside what was done there: [`laws::a_session_that_is_shown_is_not_to_blame`]. It goes on so packet by packet:
+//!   [`laws::what_a_tap_shows_goes_on`]. A unit is joined at the place that the rules of transport tell:
+//!   [`laws::connections_have_the_same_places`]. In class 2, steps of a `Joint` leave this so of all its connections (`Standing` in
+//!   `proofs/sessions`), if nobody breaks a rule, the end takes at each connection the first of what is in flight to it, and what it
+//!   puts in a turn is for the connections that put it.
+//!
+//! What is not here: that every run of an end meets these premises; and the sessions of class 0.
 #![tactic(auto)]
 
 pub mod laws;

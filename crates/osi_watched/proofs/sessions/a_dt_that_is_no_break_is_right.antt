@@ -1,0 +1,184 @@
+-- A DT that breaks no rule is right, as long as its side and its connection are judged.
+-- For the law on places.
+use Rattle.std.proofs.Common.{◌≡◌, refl, sym, subst, ℕ, Bool, true, false, if◌then◌else◌, is_some, List, [], ◌∷◌, length, Option, Some}
+use Rattle.std.proofs.Common.{None, inl, inr, ◌⊎◌}
+use Rattle.std.specs.Prelude.{position, slice_get}
+use Rattle.std.specs.List.{AllByRecursion}
+use Rattle.osi_tpdu.specs.Value.{Value, acknowledge, confirm, data0, data2, disconnect, disconnected, error, request}
+use Rattle.osi_class.specs.Runs.{unit_parts}
+use Rattle.osi_class.specs.declared.terms.Class.{Class}
+use Rattle.osi_class.specs.declared.terms.Class.TheVariants.{Two, Zero}
+use Rattle.osi_judge.specs.Captures.{Capture}
+use Rattle.osi_judge.specs.declared.directions.Direction.{Direction}
+use Rattle.osi_rules.specs.declared.connections.Connection.{Connection}
+use Rattle.osi_rules.specs.declared.courses.Course.{Course as Rules}
+use Rattle.osi_rules.specs.declared.directions.Direction.{Direction as Way}
+use Rattle.osi_rules.specs.declared.directions.Direction.TheVariants as way
+use Rattle.osi_rules.specs.declared.findings.Finding.{Finding}
+use Rattle.osi_rules.specs.declared.findings.Finding.TheVariants.{Broke, Kept, NotJudged}
+use Rattle.osi_rules.specs.declared.findings.Rule.{Rule}
+use Rattle.osi_rules.specs.declared.findings.Rule.TheVariants as rule
+use Rattle.osi_rules.specs.Rows.{Test, data0_tests, data2_tests, first_failed}
+use Rattle.osi_rules.specs.Sides.{is_live, is_named}
+use Rattle.osi_rules.specs.Sides as sides
+use Rattle.osi_rules.specs.Traffic.{State, at_found, at_place, class_for, found, is_stopped, none_told, route, route_in, routed, takes, unnamed_by}
+use Rattle.osi_rules.specs.Traffic.{uses_source}
+use Rattle.osi_rules.specs.Traffic as traffic
+use Rattle.osi_fair.specs.Naming.{packet, rubbish, unit}
+use Rattle.osi_fair.proofs.a_reference_names_one_connection.{no_item}
+use Rattle.osi_fair.proofs.all_are_judged_unless_one_broke.{AreJudged, still_judged}
+use Rattle.osi_tap.specs.declared.marks.Cause.{Cause}
+use Rattle.osi_tap.specs.Connections.{user_of}
+use Rattle.osi_tap.specs.Courses.{Course, marked, marks_of, moved, unread_mark, unread_moment, way_of}
+use Rattle.osi_tap.specs.Tapping.{begin, comes_to}
+use Rattle.osi_watched.proofs.what_passes_keeps_a_claim.{IsClaim, after_kept}
+use Rattle.osi_watched.proofs.sessions.connections_have_the_same_places.{marked_traffic, unit_knows}
+
+-- it is right, or it breaks a rule
+abbrev pub IsClear : Finding → Type 0
+IsClear f = (f ≡ Kept) ⊎ ((r : Rule) × (f ≡ Broke r))
+
+abbrev BreaksARule : Test → Type 0
+BreaksARule t = (r : Rule) × (t.1 ≡ Broke r)
+
+clear_by : (b : Bool) (f g : Finding) → IsClear f → IsClear g → IsClear (if b then f else g)
+clear_by true f g h k = h
+clear_by false f g h k = k
+
+pub clear_tests : (ts : List Test) → AllByRecursion BreaksARule ts → IsClear (first_failed ts)
+clear_tests [] h = inl refl
+clear_tests (t ∷ ts) h = clear_by t.0 (first_failed ts) t.1 (clear_tests ts h.1) (inr h.0)
+
+two_clear : (d : Way) (c : Connection) (number octets : ℕ) → IsClear (first_failed (data2_tests d c number octets))
+two_clear d c number octets = clear_tests (data2_tests d c number octets) (
+  (rule.UnknownReference, refl),
+  (
+    (rule.Closed, refl),
+    (
+      (rule.OutOfSequence, refl),
+      ((rule.OutOfSequence, refl), ((rule.TsduTooLong, refl), ((rule.NoCredit, refl), ((rule.SizeExceeded, refl), tt)))),
+    ),
+  ),
+)
+
+zero_clear : (d : Way) (c : Connection) (octets : ℕ) → IsClear (first_failed (data0_tests d c octets))
+zero_clear d c octets = clear_tests (data0_tests d c octets) ((rule.TsduTooLong, refl), ((rule.SizeExceeded, refl), tt))
+
+found_two : (d : Way) (n number : ℕ) (end : Bool) (user : List ℕ) (course : Rules) (in_use : Bool) (c : Connection) →
+    IsClear (found d course in_use c (data2 n number end user))
+found_two way.Left n number end user course in_use c = two_clear way.Left c number (length user)
+found_two way.Right n number end user course in_use c = two_clear way.Right c number (length user)
+
+found_zero : (d : Way) (end : Bool) (user : List ℕ) (course : Rules) (in_use : Bool) (c : Connection) →
+    IsClear (found d course in_use c (data0 end user))
+found_zero way.Left end user course in_use c = zero_clear way.Left c (length user)
+found_zero way.Right end user course in_use c = zero_clear way.Right c (length user)
+
+-- ---- by its place
+
+judged_clear : (b : Bool) (f : Finding) → b ≡ true → IsClear f → IsClear (if b then f else NotJudged)
+judged_clear true f h k = k
+judged_clear false f h k = absurd (cc)
+
+loose_clear : (b : Bool) (f : Finding) → b ≡ false → IsClear f → IsClear (if b then NotJudged else f)
+loose_clear true f h k = absurd (cc)
+loose_clear false f h k = k
+
+module _ (d : Way) (v : Value) (s : State) (firm : s.course.loose ≡ false) (judged : AreJudged s)
+    (nowhere : IsClear (unnamed_by s.course.strays v))
+    (clear : (c : Connection) → IsClear (found d s.course (uses_source d s.connections v) c v)) where
+  clear_one : (i : ℕ) (o : Option Connection) → slice_get s.connections i ≡ o → IsClear (at_found d v s i o).told.finding
+  clear_one i None e = loose_clear s.course.loose (unnamed_by s.course.strays v) firm nowhere
+  clear_one i (Some c) e =
+      judged_clear c.is_judged (found d s.course (uses_source d s.connections v) c v) (judged firm i c e) (clear c)
+
+  pub clear_any : (o : Option ℕ) → IsClear (at_place d v s o).told.finding
+  clear_any None = loose_clear s.course.loose (unnamed_by s.course.strays v) firm nowhere
+  clear_any (Some i) = clear_one i (slice_get s.connections i) refl
+
+nowhere_two : (b : Bool) (n number : ℕ) (end : Bool) (user : List ℕ) → IsClear (unnamed_by b (data2 n number end user))
+nowhere_two true n number end user = inr (rule.UnknownReference, refl)
+nowhere_two false n number end user = inr (rule.UnknownReference, refl)
+
+nowhere_zero : (b : Bool) (end : Bool) (user : List ℕ) → IsClear (unnamed_by b (data0 end user))
+nowhere_zero true end user = inr (rule.UnknownReference, refl)
+nowhere_zero false end user = inr (rule.UnknownReference, refl)
+
+routed_two : (k : Option Class) (d : Way) (b : Bool) (n number : ℕ) (end : Bool) (user : List ℕ) (s : State) →
+    s.course.loose ≡ false → AreJudged s →
+    IsClear (routed d (data2 n number end user) s (route_in k d b (data2 n number end user))).told.finding
+routed_two None way.Left b n number end user s firm judged = inr (rule.UnexpectedUnit, refl)
+routed_two None way.Right b n number end user s firm judged = inr (rule.UnexpectedUnit, refl)
+routed_two (Some Zero) way.Left b n number end user s firm judged = inr (rule.WrongForm, refl)
+routed_two (Some Zero) way.Right b n number end user s firm judged = inr (rule.WrongForm, refl)
+routed_two (Some Two) way.Left b n number end user s firm judged =
+    clear_any way.Left (data2 n number end user) s firm judged (nowhere_two s.course.strays n number end user)
+    (λ c. found_two way.Left n number end user s.course false c) (position (is_named way.Left n) s.connections)
+routed_two (Some Two) way.Right b n number end user s firm judged =
+    clear_any way.Right (data2 n number end user) s firm judged (nowhere_two s.course.strays n number end user)
+    (λ c. found_two way.Right n number end user s.course false c) (position (is_named way.Right n) s.connections)
+
+routed_zero : (k : Option Class) (d : Way) (b : Bool) (end : Bool) (user : List ℕ) (s : State) → s.course.loose ≡ false → AreJudged s →
+    IsClear (routed d (data0 end user) s (route_in k d b (data0 end user))).told.finding
+routed_zero None way.Left b end user s firm judged = inr (rule.UnexpectedUnit, refl)
+routed_zero None way.Right b end user s firm judged = inr (rule.UnexpectedUnit, refl)
+routed_zero (Some Zero) way.Left b end user s firm judged =
+    clear_any way.Left (data0 end user) s firm judged (nowhere_zero s.course.strays end user)
+    (λ c. found_zero way.Left end user s.course false c) (position (is_live way.Left) s.connections)
+routed_zero (Some Zero) way.Right b end user s firm judged =
+    clear_any way.Right (data0 end user) s firm judged (nowhere_zero s.course.strays end user)
+    (λ c. found_zero way.Right end user s.course false c) (position (is_live way.Right) s.connections)
+routed_zero (Some Two) way.Left b end user s firm judged = inr (rule.UnexpectedUnit, refl)
+routed_zero (Some Two) way.Right b end user s firm judged = inr (rule.UnexpectedUnit, refl)
+
+pub goes_clear : (b : Bool) (d : Way) (s : State) (o : traffic.Outcome) → b ≡ false → IsClear o.told.finding →
+    IsClear (if b then none_told d NotJudged s else o).told.finding
+goes_clear true d s o h k = absurd (cc)
+goes_clear false d s o h k = k
+
+pub dt_clear : (d : Way) (v : Value) (end : Bool) (s : State) → unit_parts v ≡ (end, user_of v) ∷ [] → is_stopped d s.course ≡ false →
+    s.course.loose ≡ false → AreJudged s → IsClear (takes d v s).told.finding
+dt_clear d (data0 e user) end s parts goes firm judged =
+    goes_clear (is_stopped d s.course) d s (routed d (data0 e user) s (route d s.course (data0 e user))) goes
+    (routed_zero (class_for d s.course) d (is_stopped (sides.other d) s.course) e user s firm judged)
+dt_clear d (data2 n number e user) end s parts goes firm judged =
+    goes_clear (is_stopped d s.course) d s (routed d (data2 n number e user) s (route d s.course (data2 n number e user))) goes
+    (routed_two (class_for d s.course) d (is_stopped (sides.other d) s.course) n number e user s firm judged)
+dt_clear d (request x) end s parts goes firm judged = absurd (cc)
+dt_clear d (confirm m x) end s parts goes firm judged = absurd (cc)
+dt_clear d (disconnect m source reason user) end s parts goes firm judged = absurd (cc)
+dt_clear d (disconnected m source) end s parts goes firm judged = absurd (cc)
+dt_clear d (acknowledge credit m number) end s parts goes firm judged = absurd (cc)
+dt_clear d (error m cause) end s parts goes firm judged = absurd (cc)
+
+right_by : (f : Finding) → IsClear f → ((r : Rule) → f ≡ Broke r → ⊥) → f ≡ Kept
+right_by f (inl is) none = is
+right_by f (inr (r, is)) none = absurd (none r is)
+
+pub dt_right : (d : Way) (v : Value) (end : Bool) (s : State) → unit_parts v ≡ (end, user_of v) ∷ [] → is_stopped d s.course ≡ false →
+    s.course.loose ≡ false → AreJudged s → ((r : Rule) → (takes d v s).told.finding ≡ Broke r → ⊥) →
+    (takes d v s).told.finding ≡ Kept
+dt_right d v end s parts goes firm judged none = right_by (takes d v s).told.finding (dt_clear d v end s parts goes firm judged) none
+
+-- ---- all connections are judged as long as none has lost its judgement
+
+abbrev pub Judged : Course → Type 0
+Judged c = AreJudged c.traffic
+
+bad_by : (b : Bool) (d : Direction) (at : ℕ) (cause : Cause) (c : Course) → Judged c →
+    Judged (if b then c else marked (unread_mark d at cause) (traffic.refused_reach (way_of d) c.traffic)
+    (moved (unread_moment d at cause c.sessions) (record c { traffic = traffic.refused (way_of d) c.traffic })))
+bad_by true d at cause c h = h
+bad_by false d at cause c h =
+    subst AreJudged (sym (marked_traffic (unread_mark d at cause) (traffic.refused_reach (way_of d) c.traffic) _))
+    (still_judged (rubbish (way_of d)) c.traffic h)
+
+pub judged_claim : IsClaim Judged
+judged_claim = record {
+  begins = λ d c h. still_judged (packet (way_of d)) c.traffic h;
+  passes = λ d at v c h. subst AreJudged (sym (unit_knows d at v c)) (still_judged (unit (way_of d) v) c.traffic h);
+  bad = λ d at cause c h. bad_by (is_some (marks_of d c).halted) d at cause c h;
+}
+
+pub capture_judged : (capture : Capture) → Judged (comes_to capture).course
+capture_judged capture = after_kept Judged judged_claim capture begin (λ h i c at. no_item i c at)

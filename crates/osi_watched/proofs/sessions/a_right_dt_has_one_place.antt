@@ -1,0 +1,326 @@
+-- A DT that is right has a place, at which it adds to what is joined; and each side uses a reference at one open place at most.
+-- For the law on places.
+use Rattle.std.proofs.Common.{◌≡◌, ◌∙◌, refl, sym, ap, subst, ℕ, ◌+◌, Bool, true, false, if◌then◌else◌, is_some}
+use Rattle.std.proofs.Common.{List, [], ◌∷◌, length, Option, Some, None}
+use Rattle.std.specs.Prelude.{◌&&◌, ◌||◌, ◌==◌, not, position, slice_get}
+use Rattle.std.proofs.lemmas.Bool.{eq-eqb}
+use Rattle.osi_tpdu.specs.Value.{Value, acknowledge, confirm, data0, data2, destination_of, disconnect, disconnected, error, request}
+use Rattle.osi_class.specs.Runs.{unit_parts}
+use Rattle.osi_class.specs.Tsdus.{Part}
+use Rattle.osi_class.specs.declared.terms.Class.{Class}
+use Rattle.osi_class.specs.declared.terms.Class.TheVariants.{Two, Zero}
+use Rattle.osi_judge.specs.Captures.{Capture, other}
+use Rattle.osi_judge.specs.declared.directions.Direction.{Direction}
+use Rattle.osi_judge.specs.declared.directions.Direction.TheVariants.{Left, Right}
+use Rattle.osi_rules.specs.declared.connections.Connection.{Connection}
+use Rattle.osi_rules.specs.declared.courses.Course.{Course as Rules}
+use Rattle.osi_rules.specs.declared.directions.Direction.{Direction as Way}
+use Rattle.osi_rules.specs.declared.directions.Direction.TheVariants as way
+use Rattle.osi_rules.specs.declared.findings.Finding.{Finding}
+use Rattle.osi_rules.specs.declared.findings.Finding.TheVariants.{Broke, Kept, NotJudged}
+use Rattle.osi_rules.specs.declared.findings.Meaning.TheVariants.{Adds}
+use Rattle.osi_rules.specs.declared.findings.Rule.{Rule}
+use Rattle.osi_rules.specs.declared.findings.Rule.TheVariants as rule
+use Rattle.osi_rules.specs.declared.halves.Phase.{Phase}
+use Rattle.osi_rules.specs.declared.halves.Phase.TheVariants as phase
+use Rattle.osi_rules.specs.declared.routes.Route.{Route}
+use Rattle.osi_rules.specs.Reaches.{is_applied}
+use Rattle.osi_rules.specs.Rows.{Test, first_failed, fits_size, fits_tsdu, has_credit, is_tellable}
+use Rattle.osi_rules.specs.Sides.{is_closed, is_closing, is_live, is_named, is_open, is_over_by, is_refused, is_silent, own, uses}
+use Rattle.osi_rules.specs.Sides as sides
+use Rattle.osi_rules.specs.Traffic.{Outcome, State, at_found, at_place, class_for, found, is_stopped, meaning_if, meant, none_told}
+use Rattle.osi_rules.specs.Traffic.{route, route_in, routed, takes, unnamed_by, uses_source}
+use Rattle.osi_rules.specs.Traffic as traffic
+use Rattle.osi_fair.specs.Naming.{packet, rubbish, unit}
+use Rattle.osi_fair.proofs.a_reference_names_one_connection.{fresh_apart, passes_apart}
+use Rattle.osi_fair.proofs.what_keeps_names_apart.{AreApart, Sound}
+use Rattle.osi_tap.specs.declared.marks.Cause.{Cause}
+use Rattle.osi_tap.specs.Connections.{Joined, reference_of, user_of}
+use Rattle.osi_tap.specs.Courses.{Course, marked, marks_of, moved, packet_begins, unit_passes, unread_mark, unread_moment, way_of}
+use Rattle.osi_tap.specs.Tapping.{begin, comes_to}
+use Rattle.osi_watched.specs.ShownPlaces.{HaveSamePlaces, IsJoinedAt, IsOneOf, named_by}
+use Rattle.osi_watched.proofs.what_passes_keeps_a_claim.{IsClaim, after_kept}
+use Rattle.osi_watched.proofs.sessions.a_unit_is_joined_where_it_is_named.{joined_named}
+use Rattle.osi_watched.proofs.sessions.connections_have_the_same_places.{at_same, joined_there, marked_traffic, unit_knows}
+
+-- ---- a DT that is right
+
+-- the place that is told, and the connection there
+pub record IsPlaced (d : Way) (v : Value) (end : Bool) (s : State) (o : Outcome) : Type 0 where
+  pub place : ℕ
+  pub connection : Connection
+  pub told : o.told.place ≡ Some place
+  pub means : o.told.meaning ≡ Adds end
+  pub there : slice_get s.connections place ≡ Some connection
+  pub judged : connection.is_judged ≡ true
+  pub kept : found d s.course (uses_source d s.connections v) connection v ≡ Kept
+
+judged_kept : (b : Bool) (f : Finding) → (if b then f else NotJudged) ≡ Kept → (b ≡ true) × (f ≡ Kept)
+judged_kept true f h = (refl, h)
+judged_kept false f h = absurd (cc)
+
+-- a unit that adds to a TSDU
+abbrev AddsTo : Value → Bool → Type 0
+AddsTo v end = meant v ≡ Adds end
+
+never_unnamed : {A : Type 0} (loose strays : Bool) (v : Value) (end : Bool) → AddsTo v end →
+    (if loose then NotJudged else unnamed_by strays v) ≡ Kept → A
+never_unnamed true strays v end adds h = absurd (cc)
+never_unnamed false true (request c) end adds h = absurd (cc)
+never_unnamed false false (request c) end adds h = absurd (cc)
+never_unnamed false true (confirm n c) end adds h = absurd (cc)
+never_unnamed false false (confirm n c) end adds h = absurd (cc)
+never_unnamed false true (disconnect n source reason user) end adds h = absurd (cc)
+never_unnamed false false (disconnect n source reason user) end adds h = absurd (cc)
+never_unnamed false true (disconnected n source) end adds h = absurd (cc)
+never_unnamed false false (disconnected n source) end adds h = absurd (cc)
+never_unnamed false true (data0 e user) end adds h = absurd (cc)
+never_unnamed false false (data0 e user) end adds h = absurd (cc)
+never_unnamed false true (data2 n number e user) end adds h = absurd (cc)
+never_unnamed false false (data2 n number e user) end adds h = absurd (cc)
+never_unnamed false true (acknowledge credit n number) end adds h = absurd (cc)
+never_unnamed false false (acknowledge credit n number) end adds h = absurd (cc)
+never_unnamed false true (error n cause) end adds h = absurd (cc)
+never_unnamed false false (error n cause) end adds h = absurd (cc)
+
+module _ (d : Way) (v : Value) (end : Bool) (s : State) (adds : AddsTo v end) where
+  placed_one : (i : ℕ) (o : Option Connection) → slice_get s.connections i ≡ o → (at_found d v s i o).told.finding ≡ Kept →
+      IsPlaced d v end s (at_found d v s i o)
+  placed_one i None e h = never_unnamed s.course.loose s.course.strays v end adds h
+  placed_one i (Some c) e h =
+      let (judged, kept) = judged_kept c.is_judged (found d s.course (uses_source d s.connections v) c v) h in
+      record {
+        place = i;
+        connection = c;
+        told = refl;
+        means = ap (λ (f : Finding). meaning_if (is_applied f) (meant v)) h ∙ adds;
+        there = e;
+        judged = judged;
+        kept = kept;
+      }
+
+  placed_any : (o : Option ℕ) → (at_place d v s o).told.finding ≡ Kept → IsPlaced d v end s (at_place d v s o)
+  placed_any None h = never_unnamed s.course.loose s.course.strays v end adds h
+  placed_any (Some i) h = placed_one i (slice_get s.connections i) refl h
+
+  stopped_or : (b : Bool) (r : Route) → ((routed d v s r).told.finding ≡ Kept → IsPlaced d v end s (routed d v s r)) →
+      (if b then none_told d NotJudged s else routed d v s r).told.finding ≡ Kept →
+      IsPlaced d v end s (if b then none_told d NotJudged s else routed d v s r)
+  stopped_or true r f h = absurd (cc)
+  stopped_or false r f h = f h
+
+-- in class 2
+two_routed : (k : Option Class) (d : Way) (b : Bool) (n number : ℕ) (end : Bool) (user : List ℕ) (s : State) →
+    (routed d (data2 n number end user) s (route_in k d b (data2 n number end user))).told.finding ≡ Kept →
+    IsPlaced d (data2 n number end user) end s (routed d (data2 n number end user) s (route_in k d b (data2 n number end user)))
+two_routed None way.Left b n number end user s h = absurd (cc)
+two_routed None way.Right b n number end user s h = absurd (cc)
+two_routed (Some Zero) way.Left b n number end user s h = absurd (cc)
+two_routed (Some Zero) way.Right b n number end user s h = absurd (cc)
+two_routed (Some Two) way.Left b n number end user s h =
+    placed_any way.Left (data2 n number end user) end s refl (position (is_named way.Left n) s.connections) h
+two_routed (Some Two) way.Right b n number end user s h =
+    placed_any way.Right (data2 n number end user) end s refl (position (is_named way.Right n) s.connections) h
+
+-- in class 0
+zero_routed : (k : Option Class) (d : Way) (b : Bool) (end : Bool) (user : List ℕ) (s : State) →
+    (routed d (data0 end user) s (route_in k d b (data0 end user))).told.finding ≡ Kept →
+    IsPlaced d (data0 end user) end s (routed d (data0 end user) s (route_in k d b (data0 end user)))
+zero_routed None way.Left b end user s h = absurd (cc)
+zero_routed None way.Right b end user s h = absurd (cc)
+zero_routed (Some Zero) way.Left b end user s h =
+    placed_any way.Left (data0 end user) end s refl (position (is_live way.Left) s.connections) h
+zero_routed (Some Zero) way.Right b end user s h =
+    placed_any way.Right (data0 end user) end s refl (position (is_live way.Right) s.connections) h
+zero_routed (Some Two) way.Left b end user s h = absurd (cc)
+zero_routed (Some Two) way.Right b end user s h = absurd (cc)
+
+pub two_placed : (d : Way) (n number : ℕ) (end : Bool) (user : List ℕ) (s : State) →
+    (takes d (data2 n number end user) s).told.finding ≡ Kept →
+    IsPlaced d (data2 n number end user) end s (takes d (data2 n number end user) s)
+two_placed d n number end user s h =
+    let v = data2 n number end user in
+    stopped_or d v end s refl (is_stopped d s.course) (route d s.course v)
+    (two_routed (class_for d s.course) d (is_stopped (sides.other d) s.course) n number end user s) h
+
+pub zero_placed : (d : Way) (end : Bool) (user : List ℕ) (s : State) → (takes d (data0 end user) s).told.finding ≡ Kept →
+    IsPlaced d (data0 end user) end s (takes d (data0 end user) s)
+zero_placed d end user s h =
+    let v = data0 end user in
+    stopped_or d v end s refl (is_stopped d s.course) (route d s.course v)
+    (zero_routed (class_for d s.course) d (is_stopped (sides.other d) s.course) end user s) h
+
+-- its sender has not closed the connection
+second_test : (a b : Bool) (x y : Rule) (more : List Test) → first_failed ((a, Broke x) ∷ (b, Broke y) ∷ more) ≡ Kept → b ≡ true
+second_test true true x y more h = refl
+second_test true false x y more h = absurd (cc)
+second_test false b x y more h = absurd (cc)
+
+abbrev tests_of_numbers : Way → Connection → (number octets : ℕ) → List Test
+tests_of_numbers d c number octets =
+    (number == (own d c).next, Broke rule.OutOfSequence) ∷ (is_tellable d c, Broke rule.OutOfSequence)
+    ∷ (fits_tsdu d c octets, Broke rule.TsduTooLong) ∷ (has_credit d c, Broke rule.NoCredit)
+    ∷ (fits_size c.size (octets + 5), Broke rule.SizeExceeded) ∷ []
+
+pub two_open : (d : Way) (n number : ℕ) (end : Bool) (user : List ℕ) (course : Rules) (in_use : Bool) (c : Connection) →
+    found d course in_use c (data2 n number end user) ≡ Kept → is_open (own d c).phase ≡ true
+two_open way.Left n number end user course in_use c h =
+    second_test (not (is_silent c.left.phase)) (is_open c.left.phase) rule.UnknownReference rule.Closed
+    (tests_of_numbers way.Left c number (length user)) h
+two_open way.Right n number end user course in_use c h =
+    second_test (not (is_silent c.right.phase)) (is_open c.right.phase) rule.UnknownReference rule.Closed
+    (tests_of_numbers way.Right c number (length user)) h
+
+-- ---- it is joined there
+
+joined_at : (d : Direction) (at : ℕ) (v : Value) (end : Bool) (c : Course) → HaveSamePlaces c.traffic.connections c.sessions.live →
+    (p : IsPlaced (way_of d) v end c.traffic (takes (way_of d) v c.traffic)) →
+    ((n : ℕ) → destination_of v ≡ Some n → is_open (own (way_of d) p.connection).phase ≡ true) → IsJoinedAt d at v end c
+joined_at d at v end c h p live =
+    let (j, here, one) = at_same c.traffic.connections c.sessions.live p.place p.connection h p.there in
+    record {
+      place = p.place;
+      connection = p.connection;
+      joined = j;
+      there = p.there;
+      here = here;
+      judged = p.judged;
+      named = λ n e. (joined_named d v c n p.place p.connection j h e p.told p.there p.judged here, live n e);
+      sessions = joined_there d at p.place end v c j p.means p.told here;
+    }
+
+first_part : (e end : Bool) (user : List ℕ) → ◌≡◌ {A = List Part} ((e, user) ∷ []) ((end, user) ∷ []) → e ≡ end
+first_part e end user h = ap (λ (l : List Part). first_of l) h
+  where
+    first_of : List Part → Bool
+    first_of [] = true
+    first_of (part ∷ parts) = part.0
+
+pub dt_joined : (d : Direction) (at : ℕ) (v : Value) (end : Bool) (c : Course) → HaveSamePlaces c.traffic.connections c.sessions.live →
+    unit_parts v ≡ (end, user_of v) ∷ [] → (takes (way_of d) v c.traffic).told.finding ≡ Kept → IsJoinedAt d at v end c
+dt_joined d at (data0 e user) end c h parts kept =
+    subst (λ (b : Bool). IsJoinedAt d at (data0 e user) b c) (first_part e end user parts)
+    (joined_at d at (data0 e user) e c h (zero_placed (way_of d) e user c.traffic kept) (λ n k. absurd (cc k)))
+dt_joined d at (data2 m number e user) end c h parts kept =
+    let v = data2 m number e user in
+    let p = two_placed (way_of d) m number e user c.traffic kept in
+    subst (λ (b : Bool). IsJoinedAt d at v b c) (first_part e end user parts)
+    (joined_at d at v e c h p (λ n k. two_open (way_of d) m number e user c.traffic.course
+    (uses_source (way_of d) c.traffic.connections v) p.connection p.kept))
+dt_joined d at (request x) end c h parts kept = absurd (cc)
+dt_joined d at (confirm m x) end c h parts kept = absurd (cc)
+dt_joined d at (disconnect m source reason user) end c h parts kept = absurd (cc)
+dt_joined d at (disconnected m source) end c h parts kept = absurd (cc)
+dt_joined d at (acknowledge credit m number) end c h parts kept = absurd (cc)
+dt_joined d at (error m cause) end c h parts kept = absurd (cc)
+
+-- ---- one open place for a reference of the other side
+
+abbrev pub Apart : Course → Type 0
+Apart c = AreApart c.traffic.connections
+
+apart_packet : (d : Direction) (c : Course) → Apart c → Apart (packet_begins d c)
+apart_packet d c h = passes_apart (packet (way_of d)) c.traffic h
+
+apart_unit : (d : Direction) (at : ℕ) (v : Value) (c : Course) → Apart c → Apart (unit_passes d at v c)
+apart_unit d at v c h =
+    subst (λ (t : State). AreApart t.connections) (sym (unit_knows d at v c)) (passes_apart (unit (way_of d) v) c.traffic h)
+
+bad_by : (b : Bool) (d : Direction) (at : ℕ) (cause : Cause) (c : Course) → Apart c →
+    Apart (if b then c else marked (unread_mark d at cause) (traffic.refused_reach (way_of d) c.traffic)
+    (moved (unread_moment d at cause c.sessions) (record c { traffic = traffic.refused (way_of d) c.traffic })))
+bad_by true d at cause c h = h
+bad_by false d at cause c h =
+    subst (λ (t : State). AreApart t.connections) (sym (marked_traffic (unread_mark d at cause)
+    (traffic.refused_reach (way_of d) c.traffic) _)) (passes_apart (rubbish (way_of d)) c.traffic h)
+
+apart_claim : IsClaim Apart
+apart_claim = record {
+  begins = λ d c h. apart_packet d c h;
+  passes = λ d at v c h. apart_unit d at v c h;
+  bad = λ d at cause c h. bad_by (is_some (marks_of d c).halted) d at cause c h;
+}
+
+pub capture_apart : (capture : Capture) → Apart (comes_to capture).course
+capture_apart capture = after_kept Apart apart_claim capture begin fresh_apart
+
+-- ---- a side that has not closed a connection leaves the reference of the other side in use
+
+not_so : (b : Bool) → (b ≡ true → ⊥) → b ≡ false
+not_so true h = absurd (h refl)
+not_so false h = refl
+
+unlike : (p : Phase) → is_open p ≡ true → (is_refused p ≡ false) × (is_closing p ≡ false) × (is_closed p ≡ false) × (is_silent p ≡ false)
+unlike phase.Silent h = absurd (cc)
+unlike phase.Open h = (refl, refl, refl, refl)
+unlike phase.Refused h = absurd (cc)
+unlike phase.Closing h = absurd (cc)
+unlike phase.Closed h = absurd (cc)
+
+differ : {A : Type 0} (b : Bool) → b ≡ true → b ≡ false → A
+differ b h k = absurd (cc)
+
+-- what was known of the other side is neither, if the other side is neither now
+known_not : (f : Phase → Bool) (known now : Phase) → (f known ≡ true → f now ≡ true) → f now ≡ false → f known ≡ false
+known_not f known now h k = not_so (f known) (λ e. differ (f now) (h e) k)
+
+over_not : (a b c g h i : Bool) → a ≡ false → b ≡ false → c ≡ false → h ≡ false → i ≡ false → (a || (b || (c || (g && (h || i))))) ≡ false
+over_not a b c true h i p q r s t = rw (p, q, r, s, t) refl
+over_not a b c false h i p q r s t = rw (p, q, r) refl
+
+used_so : (j over silent same : Bool) → over ≡ false → silent ≡ false → same ≡ true → (not (j && over) && (not silent && same)) ≡ true
+used_so true over silent same a b c = rw (a, b, c) refl
+used_so false over silent same a b c = rw (b, c) refl
+
+given_of : (p : Phase) (r n : ℕ) → named_by p r ≡ Some n → (r ≡ n) × (is_silent p ≡ false) × (is_refused p ≡ false)
+given_of phase.Silent r n h = absurd (cc)
+given_of phase.Open r n h = (cc, refl, refl)
+given_of phase.Refused r n h = absurd (cc)
+given_of phase.Closing r n h = (cc, refl, refl)
+given_of phase.Closed r n h = (cc, refl, refl)
+
+asked_of : (p : Phase) → (is_silent p || is_refused p) ≡ false → (is_silent p ≡ false) × (is_refused p ≡ false)
+asked_of phase.Silent h = absurd (cc)
+asked_of phase.Open h = (refl, refl)
+asked_of phase.Refused h = absurd (cc)
+asked_of phase.Closing h = (refl, refl)
+asked_of phase.Closed h = (refl, refl)
+
+same_number : (m n : ℕ) → Some m ≡ Some n → m ≡ n
+same_number m n e = cc
+
+-- a side that has a connection open leaves the reference in use that the other side gave it
+pub still_used : (d : Direction) (n : ℕ) (c : Connection) (j : Joined) → IsOneOf c j → Sound c → is_open (own (way_of d) c).phase ≡ true →
+    reference_of (other d) j ≡ Some n → uses (way_of (other d)) n c ≡ true
+still_used Left n c j h sound live is =
+    let (same, silent, refused) = given_of c.right.phase c.right.reference n (sym h.called ∙ is) in
+    let (l_refused, l_closing, l_closed, l_silent) = unlike c.left.phase live in
+    used_so c.is_judged (is_over_by c.right c.seen_by_right) (is_silent c.right.phase) (c.right.reference == n)
+    (over_not _ _ _ (is_closing c.right.phase) _ _ refused
+    (known_not is_refused c.seen_by_right.phase c.left.phase sound.right_knows.refused l_refused)
+    (not_so (is_closed c.right.phase) (λ e. differ (is_closing c.left.phase) (sound.right_closed e) l_closing))
+    (known_not is_closing c.seen_by_right.phase c.left.phase sound.right_knows.closing l_closing)
+    (known_not is_closed c.seen_by_right.phase c.left.phase sound.right_knows.closed l_closed))
+    silent (eq-eqb c.right.reference n same)
+still_used Right n c j h sound live is =
+    let (silent, refused) = asked_of c.left.phase h.asks in
+    let (r_refused, r_closing, r_closed, r_silent) = unlike c.right.phase live in
+    used_so c.is_judged (is_over_by c.left c.seen_by_left) (is_silent c.left.phase) (c.left.reference == n)
+    (over_not _ _ _ (is_closing c.left.phase) _ _ refused
+    (known_not is_refused c.seen_by_left.phase c.right.phase sound.left_knows.refused r_refused)
+    (not_so (is_closed c.left.phase) (λ e. differ (is_closing c.right.phase) (sound.left_closed e) r_closing))
+    (known_not is_closing c.seen_by_left.phase c.right.phase sound.left_knows.closing r_closing)
+    (known_not is_closed c.seen_by_left.phase c.right.phase sound.left_knows.closed r_closed))
+    silent (eq-eqb c.left.reference n (sym h.calling ∙ same_number j.calling n is))
+
+-- so two places that a side has open, and to which the other side gave this reference, are one
+pub one_place : (d : Direction) (n p q : ℕ) (c e : Connection) (j k : Joined) (cs : List Connection) → AreApart cs →
+    slice_get cs p ≡ Some c → slice_get cs q ≡ Some e → c.is_judged ≡ true → e.is_judged ≡ true → IsOneOf c j → IsOneOf e k →
+    is_open (own (way_of d) c).phase ≡ true → is_open (own (way_of d) e).phase ≡ true → reference_of (other d) j ≡ Some n →
+    reference_of (other d) k ≡ Some n → p ≡ q
+one_place Left n p q c e j k cs apart there here judged so one another live lives is same =
+    apart.used_right n p q c e there here judged so (still_used Left n c j one (apart.sound p c there judged) live is)
+    (still_used Left n e k another (apart.sound q e here so) lives same)
+one_place Right n p q c e j k cs apart there here judged so one another live lives is same =
+    apart.used_left n p q c e there here judged so (still_used Right n c j one (apart.sound p c there judged) live is)
+    (still_used Right n e k another (apart.sound q e here so) lives same)

@@ -1,0 +1,229 @@
+-- A session of an end is not to blame for what a tap has joined of its connection.
+-- For the law on a connection of an end and a tap.
+use Rattle.std.proofs.Common.{◌≡◌, ◌∙◌, refl, sym, ap, subst, ℕ, ◌+◌, ◌≤◌, ◌&&◌, nat_lt, Bool, true, false, List, [], ◌∷◌, ◌++◌}
+use Rattle.std.proofs.Common.{length, map, take, drop, inl, inr, append_assoc}
+use Rattle.std.specs.List.{AllByRecursion}
+use Rattle.std.proofs.lemmas.Grind.{flat_map-append}
+use Rattle.std.proofs.lemmas.List.{append-nil, take-append-drop}
+use Rattle.osi_class.specs.Link.{Given, ack, part0, part2, unit_of}
+use Rattle.osi_class.specs.Runs.{Move, give_out, given_parts, hand_in, hand_out, parts_in, parts_out, take_in, tsdus_in, tsdus_out}
+use Rattle.osi_class.specs.Runs.{unit_parts}
+use Rattle.osi_class.specs.Tsdus.{Part, tsdus, tsdus_after, uncut}
+use Rattle.osi_session.specs.Standing.{Seen}
+use Rattle.osi_judge.specs.Captures.{other}
+use Rattle.osi_judge.specs.Explaining.{IsExplained, Told}
+use Rattle.osi_judge.specs.Explaining.Explains.{done}
+use Rattle.osi_judge.specs.Judging.{IsFound}
+use Rattle.osi_judge.specs.Profiles.{selects_outside}
+use Rattle.osi_judge.specs.Running.{IsHonest, IsSentFrom}
+use Rattle.osi_judge.specs.Running as running
+use Rattle.osi_judge.specs.Stops.{broke_session}
+use Rattle.osi_judge.specs.Tapping.{begin_of}
+use Rattle.osi_judge.specs.declared.directions.Direction.{Direction}
+use Rattle.osi_judge.specs.declared.directions.Direction.TheVariants.{Left as left, Right as right}
+use Rattle.osi_judge.specs.declared.findings.Finding.{Finding}
+use Rattle.osi_judge.specs.declared.findings.Finding.TheVariants.{Kept, Broke, Left, TooMany}
+use Rattle.osi_judge.proofs.honest.a_call_is_explained.{AsSent}
+use Rattle.osi_judge.proofs.honest.a_caller_is_explained.{front_told}
+use Rattle.osi_judge.proofs.honest.a_cn_is_answered_within_its_units.{first_asked}
+use Rattle.osi_judge.proofs.honest.an_honest_run_stays_in_the_profile.{AllInside, AsParts, front_inside, honest_inside}
+use Rattle.osi_judge.proofs.honest.an_honest_side_is_kept.{CalledLaw, CallerLaw}
+use Rattle.osi_stack.specs.State.{End}
+use Rattle.osi_session.specs.Listening.{Listener}
+use Rattle.osi_honest.specs.Courses.{Course, Deeds, Gone, Speaks, no_deeds, said_in, units_given}
+use Rattle.osi_honest.specs.Courses.Course.{awaited, is_gone, is_open, unknown}
+use Rattle.osi_honest.specs.Courses.Gone.{closed, never, over}
+use Rattle.osi_honest.specs.Showing.{Shows}
+use Rattle.osi_honest.specs.Stretches.{octets_said}
+use Rattle.osi_honest.specs.Talking.{Said, told_of}
+use Rattle.osi_honest.proofs.courses.what_calls_of_a_link_say.{none_said, out_more, said_more}
+use Rattle.osi_honest.proofs.courses.what_was_said_is_explained.{IsSaid, nothing, shown_said, something, units_came, units_put}
+use Rattle.osi_honest.proofs.opening.the_session_of_a_request_is_a_caller.{opens_so}
+use Rattle.osi_honest.proofs.sessions.a_history_is_a_run.{history_runs}
+use Rattle.osi_tap.specs.Blaming.{IsToBlame}
+use Rattle.osi_tap.specs.Connections.{Joined, spoken}
+use Rattle.osi_tap.specs.Lines.{Spoken, heard, told}
+use Rattle.osi_tap.specs.Lines as lines
+use Rattle.osi_watched.specs.Shown.{AreAfter, IsShownOf, before_of, calls_from, left_over, parts_of}
+
+-- ---- what was said is a run of a session, also if more was heard than it took
+
+-- the session took the first of these
+spoken_by : (is_caller : Bool) (taken : List Move) (is_closed : Bool) (session : Listener) (us rest : List (List ℕ)) →
+    Speaks is_caller taken is_closed session → us ≡ tsdus_out taken ++ rest → IsSaid is_caller us (map told_of (said_in 0 taken))
+spoken_by is_caller taken is_closed session us rest s is =
+    something s.begin s.new (record {
+      later = [];
+      runs = history_runs s.begin us (tsdus_out taken) (said_in 0 taken) is_closed session s.history rest is []
+          (running.rests is_closed session (length (tsdus_out taken)));
+    })
+
+module _ (is_caller : Bool) (r : ℕ) (deeds : Deeds) (e : End) (us rest : List (List ℕ)) (is : us ≡ tsdus_out deeds.calls ++ rest) where
+  abbrev Said_of : Type 0
+  Said_of = IsSaid is_caller us (map told_of (said_in 0 deeds.calls))
+
+  unsaid_yet : deeds ≡ no_deeds → Said_of
+  unsaid_yet none = nothing (ap (λ (x : Deeds). map told_of (said_in 0 x.calls)) none)
+
+  gone_said : Gone is_caller r deeds e → Said_of
+  gone_said (closed peer calls is_closed session s given shut) = spoken_by is_caller deeds.calls is_closed session us rest s is
+  gone_said (never none ended) = unsaid_yet none
+  gone_said (over peer calls taken untaken is_closed session s parts into ended) =
+      let said : said_in 0 deeds.calls ≡ said_in 0 taken =
+      ap (said_in 0) parts ∙ said_more 0 taken untaken
+      ∙ ap (λ (l : List Said). said_in 0 taken ++ l) (none_said (0 + length (tsdus_out taken)) untaken into)
+      ∙ append-nil (said_in 0 taken) in
+      subst (λ (l : List Said). IsSaid is_caller us (map told_of l)) (sym said)
+      (spoken_by is_caller taken is_closed session us (tsdus_out untaken ++ rest) s
+      (is ∙ ap (λ (l : List (List ℕ)). l ++ rest) (ap tsdus_out parts ∙ out_more taken untaken)
+      ∙ append_assoc (tsdus_out taken) (tsdus_out untaken) rest))
+
+  pub heard_said : Course is_caller r deeds e → Said_of
+  heard_said (unknown none side free live kept) = unsaid_yet none
+  heard_said (awaited none c terms side lasts given here kept) = unsaid_yet none
+  heard_said (is_open given o) = spoken_by is_caller deeds.calls false o.session us rest o.speaks is
+  heard_said (is_gone g) = gone_said g
+
+-- ---- TSDUs and parts
+
+pub tsdus_more : (begun : List ℕ) (some more : List Part) →
+    tsdus_after begun (some ++ more) ≡ tsdus_after begun some ++ tsdus_after (left_over begun some) more
+tsdus_more begun [] more = refl
+tsdus_more begun ((false, octets) ∷ some) more = tsdus_more (begun ++ octets) some more
+tsdus_more begun ((true, octets) ∷ some) more = ap (λ (l : List (List ℕ)). (begun ++ octets) ∷ l) (tsdus_more [] some more)
+
+parts_given : (peer : ℕ) (given : Given) → unit_parts (unit_of peer given) ≡ given_parts given
+parts_given peer (part0 end octets) = refl
+parts_given peer (part2 number end octets) = refl
+parts_given peer (ack number credit) = refl
+
+pub parts_put : (peer : ℕ) (moves : List Move) → parts_of (map (unit_of peer) (units_given moves)) ≡ parts_out moves
+parts_put peer [] = refl
+parts_put peer (give_out given ∷ moves) = λ i. parts_given peer given i ++ parts_put peer moves i
+parts_put peer (hand_in tsdu ∷ moves) = parts_put peer moves
+parts_put peer (take_in unit ∷ moves) = parts_put peer moves
+parts_put peer (hand_out tsdu ∷ moves) = parts_put peer moves
+
+pub octets_in : (n : ℕ) (moves : List Move) → octets_said (said_in n moves) ≡ tsdus_in moves
+octets_in n [] = refl
+octets_in n (hand_in tsdu ∷ moves) = ap (λ (l : List (List ℕ)). tsdu ∷ l) (octets_in n moves)
+octets_in n (hand_out tsdu ∷ moves) = octets_in (n + 1) moves
+octets_in n (give_out given ∷ moves) = octets_in n moves
+octets_in n (take_in unit ∷ moves) = octets_in n moves
+
+-- ---- what the tap has joined is shown of it
+
+joined_shows : (bound : ℕ) (said : List lines.Said) (last : List ℕ) (all : List Said) (more : List (List ℕ)) →
+    map lines.octets_of said ++ more ≡ octets_said all → AreAfter (map before_of said ++ last) all →
+    AllByRecursion (λ n. n ≤ bound) (map before_of said ++ last) → Shows bound (map lines.told_of said) (map told_of all)
+joined_shows bound [] last all more is a b = tt
+joined_shows bound (t ∷ said) last [] more is a b = absurd a
+joined_shows bound (t ∷ said) last (s ∷ all) more is a b =
+    let same : t.octets ≡ s.octets = cc in
+    let rest : map lines.octets_of said ++ more ≡ octets_said all = cc in
+    (same, a.0, b.0, joined_shows bound said last all more rest a.1 b.1)
+
+module _ (d : Direction) (r : ℕ) (deeds : Deeds) (e : End) (j : Joined) (course : Course (calls_from d) r deeds e)
+    (shown : IsShownOf d r deeds j) where
+  -- all that was said comes after what is joined
+  own_more : (more : List (List ℕ)) × (heard (spoken d j) ++ more ≡ octets_said (said_in 0 deeds.calls))
+  own_more =
+      let put = units_put (calls_from d) r deeds e course in
+      let unsent = put.0 in
+      let parts : parts_out deeds.calls ≡ parts_of shown.passed ++ parts_of shown.waiting =
+      sym (parts_put put.1 deeds.calls) ∙ ap parts_of (sym put.2) ∙ ap parts_of shown.put
+      ∙ flat_map-append unit_parts shown.passed shown.waiting in
+      let all : tsdus_in deeds.calls ≡ tsdus (parts_of shown.passed ++ (parts_of shown.waiting ++ uncut unsent)) =
+      sym put.3 ∙ ap (λ (l : List Part). tsdus (l ++ uncut unsent)) parts
+      ∙ ap tsdus (append_assoc (parts_of shown.passed) (parts_of shown.waiting) (uncut unsent)) in
+      let more = tsdus_after (left_over [] (parts_of shown.passed)) (parts_of shown.waiting ++ uncut unsent) in (
+        more,
+        ap (λ (l : List (List ℕ)). l ++ more) shown.said.whole
+            ∙ sym (tsdus_more [] (parts_of shown.passed) (parts_of shown.waiting ++ uncut unsent))
+            ∙ sym all ∙ sym (octets_in 0 deeds.calls),
+      )
+
+  -- what was taken comes first of what is heard
+  other_more : (more : List (List ℕ)) × (heard (spoken (other d) j) ≡ tsdus_out deeds.calls ++ more)
+  other_more =
+      let more = tsdus_after (left_over [] (parts_in deeds.calls)) shown.later in (
+        more,
+        shown.came.whole ∙ tsdus_more [] (parts_in deeds.calls) shown.later
+            ∙ ap (λ (l : List (List ℕ)). l ++ more) (units_came (calls_from d) r deeds e course),
+      )
+
+  pub joined_said : IsSaid (calls_from d) (heard (spoken (other d) j)) (told (spoken d j))
+  joined_said =
+      let us = heard (spoken (other d) j) in
+      let own = own_more in
+      let rest = other_more in
+      shown_said (calls_from d) us us (told (spoken d j)) (map told_of (said_in 0 deeds.calls)) (λ i l. refl)
+      (joined_shows (length us) (spoken d j).said _ (said_in 0 deeds.calls) own.0 own.1 shown.after shown.so_far)
+      (heard_said (calls_from d) r deeds e us rest.0 rest.1 course)
+
+-- ---- what was said by a session of an end is not blamed
+
+pub not_both : (b : Bool) → b ≡ true → b ≡ false → ⊥
+not_both true h k = cc
+not_both false h k = cc
+
+and_false : (b : Bool) → (b && false) ≡ false
+and_false true = refl
+and_false false = refl
+
+not_outside : (us : List (List ℕ)) (told : List Told) → AllInside (first_asked us) told → selects_outside us told ≡ false
+not_outside us [] a = refl
+not_outside us (t ∷ told) a = ap (λ (b : Bool). nat_lt 0 t.before && b) a.0 ∙ and_false (nat_lt 0 t.before)
+
+front_outside : (us : List (List ℕ)) (told : List Told) (i : ℕ) → AllInside (first_asked us) told
+    → selects_outside us (take i told) ≡ true → ⊥
+front_outside us told i a s =
+    not_both (selects_outside us (take i told)) s (not_outside us (take i told)
+    (front_inside (first_asked us) (take i told) (drop i told)
+    (subst (AllInside (first_asked us)) (sym (take-append-drop i told)) a)))
+
+not_broken : (begin : Seen) (us : List (List ℕ)) (told : List Told) (i : ℕ) → IsExplained begin us told →
+    (IsExplained begin us (take (i + 1) told) → ⊥) → ⊥
+not_broken begin us told i e n =
+    n (front_told us (take (i + 1) told) (drop (i + 1) told) begin
+    (subst (λ (x : List Told). IsExplained begin us x) (sym (take-append-drop (i + 1) told)) e))
+
+no_break : (begin : Seen) (us : List (List ℕ)) (told : List Told) (finding : Finding) → IsExplained begin us told →
+    AllInside (first_asked us) told → IsFound begin us told finding → broke_session finding ≡ false
+no_break begin us told Kept e a f = refl
+no_break begin us told (Broke i) e a f = absurd (not_broken begin us told i e f.0.broke)
+no_break begin us told (Left i) e a f =
+    absurd (elim f.2 [ inl n ↦ not_broken begin us told i e n | inr s ↦ front_outside us told (i + 1) a s ])
+no_break begin us told TooMany e a f = refl
+
+pub none_broken : (begin : Seen) (us : List (List ℕ)) (told : List Told) (finding : Finding) → told ≡ [] → IsFound begin us told finding →
+    broke_session finding ≡ false
+none_broken begin us told finding none f =
+    no_break begin us [] finding (done 0 begin) tt (subst (λ (x : List Told). IsFound begin us x finding) none f)
+
+module _ (known : AsSent) (parts : AsParts) (caller : CallerLaw) (called : CalledLaw) where
+  honest_explained : (d : Direction) (us : List (List ℕ)) (told : List Told) → IsHonest d us told → IsExplained (begin_of d) us told
+  honest_explained left us told h = caller h.0 us told h.1 h.2
+  honest_explained right us told h = called us told h
+
+  honest_kept : (d : Direction) (us : List (List ℕ)) (told : List Told) (finding : Finding) → IsHonest d us told →
+      IsFound (begin_of d) us told finding → broke_session finding ≡ false
+  honest_kept d us told finding h f =
+      no_break (begin_of d) us told finding (honest_explained d us told h) (honest_inside known parts d us told h) f
+
+  said_kept : (d : Direction) (us : List (List ℕ)) (told : List Told) (finding : Finding) → IsSaid (calls_from d) us told →
+      IsFound (begin_of d) us told finding → broke_session finding ≡ false
+  said_kept d us told finding (nothing none) f = none_broken (begin_of d) us told finding none f
+  said_kept left us told finding (something begin (c, terms, is) sent) f =
+      let o = opens_so c terms in
+      honest_kept left us told finding
+      (o.opening, o.accepted, subst (λ (l : Listener). IsSentFrom l us told) (is ∙ sym o.begins) sent) f
+  said_kept right us told finding (something begin is_new sent) f =
+      honest_kept right us told finding (subst (λ (l : Listener). IsSentFrom l us told) is_new sent) f
+
+  pub not_to_blame : (d : Direction) (r : ℕ) (deeds : Deeds) (e : End) (j : Joined) → Course (calls_from d) r deeds e →
+      IsShownOf d r deeds j → IsToBlame d j → ⊥
+  not_to_blame d r deeds e j course shown blame =
+      not_both (broke_session blame.finding) blame.broke
+      (said_kept d (heard (spoken (other d) j)) (told (spoken d j)) blame.finding (joined_said d r deeds e j course shown)
+      blame.found.found)

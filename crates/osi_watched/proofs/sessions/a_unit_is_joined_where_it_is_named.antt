@@ -1,0 +1,173 @@
+-- A unit that names a connection is joined at the place of the connection to which the other side gave this reference.
+-- For the law on places.
+use Rattle.std.proofs.Common.{◌≡◌, ◌∙◌, refl, sym, ap, subst, ℕ, Bool, true, false, if◌then◌else◌, Option, Some, None}
+use Rattle.std.specs.Prelude.{◌&&◌, ◌||◌, ◌==◌, not, position, slice_get}
+use Rattle.std.proofs.lemmas.Bool.{eqb-true}
+use Rattle.osi_tpdu.specs.Value.{Value, acknowledge, confirm, data0, data2, destination_of, disconnect, disconnected, error, request}
+use Rattle.osi_class.specs.declared.terms.Class.{Class}
+use Rattle.osi_class.specs.declared.terms.Class.TheVariants.{Two, Zero}
+use Rattle.osi_judge.specs.Captures.{other}
+use Rattle.osi_judge.specs.declared.directions.Direction.{Direction}
+use Rattle.osi_judge.specs.declared.directions.Direction.TheVariants.{Left, Right}
+use Rattle.osi_rules.specs.declared.connections.Connection.{Connection}
+use Rattle.osi_rules.specs.declared.directions.Direction.{Direction as Way}
+use Rattle.osi_rules.specs.declared.directions.Direction.TheVariants as way
+use Rattle.osi_rules.specs.declared.findings.Finding.{Finding}
+use Rattle.osi_rules.specs.declared.findings.Finding.TheVariants.{NotJudged}
+use Rattle.osi_rules.specs.declared.halves.Phase.{Phase}
+use Rattle.osi_rules.specs.declared.halves.Phase.TheVariants as phase
+use Rattle.osi_rules.specs.declared.routes.Route.{Route}
+use Rattle.osi_rules.specs.declared.routes.Route.TheVariants.{Named, Unnamed}
+use Rattle.osi_rules.specs.Sides.{is_named, is_over_by, is_refused, is_silent}
+use Rattle.osi_rules.specs.Traffic.{State, at_found, at_place, class_for, is_stopped, none_told, route, route_in, routed, takes}
+use Rattle.osi_rules.specs.Sides as sides
+use Rattle.osi_fair.proofs.what_holds_of_one_item.{first_true}
+use Rattle.osi_tap.specs.Connections.{Joined, reference_of}
+use Rattle.osi_tap.specs.Courses.{Course, way_of}
+use Rattle.osi_watched.specs.ShownPlaces.{HaveSamePlaces, IsOneOf, named_by}
+use Rattle.osi_watched.proofs.sessions.connections_have_the_same_places.{at_same}
+
+-- ---- how a unit with a reference is routed
+
+data IsRouted (n : ℕ) (r : Route) : Type 0 where
+  named : r ≡ Named n → IsRouted n r
+  unnamed : (f : Finding) → r ≡ Unnamed f → IsRouted n r
+
+same_reference : (m n : ℕ) → Some m ≡ Some n → m ≡ n
+same_reference m n e = cc
+
+to_named : (m n : ℕ) → Some m ≡ Some n → IsRouted n (Named m)
+to_named m n e = named (ap (λ (i : ℕ). Named i) (same_reference m n e))
+
+how_routed : (k : Option Class) (d : Way) (b : Bool) (v : Value) (n : ℕ) → destination_of v ≡ Some n → IsRouted n (route_in k d b v)
+how_routed None way.Left b (confirm m c) n e = unnamed _ refl
+how_routed None way.Left b (disconnect m source reason user) n e = unnamed _ refl
+how_routed None way.Left b (disconnected m source) n e = to_named m n e
+how_routed None way.Left b (data2 m number end user) n e = unnamed _ refl
+how_routed None way.Left b (acknowledge credit m number) n e = unnamed _ refl
+how_routed None way.Left b (error m cause) n e = unnamed _ refl
+how_routed None way.Right b (confirm m c) n e = to_named m n e
+how_routed None way.Right b (disconnect m source reason user) n e = to_named m n e
+how_routed None way.Right b (disconnected m source) n e = to_named m n e
+how_routed None way.Right b (data2 m number end user) n e = unnamed _ refl
+how_routed None way.Right b (acknowledge credit m number) n e = unnamed _ refl
+how_routed None way.Right b (error m cause) n e = to_named m n e
+how_routed (Some Zero) way.Left b (confirm m c) n e = unnamed _ refl
+how_routed (Some Zero) way.Left b (disconnect m source reason user) n e = unnamed _ refl
+how_routed (Some Zero) way.Left b (disconnected m source) n e = to_named m n e
+how_routed (Some Zero) way.Left b (data2 m number end user) n e = unnamed _ refl
+how_routed (Some Zero) way.Left b (acknowledge credit m number) n e = unnamed _ refl
+how_routed (Some Zero) way.Left true (error m cause) n e = unnamed _ refl
+how_routed (Some Zero) way.Left false (error m cause) n e = unnamed _ refl
+how_routed (Some Zero) way.Right b (confirm m c) n e = unnamed _ refl
+how_routed (Some Zero) way.Right b (disconnect m source reason user) n e = unnamed _ refl
+how_routed (Some Zero) way.Right b (disconnected m source) n e = to_named m n e
+how_routed (Some Zero) way.Right b (data2 m number end user) n e = unnamed _ refl
+how_routed (Some Zero) way.Right b (acknowledge credit m number) n e = unnamed _ refl
+how_routed (Some Zero) way.Right true (error m cause) n e = unnamed _ refl
+how_routed (Some Zero) way.Right false (error m cause) n e = unnamed _ refl
+how_routed (Some Two) way.Left b (confirm m c) n e = to_named m n e
+how_routed (Some Two) way.Left b (disconnect m source reason user) n e = to_named m n e
+how_routed (Some Two) way.Left b (disconnected m source) n e = to_named m n e
+how_routed (Some Two) way.Left b (data2 m number end user) n e = to_named m n e
+how_routed (Some Two) way.Left b (acknowledge credit m number) n e = to_named m n e
+how_routed (Some Two) way.Left b (error m cause) n e = to_named m n e
+how_routed (Some Two) way.Right b (confirm m c) n e = to_named m n e
+how_routed (Some Two) way.Right b (disconnect m source reason user) n e = to_named m n e
+how_routed (Some Two) way.Right b (disconnected m source) n e = to_named m n e
+how_routed (Some Two) way.Right b (data2 m number end user) n e = to_named m n e
+how_routed (Some Two) way.Right b (acknowledge credit m number) n e = to_named m n e
+how_routed (Some Two) way.Right b (error m cause) n e = to_named m n e
+how_routed k d b (request c) n e = absurd (cc)
+how_routed k d b (data0 end user) n e = absurd (cc)
+
+-- ---- the place of a unit with a reference
+
+no_place : {A : Type 0} (i : ℕ) → None ≡ Some i → A
+no_place i e = absurd (cc)
+
+same_place : (p i : ℕ) → Some p ≡ Some i → p ≡ i
+same_place p i e = cc
+
+module _ (d : Way) (v : Value) (s : State) (n i : ℕ) (c : Connection) (there : slice_get s.connections i ≡ Some c) where
+  at_found_there : (p : ℕ) (o : Option Connection) → slice_get s.connections p ≡ o → (at_found d v s p o).told.place ≡ Some i → p ≡ i
+  at_found_there p None e h = no_place i h
+  at_found_there p (Some x) e h = same_place p i h
+
+  at_place_named : (o : Option ℕ) → position (is_named d n) s.connections ≡ o → (at_place d v s o).told.place ≡ Some i →
+      is_named d n c ≡ true
+  at_place_named None e h = no_place i h
+  at_place_named (Some p) e h =
+      let same = at_found_there p (slice_get s.connections p) refl h in
+      first_true (is_named d n) s.connections i c (e ∙ ap (λ (x : ℕ). Some x) same) there
+
+  routed_named : (r : Route) → IsRouted n r → (routed d v s r).told.place ≡ Some i → is_named d n c ≡ true
+  routed_named r (named e) h =
+      at_place_named (position (is_named d n) s.connections) refl (sym (ap (λ (x : Route). (routed d v s x).told.place) e) ∙ h)
+  routed_named r (unnamed f e) h = no_place i (sym (ap (λ (x : Route). (routed d v s x).told.place) e) ∙ h)
+
+  taken_named : (b : Bool) (r : Route) → IsRouted n r →
+      (if b then none_told d NotJudged s else routed d v s r).told.place ≡ Some i → is_named d n c ≡ true
+  taken_named true r routed h = no_place i h
+  taken_named false r routed h = routed_named r routed h
+
+  -- it names the connection at the place that is told of it
+  pub names_there : destination_of v ≡ Some n → (takes d v s).told.place ≡ Some i → is_named d n c ≡ true
+  names_there e h =
+      taken_named (is_stopped d s.course) (route d s.course v)
+      (how_routed (class_for d s.course) d (is_stopped (sides.other d) s.course) v n e) h
+
+-- ---- the reference that the other side gave
+
+three : (a b c : Bool) → (not (true && a) && (not b && c)) ≡ true → (a ≡ false) × (b ≡ false) × (c ≡ true)
+three true b c h = absurd (cc)
+three false true c h = absurd (cc)
+three false false true h = (refl, refl, refl)
+three false false false h = absurd (cc)
+
+or_first : (a b : Bool) → (a || b) ≡ false → a ≡ false
+or_first true b h = absurd (cc)
+or_first false b h = refl
+
+or_second : (a b : Bool) → (a || b) ≡ false → b ≡ false
+or_second true b h = absurd (cc)
+or_second false b h = h
+
+given_so : (p : Phase) (r n : ℕ) → is_silent p ≡ false → is_refused p ≡ false → r ≡ n → named_by p r ≡ Some n
+given_so phase.Silent r n h k e = absurd (cc)
+given_so phase.Open r n h k e = ap (λ (i : ℕ). Some i) e
+given_so phase.Refused r n h k e = absurd (cc)
+given_so phase.Closing r n h k e = ap (λ (i : ℕ). Some i) e
+given_so phase.Closed r n h k e = ap (λ (i : ℕ). Some i) e
+
+judged_so : (j over silent same : Bool) → j ≡ true → (not (j && over) && (not silent && same)) ≡ true →
+    (over ≡ false) × (silent ≡ false) × (same ≡ true)
+judged_so true over silent same e h = three over silent same h
+judged_so false over silent same e h = absurd (cc)
+
+-- what a unit of a side names has this reference of the other side
+pub named_there : (d : Direction) (n : ℕ) (c : Connection) (j : Joined) → IsOneOf c j → c.is_judged ≡ true →
+    is_named (way_of d) n c ≡ true → reference_of (other d) j ≡ Some n
+named_there Left n c j h judged is_so =
+    let known = c.seen_by_left in
+    let (over, silent, same) = judged_so c.is_judged (is_over_by c.left known) (is_silent known.phase) (known.reference == n) judged is_so in
+    h.left_knows n (given_so known.phase known.reference n silent
+    (or_first (is_refused known.phase) _ (or_second (is_refused c.left.phase) _ over)) (eqb-true known.reference n same))
+named_there Right n c j h judged is_so =
+    let known = c.seen_by_right in
+    let (over, silent, same) = judged_so c.is_judged (is_over_by c.right known) (is_silent known.phase) (known.reference == n) judged is_so in
+    ap (λ (i : ℕ). Some i) (h.right_knows silent ∙ eqb-true known.reference n same)
+
+-- ---- a unit, and what is joined
+
+same_joined : (j k : Joined) → Some j ≡ Some k → j ≡ k
+same_joined j k e = cc
+
+pub joined_named : (d : Direction) (v : Value) (c : Course) (n i : ℕ) (connection : Connection) (j : Joined) →
+    HaveSamePlaces c.traffic.connections c.sessions.live → destination_of v ≡ Some n →
+    (takes (way_of d) v c.traffic).told.place ≡ Some i → slice_get c.traffic.connections i ≡ Some connection →
+    connection.is_judged ≡ true → slice_get c.sessions.live i ≡ Some j → reference_of (other d) j ≡ Some n
+joined_named d v c n i connection j h e place there judged here =
+    let (k, at, one) = at_same c.traffic.connections c.sessions.live i connection h there in
+    subst (λ (x : Joined). reference_of (other d) x ≡ Some n) (same_joined k j (sym at ∙ here))
+    (named_there d n connection k one judged (names_there (way_of d) v c.traffic n i connection there e place))

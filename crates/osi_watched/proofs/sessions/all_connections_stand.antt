@@ -1,0 +1,483 @@
+-- All connections of an end of class 2 stand at a tap as packets begin and as units pass that are right.
+-- For the session of each connection of an end.
+use Rattle.std.proofs.Common.{◌≡◌, ◌∙◌, ◌⊎◌, inl, inr, refl, sym, ap, subst, ℕ, zero, suc, ◌^◌, ◌<◌, ◌≤◌, Bool, true, false, List, [], ◌∷◌}
+use Rattle.std.proofs.Common.{◌++◌, length, map, Option, Some, None, arith}
+use Rattle.std.specs.Prelude.{is_some, slice_get}
+use Rattle.std.proofs.lemmas.Bool.{eq-eqb}
+use Rattle.std.proofs.lemmas.Option.{slice_get_within}
+use Rattle.osi_tpdu.specs.Value.{Connect, Value, acknowledge, confirm, data0, data2, disconnect, disconnected, error, request}
+use Rattle.osi_class.specs.Runs.{unit_parts}
+use Rattle.osi_class.specs.Tsdus.{Part}
+use Rattle.osi_judge.specs.Captures.{other}
+use Rattle.osi_judge.specs.declared.directions.Direction.{Direction}
+use Rattle.osi_judge.specs.declared.directions.Direction.TheVariants.{Left, Right}
+use Rattle.osi_rules.specs.declared.connections.Connection.{Connection}
+use Rattle.osi_rules.specs.declared.directions.Direction.TheVariants as way
+use Rattle.osi_rules.specs.declared.findings.Reach.{Reach}
+use Rattle.osi_rules.specs.declared.findings.Reach.TheVariants as reach
+use Rattle.osi_rules.specs.declared.halves.Half.{Half}
+use Rattle.osi_rules.specs.declared.halves.Phase.{Phase}
+use Rattle.osi_rules.specs.declared.halves.Phase.TheVariants as phase
+use Rattle.osi_rules.specs.Reaches.{is_applied}
+use Rattle.osi_rules.specs.Sides.{begins, is_open, is_silent, own}
+use Rattle.osi_rules.specs.Traffic.{State, asked_by, closing_phase, connection_after, found, found_on, half_after, judged_on, meaning_if, meant}
+use Rattle.osi_rules.specs.Traffic.{sent_on, takes, uses_source}
+use Rattle.osi_rules.specs.Traffic as traffic
+use Rattle.osi_fair.specs.Naming.{packet, unit}
+use Rattle.osi_fair.proofs.a_reference_names_one_connection.{passes_apart}
+use Rattle.osi_fair.proofs.all_are_judged_unless_one_broke.{AreJudged, still_judged}
+use Rattle.osi_fair.proofs.what_holds_of_one_item.{after_add, after_map}
+use Rattle.osi_fair.proofs.what_keeps_names_apart.{AreApart}
+use Rattle.osi_fair.proofs.while_no_class_is_selected.{after_change}
+use Rattle.osi_stack.specs.State.{End}
+use Rattle.osi_honest.specs.Courses.{Course, Deeds}
+use Rattle.osi_tap.specs.declared.rooms.Room.{Room}
+use Rattle.osi_tap.specs.declared.rooms.Room.TheVariants.{All}
+use Rattle.osi_tap.specs.Connections.{Joined, Sessions, adds, all_begin, asked, opened, packet_begins, reference_of, shut, spoken, taken, user_of}
+use Rattle.osi_tap.specs.Connections as joined
+use Rattle.osi_tap.specs.Courses.{way_of}
+use Rattle.osi_tap.specs.Lines.{heard}
+use Rattle.osi_watched.specs.Shown.{IsShownNow, calls_from}
+use Rattle.osi_watched.specs.ShownPlaces.{HaveSamePlaces, IsOneOf, named_by}
+use Rattle.osi_watched.proofs.sessions.connections_have_the_same_places.{as_long, at_same, begun_same, unit_places}
+use Rattle.osi_watched.proofs.sessions.what_a_tap_shows_goes_on.{named_added}
+use Rattle.osi_watched.proofs.sessions.what_a_unit_does_at_its_place.{Does, asks_again, asks_more, nowhere, somewhere, unit_does}
+use Rattle.osi_watched.proofs.sessions.what_stands_of_a_connection.{IsLike, IsUnsaid, Known, Stands, is_next, lives, names_it, no_next}
+use Rattle.osi_watched.proofs.sessions.what_stands_of_a_connection.{past}
+use Rattle.osi_watched.proofs.sessions.what_stands_of_a_connection.{stands_begins, stands_none, stands_other_begins}
+use Rattle.osi_watched.proofs.sessions.what_stands_of_a_connection.{stands_other_none, stands_other_part, stands_part, unnamed, waiting_for}
+
+-- ---- what a unit leaves of the half of a side
+
+judged_own : (d : Direction) (r : Reach) (c : Connection) → own (way_of d) (judged_on r c) ≡ own (way_of d) c
+judged_own Left reach.Nothing c = refl
+judged_own Left reach.Connection c = refl
+judged_own Left reach.Side c = refl
+judged_own Left reach.Everything c = refl
+judged_own Right reach.Nothing c = refl
+judged_own Right reach.Connection c = refl
+judged_own Right reach.Side c = refl
+judged_own Right reach.Everything c = refl
+
+-- of this side, a unit of the other one leaves all
+pub other_after : (d : Direction) (v : Value) (b : Bool) (r : Reach) (c : Connection) →
+    own (way_of d) (connection_after (way_of (other d)) v b r c) ≡ own (way_of d) c
+other_after d v false r c = judged_own d r c
+other_after Left v true r c = judged_own Left r (sent_on way.Right v c) ∙ by v
+  where
+    by : (v : Value) → (sent_on way.Right v c).left ≡ c.left
+    by (request x) = refl
+    by (confirm n x) = refl
+    by (disconnect n source reason user) = refl
+    by (disconnected n source) = refl
+    by (data0 end user) = refl
+    by (data2 n number end user) = refl
+    by (acknowledge credit n number) = refl
+    by (error n cause) = refl
+other_after Right v true r c = judged_own Right r (sent_on way.Left v c) ∙ by v
+  where
+    by : (v : Value) → (sent_on way.Left v c).right ≡ c.right
+    by (request x) = refl
+    by (confirm n x) = refl
+    by (disconnect n source reason user) = refl
+    by (disconnected n source) = refl
+    by (data0 end user) = refl
+    by (data2 n number end user) = refl
+    by (acknowledge credit n number) = refl
+    by (error n cause) = refl
+
+-- of its own side, this is left
+pub own_after : (d : Direction) (v : Value) (r : Reach) (c : Connection) →
+    own (way_of d) (connection_after (way_of d) v true r c) ≡ half_after v (own (way_of d) c)
+own_after Left v r c = judged_own Left r (sent_on way.Left v c) ∙ by v
+  where
+    by : (v : Value) → (sent_on way.Left v c).left ≡ half_after v c.left
+    by (request x) = refl
+    by (confirm n x) = refl
+    by (disconnect n source reason user) = refl
+    by (disconnected n source) = refl
+    by (data0 end user) = refl
+    by (data2 n number end user) = refl
+    by (acknowledge credit n number) = refl
+    by (error n cause) = refl
+own_after Right v r c = judged_own Right r (sent_on way.Right v c) ∙ by v
+  where
+    by : (v : Value) → (sent_on way.Right v c).right ≡ half_after v c.right
+    by (request x) = refl
+    by (confirm n x) = refl
+    by (disconnect n source reason user) = refl
+    by (disconnected n source) = refl
+    by (data0 end user) = refl
+    by (data2 n number end user) = refl
+    by (acknowledge credit n number) = refl
+    by (error n cause) = refl
+
+-- ---- a unit at its place that adds to no TSDU
+
+pub like_same : (d : Direction) (j : Joined) → IsLike d j j
+like_same d j = record { own_is = refl; theirs = refl; named = refl; room = refl }
+
+like_shut : (d : Direction) (j : Joined) → IsLike d j (shut j)
+like_shut Left j = record { own_is = refl; theirs = refl; named = refl; room = refl }
+like_shut Right j = record { own_is = refl; theirs = refl; named = refl; room = refl }
+
+named_shut : (d : Direction) (j : Joined) → reference_of d (shut j) ≡ reference_of d j
+named_shut Left j = refl
+named_shut Right j = refl
+
+-- no DT, and no CC that has its effect
+abbrev pub IsPlain : Bool → Value → Type 0
+IsPlain b (data0 end user) = ⊥
+IsPlain b (data2 n number end user) = ⊥
+IsPlain b (confirm n x) = b ≡ false
+IsPlain b (request x) = Unit {0}
+IsPlain b (disconnect n source reason user) = Unit {0}
+IsPlain b (disconnected n source) = Unit {0}
+IsPlain b (acknowledge credit n number) = Unit {0}
+IsPlain b (error n cause) = Unit {0}
+
+plain_parts : (b : Bool) (v : Value) → IsPlain b v → unit_parts v ≡ []
+plain_parts b (data0 end user) h = absurd h
+plain_parts b (data2 n number end user) h = absurd h
+plain_parts b (confirm n x) h = refl
+plain_parts b (request x) h = refl
+plain_parts b (disconnect n source reason user) h = refl
+plain_parts b (disconnected n source) h = refl
+plain_parts b (acknowledge credit n number) h = refl
+plain_parts b (error n cause) h = refl
+
+-- what is joined stays
+record Left_so (d : Direction) (j k : Joined) : Type 0 where
+  like : IsLike d j k
+  named : reference_of (other d) k ≡ reference_of (other d) j
+
+same_left : (d : Direction) (j : Joined) → Left_so d j j
+same_left d j = record { like = like_same d j; named = refl }
+
+shut_left : (d : Direction) (j : Joined) → Left_so d j (shut j)
+shut_left d j = record { like = like_shut d j; named = named_shut (other d) j }
+
+plain_left : (d e : Direction) (at : ℕ) (b : Bool) (v : Value) (j : Joined) → IsPlain b v →
+    Left_so d j (joined.meant e at v (meaning_if b (meant v)) j)
+plain_left d e at false v j h = same_left d j
+plain_left d e at true (data0 end user) j h = absurd h
+plain_left d e at true (data2 n number end user) j h = absurd h
+plain_left d e at true (confirm n x) j h = absurd (cc)
+plain_left d e at true (request x) j h = same_left d j
+plain_left d e at true (disconnect n source reason user) j h = shut_left d j
+plain_left d e at true (disconnected n source) j h = same_left d j
+plain_left d e at true (acknowledge credit n number) j h = same_left d j
+plain_left d e at true (error n cause) j h = shut_left d j
+
+-- a side that has a connection open after it had it open before
+plain_open : (v : Value) (half : Half) → IsPlain true v → is_open (half_after v half).phase ≡ true → is_open half.phase ≡ true
+plain_open (data0 end user) half h live = absurd h
+plain_open (data2 n number end user) half h live = absurd h
+plain_open (confirm n x) half h live = absurd (cc)
+plain_open (request x) half h live = live
+plain_open (disconnect n source reason user) half h live = by (is_silent half.phase) live
+  where
+    by : (b : Bool) → is_open (closing_phase b half).phase ≡ true → is_open half.phase ≡ true
+    by true e = absurd (cc)
+    by false e = absurd (cc)
+plain_open (disconnected n source) half h live = absurd (cc)
+plain_open (acknowledge credit n number) half h live = live
+plain_open (error n cause) half h live = absurd (cc)
+
+was_open : (d : Direction) (b : Bool) (v : Value) (r : Reach) (c : Connection) → IsPlain b v →
+    is_open (own (way_of d) (connection_after (way_of d) v b r c)).phase ≡ true → is_open (own (way_of d) c).phase ≡ true
+was_open d false v r c h live = ap (λ (x : Half). is_open x.phase) (sym (judged_own d r c)) ∙ live
+was_open d true v r c h live =
+    plain_open v (own (way_of d) c) h (ap (λ (x : Half). is_open x.phase) (sym (own_after d v r c)) ∙ live)
+
+-- of the end
+pub own_plain : (d : Direction) (deeds : ℕ → Deeds) (known : Known) (at : ℕ) (v : Value) (rest : List Value) (b x : Bool) (r : Reach)
+    (c : Connection) (j : Joined) → IsPlain b v → Stands d deeds known (v ∷ rest) x c j →
+    Stands d deeds known rest false (connection_after (way_of d) v b r c) (joined.meant d at v (meaning_if b (meant v)) j)
+own_plain d deeds known at v rest b x r c j plain h =
+    let l = plain_left d d at b v j plain in
+    stands_none d deeds known v rest c (connection_after (way_of d) v b r c) j (joined.meant d at v (meaning_if b (meant v)) j)
+    (plain_parts b v plain) l.like l.named (was_open d b v r c plain) x h
+
+-- of the other side
+pub other_plain : (d : Direction) (deeds : ℕ → Deeds) (known then_known : Known) (at : ℕ) (v : Value) (put : List Value) (b x : Bool)
+    (r : Reach) (c : Connection) (j : Joined) → IsPlain b v →
+    ((n : ℕ) (later : List Part) → reference_of d j ≡ Some n → known n later → then_known n later) → Stands d deeds known put x c j →
+    Stands d deeds then_known put x (connection_after (way_of (other d)) v b r c) (joined.meant (other d) at v (meaning_if b (meant v)) j)
+other_plain d deeds known then_known at v put b x r c j plain keeps h =
+    let l = plain_left d (other d) at b v j plain in
+    stands_other_none d deeds known then_known put x c (connection_after (way_of (other d)) v b r c) j
+    (joined.meant (other d) at v (meaning_if b (meant v)) j) l.like l.named
+    (ap (λ (y : Half). y.phase) (other_after d v b r c)) keeps h
+
+-- ---- a DT of class 2 at its place
+
+stands_room : (d : Direction) (deeds : ℕ → Deeds) (known : Known) (put : List Value) (b : Bool) (c : Connection) (j : Joined) →
+    Stands d deeds known put b c j → j.room ≡ All
+stands_room d deeds known put b c j (unnamed none mine theirs room) = room
+stands_room d deeds known put b c j (lives r o is live later sure h) = h.room
+stands_room d deeds known put b c j (past r closed waiting later sure h) = h.room
+
+named_open : (p : Phase) (r : ℕ) → is_open p ≡ true → is_some (named_by p r) ≡ true
+named_open phase.Silent r h = absurd (cc)
+named_open phase.Open r h = refl
+named_open phase.Refused r h = absurd (cc)
+named_open phase.Closing r h = absurd (cc)
+named_open phase.Closed r h = absurd (cc)
+
+open_named : (d : Direction) (c : Connection) (j : Joined) → IsOneOf c j → is_open (own (way_of d) c).phase ≡ true →
+    is_some (reference_of d j) ≡ true
+open_named Left c j one live = refl
+open_named Right c j one live = ap is_some one.called ∙ named_open c.right.phase c.right.reference live
+
+pub own_part : (d : Direction) (deeds : ℕ → Deeds) (known : Known) (at n number : ℕ) (end : Bool) (user : List ℕ) (rest : List Value)
+    (r : Reach) (c : Connection) (j : Joined) → IsOneOf c j → is_open (own (way_of d) c).phase ≡ true →
+    reference_of (other d) j ≡ Some n → Stands d deeds known (data2 n number end user ∷ rest) true c j →
+    Stands d deeds known rest false (connection_after (way_of d) (data2 n number end user) true r c) (adds d at end user j)
+own_part d deeds known at n number end user rest r c j one live named h =
+    let v = data2 n number end user in
+    stands_part d deeds known v rest at end c (connection_after (way_of d) v true r c) j refl refl
+    (ap (λ (o : Option ℕ). names_it o n) named ∙ eq-eqb n n refl) (open_named d c j one live) live
+    (ap (λ (x : Half). is_open x.phase) (own_after d v r c) ∙ live)
+    (named_added at end user (other d) d j (stands_room d deeds known (v ∷ rest) true c j h)) h
+
+some_is : (o : Option ℕ) (n : ℕ) → o ≡ Some n → is_some o ≡ true
+some_is o n e = ap is_some e
+
+pub other_part : (d : Direction) (deeds : ℕ → Deeds) (known then_known : Known) (at n number : ℕ) (end : Bool) (user : List ℕ)
+    (put : List Value) (x : Bool) (r : Reach) (c : Connection) (j : Joined) → reference_of d j ≡ Some n →
+    ((later : List Part) → known n later → then_known n (later ++ (end, user) ∷ [])) → Stands d deeds known put x c j →
+    Stands d deeds then_known put x (connection_after (way_of (other d)) (data2 n number end user) true r c) (adds (other d) at end user j)
+other_part d deeds known then_known at n number end user put x r c j named grows h =
+    let v = data2 n number end user in
+    stands_other_part d deeds known then_known put x at end user c (connection_after (way_of (other d)) v true r c) j
+    (some_is (reference_of d j) n named) (ap (λ (y : Half). y.phase) (other_after d v true r c))
+    (named_added at end user (other d) (other d) j (stands_room d deeds known put x c j h))
+    (λ m later is sure. subst (λ (i : ℕ). then_known i (later ++ (end, user) ∷ [])) (same_number n m (sym named ∙ is))
+    (grows later (subst (λ (i : ℕ). known i later) (sym (same_number n m (sym named ∙ is))) sure))) h
+  where
+    same_number : (n m : ℕ) → Some n ≡ Some m → n ≡ m
+    same_number n m e = cc
+
+-- ---- all connections
+
+same_item : {X : Type 0} (x y : X) → Some x ≡ Some y → y ≡ x
+same_item x y e = cc
+
+pub map_of : (f : Joined → Joined) (xs : List Joined) (i : ℕ) (y : Joined) → slice_get (map f xs) i ≡ Some y →
+    (x : Joined) × (slice_get xs i ≡ Some x) × (y ≡ f x)
+map_of f [] i y h = absurd (cc)
+map_of f (z ∷ xs) zero y h = (z, refl, same_item (f z) y h)
+map_of f (z ∷ xs) (suc i) y h = map_of f xs i y h
+
+-- one whose place was given to another: nothing more passes there
+pub data Rests (d : Direction) (deeds : ℕ → Deeds) (known : Known) (j : Joined) : Type 0 where
+  quiet : reference_of d j ≡ None → IsUnsaid (spoken d j) → IsUnsaid (spoken (other d) j) → Rests d deeds known j
+  rests : (r : ℕ) (waiting : List Value) (later : List Part) → known r later → IsShownNow d r (deeds r) waiting later false j →
+      Rests d deeds known j
+
+pub record AllStand (d : Direction) (deeds : ℕ → Deeds) (known : Known) (put : List Value) (begun : Bool) (s : State) (t : Sessions) :
+    Type 0 where
+  pub places : HaveSamePlaces s.connections t.live
+  pub apart : AreApart s.connections
+  pub judged : AreJudged s
+  pub room : t.room ≡ All
+  pub live : (i : ℕ) (c : Connection) (j : Joined) → slice_get s.connections i ≡ Some c → slice_get t.live i ≡ Some j →
+      Stands d deeds known put begun c j
+  pub done : (i : ℕ) (j : Joined) → slice_get t.done i ≡ Some j → Rests d deeds known j
+
+-- ---- a packet begins
+
+pub all_begin_own : (d : Direction) (deeds : ℕ → Deeds) (known : Known) (put : List Value) (e : End) (s : State) (t : Sessions) →
+    ((r : ℕ) → Course (calls_from d) r (deeds r) e) →
+    ((i : ℕ) (j : Joined) → slice_get t.live i ≡ Some j → length (heard (spoken (other d) j)) < 2 ^ 64) →
+    AllStand d deeds known put false s t → AllStand d deeds known put true (traffic.packet_begins (way_of d) s) (all_begin d t)
+all_begin_own d deeds known put e s t courses few a = record {
+  places = begun_same d s.connections t.live a.places;
+  apart = passes_apart (packet (way_of d)) s a.apart;
+  judged = still_judged (packet (way_of d)) s a.judged;
+  room = a.room;
+  live = λ i c j there here.
+      let (x, at, is) = after_map (begins (way_of d)) s.connections i c there in
+      let (y, so, same) = map_of (packet_begins d) t.live i j here in
+      subst (λ (z : Connection). Stands d deeds known put true z j) (sym is)
+      (subst (λ (z : Joined). Stands d deeds known put true (begins (way_of d) x) z) (sym same)
+      (stands_begins d deeds known put e x y courses (few i y so) (a.live i x y at so)));
+  done = a.done;
+}
+
+pub all_begin_other : (d : Direction) (deeds : ℕ → Deeds) (known : Known) (put : List Value) (b : Bool) (s : State) (t : Sessions) →
+    AllStand d deeds known put b s t →
+    AllStand d deeds known put b (traffic.packet_begins (way_of (other d)) s) (all_begin (other d) t)
+all_begin_other d deeds known put b s t a = record {
+  places = begun_same (other d) s.connections t.live a.places;
+  apart = passes_apart (packet (way_of (other d))) s a.apart;
+  judged = still_judged (packet (way_of (other d))) s a.judged;
+  room = a.room;
+  live = λ i c j there here.
+      let (x, at, is) = after_map (begins (way_of (other d))) s.connections i c there in
+      let (y, so, same) = map_of (packet_begins (other d)) t.live i j here in
+      subst (λ (z : Connection). Stands d deeds known put b z j) (sym is)
+      (subst (λ (z : Joined). Stands d deeds known put b (begins (way_of (other d)) x) z) (sym same)
+      (stands_other_begins d deeds known put b x y (a.live i x y at so)));
+  done = a.done;
+}
+
+-- ---- a unit passes
+
+-- what it leaves of the connection at its place, of the others, and of a new one
+pub record Leaves (d : Direction) (deeds : ℕ → Deeds) (known then_known : Known) (put later : List Value) (b then_begun : Bool)
+    (e : Direction) (at : ℕ) (v : Value) (s : State) (t : Sessions) : Type 0 where
+  pub all : (takes (way_of e) v s).told.place ≡ None → (c : Connection) (j : Joined) → Stands d deeds known put b c j →
+      Stands d deeds then_known later then_begun c j
+  pub elsewhere : (p i : ℕ) (first c : Connection) (k j : Joined) → (i ≡ p → ⊥) → (takes (way_of e) v s).told.place ≡ Some p →
+      slice_get s.connections p ≡ Some first → IsOneOf first k → slice_get t.live p ≡ Some k →
+      (takes (way_of e) v s).told.finding ≡ found_on (way_of e) s first v → slice_get s.connections i ≡ Some c →
+      slice_get t.live i ≡ Some j → IsOneOf c j → Stands d deeds known put b c j → Stands d deeds then_known later then_begun c j
+  pub here : (p : ℕ) (c : Connection) (j : Joined) (x : Bool) (r : Reach) → (takes (way_of e) v s).told.place ≡ Some p →
+      slice_get s.connections p ≡ Some c → slice_get t.live p ≡ Some j → IsOneOf c j →
+      (takes (way_of e) v s).told.finding ≡ found_on (way_of e) s c v → is_applied (found_on (way_of e) s c v) ≡ x →
+      Stands d deeds known put b c j → Stands d deeds then_known later then_begun (connection_after (way_of e) v x r c) (joined.meant e at v (meaning_if x (meant v)) j)
+  pub asked_so : (x : Connect) (number : ℕ) → v ≡ request x →
+      Stands d deeds then_known later then_begun (asked_by x) (asked number x.source All)
+  pub others : (x : Connect) → v ≡ request x → (c : Connection) (j : Joined) → Stands d deeds known put b c j →
+      Stands d deeds then_known later then_begun c j
+  pub moves : (x : Connect) → v ≡ request x → (j : Joined) → Rests d deeds known j → Rests d deeds then_known j
+  pub keeps : (i : ℕ) (j : Joined) → slice_get t.done i ≡ Some j → Rests d deeds known j → Rests d deeds then_known j
+
+stands_rest : (d : Direction) (deeds : ℕ → Deeds) (known : Known) (put : List Value) (b : Bool) (c : Connection) (j : Joined) →
+    Stands d deeds known put b c j → Rests d deeds known j
+stands_rest d deeds known put b c j (unnamed none mine theirs room) = quiet none mine theirs
+stands_rest d deeds known put b c j (lives r o is live later sure h) =
+    rests r (waiting_for o put) later sure (no_next d r (deeds r) (waiting_for o put) later (is_next o b put) j h)
+stands_rest d deeds known put b c j (past r closed waiting later sure h) = rests r waiting later sure h
+
+-- each that is joined has its connection
+pub there_too : (cs : List Connection) (js : List Joined) (i : ℕ) (j : Joined) → HaveSamePlaces cs js → slice_get js i ≡ Some j →
+    (c : Connection) × (slice_get cs i ≡ Some c)
+there_too [] [] i j h e = absurd (cc)
+there_too [] (y ∷ js) i j h e = absurd h
+there_too (x ∷ cs) [] i j h e = absurd h
+there_too (x ∷ cs) (y ∷ js) zero j h e = (x, refl)
+there_too (x ∷ cs) (y ∷ js) (suc i) j h e = there_too cs js i j h.1 e
+
+pub one_at : (cs : List Connection) (js : List Joined) (i : ℕ) (c : Connection) (j : Joined) → HaveSamePlaces cs js →
+    slice_get cs i ≡ Some c → slice_get js i ≡ Some j → IsOneOf c j
+one_at cs js i c j h there here =
+    let (k, at, one) = at_same cs js i c h there in
+    subst (λ (x : Joined). IsOneOf c x) (sym (same_item k j (sym at ∙ here))) one
+
+not_there : {A : Type 0} (js : List Joined) (i : ℕ) (j : Joined) → length js ≤ i → slice_get js i ≡ Some j → A
+not_there js i j far e = let near = slice_get_within js i j e in absurd (omega (arith, far, near))
+
+not_in : {A : Type 0} (cs : List Connection) (i : ℕ) (c : Connection) → length cs ≤ i → slice_get cs i ≡ Some c → A
+not_in cs i c far e = let near = slice_get_within cs i c e in absurd (omega (arith, far, near))
+
+module _ (d : Direction) (deeds : ℕ → Deeds) (known then_known : Known) (put later : List Value) (b then_begun : Bool) (e : Direction)
+    (at : ℕ) (v : Value) (s : State) (t : Sessions) (a : AllStand d deeds known put b s t)
+    (l : Leaves d deeds known then_known put later b then_begun e at v s t) where
+  abbrev told_state : State
+  told_state = (takes (way_of e) v s).state
+
+  abbrev after : Sessions
+  after = taken e at v (takes (way_of e) v s).told.meaning (takes (way_of e) v s).told.place t
+
+  abbrev Goes : Connection → Joined → Type 0
+  Goes c j = Stands d deeds then_known later then_begun c j
+
+  -- the connection that the unit is for, or another
+  place_by : (p : ℕ) (first : Connection) (k : Joined) (x : Bool) (r : Reach) → (takes (way_of e) v s).told.place ≡ Some p →
+      slice_get s.connections p ≡ Some first → slice_get t.live p ≡ Some k → IsOneOf first k →
+      (takes (way_of e) v s).told.finding ≡ found_on (way_of e) s first v → is_applied (found_on (way_of e) s first v) ≡ x →
+      (i : ℕ) (c : Connection) (j : Joined) →
+      ((i ≡ p) × (c ≡ connection_after (way_of e) v x r first)) ⊎ ((i ≡ p → ⊥) × (slice_get s.connections i ≡ Some c)) →
+      ((i ≡ p) × (j ≡ joined.meant e at v (meaning_if x (meant v)) k)) ⊎ ((i ≡ p → ⊥) × (slice_get t.live i ≡ Some j)) → Goes c j
+  place_by p first k x r told there here one finding is i c j (inl (m, so)) (inl (n, same)) =
+      subst (λ (z : Connection). Goes z j) (sym so)
+      (subst (λ (z : Joined). Goes (connection_after (way_of e) v x r first) z) (sym same)
+      (l.here p first k x r told there here one finding is (a.live p first k there here)))
+  place_by p first k x r told there here one finding is i c j (inl (m, so)) (inr (n, same)) = absurd (n m)
+  place_by p first k x r told there here one finding is i c j (inr (m, so)) (inl (n, same)) = absurd (m n)
+  place_by p first k x r told there here one finding is i c j (inr (m, so)) (inr (n, same)) =
+      l.elsewhere p i first c k j m told there one here finding so same (one_at s.connections t.live i c j a.places so same)
+      (a.live i c j so same)
+
+  asked_here : (x : Connect) (number : ℕ) → v ≡ request x → (c : Connection) (j : Joined) → c ≡ asked_by x →
+      j ≡ asked number x.source t.room → Goes c j
+  asked_here x number is c j so same =
+      subst (λ (z : Connection). Goes z j) (sym so)
+      (subst (λ (z : Joined). Goes (asked_by x) z) (sym (same ∙ ap (λ (z : Room). asked number x.source z) a.room))
+      (l.asked_so x number is))
+
+  add_by : (x : Connect) (number : ℕ) → v ≡ request x → (i : ℕ) (c : Connection) (j : Joined) →
+      ((i ≡ length s.connections) × (c ≡ asked_by x)) ⊎ (slice_get s.connections i ≡ Some c) →
+      ((i ≡ length t.live) × (j ≡ asked number x.source t.room)) ⊎ (slice_get t.live i ≡ Some j) → Goes c j
+  add_by x number is i c j (inl (m, so)) (inl (n, same)) = asked_here x number is c j so same
+  add_by x number is i c j (inl (m, so)) (inr same) =
+      not_there t.live i j (let n = as_long s.connections t.live a.places in omega (arith, n, m)) same
+  add_by x number is i c j (inr so) (inl (n, same)) =
+      not_in s.connections i c (let m = as_long s.connections t.live a.places in omega (arith, n, m)) so
+  add_by x number is i c j (inr so) (inr same) = l.others x is c j (a.live i c j so same)
+
+  again_by : (x : Connect) (number p : ℕ) → v ≡ request x → (i : ℕ) (c : Connection) (j : Joined) →
+      ((i ≡ p) × (c ≡ asked_by x)) ⊎ ((i ≡ p → ⊥) × (slice_get s.connections i ≡ Some c)) →
+      ((i ≡ p) × (j ≡ asked number x.source t.room)) ⊎ ((i ≡ p → ⊥) × (slice_get t.live i ≡ Some j)) → Goes c j
+  again_by x number p is i c j (inl (m, so)) (inl (n, same)) = asked_here x number is c j so same
+  again_by x number p is i c j (inl (m, so)) (inr (n, same)) = absurd (n m)
+  again_by x number p is i c j (inr (m, so)) (inl (n, same)) = absurd (m n)
+  again_by x number p is i c j (inr (m, so)) (inr (n, same)) = l.others x is c j (a.live i c j so same)
+
+  live_by : Does e at v s t (takes (way_of e) v s) → (i : ℕ) (c : Connection) (j : Joined) →
+      slice_get told_state.connections i ≡ Some c → slice_get after.live i ≡ Some j → Goes c j
+  live_by (nowhere place cs ts) i c j there here =
+      l.all place c j (a.live i c j (ap (λ (z : List Connection). slice_get z i) (sym cs) ∙ there)
+      (ap (λ (z : Sessions). slice_get z.live i) (sym ts) ∙ here))
+  live_by (somewhere p first k x r place at_first at_joined one finding is cs ts) i c j there here =
+      place_by p first k x r place at_first at_joined one finding is i c j
+      (after_change s.connections p i (connection_after (way_of e) v x r first) c
+      (ap (λ (z : List Connection). slice_get z i) (sym cs) ∙ there))
+      (after_change t.live p i (joined.meant e at v (meaning_if x (meant v)) k) j
+      (ap (λ (z : Sessions). slice_get z.live i) (sym ts) ∙ here))
+  live_by (asks_more x is number cs ts) i c j there here =
+      add_by x number is i c j
+      (after_add s.connections i (asked_by x) c (ap (λ (z : List Connection). slice_get z i) (sym cs) ∙ there))
+      (after_add t.live i (asked number x.source t.room) j (ap (λ (z : Sessions). slice_get z.live i) (sym ts) ∙ here))
+  live_by (asks_again x is number p k at_joined cs ts) i c j there here =
+      again_by x number p is i c j
+      (after_change s.connections p i (asked_by x) c (ap (λ (z : List Connection). slice_get z i) (sym cs) ∙ there))
+      (after_change t.live p i (asked number x.source t.room) j (ap (λ (z : Sessions). slice_get z.live i) (sym ts) ∙ here))
+
+  keep : (i : ℕ) (j : Joined) → slice_get t.done i ≡ Some j → Rests d deeds then_known j
+  keep i j here = l.keeps i j here (a.done i j here)
+
+  over_by : (x : Connect) → v ≡ request x → (p i : ℕ) (k j : Joined) → slice_get t.live p ≡ Some k →
+      ((i ≡ length t.done) × (j ≡ k)) ⊎ (slice_get t.done i ≡ Some j) → Rests d deeds then_known j
+  over_by x is p i k j here (inl (m, same)) =
+      let (c, there) = there_too s.connections t.live p k a.places here in
+      subst (λ (z : Joined). Rests d deeds then_known z) (sym same)
+      (l.moves x is k (stands_rest d deeds known put b c k (a.live p c k there here)))
+  over_by x is p i k j here (inr same) = keep i j same
+
+  done_by : Does e at v s t (takes (way_of e) v s) → (i : ℕ) (j : Joined) → slice_get after.done i ≡ Some j → Rests d deeds then_known j
+  done_by (nowhere place cs ts) i j here = keep i j (ap (λ (z : Sessions). slice_get z.done i) (sym ts) ∙ here)
+  done_by (somewhere p first k x r place at_first at_joined one finding is cs ts) i j here =
+      keep i j (ap (λ (z : Sessions). slice_get z.done i) (sym ts) ∙ here)
+  done_by (asks_more x is number cs ts) i j here = keep i j (ap (λ (z : Sessions). slice_get z.done i) (sym ts) ∙ here)
+  done_by (asks_again x is number p k at_joined cs ts) i j here =
+      over_by x is p i k j at_joined (after_add t.done i k j (ap (λ (z : Sessions). slice_get z.done i) (sym ts) ∙ here))
+
+  room_by : Does e at v s t (takes (way_of e) v s) → after.room ≡ All
+  room_by (nowhere place cs ts) = ap (λ (z : Sessions). z.room) ts ∙ a.room
+  room_by (somewhere p first k x r place at_first at_joined one finding is cs ts) = ap (λ (z : Sessions). z.room) ts ∙ a.room
+  room_by (asks_more x is number cs ts) = ap (λ (z : Sessions). z.room) ts ∙ a.room
+  room_by (asks_again x is number p k at_joined cs ts) = ap (λ (z : Sessions). z.room) ts ∙ a.room
+
+  pub all_after : AllStand d deeds then_known later then_begun told_state after
+  all_after = record {
+    places = unit_places e at v s t a.places;
+    apart = passes_apart (unit (way_of e) v) s a.apart;
+    judged = still_judged (unit (way_of e) v) s a.judged;
+    room = room_by (unit_does e at v s t a.places);
+    live = live_by (unit_does e at v s t a.places);
+    done = done_by (unit_does e at v s t a.places);
+  }

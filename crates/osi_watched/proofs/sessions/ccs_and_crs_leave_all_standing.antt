@@ -1,0 +1,250 @@
+-- A CR and a CC leave all connections of an end standing at a tap: those of the end, and those of the other side.
+-- For the session of each connection of an end.
+use Rattle.std.proofs.Common.{◌≡◌, ◌∙◌, refl, sym, ap, subst, ℕ, ◌≤◌, Bool, true, false, List, [], ◌∷◌, ◌++◌, length, map, Option, Some}
+use Rattle.std.proofs.Common.{None, arith}
+use Rattle.std.specs.Prelude.{◌&&◌, is_none, nat_le, not, slice_get}
+use Rattle.std.specs.List.{AllByRecursion}
+use Rattle.std.proofs.lemmas.List.{append-nil}
+use Rattle.osi_tpdu.specs.Value.{Connect, Value, acknowledge, confirm, data0, data2, disconnect, disconnected, error, request}
+use Rattle.osi_class.specs.Runs.{parts_in}
+use Rattle.osi_class.specs.Tsdus.{Part}
+use Rattle.osi_class.specs.declared.terms.Class.{Class}
+use Rattle.osi_judge.specs.Captures.{other}
+use Rattle.osi_judge.specs.declared.directions.Direction.{Direction}
+use Rattle.osi_judge.specs.declared.directions.Direction.TheVariants.{Left, Right}
+use Rattle.osi_rules.specs.declared.connections.Connection.{Connection}
+use Rattle.osi_rules.specs.declared.directions.Direction.TheVariants as way
+use Rattle.osi_rules.specs.declared.findings.Reach.{Reach}
+use Rattle.osi_rules.specs.declared.halves.Half.{Half}
+use Rattle.osi_rules.specs.Reaches.{is_applied}
+use Rattle.osi_rules.specs.Rows.{code_named, is_inside, is_offered}
+use Rattle.osi_rules.specs.Sides.{is_open, is_silent}
+use Rattle.osi_rules.specs.Traffic.{State, asked_by, connection_after, found, found_on, meaning_if, meant, takes, uses_source}
+use Rattle.osi_fair.proofs.a_reference_names_one_connection.{applied_found}
+use Rattle.osi_fair.proofs.which_units_are_for_a_connection.{picked_first, picked_rest}
+use Rattle.osi_honest.specs.Courses.{Deeds, said_in}
+use Rattle.osi_tap.specs.declared.rooms.Room.TheVariants.{All}
+use Rattle.osi_tap.specs.Connections.{Joined, Sessions, asked, class_of, opened, reference_of, spoken}
+use Rattle.osi_tap.specs.Connections as joined
+use Rattle.osi_tap.specs.Lines.{Said, Spoken, begun_octets, heard, octets_of}
+use Rattle.osi_watched.specs.Shown.{AreAfter, IsJoinedFrom, IsShownNow, all_before, before_begun, before_of}
+use Rattle.osi_watched.specs.ShownPlaces.{IsOneOf}
+use Rattle.osi_watched.proofs.sessions.all_connections_stand.{AllStand, Leaves, like_same, other_after, other_plain, own_after}
+use Rattle.osi_watched.proofs.sessions.all_connections_stand.{own_plain}
+use Rattle.osi_watched.proofs.sessions.connections_have_the_same_places.{first_answer, none_given}
+use Rattle.osi_watched.proofs.sessions.right_units_leave_all_standing.{rests_on}
+use Rattle.osi_watched.proofs.sessions.what_stands_of_a_connection.{IsLike, IsUnsaid, Known, Stands, is_for, is_next, is_part, like_shown}
+use Rattle.osi_watched.proofs.sessions.what_stands_of_a_connection.{lives}
+use Rattle.osi_watched.proofs.sessions.what_stands_of_a_connection.{no_next, past, stands_elsewhere, stands_other_none, unnamed, waiting_for}
+
+-- ---- a connection at its beginning
+
+none_joined : (parts : List Part) (s : Spoken) → parts ≡ [] → IsUnsaid s → IsJoinedFrom parts s
+none_joined parts s none u =
+    subst (λ (l : List Part). IsJoinedFrom l s) (sym none) (record {
+      whole = ap (λ (l : List Said). map octets_of l) u.said;
+      unfinished = ap begun_octets u.begun;
+      between = ap is_none u.begun;
+    })
+
+none_before : (s : Spoken) → IsUnsaid s → all_before s ≡ []
+none_before s u = (λ i. map before_of (u.said i) ++ before_begun (u.begun i))
+
+-- nothing has passed of what was put, and nothing was taken
+pub starts_shown : (d : Direction) (r : ℕ) (deeds : Deeds) (waiting : List Value) (j : Joined) → reference_of d j ≡ Some r →
+    IsUnsaid (spoken d j) → IsUnsaid (spoken (other d) j) → j.room ≡ All → deeds.put ≡ waiting → parts_in deeds.calls ≡ [] →
+    IsShownNow d r deeds waiting [] false j
+starts_shown d r deeds waiting j named mine theirs room put none = record {
+  shown = record {
+    named = named;
+    passed = [];
+    waiting = waiting;
+    put = put;
+    said = none_joined [] (spoken d j) refl mine;
+    after = subst (λ (l : List ℕ). AreAfter l (said_in 0 deeds.calls)) (sym (none_before (spoken d j) mine)) tt;
+    so_far = subst (λ (l : List ℕ). AllByRecursion (λ n. n ≤ length (heard (spoken (other d) j))) l) (sym (none_before (spoken d j) mine)) tt;
+    later = [];
+    came = none_joined (parts_in deeds.calls ++ []) (spoken (other d) j) (append-nil (parts_in deeds.calls) ∙ none) theirs;
+  };
+  waiting_is = refl;
+  later_is = refl;
+  since = (let zero_is = mine.since in omega (arith, zero_is));
+  next = λ e. absurd (cc);
+  room = room;
+}
+
+-- as long as the other side gave no reference, nothing is for the connection
+for_none : (v : Value) → is_for None v ≡ false
+for_none (request x) = refl
+for_none (confirm n x) = refl
+for_none (disconnect n source reason user) = refl
+for_none (disconnected n source) = refl
+for_none (data0 end user) = refl
+for_none (data2 n number end user) = refl
+for_none (acknowledge credit n number) = refl
+for_none (error n cause) = refl
+
+pub none_for : (put : List Value) → waiting_for None put ≡ []
+none_for [] = refl
+none_for (v ∷ put) = picked_rest (is_for None) v put (for_none v) ∙ none_for put
+
+-- ---- a CR
+
+unsaid_asked : (number calling : ℕ) → IsUnsaid (spoken Left (asked number calling All))
+unsaid_asked number calling = record { said = refl; begun = refl; since = refl }
+
+-- of a calling end: nothing is done there yet
+pub own_cr : (deeds : ℕ → Deeds) (known : Known) (at : ℕ) (x : Connect) (rest : List Value) (s : State) (t : Sessions) →
+    (deeds x.source).put ≡ [] → parts_in (deeds x.source).calls ≡ [] → known x.source [] →
+    Leaves Left deeds known known (request x ∷ rest) rest true false Left at (request x) s t
+own_cr deeds known at x rest s t put none sure = record {
+  all = λ e c j h. stands_elsewhere Left deeds known (request x) rest true c j (λ live. refl) h;
+  elsewhere = λ p i first c k j apart place there one at_k finding at_c at_j another h.
+      stands_elsewhere Left deeds known (request x) rest true c j (λ live. refl) h;
+  here = λ p c j b r place there at_j one finding is h. own_plain Left deeds known at (request x) rest b true r c j tt h;
+  asked_so = λ y number is. asked_one y number (request_is x y is);
+  others = λ y is c j h. stands_elsewhere Left deeds known (request x) rest true c j (λ live. refl) h;
+  moves = λ y is j h. h;
+  keeps = λ i j here h. h;
+}
+  where
+    request_is : (x y : Connect) → request x ≡ request y → x ≡ y
+    request_is x y e = cc
+
+    asked_one : (y : Connect) (number : ℕ) → x ≡ y → Stands Left deeds known rest false (asked_by y) (asked number y.source All)
+    asked_one y number same =
+        subst (λ (z : Connect). Stands Left deeds known rest false (asked_by z) (asked number z.source All)) same
+        (lives x.source None refl refl [] sure
+        (subst (λ (l : List Value). IsShownNow Left x.source (deeds x.source) l [] false (asked number x.source All)) (sym (none_for rest))
+        (starts_shown Left x.source (deeds x.source) [] (asked number x.source All) refl (unsaid_asked number x.source)
+        (record { said = refl; begun = refl; since = refl }) refl put none)))
+
+-- that comes to a called end
+pub other_cr : (deeds : ℕ → Deeds) (known then_known : Known) (at : ℕ) (x : Connect) (put : List Value) (b : Bool) (s : State) (t : Sessions) →
+    ((r : ℕ) (later : List Part) → known r later → then_known r later) →
+    Leaves Right deeds known then_known put put b b Left at (request x) s t
+other_cr deeds known then_known at x put b s t stays = record {
+  all = λ e c j h. stands_other_none Right deeds known then_known put b c c j j (like_same Right j) refl refl (λ r later is. stays r later) h;
+  elsewhere = λ p i first c k j apart place there one at_k finding at_c at_j another h.
+      stands_other_none Right deeds known then_known put b c c j j (like_same Right j) refl refl (λ r later is. stays r later) h;
+  here = λ p c j y r place there at_j one finding is h.
+      other_plain Right deeds known then_known at (request x) put y b r c j tt (λ n later is. stays n later) h;
+  asked_so = λ y number is. unnamed refl (record { said = refl; begun = refl; since = refl })
+      (record { said = refl; begun = refl; since = refl }) refl;
+  others = λ y is c j h.
+      stands_other_none Right deeds known then_known put b c c j j (like_same Right j) refl refl (λ r later is. stays r later) h;
+  moves = λ y is j h. rests_on Right deeds known then_known j (λ r later is. stays r later) h;
+  keeps = λ i j here h. rests_on Right deeds known then_known j (λ r later is. stays r later) h;
+}
+
+-- ---- a CC
+
+not_some : {A : Type 0} (o : Option ℕ) (n : ℕ) → o ≡ Some n → o ≡ None → A
+not_some o n h e = absurd (cc)
+
+-- it is the first answer: right had given no reference
+unanswered : (s : State) (n : ℕ) (x : Connect) (c : Connection) (j : Joined) → IsOneOf c j →
+    is_applied (found_on way.Right s c (confirm n x)) ≡ true → j.called ≡ None
+unanswered s n x c j one h =
+    let in_use = uses_source way.Right s.connections (confirm n x) in
+    let f = applied_found c.is_judged (found way.Right s.course in_use c (confirm n x)) h in
+    one.called ∙ none_given c.right.phase c.right.reference (first_answer (is_silent c.right.phase) (is_offered c.offer s.course.class x)
+    (is_inside x) (not in_use) (nat_le (code_named x.parameters.size) c.offer.size_code) f)
+
+-- of a called end: what it has put there is what waits behind the CC
+pub own_cc : (deeds : ℕ → Deeds) (known : Known) (at n : ℕ) (x : Connect) (rest : List Value) (s : State) (t : Sessions) →
+    ((p : ℕ) (j : Joined) → (takes way.Right (confirm n x) s).told.place ≡ Some p → slice_get t.live p ≡ Some j →
+    (deeds x.source).put ≡ waiting_for (Some j.calling) rest) → parts_in (deeds x.source).calls ≡ [] → known x.source [] →
+    AllStand Right deeds known (confirm n x ∷ rest) true s t →
+    Leaves Right deeds known known (confirm n x ∷ rest) rest true false Right at (confirm n x) s t
+own_cc deeds known at n x rest s t put none sure a = record {
+  all = λ e c j h. stands_elsewhere Right deeds known (confirm n x) rest true c j (λ live. refl) h;
+  elsewhere = λ p i first c k j apart place there one at_k finding at_c at_j another h.
+      stands_elsewhere Right deeds known (confirm n x) rest true c j (λ live. refl) h;
+  here = λ p c j b r place there at_j one finding is h. by b p c j r is place at_j one h;
+  asked_so = λ y number is. absurd (cc);
+  others = λ y is c j h. absurd (cc);
+  moves = λ y is j h. h;
+  keeps = λ i j here h. h;
+}
+  where
+    opens : (p : ℕ) (c : Connection) (j : Joined) (r : Reach) → (takes way.Right (confirm n x) s).told.place ≡ Some p →
+        slice_get t.live p ≡ Some j → j.called ≡ None → Stands Right deeds known (confirm n x ∷ rest) true c j →
+        Stands Right deeds known rest false (connection_after way.Right (confirm n x) true r c) (opened x.source (class_of (confirm n x)) j)
+    opens p c j r place at_j un (unnamed is mine theirs room) =
+        lives x.source (Some j.calling) refl (ap (λ (y : Half). is_open y.phase) (own_after Right (confirm n x) r c)) [] sure
+        (subst (λ (b : Bool). IsShownNow Right x.source (deeds x.source) (waiting_for (Some j.calling) rest) [] b
+        (opened x.source (class_of (confirm n x)) j)) refl
+        (starts_shown Right x.source (deeds x.source) (waiting_for (Some j.calling) rest) (opened x.source (class_of (confirm n x)) j)
+        refl mine theirs room (put p j place at_j) none))
+    opens p c j r place at_j un (lives q o is live later know h) = not_some j.called q h.shown.named un
+    opens p c j r place at_j un (past q closed waiting later know h) = not_some j.called q h.shown.named un
+
+    by : (b : Bool) (p : ℕ) (c : Connection) (j : Joined) (r : Reach) → is_applied (found_on way.Right s c (confirm n x)) ≡ b →
+        (takes way.Right (confirm n x) s).told.place ≡ Some p → slice_get t.live p ≡ Some j → IsOneOf c j →
+        Stands Right deeds known (confirm n x ∷ rest) true c j →
+        Stands Right deeds known rest false (connection_after way.Right (confirm n x) b r c)
+        (joined.meant Right at (confirm n x) (meaning_if b (meant (confirm n x))) j)
+    by false p c j r is place at_j one h = own_plain Right deeds known at (confirm n x) rest false true r c j refl h
+    by true p c j r is place at_j one h = opens p c j r place at_j (unanswered s n x c j one is) h
+
+and_not : (b : Bool) → (b && false) ≡ false
+and_not true = refl
+and_not false = refl
+
+no_list : (v : Value) (vs : List Value) → v ∷ vs ≡ [] → ⊥
+no_list v vs e = cc
+
+-- of no unit that waits none is the next
+next_none : (o : Option ℕ) (b : Bool) (put : List Value) → waiting_for o put ≡ [] → is_next o b put ≡ false
+next_none o b [] none = and_not b
+next_none o b (v ∷ put) none = by (is_for o v) refl
+  where
+    by : (x : Bool) → is_for o v ≡ x → is_next o b (v ∷ put) ≡ false
+    by true e = absurd (no_list v (waiting_for o put) (sym (picked_first (is_for o) v put e) ∙ none))
+    by false e = ap (λ (x : Bool). b && (x && is_part v)) e ∙ and_not b
+
+like_opened : (called : ℕ) (class : Class) (j : Joined) → IsLike Left j (opened called class j)
+like_opened called class j = record { own_is = refl; theirs = refl; named = refl; room = refl }
+
+-- that comes to a calling end: no unit of the end is for this reference yet
+pub other_cc : (deeds : ℕ → Deeds) (known then_known : Known) (at n : ℕ) (x : Connect) (put : List Value) (b : Bool) (s : State)
+    (t : Sessions) → waiting_for (Some x.source) put ≡ [] → ((r : ℕ) (later : List Part) → known r later → then_known r later) →
+    Leaves Left deeds known then_known put put b b Right at (confirm n x) s t
+other_cc deeds known then_known at n x put b s t unheard stays = record {
+  all = λ e c j h. stands_other_none Left deeds known then_known put b c c j j (like_same Left j) refl refl (λ r later is. stays r later) h;
+  elsewhere = λ p i first c k j apart place there one at_k finding at_c at_j another h.
+      stands_other_none Left deeds known then_known put b c c j j (like_same Left j) refl refl (λ r later is. stays r later) h;
+  here = λ p c j y r place there at_j one finding is h. by y c j r is one h;
+  asked_so = λ y number is. absurd (cc);
+  others = λ y is c j h. absurd (cc);
+  moves = λ y is j h. absurd (cc);
+  keeps = λ i j here h. rests_on Left deeds known then_known j (λ r later is. stays r later) h;
+}
+  where
+    opens : (c : Connection) (j : Joined) (r : Reach) → j.called ≡ None → Stands Left deeds known put b c j →
+        Stands Left deeds then_known put b (connection_after way.Right (confirm n x) true r c) (opened x.source (class_of (confirm n x)) j)
+    opens c j r un (unnamed is mine theirs room) = absurd (cc)
+    opens c j r un (lives q o is live later sure h) =
+        let k = opened x.source (class_of (confirm n x)) j in
+        let none : waiting_for o put ≡ waiting_for (Some x.source) put =
+        ap (λ (y : Option ℕ). waiting_for y put) (sym is ∙ un) ∙ none_for put ∙ sym unheard in
+        let goes = like_shown Left q (deeds q) (waiting_for (Some x.source) put) later false j k
+        (like_opened x.source (class_of (confirm n x)) j)
+        (subst (λ (l : List Value). IsShownNow Left q (deeds q) l later false j) none
+        (no_next Left q (deeds q) (waiting_for o put) later (is_next o b put) j h)) in
+        lives q (Some x.source) refl (ap (λ (y : Half). is_open y.phase) (other_after Left (confirm n x) true r c) ∙ live) later (stays q later sure)
+        (subst (λ (y : Bool). IsShownNow Left q (deeds q) (waiting_for (Some x.source) put) later y k)
+        (sym (next_none (Some x.source) b put unheard)) goes)
+    opens c j r un (past q closed waiting later sure h) =
+        past q (ap (λ (y : Half). is_open y.phase) (other_after Left (confirm n x) true r c) ∙ closed) waiting later (stays q later sure)
+        (like_shown Left q (deeds q) waiting later false j (opened x.source (class_of (confirm n x)) j)
+        (like_opened x.source (class_of (confirm n x)) j) h)
+
+    by : (y : Bool) (c : Connection) (j : Joined) (r : Reach) → is_applied (found_on way.Right s c (confirm n x)) ≡ y → IsOneOf c j →
+        Stands Left deeds known put b c j →
+        Stands Left deeds then_known put b (connection_after way.Right (confirm n x) y r c)
+        (joined.meant Right at (confirm n x) (meaning_if y (meant (confirm n x))) j)
+    by false c j r is one h =
+        other_plain Left deeds known then_known at (confirm n x) put false b r c j refl (λ m later e. stays m later) h
+    by true c j r is one h = opens c j r (unanswered s n x c j one is) h

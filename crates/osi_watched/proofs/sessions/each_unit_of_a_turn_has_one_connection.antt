@@ -1,0 +1,146 @@
+-- A unit that an end of class 2 puts is for one of its connections alone: each that it has open has a place at the tap, and there no two
+-- have one reference of the other side.
+-- For all connections of an end and a tap.
+use Rattle.std.proofs.Common.{◌≡◌, ◌∙◌, refl, sym, ap, ℕ, ◌<◌, Bool, true, false, List, [], ◌∷◌, Option, Some, None, arith}
+use Rattle.std.specs.Prelude.{◌==◌, slice_get}
+use Rattle.std.specs.List.{AllByRecursion}
+use Rattle.std.proofs.lemmas.Bool.{eq-eqb, eqb-true}
+use Rattle.osi_tpdu.specs.Value.{Value, acknowledge, confirm, data0, data2, disconnect, disconnected, error, request}
+use Rattle.osi_judge.specs.Captures.{other}
+use Rattle.osi_judge.specs.declared.directions.Direction.{Direction}
+use Rattle.osi_rules.specs.declared.connections.Connection.{Connection}
+use Rattle.osi_rules.specs.Sides.{is_open, own}
+use Rattle.osi_rules.specs.Traffic.{State}
+use Rattle.osi_honest.specs.Courses.{Deeds}
+use Rattle.osi_honest.specs.Marked.{Marked, all_units, units_at}
+use Rattle.osi_tap.specs.Connections.{Joined, Sessions, reference_of}
+use Rattle.osi_tap.specs.Courses.{way_of}
+use Rattle.osi_watched.proofs.sessions.a_right_dt_has_one_place.{one_place}
+use Rattle.osi_watched.proofs.sessions.all_connections_stand.{AllStand, one_at}
+use Rattle.osi_watched.proofs.sessions.references_of_an_end_are_distinct.{AreDistinct}
+use Rattle.osi_watched.proofs.sessions.what_a_turn_puts_waits.{Agree, marks_wait}
+use Rattle.osi_watched.proofs.sessions.what_stands_of_a_connection.{Known, is_for, names_it, waiting_for}
+
+-- a connection with these references, which this end has not closed, at the tap
+pub record HasHome (d : Direction) (r peer : ℕ) (s : State) (t : Sessions) : Type 0 where
+  pub place : ℕ
+  pub connection : Connection
+  pub joined : Joined
+  pub there : slice_get s.connections place ≡ Some connection
+  pub here : slice_get t.live place ≡ Some joined
+  pub lives : is_open (own (way_of d) connection).phase ≡ true
+  pub mine : reference_of d joined ≡ Some r
+  pub theirs : reference_of (other d) joined ≡ Some peer
+
+some_same : {X : Type 0} (x y : X) → Some x ≡ Some y → x ≡ y
+some_same x y e = cc
+
+module _ (d : Direction) (deeds : ℕ → Deeds) (known : Known) (put : List Value) (b : Bool) (s : State) (t : Sessions)
+    (a : AllStand d deeds known put b s t) (firm : s.course.loose ≡ false) where
+  -- the reference of the other side tells which it is
+  pub one_home : (q r peer : ℕ) → HasHome d q peer s t → HasHome d r peer s t → q ≡ r
+  one_home q r peer h k =
+      let same : h.place ≡ k.place = one_place d peer h.place k.place h.connection k.connection h.joined k.joined s.connections a.apart
+      h.there k.there (a.judged firm h.place h.connection h.there) (a.judged firm k.place k.connection k.there)
+      (one_at s.connections t.live h.place h.connection h.joined a.places h.there h.here)
+      (one_at s.connections t.live k.place k.connection k.joined a.places k.there k.here) h.lives k.lives h.theirs k.theirs in
+      let joined : h.joined ≡ k.joined =
+      some_same h.joined k.joined (sym h.here ∙ ap (λ (i : ℕ). slice_get t.live i) same ∙ k.here) in
+      some_same q r (sym h.mine ∙ ap (reference_of d) joined ∙ k.mine)
+
+-- Of a unit that is put: the tap knows its connection by these references, and this end has not closed it there. Or its CC has not
+-- passed: then no connection has its reference, and none that is open is for the same reference of the other side.
+pub data IsHomed (d : Direction) (q n : ℕ) (s : State) (t : Sessions) : Type 0 where
+  known : HasHome d q n s t → IsHomed d q n s t
+  unknown : ((i : ℕ) (c : Connection) (j : Joined) → slice_get s.connections i ≡ Some c → slice_get t.live i ≡ Some j →
+      is_open (own (way_of d) c).phase ≡ true → reference_of (other d) j ≡ Some n → ⊥) →
+      ((i : ℕ) (j : Joined) → slice_get t.live i ≡ Some j → reference_of d j ≡ Some q → ⊥) → IsHomed d q n s t
+
+-- a DT or an AK of class 2 for this reference
+abbrev pub IsFor : ℕ → Value → Type 0
+IsFor n (data2 m number end user) = m ≡ n
+IsFor n (acknowledge credit m number) = m ≡ n
+IsFor n (data0 end user) = ⊥
+IsFor n (request x) = ⊥
+IsFor n (confirm m x) = ⊥
+IsFor n (disconnect m source reason user) = ⊥
+IsFor n (disconnected m source) = ⊥
+IsFor n (error m cause) = ⊥
+
+-- A unit with the mark of a connection is a DT or an AK, with a home; one without is for no connection.
+pub data IsMarked (d : Direction) (s : State) (t : Sessions) (m : Marked) : Type 0 where
+  of_one : (n : ℕ) → IsFor n m.1 → IsHomed d m.0 n s t → IsMarked d s t m
+  of_none : m.0 ≡ 0 → ((o : Option ℕ) → is_for o m.1 ≡ false) → IsMarked d s t m
+
+for_is : (n : ℕ) (v : Value) (o : Option ℕ) → IsFor n v → is_for o v ≡ names_it o n
+for_is n (data2 m number end user) o h = ap (names_it o) h
+for_is n (acknowledge credit m number) o h = ap (names_it o) h
+for_is n (data0 end user) o h = absurd h
+for_is n (request x) o h = absurd h
+for_is n (confirm m x) o h = absurd h
+for_is n (disconnect m source reason user) o h = absurd h
+for_is n (disconnected m source) o h = absurd h
+for_is n (error m cause) o h = absurd h
+
+names_so : (o : Option ℕ) (n : ℕ) → names_it o n ≡ true → o ≡ Some n
+names_so None n h = absurd (cc)
+names_so (Some m) n h = ap (λ (i : ℕ). Some i) (sym (eqb-true n m h))
+
+names_back : (o : Option ℕ) (n : ℕ) → o ≡ Some n → names_it o n ≡ true
+names_back o n e = ap (λ (x : Option ℕ). names_it x n) e ∙ eq-eqb n n refl
+
+same_bool : (a b : Bool) → (a ≡ true → b ≡ true) → (b ≡ true → a ≡ true) → a ≡ b
+same_bool true b h k = sym (h refl)
+same_bool false true h k = k refl
+same_bool false false h k = refl
+
+differ : {A : Type 0} (b : Bool) → b ≡ true → b ≡ false → A
+differ b h k = absurd (cc)
+
+module _ (d : Direction) (deeds : ℕ → Deeds) (known_so : Known) (put : List Value) (b : Bool) (s : State) (t : Sessions)
+    (a : AllStand d deeds known_so put b s t) (firm : s.course.loose ≡ false) (distinct : AreDistinct d t) (i : ℕ) (c : Connection)
+    (j : Joined) (r : ℕ) (there : slice_get s.connections i ≡ Some c) (here : slice_get t.live i ≡ Some j)
+    (mine : reference_of d j ≡ Some r) (live : is_open (own (way_of d) c).phase ≡ true) (some : 0 < r) where
+  -- it is of this connection exactly if it is for the reference that the other side gave it
+  marked_one : (m : Marked) (n : ℕ) → IsFor n m.1 → IsHomed d m.0 n s t → (m.0 == r) ≡ is_for (reference_of (other d) j) m.1
+  marked_one m n is (unknown no_open no_name) =
+      same_bool (m.0 == r) (is_for (reference_of (other d) j) m.1)
+      (λ e. absurd (no_name i j here (mine ∙ ap (λ (x : ℕ). Some x) (sym (eqb-true m.0 r e)))))
+      (λ e. absurd (no_open i c j there here live
+      (names_so (reference_of (other d) j) n (sym (for_is n m.1 (reference_of (other d) j) is) ∙ e))))
+  marked_one m n is (known h) =
+      same_bool (m.0 == r) (is_for (reference_of (other d) j) m.1)
+      (λ e.
+      let place : h.place ≡ i =
+      distinct.live h.place i h.joined j r h.here here (h.mine ∙ ap (λ (x : ℕ). Some x) (eqb-true m.0 r e)) mine in
+      let joined : h.joined ≡ j = some_same h.joined j (sym h.here ∙ ap (λ (x : ℕ). slice_get t.live x) place ∙ here) in
+      for_is n m.1 (reference_of (other d) j) is
+      ∙ names_back (reference_of (other d) j) n (ap (reference_of (other d)) (sym joined) ∙ h.theirs))
+      (λ e.
+      let home : HasHome d r n s t = record {
+        place = i;
+        connection = c;
+        joined = j;
+        there = there;
+        here = here;
+        lives = live;
+        mine = mine;
+        theirs = names_so (reference_of (other d) j) n (sym (for_is n m.1 (reference_of (other d) j) is) ∙ e);
+      } in
+      eq-eqb m.0 r (one_home d deeds known_so put b s t a firm m.0 r n h home))
+
+  marked_agree : (units : List Marked) → AllByRecursion (IsMarked d s t) units → Agree r (reference_of (other d) j) units
+  marked_agree [] h = tt
+  marked_agree (m ∷ units) h = (by h.0, marked_agree units h.1)
+    where
+      by : IsMarked d s t m → (m.0 == r) ≡ is_for (reference_of (other d) j) m.1
+      by (of_one n is home) = marked_one m n is home
+      by (of_none zero_is none) =
+          same_bool (m.0 == r) (is_for (reference_of (other d) j) m.1)
+          (λ e. let same = eqb-true m.0 r e in absurd (omega (arith, same, zero_is, some)))
+          (λ e. differ (is_for (reference_of (other d) j) m.1) e (none (reference_of (other d) j)))
+
+  -- so what the end put there is what waits there now
+  pub puts_wait : (units : List Marked) → AllByRecursion (IsMarked d s t) units → (own_put : List Value) → own_put ≡ units_at r units →
+      own_put ≡ waiting_for (reference_of (other d) j) (all_units units)
+  puts_wait units h own_put is = is ∙ marks_wait r (reference_of (other d) j) units (marked_agree units h)

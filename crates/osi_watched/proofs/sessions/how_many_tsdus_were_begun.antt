@@ -1,0 +1,190 @@
+-- A session has said each TSDU of which a unit was put, and by then it had taken no more than its link has handed out.
+-- For what a tap shows of a session.
+use Rattle.std.proofs.Common.{◌≡◌, ◌∙◌, refl, sym, ap, subst, ℕ, suc, ◌+◌, ◌≤◌, Bool, true, false, if◌then◌else◌, nat_lt}
+use Rattle.std.proofs.Common.{List, [], ◌∷◌, ◌++◌, length, take, drop, Option, Some, None, IfSome, arith}
+use Rattle.std.specs.List.{AllByRecursion}
+use Rattle.std.proofs.lemmas.Grind.{flat_map-append}
+use Rattle.std.proofs.lemmas.List.{append-nil, length-append, length-map}
+use Rattle.osi_tpdu.specs.Value.{Value}
+use Rattle.osi_class.specs.Ends.{Ends}
+use Rattle.osi_class.specs.Flow.{Flow, ack_number, after_acked}
+use Rattle.osi_class.specs.Link.{Given, Standing, ack, given_part, next, next_by, sent_flow, two_standing}
+use Rattle.osi_class.specs.Runs.{Move, Moves, MovesAlong, give_out, given_parts, hand_in, hand_out, part_out, parts_out, take_in, tsdus_in}
+use Rattle.osi_class.specs.Runs.{tsdus_out, unit_parts}
+use Rattle.osi_class.specs.Tsdus.{Part, give, tsdus, tsdus_after, uncut}
+use Rattle.osi_class.proofs.between.parts_stay_in_order.{at_some, choose_some}
+use Rattle.osi_class.proofs.bounds.what_a_call_preserves.{Sends, move_keeps}
+use Rattle.osi_class.proofs.giving.what_calls_send.{all as all_sent}
+use Rattle.osi_stack.specs.State.{End}
+use Rattle.osi_honest.specs.Courses.{AreCalls, Course, Deeds, said_in}
+use Rattle.osi_honest.specs.Courses.Course.{awaited, is_gone, is_open, unknown}
+use Rattle.osi_honest.specs.Courses.Gone.{closed, never, over}
+use Rattle.osi_honest.specs.Parts.{ends_whole}
+use Rattle.osi_honest.specs.Talking.{Said}
+use Rattle.osi_honest.proofs.courses.what_calls_of_a_link_say.{fresh_of}
+use Rattle.osi_honest.proofs.courses.what_units_do_to_a_course.{no_calls}
+use Rattle.osi_watched.specs.Shown.{left_over, parts_of}
+use Rattle.osi_watched.proofs.sessions.a_session_that_is_shown_is_not_to_blame.{octets_in, parts_put, tsdus_more}
+
+-- ---- parts one after the other
+
+pub left_more : (begun : List ℕ) (some more : List Part) → left_over begun (some ++ more) ≡ left_over (left_over begun some) more
+left_more begun [] more = refl
+left_more begun ((false, octets) ∷ some) more = left_more (begun ++ octets) some more
+left_more begun ((true, octets) ∷ some) more = left_more [] some more
+
+pub ends_more : (before : Bool) (some more : List Part) → ends_whole before (some ++ more) ≡ ends_whole (ends_whole before some) more
+ends_more before [] more = refl
+ends_more before (part ∷ some) more = ends_more part.0 some more
+
+-- ---- how many TSDUs parts begin
+
+-- one that is unfinished, or none
+abbrev pub one_if : (ended : Bool) → ℕ
+one_if true = 0
+one_if false = 1
+
+-- each part that comes after a whole TSDU begins one
+abbrev starts : (ended : Bool) → ℕ
+starts true = 1
+starts false = 0
+
+abbrev pub started : (ended : Bool) → List Part → ℕ
+started ended [] = 0
+started ended (part ∷ parts) = starts ended + started part.0 parts
+
+-- these are the whole ones and the unfinished one
+started_are : (ended : Bool) (begun : List ℕ) (parts : List Part) →
+    length (tsdus_after begun parts) + one_if (ends_whole ended parts) ≡ started ended parts + one_if ended
+started_are ended begun [] = refl
+started_are true begun ((false, octets) ∷ parts) = let h = started_are false (begun ++ octets) parts in omega (arith, h)
+started_are false begun ((false, octets) ∷ parts) = let h = started_are false (begun ++ octets) parts in omega (arith, h)
+started_are true begun ((true, octets) ∷ parts) = let h = started_are true [] parts in omega (arith, h)
+started_are false begun ((true, octets) ∷ parts) = let h = started_are true [] parts in omega (arith, h)
+
+started_more : (ended : Bool) (some more : List Part) → started ended some ≤ started ended (some ++ more)
+started_more ended [] more = omega arith
+started_more ended (part ∷ some) more = let h = started_more part.0 some more in omega (arith, h)
+
+uncut_count : (begun : List ℕ) (unsent : List (List ℕ)) → length (tsdus_after begun (uncut unsent)) ≡ length unsent
+uncut_count begun [] = refl
+uncut_count begun (tsdu ∷ unsent) = ap suc (uncut_count [] unsent)
+
+-- ---- a link has what an unfinished TSDU needs
+
+-- of a TSDU that was begun the rest is unsent
+abbrev Owes : (ended : Bool) → Ends → Type 0
+Owes ended e = ended ≡ false → 1 ≤ length e.unsent
+
+abbrev OwesNext : (ended : Bool) → Given × Standing → Type 0
+OwesNext ended (g, new) = Owes (ends_whole ended (given_parts g)) new.ends
+
+given_owes : (ended : Bool) (e : Ends) (flow : Option Flow) (number : Option ℕ) (tsdus : List (List ℕ)) →
+    IfSome (given_part e flow number (give e.limit tsdus)) (OwesNext ended)
+given_owes ended e flow number [] = tt
+given_owes ended e flow number (tsdu ∷ more) = by number (nat_lt e.limit (length tsdu))
+  where
+    by : (number : Option ℕ) (b : Bool) → IfSome (given_part e flow number (if b then Some ((false, take e.limit tsdu), drop e.limit tsdu ∷ more)
+        else Some ((true, tsdu), more))) (OwesNext ended)
+    by None true = λ h. omega arith
+    by None false = λ h. absurd (cc)
+    by (Some n) true = λ h. omega arith
+    by (Some n) false = λ h. absurd (cc)
+
+next_owes : (ended : Bool) (e : Ends) (flow : Option Flow) → Owes ended e → IfSome (next_by e flow) (OwesNext ended)
+next_owes ended e None h = given_owes ended e None None e.unsent
+next_owes ended e (Some f) h =
+    choose_some (OwesNext ended) (nat_lt 0 f.receiver.waiting)
+    (Some (ack (ack_number f.receiver) f.receiver.window, two_standing e (record f { receiver = after_acked f.receiver })))
+    (if nat_lt 0 f.sender.credit then given_part e (Some (sent_flow f)) (Some f.sender.next) (give e.limit e.unsent) else None)
+    (λ _. h)
+    (λ _. choose_some (OwesNext ended) (nat_lt 0 f.sender.credit)
+    (given_part e (Some (sent_flow f)) (Some f.sender.next) (give e.limit e.unsent)) None
+    (λ _. given_owes ended e (Some (sent_flow f)) (Some f.sender.next) e.unsent)
+    (λ _. tt))
+
+-- a call that gives nothing and takes nothing in leaves as many
+as_many : (old new : Ends) → Sends old new [] [] → length new.unsent ≡ length old.unsent
+as_many old new s =
+    sym (uncut_count [] new.unsent)
+    ∙ ap (λ (l : List (List ℕ)). length (tsdus_after [] (uncut l))) (sym (append-nil new.unsent))
+    ∙ ap length (s.same [] [])
+    ∙ ap (λ (l : List (List ℕ)). length (tsdus_after [] (uncut l))) (append-nil old.unsent)
+    ∙ uncut_count [] old.unsent
+
+owes_same : (ended : Bool) (old new : Ends) → length new.unsent ≡ length old.unsent → Owes ended old → Owes ended new
+owes_same ended old new e h k = let n = h k in omega (arith, n, e)
+
+move_owes : (ended : Bool) (move : Move) (old new : Standing) → Moves move old new → Owes ended old.ends →
+    Owes (ends_whole ended (part_out move)) new.ends
+move_owes ended (hand_in tsdu) old new e h =
+    subst (λ (s : Standing). Owes ended s.ends) (sym e) (λ k. let l = length-append old.ends.unsent (tsdu ∷ []) in omega (arith, l))
+move_owes ended (give_out unit) old new e h = at_some (OwesNext ended) (next old) (unit, new) (next_owes ended old.ends old.flow h) e
+move_owes ended (take_in unit) old new e h =
+    owes_same ended old.ends new.ends (as_many old.ends new.ends (move_keeps (take_in unit) old new e).sends) h
+move_owes ended (hand_out tsdu) old new e h =
+    owes_same ended old.ends new.ends (as_many old.ends new.ends (move_keeps (hand_out tsdu) old new e).sends) h
+
+run_owes : (ended : Bool) (moves : List Move) (old new : Standing) → MovesAlong old moves new → Owes ended old.ends →
+    Owes (ends_whole ended (parts_out moves)) new.ends
+run_owes ended [] old new e h = subst (λ (s : Standing). Owes ended s.ends) (sym e) h
+run_owes ended (move ∷ moves) old new (mid, first, rest) h =
+    subst (λ (b : Bool). Owes b new.ends) (sym (ends_more ended (part_out move) (parts_out moves)))
+    (run_owes (ends_whole ended (part_out move)) moves mid new rest (move_owes ended move old mid first h))
+
+-- ---- what was put
+
+one_less : (ended : Bool) (e : Ends) → Owes ended e → one_if ended ≤ length e.unsent
+one_less true e h = omega arith
+one_less false e h = h refl
+
+-- a fresh link has begun no more than was handed in
+pub begun_of : (moves : List Move) (first link : Standing) → MovesAlong first moves link → first.ends.unsent ≡ [] →
+    started true (parts_out moves) ≤ length (tsdus_in moves)
+begun_of moves first link run nothing =
+    let parts = parts_out moves in
+    let owes = one_less (ends_whole true parts) link.ends (run_owes true moves first link run (λ h. absurd (cc))) in
+    let count = started_are true [] parts in
+    let all : length (tsdus parts) + length (tsdus_after (left_over [] parts) (uncut link.ends.unsent)) ≡ length (tsdus_in moves) =
+    sym (length-append (tsdus parts) (tsdus_after (left_over [] parts) (uncut link.ends.unsent)))
+    ∙ ap length (sym (tsdus_more [] parts (uncut link.ends.unsent))) ∙ ap length (all_sent first link moves run nothing) in
+    let unsent = uncut_count (left_over [] parts) link.ends.unsent in
+    omega (arith, owes, count, all, unsent)
+
+course_calls : (is_caller : Bool) (r : ℕ) (deeds : Deeds) (e : End) → Course is_caller r deeds e → (peer : ℕ) × AreCalls peer deeds
+course_calls is_caller r deeds e (unknown none side free live lines) = (0, no_calls 0 e.carrier.local deeds none)
+course_calls is_caller r deeds e (awaited none c terms side lasts given here kept) = (0, no_calls 0 e.carrier.local deeds none)
+course_calls is_caller r deeds e (is_open given o) = (o.peer, o.calls)
+course_calls is_caller r deeds e (is_gone (closed at calls is_closed session s given shut)) = (at, calls)
+course_calls is_caller r deeds e (is_gone (over at calls heard unheard is_closed session s parts into ended)) = (at, calls)
+course_calls is_caller r deeds e (is_gone (never none ended)) = (0, no_calls 0 e.carrier.local deeds none)
+
+said_count : (n : ℕ) (moves : List Move) → length (said_in n moves) ≡ length (tsdus_in moves)
+said_count n moves =
+    sym (length-map (said_in n moves) (λ (s : Said). s.octets)) ∙ ap length (octets_in n moves)
+
+-- A session has said each TSDU that units began which were put for it.
+pub begun_within : (is_caller : Bool) (r : ℕ) (deeds : Deeds) (e : End) → Course is_caller r deeds e → (passed waiting : List Value) →
+    deeds.put ≡ passed ++ waiting →
+    length (tsdus (parts_of passed)) + one_if (ends_whole true (parts_of passed)) ≤ length (said_in 0 deeds.calls)
+begun_within is_caller r deeds e course passed waiting put =
+    let (peer, calls) = course_calls is_caller r deeds e course in
+    let parts : parts_out deeds.calls ≡ parts_of passed ++ parts_of waiting =
+    sym (parts_put peer deeds.calls) ∙ ap parts_of (sym calls.put) ∙ ap parts_of put ∙ flat_map-append unit_parts passed waiting in
+    let most = begun_of deeds.calls calls.first calls.link calls.along (fresh_of calls.first calls.fresh).0 in
+    let same = ap (started true) parts in
+    let less = started_more true (parts_of passed) (parts_of waiting) in
+    let count = started_are true [] (parts_of passed) in
+    let said = said_count 0 deeds.calls in
+    omega (arith, most, same, less, count, said)
+
+-- ---- how many had been taken
+
+-- a session had taken no more than its link has handed out
+pub all_taken_by : (n most : ℕ) (moves : List Move) → n + length (tsdus_out moves) ≤ most →
+    AllByRecursion (λ (s : Said). s.taken ≤ most) (said_in n moves)
+all_taken_by n most [] h = tt
+all_taken_by n most (hand_in tsdu ∷ moves) h = (omega (arith, h), all_taken_by n most moves h)
+all_taken_by n most (hand_out tsdu ∷ moves) h = all_taken_by (n + 1) most moves (omega (arith, h))
+all_taken_by n most (give_out unit ∷ moves) h = all_taken_by n most moves h
+all_taken_by n most (take_in unit ∷ moves) h = all_taken_by n most moves h

@@ -1,0 +1,26 @@
+-- What an end puts in a turn for a connection is those of the units of the turn that are for it, if the marks of the units agree.
+-- For all connections of an end and a tap.
+use Rattle.std.proofs.Common.{◌≡◌, ◌∙◌, refl, sym, ap, ℕ, Bool, true, false, if◌then◌else◌, List, [], ◌∷◌, ◌++◌, Option}
+use Rattle.std.specs.Prelude.{◌==◌}
+use Rattle.std.specs.List.{AllByRecursion}
+use Rattle.osi_tpdu.specs.Value.{Value}
+use Rattle.osi_honest.specs.Marked.{Marked, all_units, units_at}
+use Rattle.osi_fair.proofs.which_units_are_for_a_connection.{picked_first, picked_rest}
+use Rattle.osi_watched.proofs.sessions.what_stands_of_a_connection.{is_for, waiting_for}
+
+-- a unit has the mark of the connection exactly if it is for the reference that the other side gave it
+abbrev pub Agree : ℕ → Option ℕ → List Marked → Type 0
+Agree r o units = AllByRecursion (λ m. (m.0 == r) ≡ is_for o m.1) units
+
+pub marks_wait : (r : ℕ) (o : Option ℕ) (units : List Marked) → Agree r o units → units_at r units ≡ waiting_for o (all_units units)
+marks_wait r o [] h = refl
+marks_wait r o (m ∷ units) h = by (m.0 == r) refl (marks_wait r o units h.1)
+  where
+    by : (b : Bool) → (m.0 == r) ≡ b → units_at r units ≡ waiting_for o (all_units units) →
+        units_at r (m ∷ units) ≡ waiting_for o (all_units (m ∷ units))
+    by true e rest =
+        ap (λ (x : Bool). (if x then m.1 ∷ [] else []) ++ units_at r units) e ∙ ap (λ (l : List Value). m.1 ∷ l) rest
+        ∙ sym (picked_first (is_for o) m.1 (all_units units) (sym h.0 ∙ e))
+    by false e rest =
+        ap (λ (x : Bool). (if x then m.1 ∷ [] else []) ++ units_at r units) e ∙ rest
+        ∙ sym (picked_rest (is_for o) m.1 (all_units units) (sym h.0 ∙ e))

@@ -1,0 +1,109 @@
+-- What a unit that passes does to the connections: nothing, or to the one at its place, or it asks for a new one; for the rules of
+-- transport and for what is joined alike.
+-- For all connections of an end and a tap.
+use Rattle.std.proofs.Common.{◌≡◌, ◌∙◌, refl, ap, ℕ, Bool, true, false, if◌then◌else◌, [], ◌∷◌, ◌++◌, length, set, arith}
+use Rattle.std.proofs.Common.{Option, Some, None}
+use Rattle.std.specs.Prelude.{position, slice_get}
+use Rattle.std.proofs.lemmas.Option.{slice_get_past}
+use Rattle.osi_tpdu.specs.Value.{Connect, Value, acknowledge, confirm, data0, data2, disconnect, disconnected, error, request}
+use Rattle.osi_judge.specs.declared.directions.Direction.{Direction}
+use Rattle.osi_rules.specs.declared.connections.Connection.{Connection}
+use Rattle.osi_rules.specs.declared.findings.Finding.{Finding}
+use Rattle.osi_rules.specs.declared.findings.Finding.TheVariants.{Broke, Kept, NotJudged, Outside, TooMany}
+use Rattle.osi_rules.specs.declared.findings.Reach.{Reach}
+use Rattle.osi_rules.specs.declared.routes.Route.{Route}
+use Rattle.osi_rules.specs.declared.routes.Route.TheVariants.{Asks, Named, Only, Unnamed}
+use Rattle.osi_rules.specs.Reaches.{is_applied, reach_of}
+use Rattle.osi_rules.specs.Rows.{first_failed}
+use Rattle.osi_rules.specs.Sides.{is_free, is_live, is_named}
+use Rattle.osi_rules.specs.Traffic.{Outcome, State, asked_by, asks_by, asks_kept, asks_of, at_found, at_place, class_for, connection_after}
+use Rattle.osi_rules.specs.Traffic.{found_on, is_stopped, meaning_if, meant, none_told, request_tests, route, routed, takes}
+use Rattle.osi_fair.proofs.a_right_unit_is_not_blamed.{first_there}
+use Rattle.osi_tap.specs.Connections.{Joined, Sessions, asked, changed, count, placed, taken, taken_at}
+use Rattle.osi_tap.specs.Connections as joined
+use Rattle.osi_tap.specs.Courses.{way_of}
+use Rattle.osi_tpkt.specs.Stream.{offset_of}
+use Rattle.osi_watched.specs.ShownPlaces.{HaveSamePlaces, IsOneOf}
+use Rattle.osi_watched.proofs.sessions.connections_have_the_same_places.{as_long, at_same, not_asked}
+
+-- what a unit does of which this is told
+pub data Does (d : Direction) (at : ℕ) (v : Value) (s : State) (t : Sessions) (o : Outcome) : Type 0 where
+  -- it is for no connection
+  nowhere : o.told.place ≡ None → o.state.connections ≡ s.connections → taken d at v o.told.meaning o.told.place t ≡ t →
+      Does d at v s t o
+  -- it is for this one
+  somewhere : (i : ℕ) (c : Connection) (j : Joined) (b : Bool) (r : Reach) → o.told.place ≡ Some i → slice_get s.connections i ≡ Some c →
+      slice_get t.live i ≡ Some j → IsOneOf c j → o.told.finding ≡ found_on (way_of d) s c v →
+      is_applied (found_on (way_of d) s c v) ≡ b → o.state.connections ≡ set s.connections i (connection_after (way_of d) v b r c) →
+      taken d at v o.told.meaning o.told.place t ≡ record t { live = set t.live i (joined.meant d at v (meaning_if b (meant v)) j) } →
+      Does d at v s t o
+  -- it is a CR, which gets a new place, or that of one that is over
+  asks_more : (x : Connect) → v ≡ request x → (number : ℕ) → o.state.connections ≡ s.connections ++ asked_by x ∷ [] →
+      taken d at v o.told.meaning o.told.place t ≡ record t { live = t.live ++ asked number x.source t.room ∷ [] } →
+      Does d at v s t o
+  asks_again : (x : Connect) → v ≡ request x → (number i : ℕ) (j : Joined) → slice_get t.live i ≡ Some j →
+      o.state.connections ≡ set s.connections i (asked_by x) →
+      taken d at v o.told.meaning o.told.place t
+      ≡ record t { live = set t.live i (asked number x.source t.room); done = t.done ++ j ∷ [] } → Does d at v s t o
+
+module _ (d : Direction) (at : ℕ) (v : Value) (s : State) (t : Sessions) (h : HaveSamePlaces s.connections t.live) where
+  does_one : (i : ℕ) (o : Option Connection) → slice_get s.connections i ≡ o → Does d at v s t (at_found (way_of d) v s i o)
+  does_one i None e = nowhere refl refl refl
+  does_one i (Some c) e =
+      let (j, there, one) = at_same s.connections t.live i c h e in
+      let b = is_applied (found_on (way_of d) s c v) in
+      somewhere i c j b (reach_of (class_for (way_of d) s.course) (found_on (way_of d) s c v)) refl e there one refl refl refl
+      (not_asked d at v b i t
+      ∙ ap (λ (o : Option Joined). changed i (joined.meant d at v (meaning_if b (meant v))) t o) there)
+
+  does_any : (i : Option ℕ) → Does d at v s t (at_place (way_of d) v s i)
+  does_any None = nowhere refl refl refl
+  does_any (Some i) = does_one i (slice_get s.connections i) refl
+
+module _ (d : Direction) (at : ℕ) (x : Connect) (s : State) (t : Sessions) (h : HaveSamePlaces s.connections t.live) where
+  abbrev new : Joined
+  new = asked (offset_of (count t)) x.source t.room
+
+  does_ask : (i : Option ℕ) → position is_free s.connections ≡ i → Does d at (request x) s t (asks_kept x s i)
+  does_ask None e =
+      let past = slice_get_past t.live (length s.connections) (let l = as_long s.connections t.live h in omega (arith, l)) in
+      asks_more x refl (offset_of (count t)) refl (ap (λ (o : Option Joined). placed (length s.connections) new t o) past)
+  does_ask (Some i) e =
+      let (free, there) = first_there is_free s.connections i i (asked_by x) e in
+      let (over, here, was) = at_same s.connections t.live i free h there in
+      asks_again x refl (offset_of (count t)) i over here refl (ap (λ (o : Option Joined). placed i new t o) here)
+
+  does_by : (f : Finding) → Does d at (request x) s t (asks_by (way_of d) f x s)
+  does_by Kept = does_ask (position is_free s.connections) refl
+  does_by (Broke rule) = nowhere refl refl refl
+  does_by Outside = nowhere refl refl refl
+  does_by TooMany = nowhere refl refl refl
+  does_by NotJudged = nowhere refl refl refl
+
+asks_does : (d : Direction) (at : ℕ) (v : Value) (s : State) (t : Sessions) → HaveSamePlaces s.connections t.live →
+    Does d at v s t (asks_of (way_of d) v s)
+asks_does d at (request c) s t h = does_by d at c s t h (first_failed (request_tests s c))
+asks_does d at (confirm destination c) s t h = nowhere refl refl refl
+asks_does d at (disconnect destination source reason user) s t h = nowhere refl refl refl
+asks_does d at (disconnected destination source) s t h = nowhere refl refl refl
+asks_does d at (data0 end user) s t h = nowhere refl refl refl
+asks_does d at (data2 destination number end user) s t h = nowhere refl refl refl
+asks_does d at (acknowledge credit destination number) s t h = nowhere refl refl refl
+asks_does d at (error destination cause) s t h = nowhere refl refl refl
+
+routed_does : (d : Direction) (at : ℕ) (v : Value) (s : State) (t : Sessions) (r : Route) → HaveSamePlaces s.connections t.live →
+    Does d at v s t (routed (way_of d) v s r)
+routed_does d at v s t Asks h = asks_does d at v s t h
+routed_does d at v s t (Named n) h = does_any d at v s t h (position (is_named (way_of d) n) s.connections)
+routed_does d at v s t Only h = does_any d at v s t h (position (is_live (way_of d)) s.connections)
+routed_does d at v s t (Unnamed finding) h = nowhere refl refl refl
+
+judged_does : (b : Bool) (d : Direction) (at : ℕ) (v : Value) (s : State) (t : Sessions) (r : Route) →
+    HaveSamePlaces s.connections t.live →
+    Does d at v s t (if b then none_told (way_of d) NotJudged s else routed (way_of d) v s r)
+judged_does true d at v s t r h = nowhere refl refl refl
+judged_does false d at v s t r h = routed_does d at v s t r h
+
+pub unit_does : (d : Direction) (at : ℕ) (v : Value) (s : State) (t : Sessions) → HaveSamePlaces s.connections t.live →
+    Does d at v s t (takes (way_of d) v s)
+unit_does d at v s t h = judged_does (is_stopped (way_of d) s.course) d at v s t (route (way_of d) s.course v) h
