@@ -14,13 +14,14 @@ use Rattle.osi_tpdu.specs.Value.{Value, acknowledge, confirm, data0, data2, disc
 use Rattle.osi_tpdu.specs.Writing.{written, written_header}
 use Rattle.osi_tpdu.specs.declared.faults.TpduFault.{TpduFault}
 use Rattle.osi_class.specs.declared.terms.Local.{Local}
-use Rattle.osi_carrier.specs.State.{packets}
+use Rattle.osi_carrier.specs.State.{State as Carrier, packets}
 use Rattle.osi_carrier.specs.declared.ends.EndReason.{EndReason}
 use Rattle.osi_judge.specs.declared.directions.Direction.{Direction}
 use Rattle.osi_judge.specs.declared.directions.Direction.TheVariants.{Left, Right}
 use Rattle.osi_judge.specs.Captures.{Capture, Passed, of, other}
 use Rattle.osi_stack.specs.State.{Holding}
 use Rattle.osi_honest.specs.Courses.{ContinuesAlong, Deeds}
+use Rattle.osi_honest.specs.Marked.{Marked}
 use Rattle.osi_honest.specs.Seeing.{IsFresh, IsSeen}
 use Rattle.osi_honest.specs.Turns.{Run, Turn}
 use Rattle.osi_honest.proofs.class_0.what_a_packet_does_in_class_0.{AllProper}
@@ -493,12 +494,13 @@ stands_first Right h none = record {
   others = record { octets = octets_nil; part = refl; cut = λ lasts. append-nil h.held.octets ∙ none };
 }
 
-pub capture_steps : AllProper → (r : ℕ) (deeds : Deeds) (d : Direction) (is_caller : Bool) (local : Local) (first end : Holding)
-    (turns_all : List Turn) (capture : Capture) → ContinuesAlong is_caller r deeds first turns_all end → IsFresh is_caller local first →
+pub capture_steps : AllProper → (since : Carrier) (deeds : ℕ → Deeds) (took put : List Marked) (d : Direction) (is_caller : Bool)
+    (local : Local) (first end : Holding) (turns_all : List Turn) (capture : Capture) →
+    ContinuesAlong is_caller since deeds took put first turns_all end → IsFresh is_caller local first →
     Run first turns_all end → AreOctets capture → IsSeen d turns_all capture → ComesBySteps d capture first
-capture_steps proper r deeds d is_caller local first end turns_all capture goes fresh run octets seen =
+capture_steps proper since deeds took put d is_caller local first end turns_all capture goes fresh run octets seen =
     let read = run_to_read proper is_caller local first end turns_all fresh run in
-    let does = all_done is_caller r deeds turns_all first end goes read.units read.is read.written in
+    let does = all_done is_caller since deeds took put turns_all first end goes read.units read.is read.written in
     let c = along_steps d [] [] capture turns_all (seen_follows d turns_all capture seen) tapping.begin (joints.begin first) octets does
     (stands_first d first fresh.held) in
     record { steps = c.steps; last = c.last; along = c.along; all = by c.last.course c.all }

@@ -6,9 +6,10 @@ use Rattle.osi_tpkt.specs.Packet.{packet_of}
 use Rattle.osi_tpkt.specs.Stream.{ArePackets}
 use Rattle.osi_tpdu.specs.Value.{Value}
 use Rattle.osi_tpdu.specs.Writing.{written}
-use Rattle.osi_carrier.specs.State.{packets}
+use Rattle.osi_carrier.specs.State.{State, packets}
 use Rattle.osi_stack.specs.State.{Holding}
-use Rattle.osi_honest.specs.Courses.{ContinuesAlong, Deeds, then_did}
+use Rattle.osi_honest.specs.Courses.{ContinuesAlong, Deeds, all_did}
+use Rattle.osi_honest.specs.Marked.{Marked, all_units}
 use Rattle.osi_honest.specs.Seeing.{put_along}
 use Rattle.osi_honest.specs.Turns.{Takes, Turn}
 use Rattle.osi_honest.proofs.class_0.what_a_call_does_in_class_0.{over_acts}
@@ -65,13 +66,13 @@ abbrev pub DoesAlong : Holding → List Turn → Type 0
 DoesAlong old [] = Unit {0}
 DoesAlong old (turn ∷ turns) = (mid : Holding) × Does old turn mid × DoesAlong mid turns
 
-pub all_done : (is_caller : Bool) (r : ℕ) (deeds : Deeds) (turns : List Turn) (old new : Holding) →
-    ContinuesAlong is_caller r deeds old turns new → (units : List Value) → put_along turns ≡ packets units →
+pub all_done : (is_caller : Bool) (first : State) (deeds : ℕ → Deeds) (took put : List Marked) (turns : List Turn) (old new : Holding) →
+    ContinuesAlong is_caller first deeds took put old turns new → (units : List Value) → put_along turns ≡ packets units →
     AllByRecursion CanBeWritten units → DoesAlong old turns
-all_done is_caller r deeds [] old new run units is can = tt
-all_done is_caller r deeds (turn ∷ turns) old new run units is can =
+all_done is_caller first deeds took put [] old new run units is can = tt
+all_done is_caller first deeds took put (turn ∷ turns) old new run units is can =
     let on = run.2 in
-    let p = parted on.units units (put_along turns) (ap (λ (l : List ℕ). l ++ put_along turns) (sym on.written) ∙ is) in
+    let p = parted (all_units on.put) units (put_along turns) (ap (λ (l : List ℕ). l ++ put_along turns) (sym on.written) ∙ is) in
     let k = can_front p.front p.back (subst (AllByRecursion CanBeWritten) p.parts can) in (
       run.0,
       record {
@@ -85,5 +86,5 @@ all_done is_caller r deeds (turn ∷ turns) old new run units is can =
         held = on.held;
         over = λ over. (over_acts turn old run.0 over run.1).0;
       },
-      all_done is_caller r (then_did deeds on.more) turns run.0 new run.3 p.back p.later k.1,
+      all_done is_caller first (all_did deeds on.more) (took ++ on.took) (put ++ on.put) turns run.0 new run.4 p.back p.later k.1,
     )
