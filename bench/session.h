@@ -17,6 +17,8 @@ struct session {
     uint8_t available, held, wishes;
     uint32_t proposed, base, next, confirmed, lowest;
     int answers;
+    /* The most octets of a TSDU that this side sends; 0 for no limit. */
+    uint16_t limit;
 };
 
 /* User data of an indication, and the block that holds it, which the user frees. */
@@ -95,13 +97,14 @@ struct front {
     size_t user_data, body, octets;
 };
 
-static struct front front_of(uint8_t si, int open, uint32_t number, size_t user_data)
+static void make_front(struct front *f, uint8_t si, int open, uint32_t number, size_t user_data)
 {
-    struct front f = {.si = si, .open = open, .user_data = user_data};
-    f.count = digits_of(number, f.digits);
-    f.body = (open ? 3u : 0u) + 2 + f.count + (user_data ? item_length(user_data) : 0);
-    f.octets = 2 + item_length(f.body) - user_data;
-    return f;
+    f->si = si;
+    f->open = open;
+    f->user_data = user_data;
+    f->count = digits_of(number, f->digits);
+    f->body = (open ? 3u : 0u) + 2 + f->count + (user_data ? item_length(user_data) : 0);
+    f->octets = 2 + item_length(f->body) - user_data;
 }
 
 static void write_front(uint8_t *at, const struct front *f)
@@ -135,7 +138,14 @@ static inline void write_abort(uint8_t *at)
 
 /* ---- calls: the first error of each, and its effect after it is sent */
 
-static enum error may_data(const struct session *s, struct slice data)
+/* Whether a TSDU of so many octets may be sent. */
+static int fits(const struct session *s, size_t octets)
+{
+    return s->limit == 0 || octets <= s->limit;
+}
+
+/* Data beyond the limit is refused: these sessions don't send it in parts. */
+static inline enum error may_data(const struct session *s, struct slice data)
 {
     if (s->phase == ABORTING || s->phase == ENDED)
         return CALL_ENDED;
@@ -145,10 +155,10 @@ static enum error may_data(const struct session *s, struct slice data)
         return TOKEN_NOT_HELD;
     if (data.length == 0)
         return EMPTY;
-    return data.length > MOST_DATA ? TOO_LONG : OK;
+    return data.length > MOST_DATA || !fits(s, DATA_FRONT + data.length) ? TOO_LONG : OK;
 }
 
-static enum error may_minor(const struct session *s, struct slice data)
+static inline enum error may_minor(const struct session *s, struct slice data)
 {
     if (s->phase == ABORTING || s->phase == ENDED)
         return CALL_ENDED;
@@ -163,9 +173,9 @@ static enum error may_minor(const struct session *s, struct slice data)
     return data.length > MOST_USER_DATA ? TOO_LONG : OK;
 }
 
-static struct front minor_front(const struct session *s, int confirm, struct slice data)
+static void minor_front(const struct session *s, int confirm, struct slice data, struct front *front)
 {
-    return front_of(49, !confirm, s->next, data.length);
+    make_front(front, 49, !confirm, s->next, data.length);
 }
 
 static void minor_sent(struct session *s)
@@ -176,7 +186,7 @@ static void minor_sent(struct session *s)
     s->answers = 0;
 }
 
-static enum error may_confirm(const struct session *s, uint32_t number, struct slice data)
+static inline enum error may_confirm(const struct session *s, uint32_t number, struct slice data)
 {
     if (s->phase == ABORTING || s->phase == ENDED)
         return CALL_ENDED;
@@ -189,9 +199,9 @@ static enum error may_confirm(const struct session *s, uint32_t number, struct s
     return data.length > MOST_USER_DATA ? TOO_LONG : OK;
 }
 
-static struct front confirm_front(uint32_t number, struct slice data)
+static void confirm_front(uint32_t number, struct slice data, struct front *front)
 {
-    return front_of(50, 0, number, data.length);
+    make_front(front, 50, 0, number, data.length);
 }
 
 static void confirm_sent(struct session *s, uint32_t number)

@@ -1,4 +1,5 @@
-/* Exchanges data, a minor point and its confirmation over a pair of sessions: the proved ones compared with C, in ns. */
+/* Exchanges data, a minor point and its confirmation over a pair of sessions: the proved ones compared with C, in ns. A call
+   writes what comes before user data into a buffer that is kept, where an end has its packet. */
 #include <stdint.h>
 #include <stdio.h>
 #include <string.h>
@@ -10,10 +11,17 @@ uint64_t osi_bench_sessions(const uint8_t *data, size_t length, size_t rounds, s
 
 #define RUNS 101
 #define ROUNDS 1000
-#define PARTS 7
+#define PARTS 9
+
+/* Octets to be sent and their room: a buffer that is kept, where an end has its packet. */
+struct out {
+    uint8_t *at;
+    size_t room;
+};
 
 struct ends {
     struct session caller, called;
+    struct out out;
 };
 
 /* Half-duplex and minor synchronize, base 0; the caller holds both tokens. */
@@ -29,106 +37,144 @@ static void open_ends(struct ends *e)
 
 static const struct slice none = {(const uint8_t *)"", 0};
 
-/* A TSDU in a block of its own. */
-struct owned {
+/* The place for so many octets; NULL if memory runs out. */
+static uint8_t *place_for(struct out *out, size_t n)
+{
     uint8_t *at;
-    size_t length;
-};
-
-/* A block with `front` octets that are left free, and then the user data. */
-static int made(struct owned *tsdu, size_t front, struct slice data)
-{
-    tsdu->length = front + data.length;
-    tsdu->at = malloc(tsdu->length);
-    if (!tsdu->at)
-        return 0;
-    if (data.length > 0)
-        memcpy(tsdu->at + front, data.at, data.length);
-    return 1;
+    if (n <= out->room)
+        return out->at;
+    at = realloc(out->at, n);
+    if (at == NULL)
+        return NULL;
+    out->at = at;
+    out->room = n;
+    return at;
 }
 
-static int call_data(const struct session *s, struct slice data, struct owned *tsdu)
+/* Writes the octets before data. The data stays where it is. Returns the length of the TSDU, 0 if the call is refused. */
+static size_t call_data(struct ends *e, struct slice data)
 {
-    if (may_data(s, data) != OK || !made(tsdu, DATA_FRONT, data))
+    uint8_t *at;
+    if (may_data(&e->caller, data) != OK)
         return 0;
-    write_data_front(tsdu->at);
-    return 1;
+    at = place_for(&e->out, DATA_FRONT);
+    if (at == NULL)
+        return 0;
+    write_data_front(at);
+    return DATA_FRONT + data.length;
 }
 
-static int call_minor(struct session *s, struct owned *tsdu)
+/* The same, and writes the data after them. */
+static size_t write_data(struct ends *e, struct slice data)
+{
+    uint8_t *at;
+    if (may_data(&e->caller, data) != OK)
+        return 0;
+    at = place_for(&e->out, DATA_FRONT + data.length);
+    if (at == NULL)
+        return 0;
+    write_data_front(at);
+    memcpy(at + DATA_FRONT, data.at, data.length);
+    return DATA_FRONT + data.length;
+}
+
+/* The call for data that returns its TSDU in a block of its own, which is freed. */
+static size_t own_data(const struct session *s, struct slice data)
+{
+    uint8_t *at;
+    if (may_data(s, data) != OK)
+        return 0;
+    at = malloc(DATA_FRONT + data.length);
+    if (at == NULL)
+        return 0;
+    write_data_front(at);
+    memcpy(at + DATA_FRONT, data.at, data.length);
+    __asm__ volatile("" : : "r"(at) : "memory");
+    free(at);
+    return DATA_FRONT + data.length;
+}
+
+static size_t call_minor(struct session *s, struct out *out)
 {
     struct front front;
+    uint8_t *at;
     if (may_minor(s, none) != OK)
         return 0;
-    front = minor_front(s, 1, none);
-    if (!made(tsdu, front.octets, none))
+    minor_front(s, 1, none, &front);
+    if (!fits(s, front.octets))
         return 0;
-    write_front(tsdu->at, &front);
+    at = place_for(out, front.octets);
+    if (at == NULL)
+        return 0;
+    write_front(at, &front);
     minor_sent(s);
-    return 1;
+    return front.octets;
 }
 
-static int call_confirm(struct session *s, uint32_t number, struct owned *tsdu)
+static size_t call_confirm(struct session *s, uint32_t number, struct out *out)
 {
     struct front front;
+    uint8_t *at;
     if (may_confirm(s, number, none) != OK)
         return 0;
-    front = confirm_front(number, none);
-    if (!made(tsdu, front.octets, none))
+    confirm_front(number, none, &front);
+    if (!fits(s, front.octets))
         return 0;
-    write_front(tsdu->at, &front);
+    at = place_for(out, front.octets);
+    if (at == NULL)
+        return 0;
+    write_front(at, &front);
     confirm_sent(s, number);
-    return 1;
+    return front.octets;
 }
 
-/* Lends a TSDU to a side, if there is one, and frees it. Returns how many octets it has, or 0. */
-static size_t hand(struct owned tsdu, struct session *to)
+/* Lends a TSDU of so many octets to a side. Returns how many octets it has, or 0 if nothing is shown. */
+static size_t hand(const struct out *out, size_t octets, struct session *to)
 {
     struct taken t;
     uint8_t *lent = NULL;
-    size_t octets = tsdu.length;
-    if (to) {
-        if (take(to, tsdu.at, tsdu.length, &lent, &t) != OK || t.first.kind == SHOWN_NONE || t.aborts)
-            octets = 0;
-        free(t.first.data.memory);
-    }
-    free(tsdu.at);
+    if (octets == 0)
+        return 0;
+    if (take(to, out->at, octets, &lent, &t) != OK || t.first.kind == SHOWN_NONE || t.aborts)
+        octets = 0;
+    free(t.first.data.memory);
     return octets;
 }
 
-static size_t data_to(struct ends *e, struct slice data, struct session *to)
+static size_t data_to(struct ends *e, struct slice data)
 {
-    struct owned tsdu;
-    return call_data(&e->caller, data, &tsdu) ? hand(tsdu, to) : 0;
+    return hand(&e->out, write_data(e, data), &e->called);
 }
 
-static size_t minor_to(struct ends *e, struct session *to)
+static size_t minor_to(struct ends *e)
 {
-    struct owned tsdu;
-    return call_minor(&e->caller, &tsdu) ? hand(tsdu, to) : 0;
+    return hand(&e->out, call_minor(&e->caller, &e->out), &e->called);
 }
 
-static size_t confirmed_to(struct ends *e, struct session *to)
+static size_t confirmed_to(struct ends *e, int handed)
 {
     uint32_t number = e->caller.next;
-    struct owned tsdu;
-    size_t point = minor_to(e, &e->called), more;
-    if (!point || !call_confirm(&e->called, number, &tsdu))
+    size_t point = minor_to(e), more;
+    if (!point)
         return 0;
-    more = hand(tsdu, to);
+    more = call_confirm(&e->called, number, &e->out);
+    if (handed)
+        more = hand(&e->out, more, &e->caller);
     return more ? point + more : 0;
 }
 
 static __attribute__((noinline)) size_t part_of(struct ends *e, struct slice data, size_t part)
 {
     switch (part) {
-    case 0: return data_to(e, data, NULL);
-    case 1: return data_to(e, data, &e->called);
-    case 2: return minor_to(e, NULL);
-    case 3: return minor_to(e, &e->called);
-    case 4: return confirmed_to(e, NULL);
-    case 5: return confirmed_to(e, &e->caller);
-    default: return data_to(e, data, &e->called) + confirmed_to(e, &e->caller);
+    case 0: return call_data(e, data);
+    case 1: return data_to(e, data);
+    case 2: return call_minor(&e->caller, &e->out);
+    case 3: return minor_to(e);
+    case 4: return confirmed_to(e, 0);
+    case 5: return confirmed_to(e, 1);
+    case 7: return write_data(e, data);
+    case 8: return own_data(&e->caller, data);
+    default: return data_to(e, data) + confirmed_to(e, 1);
     }
 }
 
@@ -144,6 +190,7 @@ static __attribute__((noinline)) uint64_t by_hand(const uint8_t *octets, size_t 
             break;
         sum += more;
     }
+    free(e.out.at);
     return sum;
 }
 
@@ -151,7 +198,7 @@ static __attribute__((noinline)) uint64_t by_hand(const uint8_t *octets, size_t 
    with the digits of the number. */
 static uint64_t expected(size_t length, size_t rounds, size_t part)
 {
-    static const unsigned data[PARTS] = {1, 1, 0, 0, 0, 0, 1}, points[PARTS] = {0, 0, 1, 1, 2, 2, 2};
+    static const unsigned data[PARTS] = {1, 1, 0, 0, 0, 0, 1, 1, 1}, points[PARTS] = {0, 0, 1, 1, 2, 2, 2, 0, 0};
     uint8_t digits[6];
     uint64_t octets = 0;
     for (size_t i = 0; i < rounds; i++)
@@ -192,7 +239,8 @@ static int report(const uint8_t *data, size_t length)
             }
     }
     line(length, "call data", best[0][0], best[1][0]);
-    line(length, "read and take data", best[0][1] - best[0][0], best[1][1] - best[1][0]);
+    line(length, "call data, in its own block", best[0][8], best[1][8]);
+    line(length, "read and take data", best[0][1] - best[0][7], best[1][1] - best[1][7]);
     line(length, "call a point", best[0][2], best[1][2]);
     line(length, "read and take a point", best[0][3] - best[0][2], best[1][3] - best[1][2]);
     line(length, "call a confirmation", best[0][4] - best[0][3], best[1][4] - best[1][3]);

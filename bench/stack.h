@@ -35,9 +35,12 @@ static bool stack_data(struct stack *s, unsigned reference, struct slice data)
 }
 
 /* Sends a point or a confirmation, in the same way. */
-static bool sent(struct stack *s, unsigned reference, const struct front *front, struct slice data)
+static bool sent(struct stack *s, const struct session *session, unsigned reference, const struct front *front, struct slice data)
 {
-    uint8_t *at = send_tsdu(s->carrier, reference, front->octets, data.at, data.length);
+    uint8_t *at;
+    if (!fits(session, front->octets + data.length))
+        return false;
+    at = send_tsdu(s->carrier, reference, front->octets, data.at, data.length);
     if (at == NULL)
         return false;
     write_front(at, front);
@@ -52,8 +55,8 @@ static bool stack_minor(struct stack *s, unsigned reference)
     struct front front;
     if (session == NULL || may_minor(session, none) != OK)
         return false;
-    front = minor_front(session, 1, none);
-    if (!sent(s, reference, &front, none))
+    minor_front(session, 1, none, &front);
+    if (!sent(s, session, reference, &front, none))
         return false;
     minor_sent(session);
     return true;
@@ -65,8 +68,8 @@ static bool stack_confirm(struct stack *s, unsigned reference, uint32_t number)
     struct front front;
     if (session == NULL || may_confirm(session, number, none) != OK)
         return false;
-    front = confirm_front(number, none);
-    if (!sent(s, reference, &front, none))
+    confirm_front(number, none, &front);
+    if (!sent(s, session, reference, &front, none))
         return false;
     confirm_sent(session, number);
     return true;

@@ -189,7 +189,6 @@ static void feed_all(struct gateway *g, const uint8_t *piece, size_t length)
         osi_feed(&g->end, piece, length, &fed);
         piece += fed.used;
         length -= fed.used;
-        write_trace(g);
         if (fed.waits)
             show_next(g);
     } while (length > 0 || fed.waits);
@@ -210,6 +209,7 @@ static void receive(struct gateway *g)
         if (g->came != NULL)
             write_octets(g->came, piece, (size_t)count);
         feed_all(g, piece, (size_t)count);
+        write_trace(g);
     } else if (count == 0 || !comes_later()) {
         close_socket(g);
     }

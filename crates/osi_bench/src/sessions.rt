@@ -1,9 +1,11 @@
-//! Data, a minor synchronization point and its confirmation over a pair of sessions, by the calls that an end makes.
+//! Data, a minor synchronization point and its confirmation over a pair of sessions, by the calls that an end makes. As
+//! there, data leaves after its head; here both are written into a buffer that is kept, where an end has its packet.
 
 ghost use Rattle.std.specs.Prelude.{◌≡◌, true};
 ghost use Rattle.osi_session.specs.Points.{may_advance};
 
 use bitflags::Flags;
+use bytes::BytesMut;
 use osi_message::{LentTsdus, Sent};
 use osi_session::{Opening, PlannedPoint, Request, Session, Sides};
 use osi_spdu::{Requirements, Serial, Side, TokenSetting, TsduSizes, Wish};
@@ -28,11 +30,12 @@ const SIDES: Sides = Sides {
     release: Side::Asker,
 };
 
-/// The two sides of a connection.
+/// The two sides of a connection, and the buffer for data with its head.
 #[derive(Drop)]
 struct Ends {
     caller: Session,
     called: Session,
+    out: BytesMut,
 }
 
 /// Hands a TSDU to a side; false if the side answers it, or indicates nothing.
@@ -65,9 +68,40 @@ fn length_of(sent: &Sent) -> Option<usize> {
     }
 }
 
-/// The call for data, as an end makes it.
-fn data(from: &Session, user_data: &[u8]) -> Option<Sent> {
-    from.call_data(user_data).ok()
+/// The call for data, as an end makes it: the head of its TSDU is written into the buffer, and the data stays where it
+/// is. Returns the length of the TSDU.
+fn data(from: &Session, user_data: &[u8], out: &mut BytesMut) -> Option<usize> {
+    let head = from.data_head(user_data)?;
+    out.clear();
+    out.reserve(head.len()).ok()?;
+    out.extend_reserved(head);
+    head.len().checked_add(user_data.len())
+}
+
+/// The same call, and the data is written after its head.
+fn data_written(from: &Session, user_data: &[u8], out: &mut BytesMut) -> Option<usize> {
+    let head = from.data_head(user_data)?;
+    let octets = head.len().checked_add(user_data.len())?;
+    out.clear();
+    out.reserve(octets).ok()?;
+    out.extend_reserved(head);
+    out.extend_reserved(user_data);
+    Some(octets)
+}
+
+/// The same, and the TSDU is handed to the other side.
+fn data_handed(ends: &mut Ends, user_data: &[u8]) -> Option<usize> {
+    let octets = data_written(&ends.caller, user_data, &mut ends.out)?;
+    if !pass(ends.out.as_slice(), &mut ends.called) {
+        return None;
+    }
+    Some(octets)
+}
+
+/// The call for data that returns its TSDU in a block of its own.
+fn data_owned(from: &Session, user_data: &[u8]) -> Option<usize> {
+    let sent = from.call_data(user_data).ok()?;
+    length_of(&sent)
 }
 
 /// Continues after a planned point, as an end does once it has sent it.
@@ -127,7 +161,11 @@ fn connected(alloc: Global) -> Option<Ends> {
     let mut caller = Session::caller(alloc, &opening).ok()?;
     let mut called = Session::called(alloc);
     match open(&mut caller, &mut called, serial) {
-        Some(_) => Some(Ends { caller, called }),
+        Some(_) => Some(Ends {
+            caller,
+            called,
+            out: BytesMut::new(alloc),
+        }),
         None => None,
     }
 }
@@ -145,18 +183,23 @@ fn confirmed(ends: &mut Ends, handed: bool) -> Option<usize> {
     first.checked_add(second)
 }
 
-/// A part of a round, and the octets of its TSDUs. 0 sends data, and 1 hands it over too; 2 and 3 do the same with a
-/// point; 4 hands a point over and sends its confirmation, and 5 hands both over; any other number does 1 and 5.
+/// A part of a round, and the octets of its TSDUs. 0 sends data, 7 also writes it after its head, and 1 then hands it
+/// over; 2 sends a point, and 3 hands it over too; 4 hands a point over and sends its confirmation, and 5 hands both over;
+/// 8 sends data in a block of its own; any other number does 1 and 5. It is kept out of line, as in C: so nothing that it
+/// tests is taken out of the loop over rounds.
+#[inline(never)]
 fn part(ends: &mut Ends, user_data: &[u8], number: usize) -> Option<usize> {
     match number {
-        0 => length_of(&data(&ends.caller, user_data)?),
-        1 => hand(&data(&ends.caller, user_data)?, &mut ends.called),
+        0 => data(&ends.caller, user_data, &mut ends.out),
+        1 => data_handed(ends, user_data),
         2 => length_of(&point(&mut ends.caller)?),
         3 => hand(&point(&mut ends.caller)?, &mut ends.called),
         4 => confirmed(ends, false),
         5 => confirmed(ends, true),
+        7 => data_written(&ends.caller, user_data, &mut ends.out),
+        8 => data_owned(&ends.caller, user_data),
         _ => {
-            let octets = hand(&data(&ends.caller, user_data)?, &mut ends.called)?;
+            let octets = data_handed(ends, user_data)?;
             octets.checked_add(confirmed(ends, true)?)
         }
     }
