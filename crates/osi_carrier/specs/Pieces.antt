@@ -1,8 +1,8 @@
--- Octets that are sent as TSDUs together: in pieces of one size, each behind its head.
+-- Octets that are sent as TSDUs together: in pieces of one size, each after its head.
 use Rattle.std.specs.Prelude.{ℕ, zero, suc, ◌+◌, ◌<◌, ◌≤◌, nat_le, if◌then◌else◌, List, [], ◌∷◌, ◌++◌, length, take, drop}
 use Rattle.osi_carrier.specs.declared.pieces.Pieces.{Pieces}
 
--- TSDUs with `size` octets each, behind their heads; the last has the rest
+-- TSDUs with `size` octets each, after their heads; the last has the rest
 abbrev pub headed : (fuel : ℕ) (head middle last : List ℕ) (size : ℕ) → List ℕ → List (List ℕ)
 headed zero head middle last size octets = (last ++ octets) ∷ []
 headed (suc fuel) head middle last size octets =

@@ -172,7 +172,7 @@ impl Carrier {
     }
 
     /// Sends TSDUs together as [`Carrier::send_all`] does. They are cut from octets in pieces of one size, and each piece
-    /// goes behind its head, such as a header. If all their units may be sent now, they are written straight from the
+    /// goes after its head, such as a header. If all their units may be sent now, they are written straight from the
     /// heads and the pieces, and no memory is needed but for their room in [`Carrier::outgoing`]. Otherwise copies of the
     /// TSDUs are kept, and what may be sent now is written from them. The errors are those of [`Carrier::send_all`], and
     /// `TooLong` also if a piece has no octet or a head more than 123. An error changes nothing.

@@ -1,9 +1,9 @@
 //! The links of open connections: units that are received for them, and units that they give.
 
-ghost use Rattle.std.specs.Prelude.{ℕ, List, ◌≡◌, ◌<◌, ◌≤◌, ◌+◌, ◌^◌, ◌++◌, [], None, true, false, nat_lt, length, drop, map, IfOk, IfSome, IsOk, OnOk, OnErr};
+ghost use Rattle.std.specs.Prelude.{ℕ, List, ◌≡◌, ◌<◌, ◌≤◌, ◌+◌, ◌*◌, ◌^◌, ◌++◌, [], None, true, false, nat_lt, length, drop, map, IfOk, IfSome, IsOk, IsSome, OnOk, OnErr};
 ghost use Rattle.std.specs.Cow.{cow_slice_items, IsOwnedSlice};
 ghost use Rattle.osi_class.specs.AnyLink.{any_standing};
-ghost use Rattle.osi_class.specs.Giving.{all_given, most_given, octets_in, one_by_one, units_needed, AllGoAtOnce};
+ghost use Rattle.osi_class.specs.Giving.{all_given, most_given, octets_in, octets_in_parts, one_by_one, units_needed, AllGoAtOnce};
 ghost use Rattle.osi_class.specs.Link.{next, with_tsdu, with_tsdus};
 ghost use Rattle.osi_class.specs.Tsdus.{octets_of_tsdus};
 ghost use Rattle.osi_carrier.specs.Calls.{WaitsAlone, WaitTogether};
@@ -351,11 +351,14 @@ pub fn send_headed_parts(
     send_parts(alloc, link, peer, CowSlice::Owned(tsdu), out)
 }
 
-/// Whether so many units of data may be sent now: as many octets as they carry at most would go at once.
+/// Whether so many units of data may be sent now: as many octets as they carry at most would go at once. `false` also if
+/// those octets don't fit a `usize`.
 fn may_send(link: &AnyLink, units: usize) -> bool
     requires quiet { next (any_standing link.now) ≡ None }
     requires some { 0 < units }
-    ensures { result ≡ true → (tsdus : List (List ℕ)) → units ≡ units_needed (any_standing link.now).ends.limit tsdus → AllGoAtOnce (any_standing link.now) tsdus }
+    ensures go { result ≡ true → (tsdus : List (List ℕ)) → units ≡ units_needed (any_standing link.now).ends.limit tsdus → AllGoAtOnce (any_standing link.now) tsdus }
+    ensures all { (tsdus : List (List ℕ)) → units ≡ units_needed (any_standing link.now).ends.limit tsdus → AllGoAtOnce (any_standing link.now) tsdus →
+        units * (any_standing link.now).ends.limit < 2 ^ 64 → result ≡ true }
 {
     let Some(octets) = units.checked_mul(link.limit()) else {
         return false;
@@ -364,12 +367,17 @@ fn may_send(link: &AnyLink, units: usize) -> bool
     room.octets == octets
 }
 
-/// The room for all units of the TSDUs that are cut, if all of them may be sent now. `None` in all other cases.
+/// The room for all units of the TSDUs that are cut, if all of them may be sent now. `None` in all other cases, and if so
+/// much room, or the octets of so many full units, don't fit a `usize`.
 fn room_at_once(link: &AnyLink, pieces: &Pieces<'_>) -> Option<usize>
     requires quiet { next (any_standing link.now) ≡ None }
     requires fit { FitTsdus pieces.now }
     ensures go { IfSome result (λ _. AllGoAtOnce (any_standing link.now) (tsdus_in pieces.now)) }
     ensures enough { IfSome result (λ room. (peer : ℕ) → length (packets (written_for peer (any_standing link.now) (tsdus_in pieces.now))) ≤ room) }
+    ensures exact { IfSome result (λ room. room ≡ octets_in_parts 9 (any_standing link.now).ends.limit (tsdus_in pieces.now)) }
+    ensures some { AllGoAtOnce (any_standing link.now) (tsdus_in pieces.now) →
+        units_needed (any_standing link.now).ends.limit (tsdus_in pieces.now) * (any_standing link.now).ends.limit < 2 ^ 64 →
+        octets_in_parts 9 (any_standing link.now).ends.limit (tsdus_in pieces.now) < 2 ^ 64 → IsSome result }
 {
     let room = pieces.room(link.limit())?;
     if !may_send(link, room.units) {
@@ -410,8 +418,8 @@ fn write_pieces(
 
 /// Hands in the TSDUs that are cut together at a link that gives nothing now, and writes all units that it then gives.
 /// If all of them may be sent now, they are written straight from the pieces, and no memory is needed but for their
-/// room. Otherwise the link keeps copies of the TSDUs. An allocation failure changes nothing: the room for the units is
-/// reserved first.
+/// room: none if `out` has it, and the octets of so many full units fit a `usize`. Otherwise the link keeps copies of
+/// the TSDUs. An allocation failure changes nothing: the room for the units is reserved first.
 pub fn send_pieces_on(
     alloc: Global,
     link: &mut AnyLink,
@@ -425,9 +433,13 @@ pub fn send_pieces_on(
     ensures ok { OnOk result (out.new.items ≡ out.old.items ++ packets (written_for peer (any_standing link.old) (tsdus_in pieces.now))) }
     ensures pumped { OnOk result (next (any_standing link.new) ≡ None) }
     ensures err { OnErr result ((any_standing link.new ≡ any_standing link.old) × (out.new.items ≡ out.old.items)) }
+    ensures straight { AllGoAtOnce (any_standing link.old) (tsdus_in pieces.now) →
+        units_needed (any_standing link.old).ends.limit (tsdus_in pieces.now) * (any_standing link.old).ends.limit < 2 ^ 64 →
+        octets_in_parts 9 (any_standing link.old).ends.limit (tsdus_in pieces.now) ≤ out.old.spare → IsOk result }
 {
-    // Named for the proof: each unit has room for some octets.
+    // Named for the proof: each unit has room for some octets, and the room in `out` fits a `usize`.
     let _limit = link.limit();
+    let _capacity = out.capacity();
     if let Some(room) = room_at_once(link, pieces) {
         out.reserve(room)?;
         write_pieces(alloc, link, peer, pieces, out);

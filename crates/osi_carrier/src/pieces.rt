@@ -1,6 +1,6 @@
-//! Octets that are sent as TSDUs together, each piece of them behind a head.
+//! Octets that are sent as TSDUs together, each piece of them after a head.
 
-ghost use Rattle.std.specs.Prelude.{◌≡◌, false, true, ◌+◌, ◌<◌, ◌≤◌, ◌++◌, ◌∷◌, [], length, map, IfOk, IfSome, OnOk};
+ghost use Rattle.std.specs.Prelude.{◌≡◌, false, true, ◌+◌, ◌^◌, ◌<◌, ◌≤◌, ◌++◌, ◌∷◌, [], length, map, IfOk, IfSome, IsSome, OnOk};
 ghost use Rattle.osi_class.specs.Giving.{parts_needed, units_needed};
 ghost use Rattle.osi_class.specs.Tsdus.{octets_of_tsdus};
 ghost use Rattle.osi_carrier.specs.Pieces.{tsdus_in, FitsTsdu, FitTsdus};
@@ -53,6 +53,7 @@ fn with_one(room: Room, limit: usize, octets: usize) -> Option<Room>
     requires { 123 ≤ limit }
     ensures units { IfSome result (λ r. r.units ≡ room.units + parts_needed limit octets) }
     ensures octets { IfSome result (λ r. r.octets ≡ room.octets + octets) }
+    ensures fits { room.units + parts_needed limit octets < 2 ^ 64 → room.octets + octets < 2 ^ 64 → IsSome result }
 {
     let units = room.units.checked_add(count_units(limit, octets))?;
     let octets = room.octets.checked_add(octets)?;
@@ -100,6 +101,7 @@ impl Pieces<'_> {
         ensures units { IfSome result (λ r. r.units ≡ units_needed limit (tsdus_in self.now)) }
         ensures octets { IfSome result (λ r. r.octets ≡ octets_of_tsdus (tsdus_in self.now)) }
         ensures some { IfSome result (λ r. 0 < r.units) }
+        ensures fits { units_needed limit (tsdus_in self.now) < 2 ^ 64 → octets_of_tsdus (tsdus_in self.now) < 2 ^ 64 → IsSome result }
     {
         let mut room = Room {
             units: 0,

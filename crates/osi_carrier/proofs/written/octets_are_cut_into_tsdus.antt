@@ -1,8 +1,9 @@
 -- Octets that are cut into pieces, each behind its head: the TSDUs one after the other.
 -- For `room` and `copies` of pieces, `write_pieces` of links, and `send_pieces_open` of the switch.
-use Rattle.std.proofs.Common.{◌≡◌, ◌∙◌, refl, sym, ap, subst, ℕ, zero, suc, ◌+◌, ◌<◌, ◌≤◌, Bool, true, false, nat_le, List, [], ◌∷◌, ◌++◌}
+use Rattle.std.proofs.Common.{◌≡◌, ◌∙◌, refl, sym, ap, subst, ℕ, zero, suc, ◌+◌, ◌^◌, ◌<◌, ◌≤◌, Bool, true, false, nat_le}
+use Rattle.std.proofs.Common.{List, [], ◌∷◌, ◌++◌}
 use Rattle.std.proofs.Common.{length, take, drop, map, arith, append_assoc, length-append, length-drop, if◌then◌else◌, nat_lt, ◌||◌}
-use Rattle.std.proofs.Common.{Option, Some, None, IfSome}
+use Rattle.std.proofs.Common.{Option, Some, None, IfSome, IsSome}
 use Rattle.std.proofs.lemmas.Bool.{lt-leb, le-ltb}
 use Rattle.std.proofs.lemmas.List.{length-take}
 use Rattle.osi_class.proofs.giving.all_that_may_go_is_given.{more_units}
@@ -136,6 +137,30 @@ pub counted_some : (limit u octets : ℕ) (r : Option Room) → IfSome r (λ x. 
     IfSome r (λ x. 0 < x.units)
 counted_some limit u octets None units = tt
 counted_some limit u octets (Some room) units = let some = parts_some limit octets in omega (arith, some, units)
+
+-- of a TSDU before the last, if what is counted fits a usize
+pub fits_next : (p : Pieces) (limit u o : ℕ) (head rest : List ℕ) (r : Option Room) → FitTsdus p → IsCounted p limit u o head rest →
+    p.size < length rest →
+    (u + parts_needed limit (length head + p.size) < 2 ^ 64 → o + (length head + p.size) < 2 ^ 64 → IsSome r) →
+    units_needed limit (tsdus_in p) < 2 ^ 64 → octets_of_tsdus (tsdus_in p) < 2 ^ 64 → IsSome r
+fits_next p limit u o head rest r fit h long fits units octets =
+    let more = counting_next p limit u o (u + parts_needed limit (length head + p.size)) (o + (length head + p.size)) head rest
+    (drop p.size rest) fit h long refl refl refl in
+    let all_units = more.units_are in
+    let all_octets = more.octets_are in
+    fits (omega (arith, all_units, units)) (omega (arith, all_octets, octets))
+
+-- and of the last
+pub fits_last : (p : Pieces) (limit u o : ℕ) (head rest : List ℕ) (r : Option Room) → IsCounted p limit u o head rest →
+    length rest ≤ p.size →
+    (u + parts_needed limit (length p.last.now + length rest) < 2 ^ 64 → o + (length p.last.now + length rest) < 2 ^ 64 → IsSome r) →
+    units_needed limit (tsdus_in p) < 2 ^ 64 → octets_of_tsdus (tsdus_in p) < 2 ^ 64 → IsSome r
+fits_last p limit u o head rest r h short fits units octets =
+    let all = counting_last p limit u o (u + parts_needed limit (length p.last.now + length rest)) (o + (length p.last.now + length rest))
+    head rest h short refl refl in
+    let all_units = all.units_are in
+    let all_octets = all.octets_are in
+    fits (omega (arith, all_units, units)) (omega (arith, all_octets, octets))
 
 -- ---- their copies
 

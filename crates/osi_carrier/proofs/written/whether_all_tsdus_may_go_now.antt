@@ -1,10 +1,12 @@
 -- Whether all units of TSDUs may go now, by the units that a link gives for one TSDU that fills as many.
 -- For `may_send`, `room_at_once` and `write_pieces` of links.
-use Rattle.std.proofs.Common.{◌≡◌, ◌∙◌, refl, sym, ap, ℕ, zero, suc, ◌+◌, ◌*◌, ◌<◌, ◌≤◌, List, [], ◌∷◌, ◌++◌, length, Option, Some, None}
-use Rattle.std.proofs.Common.{arith, inl, inr, subst, map, IfSome, SomeIff}
+use Rattle.std.proofs.Common.{◌≡◌, ◌∙◌, refl, sym, ap, ℕ, zero, suc, ◌+◌, ◌-◌, ◌*◌, ◌^◌, ◌<◌, ◌≤◌, List, [], ◌∷◌, ◌++◌}
+use Rattle.std.proofs.Common.{length, Option, Some, None}
+use Rattle.std.proofs.Common.{arith, inl, inr, subst, map, IfSome, IsSome, SomeIff}
+use Rattle.std.proofs.Math.Nat.{suc-mul}
 use Rattle.std.proofs.lemmas.Nat.{mul-le}
-use Rattle.osi_class.proofs.giving.all_that_may_go_is_given.{more_units}
-use Rattle.osi_class.proofs.giving.the_units_of_one_tsdu.{parts_some, room_of_class_0, room_of_class_2}
+use Rattle.osi_class.proofs.giving.all_that_may_go_is_given.{goes_whole, more_units}
+use Rattle.osi_class.proofs.giving.the_units_of_one_tsdu.{one_part, parts_cut, parts_some, room_of_class_0, room_of_class_2}
 use Rattle.osi_class.proofs.giving.tsdus_that_are_added_together.{many_at_once}
 use Rattle.osi_class.proofs.giving.units_have_at_most_so_many_octets.{all_take}
 use Rattle.osi_class.proofs.giving.when_nothing_is_given.{class_0, class_2}
@@ -50,6 +52,30 @@ all_may_go s t units tsdus room quiet some size all is =
     let h = filled_by s.ends s.flow t units room quiet some size all in
     record { alone = h.0; may = subst (λ (n : ℕ). MayGoAll n s.flow) is h.1 }
 
+-- ---- such a TSDU is given whole if they may go
+
+-- a TSDU that fills so many units goes in so many
+fills : (limit units : ℕ) → 0 < limit → 0 < units → parts_needed limit (units * limit) ≡ units
+fills limit zero room some = absurd (omega arith)
+fills limit (suc zero) room some = one_part limit (1 * limit) room (omega arith)
+fills limit (suc (suc n)) room some =
+    let two : suc (suc n) * limit ≡ suc n * limit + limit = suc-mul (suc n) limit in
+    let one : suc n * limit ≡ n * limit + limit = suc-mul n limit in
+    let rest : suc (suc n) * limit - limit ≡ suc n * limit = omega (arith, two) in
+    let more : suc n + 1 ≡ suc (suc n) = omega arith in
+    parts_cut limit (suc (suc n) * limit) room (omega (arith, two, one))
+    ∙ ap (λ (m : ℕ). parts_needed limit m + 1) rest ∙ ap (λ (m : ℕ). m + 1) (fills limit (suc n) room (omega arith)) ∙ more
+
+pub given_whole : (s : Standing) (t : List ℕ) (units : ℕ) (tsdus : List (List ℕ)) → 0 < s.ends.limit → 0 < units →
+    length t ≡ units * s.ends.limit → units ≡ units_needed s.ends.limit tsdus → AllGoAtOnce s tsdus →
+    octets_in (all_given (with_tsdu s t)) ≡ length t
+given_whole s t units tsdus room some size is go =
+    let none : units_needed s.ends.limit [] ≡ 0 = refl in
+    let parts = ap (parts_needed s.ends.limit) size ∙ fills s.ends.limit units room some in
+    let one = more_units s.ends.limit t [] in
+    let same : units_needed s.ends.limit tsdus ≡ units_needed s.ends.limit (t ∷ []) = omega (arith, is, none, parts, one) in
+    (goes_whole s t [] room (record { alone = go.alone; may = subst (λ (n : ℕ). MayGoAll n s.flow) same go.may })).octets
+
 -- ---- something is given of each
 
 some_by : (e : Ends) (flow : Option Flow) (t : List ℕ) (others : List (List ℕ)) → 0 < e.limit →
@@ -72,7 +98,7 @@ some_is_given s t others room quiet go = some_by s.ends s.flow t others room qui
 
 -- ---- their room
 
-in_parts : (headers limit : ℕ) (tsdus : List (List ℕ)) →
+pub in_parts : (headers limit : ℕ) (tsdus : List (List ℕ)) →
     octets_in_parts headers limit tsdus ≡ octets_of_tsdus tsdus + units_needed limit tsdus * headers
 in_parts headers limit [] = let none : 0 ≡ 0 + 0 * headers = omega arith in none
 in_parts headers limit (t ∷ ts) =
@@ -132,6 +158,36 @@ room_of_all s tsdus units octets headers o P some quiet go count size product su
     if_some o (λ room. (peer : ℕ) → length (packets (written_for peer s tsdus)) ≤ room)
     (λ room e peer. enough_room peer s tsdus units octets headers room some quiet go count size product
     (sum_is o P (octets + headers) room sum e))
+
+-- their sum
+pub exact_room : (s : Standing) (tsdus : List (List ℕ)) (units octets headers : ℕ) (o : Option ℕ) (P : Type 0) →
+    units ≡ units_needed s.ends.limit tsdus → octets ≡ octets_of_tsdus tsdus → headers ≡ units * 9 → SomeIff o P (octets + headers) →
+    IfSome o (λ room. room ≡ octets_in_parts 9 s.ends.limit tsdus)
+exact_room s tsdus units octets headers o P count size product sum =
+    let all = in_parts 9 s.ends.limit tsdus in
+    let same = ap (λ (n : ℕ). n * 9) count in
+    if_some o (λ room. room ≡ octets_in_parts 9 s.ends.limit tsdus)
+    (λ room e. let is = sum_is o P (octets + headers) room sum e in omega (arith, all, same, size, product, is))
+
+some_sum : (o : Option ℕ) (P : Type 0) (v : ℕ) → SomeIff o P v → P → IsSome o
+some_sum None P v h p = absurd (h p)
+some_sum (Some x) P v h p = refl
+
+-- which is there if it fits a usize
+pub some_room : (s : Standing) (tsdus : List (List ℕ)) (units octets headers : ℕ) (o : Option ℕ) →
+    units ≡ units_needed s.ends.limit tsdus → octets ≡ octets_of_tsdus tsdus → headers ≡ units * 9 →
+    SomeIff o (octets + headers < 2 ^ 64) (octets + headers) → octets_in_parts 9 s.ends.limit tsdus < 2 ^ 64 → IsSome o
+some_room s tsdus units octets headers o count size product sum fits =
+    let all = in_parts 9 s.ends.limit tsdus in
+    let same = ap (λ (n : ℕ). n * 9) count in
+    some_sum o (octets + headers < 2 ^ 64) (octets + headers) sum (omega (arith, all, same, size, product, fits))
+
+-- and so do their numbers
+pub counts_fit : (limit : ℕ) (tsdus : List (List ℕ)) → octets_in_parts 9 limit tsdus < 2 ^ 64 →
+    (units_needed limit tsdus * 9 < 2 ^ 64) × (octets_of_tsdus tsdus < 2 ^ 64)
+counts_fit limit tsdus fits =
+    let all = in_parts 9 limit tsdus in
+    (omega (arith, all, fits), omega (arith, all, fits))
 
 pub go_of_all : (s : Standing) (tsdus : List (List ℕ)) (o : Option ℕ) → AllGoAtOnce s tsdus → IfSome o (λ _. AllGoAtOnce s tsdus)
 go_of_all s tsdus o go = if_some o (λ _. AllGoAtOnce s tsdus) (λ _ _. go)

@@ -1,19 +1,25 @@
-use Rattle.std.proofs.Common.{◌≡◌, ◌∙◌, ◌*◌, ℕ, length, replicate, sym, ap, arith}
+use Rattle.std.proofs.Common.{◌≡◌, ◌∙◌, ◌*◌, ◌<◌, ℕ, length, replicate, sym, ap, arith}
 use Rattle.std.proofs.lemmas.List.{length-replicate}
-use Rattle.osi_carrier.proofs.Vocabulary.{any_standing, eqb-true}
-use Rattle.osi_carrier.proofs.written.whether_all_tsdus_may_go_now.{all_may_go}
+use Rattle.osi_carrier.proofs.Vocabulary.{any_standing, eq-eqb, eqb-true}
+use Rattle.osi_carrier.proofs.written.whether_all_tsdus_may_go_now.{all_may_go, given_whole}
 use Rattle.osi_carrier.proofs.links.may_send.Goals as goal
 
 pub returns : goal.returns
-returns c e tsdus units =
+returns c =
     let s = any_standing c.args.link.now in
     let octets = c.in-Some.octets in
-    let limit = c.limit.ensures.value in
+    let value = c.limit.ensures.value in
     let least = c.limit.ensures.at_least in
-    let product : octets ≡ c.args.units * s.ends.limit = c.in-Some.ensures.1 ∙ ap (λ (n : ℕ). c.args.units * n) limit in
+    let limit : 0 < s.ends.limit = omega (arith, value, least) in
+    let product : octets ≡ c.args.units * s.ends.limit = c.in-Some.ensures.1 ∙ ap (λ (n : ℕ). c.args.units * n) value in
     let tsdu = replicate octets 0 in
     let size : length tsdu ≡ octets = length-replicate octets 0 in
     let given = c.room_for-room.ensures.octets tsdu size c.requires.quiet in
-    let same = eqb-true c.room_for-room.result.octets octets e in
-    all_may_go s tsdu c.args.units tsdus (omega (arith, limit, least)) c.requires.quiet c.requires.some (size ∙ product)
-    (sym given ∙ same ∙ product) units
+    record {
+      go = λ e tsdus units.
+          all_may_go s tsdu c.args.units tsdus limit c.requires.quiet c.requires.some (size ∙ product)
+          (sym given ∙ eqb-true c.room_for-room.result.octets octets e ∙ product) units;
+      all = λ tsdus units go few.
+          eq-eqb c.room_for-room.result.octets octets
+          (given ∙ given_whole s tsdu c.args.units tsdus limit c.requires.some (size ∙ product) units go ∙ size);
+    }

@@ -1,7 +1,7 @@
-use Rattle.std.proofs.Common.{◌∙◌, ◌<◌, ℕ, ap, arith}
+use Rattle.std.proofs.Common.{◌∙◌, ◌<◌, ℕ, ap, arith, subst, sym, IsSome}
 use Rattle.osi_class.specs.Giving.{units_needed}
 use Rattle.osi_carrier.proofs.Vocabulary.{any_standing}
-use Rattle.osi_carrier.proofs.written.whether_all_tsdus_may_go_now.{go_of_all, room_of_all}
+use Rattle.osi_carrier.proofs.written.whether_all_tsdus_may_go_now.{counts_fit, exact_room, go_of_all, room_of_all, some_room}
 use Rattle.osi_carrier.specs.Pieces.{tsdus_in}
 use Rattle.osi_carrier.proofs.links.room_at_once.Goals as goal
 
@@ -13,9 +13,24 @@ returns c =
     let least = c.limit.ensures.at_least in
     let limit : 0 < s.ends.limit = omega (arith, value, least) in
     let count = c.in_ok-room.ensures.units ∙ ap (λ (n : ℕ). units_needed n tsdus) value in
-    let go = c.may_send.ensures c.if-not-may_send.false tsdus count in
+    let go = c.may_send.ensures.go c.if-not-may_send.false tsdus count in
     record {
       go = go_of_all s tsdus c.checked_add.result go;
       enough = room_of_all s tsdus c.in_ok-room.room.units c.in_ok-room.room.octets c.in_ok-headers.headers c.checked_add.result _ limit
           c.requires.quiet go count c.in_ok-room.ensures.octets c.in_ok-headers.ensures.1 c.checked_add.ensures;
+      exact = exact_room s tsdus c.in_ok-room.room.units c.in_ok-room.room.octets c.in_ok-headers.headers c.checked_add.result _ count
+          c.in_ok-room.ensures.octets c.in_ok-headers.ensures.1 c.checked_add.ensures;
+      some = λ all few fits.
+          some_room s tsdus c.in_ok-room.room.units c.in_ok-room.room.octets c.in_ok-headers.headers c.checked_add.result count
+          c.in_ok-room.ensures.octets c.in_ok-headers.ensures.1 c.checked_add.ensures fits;
     }
+
+pub returns-in_err-room-clause-some : goal.returns-in_err-room-clause-some
+returns-in_err-room-clause-some c = λ all few fits.
+    let s = any_standing c.args.link.now in
+    let tsdus = tsdus_in c.args.pieces.now in
+    let both = counts_fit s.ends.limit tsdus fits in
+    let units = both.0 in
+    let same = ap (λ (n : ℕ). units_needed n tsdus) c.limit.ensures.value in
+    let none = subst IsSome c.in_err-room.was (c.room.ensures.fits (omega (arith, units, same)) both.1) in
+    subst IsSome (sym c.from_residual.ensures) none
