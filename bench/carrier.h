@@ -12,6 +12,7 @@
 #define NUMBERS 128
 #define MOST_LIVE 64
 #define HEADER 4
+#define LEAST_ROOM 1024
 
 /* Octets on the heap and their capacity. Those before `first` have been taken. */
 struct octets {
@@ -74,7 +75,10 @@ static bool reserve(struct octets *o, size_t n)
         return true;
     if (o->first == 0 || n > o->room - (o->length - o->first)) {
         size_t room = 2 * o->room > o->length + n ? 2 * o->room : o->length + n;
-        uint8_t *at = realloc(o->at, room);
+        uint8_t *at;
+        if (room < LEAST_ROOM)
+            room = LEAST_ROOM;
+        at = realloc(o->at, room);
         if (at == NULL)
             return false;
         o->at = at;

@@ -17,6 +17,7 @@ use crate::negotiation::{acceptance, opened_link, proposal};
 use crate::rows::{MOST_LIVE, Phase};
 use crate::selectors::Tsaps;
 use crate::writing::{put_confirm, put_disconnect, put_request};
+use bytes::BytesMut;
 use osi_class::{Answer, Class, answer};
 use osi_tpdu::{ConnectRequest, SizeCode, Tsap};
 use std::alloc::AllocError;
@@ -30,6 +31,17 @@ const CONGESTION: u8 = 1;
 const DUPLICATE_REFERENCE: u8 = 131;
 
 const REFUSED_HERE: u8 = 136;
+
+/// The room for octets to send that is made for each new connection.
+const FIRST_ROOM: usize = 1024;
+
+/// Makes the first room for octets to send. If it were made little by little, the buffer would move while the octets of
+/// a TSDU are joined, and leave a gap into which they don't fit.
+fn make_first_room(out: &mut BytesMut) -> Result<(), AllocError>
+    ensures { out.new.items ≡ out.old.items }
+{
+    out.reserve(FIRST_ROOM)
+}
 
 impl Switch {
     /// Whether a connection can be requested now, or the first reason why not.
@@ -82,6 +94,7 @@ impl Switch {
         ensures given { OnOk result (self.new.given ≡ self.old.given + 1) }
         ensures err { OnErr result (self.new ≡ self.old) }
     {
+        make_first_room(&mut self.outgoing)?;
         let reference = self.given + 1;
         let before = self.outgoing.len();
         let request = proposal(&self.local, self.class, calling, called, reference);
@@ -164,6 +177,7 @@ impl Switch {
         ensures err { OnErr result (ends NoMemory self.new ≡ ends NoMemory self.old) }
         ensures needs { OnErr result (grows self.old (accepts class (option_map size_code size) (request_content request.now) self.old) ≡ true) }
     {
+        make_first_room(&mut self.outgoing)?;
         let reference = self.given + 1;
         let link = opened_link(self.alloc, class, size, &self.local, request.fields.credit);
         let confirm = acceptance(class, size, request, &self.local, reference);

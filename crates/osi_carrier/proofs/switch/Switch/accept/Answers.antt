@@ -11,10 +11,15 @@ returns-in_err-reserve-clause-needs c =
 
 pub returns-in_err-enter-clause-needs : goal.returns-in_err-enter-clause-needs
 returns-in_err-enter-clause-needs c =
-    on_want c.from_residual.result
+    on_want c.from_residual-in_err-enter.result
     (accepts_grows c.args.class (option_map size_code c.args.size) (request_content c.args.request.now) c.args.self.now)
 
 pub returns-in_err-put_confirm-clause-needs : goal.returns-in_err-put_confirm-clause-needs
 returns-in_err-put_confirm-clause-needs c =
     on_want c.from_residual-in_err-put_confirm.result
+    (accepts_grows c.args.class (option_map size_code c.args.size) (request_content c.args.request.now) c.args.self.now)
+
+pub returns-in_err-make_first_room-clause-needs : goal.returns-in_err-make_first_room-clause-needs
+returns-in_err-make_first_room-clause-needs c =
+    on_want c.from_residual.result
     (accepts_grows c.args.class (option_map size_code c.args.size) (request_content c.args.request.now) c.args.self.now)
