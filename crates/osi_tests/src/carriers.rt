@@ -483,6 +483,68 @@ fn tsdus_are_sent_together_in_class_2(rt: HostRuntime) -> Result<(), Fail> {
     )
 }
 
+/// Five octets in pieces of two, each after a head.
+const PIECES: Pieces<'static> = Pieces {
+    size: 2,
+    first: &[0x46],
+    middle: &[0x4D],
+    last: &[0x4C],
+    octets: &[0x41, 0x42, 0x43, 0x44, 0x45],
+};
+
+/// The answer to sending them on connection 1 in one call.
+fn send_pieces(carrier: &mut Carrier) -> Result<(), SendError> {
+    carrier.send_all_headed(Ref(1), &PIECES)
+}
+
+/// Sends the pieces, and continues with these steps.
+fn pieces_go_on(carrier: &mut Carrier, steps: &[Step]) -> Result<(), Fail> {
+    send_pieces(carrier)?;
+    goes(carrier, steps)
+}
+
+/// Three DTs of class 0.
+const PIECES_IN_CLASS_0: [Step; 1] = [Step::Write(&[
+    3, 0, 0, 0x0A, 2, 0xF0, 0x80, 0x46, 0x41, 0x42, 3, 0, 0, 0x0A, 2, 0xF0, 0x80, 0x4D, 0x43, 0x44,
+    3, 0, 0, 9, 2, 0xF0, 0x80, 0x4C, 0x45,
+])];
+
+fn pieces_go_in_class_0(carrier: &mut Carrier) -> Result<(), Fail> {
+    goes(carrier, &OPEN_IN_CLASS_0)?;
+    pieces_go_on(carrier, &PIECES_IN_CLASS_0)
+}
+
+#[test]
+fn octets_are_cut_into_tsdus_in_class_0(rt: HostRuntime) -> Result<(), Fail> {
+    pieces_go_in_class_0(&mut caller(&rt, true)?)
+}
+
+/// Three DTs of class 2, with the numbers 0 to 2.
+const PIECES_IN_CLASS_2: [Step; 1] = [Step::Write(&[
+    3, 0, 0, 0x0C, 4, 0xF0, 0, 1, 0x80, 0x46, 0x41, 0x42, 3, 0, 0, 0x0C, 4, 0xF0, 0, 1, 0x81, 0x4D,
+    0x43, 0x44, 3, 0, 0, 0x0B, 4, 0xF0, 0, 1, 0x82, 0x4C, 0x45,
+])];
+
+/// There is credit for one more, with number 3. The other two go after an AK with number 4 and credit 4.
+const PIECES_THAT_WAIT: [Step; 3] = [
+    Step::Write(&[3, 0, 0, 0x0C, 4, 0xF0, 0, 1, 0x83, 0x46, 0x41, 0x42]),
+    Step::Take(&[3, 0, 0, 9, 4, 0x64, 0, 1, 4]),
+    Step::Write(&[
+        3, 0, 0, 0x0C, 4, 0xF0, 0, 1, 0x84, 0x4D, 0x43, 0x44, 3, 0, 0, 0x0B, 4, 0xF0, 0, 1, 0x85,
+        0x4C, 0x45,
+    ]),
+];
+
+fn pieces_go_in_class_2(carrier: &mut Carrier) -> Result<(), Fail> {
+    pieces_go_on(carrier, &PIECES_IN_CLASS_2)?;
+    pieces_go_on(carrier, &PIECES_THAT_WAIT)
+}
+
+#[test]
+fn octets_are_cut_into_tsdus_in_class_2(rt: HostRuntime) -> Result<(), Fail> {
+    pieces_go_in_class_2(&mut opened(&rt)?)
+}
+
 /// An empty list is refused if nothing is open; otherwise it changes nothing.
 fn empty_goes_on(carrier: &mut Carrier) -> Result<(), Fail> {
     if send_all(carrier, &[]) != Err(SendError::NotOpen) {

@@ -132,6 +132,35 @@ fn class_0_takes_no_ack(rt: HostRuntime) -> Result<(), Fail> {
     goes(&mut Class0::new(rt.alloc(), None), &NO_ACK)
 }
 
+/// Whether this TSDU was handed out, or none.
+fn is_handed(handed: &Option<Vec<u8>>, wanted: Option<&[u8]>) -> bool {
+    match handed {
+        None => wanted.is_none(),
+        Some(tsdu) => wanted == Some(tsdu.as_slice()),
+    }
+}
+
+/// The unit with these octets is taken, and the TSDU that it completes is handed out.
+fn receives(link: &mut impl Link, unit: &[u8], wanted: Option<&[u8]>) -> Result<(), Fail> {
+    let handed = link.receive(&only_unit(unit)?)?;
+    if !is_handed(&handed, wanted) {
+        return Err(Fail::from("another TSDU"));
+    }
+    Ok(())
+}
+
+/// A TSDU in two parts, and one in a single unit.
+fn two_are_received(link: &mut impl Link) -> Result<(), Fail> {
+    receives(link, &[2, 0xF0, 0, 0x41], None)?;
+    receives(link, &[2, 0xF0, 0x80, 0x42], Some(b"AB"))?;
+    receives(link, &[2, 0xF0, 0x80, 0x43], Some(b"C"))
+}
+
+#[test]
+fn a_unit_that_ends_a_tsdu_hands_it_out(rt: HostRuntime) -> Result<(), Fail> {
+    two_are_received(&mut Class0::new(rt.alloc(), None))
+}
+
 const PARTS: [Step; 6] = [
     Step::Send(&[0x5a; 126]),
     Step::Send(&[]),
@@ -286,6 +315,23 @@ const WINDOW: [Step; 9] = [
 #[test]
 fn each_unit_taken_gives_one_ack(rt: HostRuntime) -> Result<(), Fail> {
     goes(&mut AnyLink::Two(class_2(&rt, None, 2, 0)?), &WINDOW)
+}
+
+/// A unit completes a TSDU, and is acknowledged.
+fn one_is_received(link: &mut impl Link) -> Result<(), Fail> {
+    receives(link, &[4, 0xF0, 0, 1, 0x80, 0x41], Some(b"A"))?;
+    gives(
+        link,
+        Given::Ack {
+            number: 1,
+            credit: 2,
+        },
+    )
+}
+
+#[test]
+fn a_unit_of_class_2_hands_out_its_tsdu(rt: HostRuntime) -> Result<(), Fail> {
+    one_is_received(&mut AnyLink::Two(class_2(&rt, None, 2, 0)?))
 }
 
 /// Each unit is answered by the number after its own, and credit for one more.

@@ -151,6 +151,29 @@ fn a_plan_changes_nothing(rt: HostRuntime) -> Result<(), Fail> {
     gives_a_token(&mut caller(&rt)?)
 }
 
+/// How data is cut.
+fn cuts_data(left: &Session, user_data: &[u8]) -> Result<DataParts, CallError> {
+    left.data_parts(user_data)
+}
+
+/// Data goes in one TSDU, after the head of whole data.
+fn is_whole(parts: &DataParts) -> Result<(), Fail> {
+    if parts.last != [0x01, 0x00, 0x01, 0x00].as_slice() {
+        return Err(Fail::from("another head"));
+    }
+    Ok(())
+}
+
+fn data_stays_whole(left: &mut Session) -> Result<(), Fail> {
+    is_connected(left)?;
+    is_whole(&cuts_data(left, b"abc")?)
+}
+
+#[test]
+fn data_is_not_cut_without_a_limit(rt: HostRuntime) -> Result<(), Fail> {
+    data_stays_whole(&mut caller(&rt)?)
+}
+
 /// A call of the user.
 fn call(session: &mut Session, request: Request) -> Result<Sent, CallError> {
     session.call(request)
