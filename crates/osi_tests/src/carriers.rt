@@ -536,13 +536,14 @@ const PIECES_THAT_WAIT: [Step; 3] = [
 ];
 
 fn pieces_go_in_class_2(carrier: &mut Carrier) -> Result<(), Fail> {
+    goes(carrier, &OPEN_IN_CLASS_2)?;
     pieces_go_on(carrier, &PIECES_IN_CLASS_2)?;
     pieces_go_on(carrier, &PIECES_THAT_WAIT)
 }
 
 #[test]
 fn octets_are_cut_into_tsdus_in_class_2(rt: HostRuntime) -> Result<(), Fail> {
-    pieces_go_in_class_2(&mut opened(&rt)?)
+    pieces_go_in_class_2(&mut caller(&rt, true)?)
 }
 
 /// An empty list is refused if nothing is open; otherwise it changes nothing.
