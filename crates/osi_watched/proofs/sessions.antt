@@ -19,3 +19,11 @@ pub mod what_an_end_takes_at_a_connection
 pub mod references_of_an_end_are_distinct
 pub mod each_unit_of_a_turn_has_one_connection
 pub mod steps_leave_all_standing
+pub mod a_dt_of_class_0_has_one_place
+pub mod class_0_has_one_connection
+pub mod a_dt_of_class_0_leaves_all_standing
+pub mod steps_of_class_0_leave_all_standing
+pub mod each_step_leaves_class_0_one_connection
+pub mod what_has_no_effect_joins_nothing
+pub mod after_too_many_nobody_is_to_blame
+pub mod steps_of_either_class_leave_all_standing
