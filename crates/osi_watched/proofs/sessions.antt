@@ -27,3 +27,15 @@ pub mod each_step_leaves_class_0_one_connection
 pub mod what_has_no_effect_joins_nothing
 pub mod after_too_many_nobody_is_to_blame
 pub mod steps_of_either_class_leave_all_standing
+pub mod a_turn_does_what_its_deeds_say
+pub mod units_written_alike_are_for_the_same
+pub mod a_cc_comes_before_what_is_put_for_it
+pub mod crs_that_wait_are_above_those_that_passed
+pub mod each_cr_that_passes_gives_a_new_reference
+pub mod nothing_is_done_before_a_cr_passes
+pub mod what_an_end_takes_at_each_stage
+pub mod a_calling_end_is_ready
+pub mod a_calling_end_takes_nothing_before_its_cc
+pub mod a_calling_end_takes_what_is_in_flight
+pub mod a_calling_end_hears_what_breaks_no_rule
+pub mod a_calling_end_stands_as_units_pass
