@@ -39,3 +39,12 @@ pub mod a_calling_end_takes_nothing_before_its_cc
 pub mod a_calling_end_takes_what_is_in_flight
 pub mod a_calling_end_hears_what_breaks_no_rule
 pub mod a_calling_end_stands_as_units_pass
+pub mod class_0_is_known_once_it_is_selected
+pub mod what_passes_is_no_break_while_none_is_told
+pub mod the_called_side_ends_no_judging
+pub mod a_whole_end_runs_along
+pub mod what_a_turn_puts_goes_to_its_peer
+pub mod each_unit_of_a_calling_end_has_a_home
+pub mod a_called_end_has_its_lines
+pub mod a_called_end_of_class_2_puts_no_dt_of_class_0
+pub mod each_unit_of_a_called_end_has_a_home
