@@ -57,7 +57,8 @@ module _ (n : ℕ) (x : Connect) (s : State) (firm : s.course.loose ≡ false) (
   cc_on c is none = by c.is_judged is none
     where
       by : (b : Bool) → b ≡ true →
-          IsNoBreak (if b then found way.Right s.course (uses_source way.Right s.connections (confirm n x)) c (confirm n x) else NotJudged) →
+          IsNoBreak (if b then found way.Right s.course (uses_source way.Right s.connections (confirm n x)) c
+              (confirm n x) else NotJudged) →
           IsNew
       by true h k =
           not_so (uses_source way.Right s.connections (confirm n x))
