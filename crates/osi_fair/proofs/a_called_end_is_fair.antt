@@ -76,19 +76,19 @@ mild w v (inr (e, strays)) = inr e
 -- ---- all that holds
 
 -- no class is selected, or class 2; class 0 is selected, and the CC is to pass, or has passed
-data Stage (local : Local) (w : Whole) : Type 0 where
+pub data Stage (local : Local) (w : Whole) : Type 0 where
   lines : Called local w → IsCalled local w.end → Stage local w
   selecting : Selecting local w → Stage local w
   selected : Selected w → Stage local w
 
-record Joined (local : Local) (w : Whole) : Type 0 where
-  apart : AreApart w.tap.connections
-  judged : AreJudged w.tap
-  passings : List Passing
-  tap : w.tap ≡ all_passed passings fresh
-  stage : IsCalm w.tap.course → Stage local w
+pub record Joined (local : Local) (w : Whole) : Type 0 where
+  pub apart : AreApart w.tap.connections
+  pub judged : AreJudged w.tap
+  pub passings : List Passing
+  pub tap : w.tap ≡ all_passed passings fresh
+  pub stage : IsCalm w.tap.course → Stage local w
   -- as long as the other side is judged, this one is
-  right : w.tap.course.left_stopped ≡ false → w.tap.course.loose ≡ false → w.tap.course.right_stopped ≡ false
+  pub right : w.tap.course.left_stopped ≡ false → w.tap.course.loose ≡ false → w.tap.course.right_stopped ≡ false
 
 calm_was : (p : Passing) (w : Whole) → IsCalm (passes p w.tap).course → IsCalm w.tap.course
 calm_was p w h = calm_before w.tap.course (passes p w.tap).course (lasts_passing p w.tap) h
@@ -220,12 +220,13 @@ next_joined local passes_rubbish w new is j = subst (Joined local) (sym is) (rec
       let l = lasts_passing (rubbish Left) w.tap in rubbish_judged w.tap (j.right (l.left left) (l.firm firm)) left;
 })
 
-all_joined : (local : Local) (events : List Event) (w new : Whole) → HappenAlong Right w events new → Joined local w → Joined local new
+pub all_joined : (local : Local) (events : List Event) (w new : Whole) → HappenAlong Right w events new → Joined local w →
+    Joined local new
 all_joined local [] w new e j = subst (Joined local) (sym e) j
 all_joined local (event ∷ events) w new (mid, first, more) j =
     all_joined local events mid new more (next_joined local event w mid first j)
 
-first_joined : (local : Local) → Joined local (begin false local)
+pub first_joined : (local : Local) → Joined local (begin false local)
 first_joined local = record {
   apart = fresh_apart;
   judged = λ firm i c at. no_item i c at;

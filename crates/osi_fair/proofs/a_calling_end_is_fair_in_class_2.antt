@@ -259,7 +259,8 @@ next_joined local passes_rubbish w new is j =
       followed = λ firm. rubbish_by local w j firm;
     })
 
-all_joined : (local : Local) (events : List Event) (w new : Whole) → HappenAlong Left w events new → Joined local w → Joined local new
+pub all_joined : (local : Local) (events : List Event) (w new : Whole) → HappenAlong Left w events new → Joined local w →
+    Joined local new
 all_joined local [] w new e j = subst (Joined local) (sym e) j
 all_joined local (event ∷ events) w new (mid, first, more) j =
     all_joined local events mid new more (next_joined local event w mid first j)

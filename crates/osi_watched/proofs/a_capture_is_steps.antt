@@ -322,7 +322,8 @@ module _ (d : Direction) (x : ℕ) (capture : Capture) (s : State) (j : Joint) (
       step_first d (of (other d) x ∷ capture) s (passes_other other_now.at u units) other_joint last (octets, is, refl)
       (octet_first d (of (other d) x) capture s last
       (subst (λ (t : State). Comes d capture t last) (sym (passes_so (other d) x s (whole u) st.other_reads front))
-      (on next last refl (other_moved d (advanced other_now) s after_it last still (ahead ++ x ∷ []) course st.own_reads st.other_reads st.own
+      (on next last refl (other_moved d (advanced other_now) s after_it last still
+          (ahead ++ x ∷ []) course st.own_reads st.other_reads st.own
       others))))
 
   other_octet : Comes d (of (other d) x ∷ capture) s j

@@ -21,7 +21,8 @@ use Rattle.osi_rules.specs.declared.findings.Rule.TheVariants as rule
 use Rattle.osi_rules.specs.Rows.{Test, data0_tests, data2_tests, first_failed}
 use Rattle.osi_rules.specs.Sides.{is_live, is_named}
 use Rattle.osi_rules.specs.Sides as sides
-use Rattle.osi_rules.specs.Traffic.{State, at_found, at_place, class_for, found, is_stopped, none_told, route, route_in, routed, takes, unnamed_by}
+use Rattle.osi_rules.specs.Traffic.{State, at_found, at_place, class_for, found, is_stopped, none_told, route, route_in, routed, takes}
+use Rattle.osi_rules.specs.Traffic.{unnamed_by}
 use Rattle.osi_rules.specs.Traffic.{uses_source}
 use Rattle.osi_rules.specs.Traffic as traffic
 use Rattle.osi_fair.specs.Naming.{packet, rubbish, unit}

@@ -29,7 +29,8 @@ use Rattle.osi_watched.proofs.sessions.what_stands_of_a_connection.{waiting_for}
 
 -- What the end did in a turn, and the units that it put in all. At each connection that it has not closed it put those of them that are
 -- for it; and its link took the first of what is in flight to it, if any.
-pub record Turns (d : Direction) (more : ℕ → Deeds) (known then_known : Known) (units : List Value) (s : State) (t : Sessions) : Type 0 where
+pub record Turns (d : Direction) (more : ℕ → Deeds) (known then_known : Known) (units : List Value) (s : State)
+    (t : Sessions) : Type 0 where
   pub puts : (i : ℕ) (c : Connection) (j : Joined) (r : ℕ) → slice_get s.connections i ≡ Some c → slice_get t.live i ≡ Some j →
       reference_of d j ≡ Some r → is_open (own (way_of d) c).phase ≡ true → (more r).put ≡ waiting_for (reference_of (other d) j) units
   pub takes : (r : ℕ) (later : List Part) → known r later → Takes (more r) later (then_known r)

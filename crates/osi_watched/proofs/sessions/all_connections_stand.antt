@@ -20,7 +20,8 @@ use Rattle.osi_rules.specs.declared.halves.Phase.{Phase}
 use Rattle.osi_rules.specs.declared.halves.Phase.TheVariants as phase
 use Rattle.osi_rules.specs.Reaches.{is_applied}
 use Rattle.osi_rules.specs.Sides.{begins, is_open, is_silent, own}
-use Rattle.osi_rules.specs.Traffic.{State, asked_by, closing_phase, connection_after, found, found_on, half_after, judged_on, meaning_if, meant}
+use Rattle.osi_rules.specs.Traffic.{State, asked_by, closing_phase, connection_after, found, found_on, half_after, judged_on}
+use Rattle.osi_rules.specs.Traffic.{meaning_if, meant}
 use Rattle.osi_rules.specs.Traffic.{sent_on, takes, uses_source}
 use Rattle.osi_rules.specs.Traffic as traffic
 use Rattle.osi_fair.specs.Naming.{packet, unit}
@@ -33,7 +34,8 @@ use Rattle.osi_stack.specs.State.{End}
 use Rattle.osi_honest.specs.Courses.{Course, Deeds}
 use Rattle.osi_tap.specs.declared.rooms.Room.{Room}
 use Rattle.osi_tap.specs.declared.rooms.Room.TheVariants.{All}
-use Rattle.osi_tap.specs.Connections.{Joined, Sessions, adds, all_begin, asked, opened, packet_begins, reference_of, shut, spoken, taken, user_of}
+use Rattle.osi_tap.specs.Connections.{Joined, Sessions, adds, all_begin, asked, opened, packet_begins, reference_of, shut, spoken}
+use Rattle.osi_tap.specs.Connections.{taken, user_of}
 use Rattle.osi_tap.specs.Connections as joined
 use Rattle.osi_tap.specs.Courses.{way_of}
 use Rattle.osi_tap.specs.Lines.{heard}
@@ -337,7 +339,8 @@ pub record Leaves (d : Direction) (deeds : ℕ → Deeds) (known then_known : Kn
   pub here : (p : ℕ) (c : Connection) (j : Joined) (x : Bool) (r : Reach) → (takes (way_of e) v s).told.place ≡ Some p →
       slice_get s.connections p ≡ Some c → slice_get t.live p ≡ Some j → IsOneOf c j →
       (takes (way_of e) v s).told.finding ≡ found_on (way_of e) s c v → is_applied (found_on (way_of e) s c v) ≡ x →
-      Stands d deeds known put b c j → Stands d deeds then_known later then_begun (connection_after (way_of e) v x r c) (joined.meant e at v (meaning_if x (meant v)) j)
+      Stands d deeds known put b c j → Stands d deeds then_known later then_begun (connection_after (way_of e) v x r c)
+          (joined.meant e at v (meaning_if x (meant v)) j)
   pub asked_so : (x : Connect) (number : ℕ) → v ≡ request x →
       Stands d deeds then_known later then_begun (asked_by x) (asked number x.source All)
   pub others : (x : Connect) → v ≡ request x → (c : Connection) (j : Joined) → Stands d deeds known put b c j →

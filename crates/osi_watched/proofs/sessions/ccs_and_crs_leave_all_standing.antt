@@ -35,7 +35,8 @@ use Rattle.osi_watched.proofs.sessions.connections_have_the_same_places.{first_a
 use Rattle.osi_watched.proofs.sessions.right_units_leave_all_standing.{rests_on}
 use Rattle.osi_watched.proofs.sessions.what_stands_of_a_connection.{IsLike, IsUnsaid, Known, Stands, is_for, is_next, is_part, like_shown}
 use Rattle.osi_watched.proofs.sessions.what_stands_of_a_connection.{lives}
-use Rattle.osi_watched.proofs.sessions.what_stands_of_a_connection.{no_next, past, stands_elsewhere, stands_other_none, unnamed, waiting_for}
+use Rattle.osi_watched.proofs.sessions.what_stands_of_a_connection.{no_next, past, stands_elsewhere, stands_other_none, unnamed}
+use Rattle.osi_watched.proofs.sessions.what_stands_of_a_connection.{waiting_for}
 
 -- ---- a connection at its beginning
 
@@ -62,7 +63,8 @@ starts_shown d r deeds waiting j named mine theirs room put none = record {
     put = put;
     said = none_joined [] (spoken d j) refl mine;
     after = subst (λ (l : List ℕ). AreAfter l (said_in 0 deeds.calls)) (sym (none_before (spoken d j) mine)) tt;
-    so_far = subst (λ (l : List ℕ). AllByRecursion (λ n. n ≤ length (heard (spoken (other d) j))) l) (sym (none_before (spoken d j) mine)) tt;
+    so_far = subst (λ (l : List ℕ). AllByRecursion (λ n. n ≤ length (heard (spoken (other d) j))) l) (sym (none_before
+        (spoken d j) mine)) tt;
     later = [];
     came = none_joined (parts_in deeds.calls ++ []) (spoken (other d) j) (append-nil (parts_in deeds.calls) ∙ none) theirs;
   };
@@ -120,11 +122,13 @@ own_cr deeds known at x rest s t put none sure = record {
         (record { said = refl; begun = refl; since = refl }) refl put none)))
 
 -- that comes to a called end
-pub other_cr : (deeds : ℕ → Deeds) (known then_known : Known) (at : ℕ) (x : Connect) (put : List Value) (b : Bool) (s : State) (t : Sessions) →
+pub other_cr : (deeds : ℕ → Deeds) (known then_known : Known) (at : ℕ) (x : Connect) (put : List Value) (b : Bool) (s : State)
+    (t : Sessions) →
     ((r : ℕ) (later : List Part) → known r later → then_known r later) →
     Leaves Right deeds known then_known put put b b Left at (request x) s t
 other_cr deeds known then_known at x put b s t stays = record {
-  all = λ e c j h. stands_other_none Right deeds known then_known put b c c j j (like_same Right j) refl refl (λ r later is. stays r later) h;
+  all = λ e c j h. stands_other_none Right deeds known then_known put b c c j j (like_same Right j) refl refl
+      (λ r later is. stays r later) h;
   elsewhere = λ p i first c k j apart place there one at_k finding at_c at_j another h.
       stands_other_none Right deeds known then_known put b c c j j (like_same Right j) refl refl (λ r later is. stays r later) h;
   here = λ p c j y r place there at_j one finding is h.
@@ -233,7 +237,8 @@ other_cc deeds known then_known at n x put b s t unheard stays = record {
         (like_opened x.source (class_of (confirm n x)) j)
         (subst (λ (l : List Value). IsShownNow Left q (deeds q) l later false j) none
         (no_next Left q (deeds q) (waiting_for o put) later (is_next o b put) j h)) in
-        lives q (Some x.source) refl (ap (λ (y : Half). is_open y.phase) (other_after Left (confirm n x) true r c) ∙ live) later (stays q later sure)
+        lives q (Some x.source) refl (ap (λ (y : Half). is_open y.phase) (other_after Left (confirm n x) true r c) ∙ live) later
+            (stays q later sure)
         (subst (λ (y : Bool). IsShownNow Left q (deeds q) (waiting_for (Some x.source) put) later y k)
         (sym (next_none (Some x.source) b put unheard)) goes)
     opens c j r un (past q closed waiting later sure h) =

@@ -84,7 +84,8 @@ given_owes : (ended : Bool) (e : Ends) (flow : Option Flow) (number : Option ℕ
 given_owes ended e flow number [] = tt
 given_owes ended e flow number (tsdu ∷ more) = by number (nat_lt e.limit (length tsdu))
   where
-    by : (number : Option ℕ) (b : Bool) → IfSome (given_part e flow number (if b then Some ((false, take e.limit tsdu), drop e.limit tsdu ∷ more)
+    by : (number : Option ℕ) (b : Bool) → IfSome (given_part e flow number (if b then Some
+        ((false, take e.limit tsdu), drop e.limit tsdu ∷ more)
         else Some ((true, tsdu), more))) (OwesNext ended)
     by None true = λ h. omega arith
     by None false = λ h. absurd (cc)

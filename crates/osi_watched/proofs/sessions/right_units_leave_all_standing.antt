@@ -34,7 +34,8 @@ use Rattle.osi_tap.specs.Courses.{way_of}
 use Rattle.osi_watched.specs.ShownPlaces.{IsOneOf}
 use Rattle.osi_watched.proofs.sessions.a_right_dt_has_one_place.{one_place, two_open, two_placed}
 use Rattle.osi_watched.proofs.sessions.a_unit_is_joined_where_it_is_named.{named_there, names_there}
-use Rattle.osi_watched.proofs.sessions.all_connections_stand.{AllStand, IsPlain, Leaves, Rests, like_same, other_part, other_plain, own_part}
+use Rattle.osi_watched.proofs.sessions.all_connections_stand.{AllStand, IsPlain, Leaves, Rests, like_same, other_part, other_plain}
+use Rattle.osi_watched.proofs.sessions.all_connections_stand.{own_part}
 use Rattle.osi_watched.proofs.sessions.all_connections_stand.{own_plain, quiet, rests}
 use Rattle.osi_watched.proofs.sessions.what_stands_of_a_connection.{Known, Stands, is_for, names_it, stands_elsewhere}
 use Rattle.osi_watched.proofs.sessions.what_stands_of_a_connection.{stands_other_none}
@@ -54,7 +55,8 @@ module _ (d : Way) (credit n number : ℕ) (s : State) where
   abbrev ack : Value
   ack = acknowledge credit n number
 
-  ack_at : {A : Type 0} (i : ℕ) (o : Option Connection) → (at_found d ack s i o).told.finding ≡ Kept → (at_found d ack s i o).told.place ≡ None → A
+  ack_at : {A : Type 0} (i : ℕ) (o : Option Connection) → (at_found d ack s i o).told.finding ≡ Kept →
+      (at_found d ack s i o).told.place ≡ None → A
   ack_at i None h e = ack_nowhere s.course.loose s.course.strays credit n number h
   ack_at i (Some c) h e = no_place i e
 
@@ -158,7 +160,8 @@ module _ (d : Direction) (deeds : ℕ → Deeds) (known : Known) (at : ℕ) (v :
   link_elsewhere : (n : ℕ) → IsLink v n → (takes (way_of d) v s).told.finding ≡ Kept →
       (p i : ℕ) (first c : Connection) (k j : Joined) → (i ≡ p → ⊥) → (takes (way_of d) v s).told.place ≡ Some p →
       slice_get s.connections p ≡ Some first → IsOneOf first k → (takes (way_of d) v s).told.finding ≡ found_on (way_of d) s first v →
-      slice_get s.connections i ≡ Some c → IsOneOf c j → is_open (own (way_of d) c).phase ≡ true → is_for (reference_of (other d) j) v ≡ false
+      slice_get s.connections i ≡ Some c → IsOneOf c j → is_open (own (way_of d) c).phase ≡ true → is_for (reference_of
+          (other d) j) v ≡ false
   link_elsewhere n link kept p i first c k j apart place there one finding here another live =
       let judged = a.judged firm p first there in
       let named = named_there d n first k one judged (names_there (way_of d) v s n p first there (link_names v n link) place) in
@@ -284,7 +287,8 @@ other_dt d deeds known then_known at n number end user put b s t a firm kept gro
         (names_there (way_of (other d)) (data2 n number end user) s n p c there refl place)) grows h
 
 -- what is neither a DT, nor a CC that has its effect, nor a CR
-pub other_close : (d : Direction) (deeds : ℕ → Deeds) (known then_known : Known) (at : ℕ) (v : Value) (put : List Value) (b : Bool) (s : State)
+pub other_close : (d : Direction) (deeds : ℕ → Deeds) (known then_known : Known) (at : ℕ) (v : Value) (put : List Value) (b : Bool)
+    (s : State)
     (t : Sessions) → AllStand d deeds known put b s t → ((x : Bool) → IsPlain x v) → ((x : Connect) → v ≡ request x → ⊥) →
     ((r : ℕ) (later : List Part) → known r later → then_known r later) → Leaves d deeds known then_known put put b b (other d) at v s t
 other_close d deeds known then_known at v put b s t a plain no_cr stays = record {

@@ -67,8 +67,10 @@ module _ (d : Direction) (deeds : ℕ → Deeds) (known : Known) where
       all_turn d deeds more known then_known old.put step.units old.begun old.course.traffic old.course.sessions some turns h.all in
       record {
         all = subst (λ (l : List Value). AllStand d after then_known l new.begun new.course.traffic new.course.sessions) (sym step.put)
-            (subst (λ (b : Bool). AllStand d after then_known (old.put ++ step.units) b new.course.traffic new.course.sessions) (sym step.begun)
-            (subst (λ (c : Passed). AllStand d after then_known (old.put ++ step.units) old.begun c.traffic c.sessions) (sym step.course) all));
+            (subst (λ (b : Bool). AllStand d after then_known (old.put ++ step.units) b new.course.traffic new.course.sessions)
+                (sym step.begun)
+            (subst (λ (c : Passed). AllStand d after then_known (old.put ++ step.units) old.begun c.traffic c.sessions)
+                (sym step.course) all));
       }
 
 -- ---- the units of a packet of the other side

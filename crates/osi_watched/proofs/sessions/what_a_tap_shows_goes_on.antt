@@ -83,7 +83,8 @@ counts_so at false octets s = refl
 
 heard_grows : (at : ℕ) (end : Bool) (octets : List ℕ) (s : Spoken) → length (heard s) ≤ length (heard (added at end octets s))
 heard_grows at true octets s =
-    let more = ap length (map-append octets_of s.said (record { octets = begun_octets s.begun ++ octets; before = before s; at = at } ∷ [])) in
+    let more = ap length (map-append octets_of s.said
+        (record { octets = begun_octets s.begun ++ octets; before = before s; at = at } ∷ [])) in
     let size = length-append (heard s) ((begun_octets s.begun ++ octets) ∷ []) in omega (arith, more, size)
 heard_grows at false octets s = omega arith
 
@@ -98,7 +99,8 @@ next_up_to most s l a = by s.begun a
   where
     by : (b : Option Begun) → AllByRecursion (λ n. n ≤ most) (map before_of s.said ++ before_begun b) →
         AllByRecursion (λ n. n ≤ most) (map before_of s.said ++ begun_before b s.since ∷ [])
-    by None a = all_join (λ n. n ≤ most) (map before_of s.said) (s.since ∷ []) (all_front (λ n. n ≤ most) (map before_of s.said) [] a) (l, tt)
+    by None a = all_join (λ n. n ≤ most) (map before_of s.said) (s.since ∷ []) (all_front (λ n. n ≤ most) (map before_of s.said) [] a)
+        (l, tt)
     by (Some b) a = a
 
 -- ---- a connection, from either side
@@ -198,7 +200,8 @@ module _ (d : Direction) (r : ℕ) (deeds : Deeds) (waiting : List Value) (later
           said = subst (λ (l : List Part). IsJoinedFrom l (spoken d k)) (sym parts)
               (subst (IsJoinedFrom (parts_of h.shown.passed ++ (end, octets) ∷ [])) (sym own)
               (joined_part at end octets (parts_of h.shown.passed) s h.shown.said));
-          after = subst (λ (l : List ℕ). AreAfter l (said_in 0 deeds.calls)) (sym (ap all_before own ∙ counts_so at end octets s)) (h.next refl);
+          after = subst (λ (l : List ℕ). AreAfter l (said_in 0 deeds.calls)) (sym (ap all_before own ∙ counts_so at end octets s))
+              (h.next refl);
           so_far = subst (λ (x : Spoken). AllByRecursion (λ n. n ≤ length (heard x)) (all_before (spoken d k))) (sym theirs)
               (subst (AllByRecursion (λ n. n ≤ most)) (sym (ap all_before own ∙ counts_so at end octets s))
               (next_up_to most s h.since h.shown.so_far));
@@ -239,7 +242,8 @@ module _ (d : Direction) (r : ℕ) (deeds : Deeds) (waiting : List Value) (later
   }
 
   -- a packet begins whose DT the end put
-  pub part_begins : (e : End) (end : Bool) (v : Value) (j : Joined) → Course (calls_from d) r deeds e → unit_parts v ≡ (end, user_of v) ∷ [] →
+  pub part_begins : (e : End) (end : Bool) (v : Value) (j : Joined) → Course (calls_from d) r deeds e → unit_parts v ≡
+      (end, user_of v) ∷ [] →
       length (heard (spoken (other d) j)) < 2 ^ 64 → IsShownNow d r deeds (v ∷ waiting) later false j →
       IsShownNow d r deeds (v ∷ waiting) later true (packet_begins d j)
   part_begins e end v j course is few h =
@@ -430,7 +434,8 @@ module _ (d : Direction) (r : ℕ) (deeds : Deeds) (waiting : List Value) (later
           put = ap (λ (l : List Value). l ++ more.put) (h.shown.put ∙ ap (λ (l : List Value). h.shown.passed ++ l) h.waiting_is)
               ∙ append_assoc h.shown.passed waiting more.put;
           said = h.shown.said;
-          after = subst (AreAfter (all_before (spoken d j))) (sym said) (after_more (all_before (spoken d j)) (said_in 0 deeds.calls) _ h.shown.after);
+          after = subst (AreAfter (all_before (spoken d j))) (sym said) (after_more (all_before (spoken d j))
+              (said_in 0 deeds.calls) _ h.shown.after);
           so_far = h.shown.so_far;
           later = rest;
           came = subst (λ (l : List Part). IsJoinedFrom l (spoken (other d) j)) parts h.shown.came;
@@ -438,6 +443,7 @@ module _ (d : Direction) (r : ℕ) (deeds : Deeds) (waiting : List Value) (later
         waiting_is = refl;
         later_is = refl;
         since = h.since;
-        next = λ e. subst (AreAfter (with_next (spoken d j))) (sym said) (after_more (with_next (spoken d j)) (said_in 0 deeds.calls) _ (h.next e));
+        next = λ e. subst (AreAfter (with_next (spoken d j))) (sym said) (after_more (with_next (spoken d j)) (said_in 0 deeds.calls) _
+            (h.next e));
         room = h.room;
       }

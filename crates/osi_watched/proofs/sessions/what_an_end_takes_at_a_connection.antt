@@ -31,13 +31,13 @@ takes_agree : (r : ℕ) (units : List Marked) → TakesAll r units → Agree r (
 takes_agree r [] h = tt
 takes_agree r (m ∷ units) h = (h.0 ∙ same_for r m.1, takes_agree r units h.1)
 
-apart_none : (r : ℕ) (units : List Marked) → AreApart r units → units_at r units ≡ []
+pub apart_none : (r : ℕ) (units : List Marked) → AreApart r units → units_at r units ≡ []
 apart_none r [] h = refl
 apart_none r (m ∷ units) h =
     ap (λ (b : Bool). (if b then m.1 ∷ [] else []) ++ units_at r units) h.0 ∙ apart_none r units h.1
 
 -- what the link took is what is for the connection, of all that was used while it was open
-during_taken : (r : ℕ) (took before during after : List Marked) → took ≡ before ++ (during ++ after) → AreApart r before →
+pub during_taken : (r : ℕ) (took before during after : List Marked) → took ≡ before ++ (during ++ after) → AreApart r before →
     TakesAll r during → AreApart r after → units_at r took ≡ waiting_for (Some r) (all_units during)
 during_taken r took before during after is early takes apart =
     ap (units_at r) is
@@ -48,7 +48,7 @@ during_taken r took before during after is early takes apart =
     ∙ append-nil (waiting_for (Some r) (all_units during))
 
 -- what is in flight comes after the unit with which the connection opens
-after_opening : (r : ℕ) (took before during after : List Marked) (coming : List Value) → took ≡ before ++ (during ++ after) →
+pub after_opening : (r : ℕ) (took before during after : List Marked) (coming : List Value) → took ≡ before ++ (during ++ after) →
     waiting_for (Some r) (all_units before) ≡ [] →
     in_flight r (all_units took ++ coming) ≡ in_flight r (all_units during ++ (all_units after ++ coming))
 after_opening r took before during after coming is early =

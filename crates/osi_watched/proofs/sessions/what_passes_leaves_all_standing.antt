@@ -21,7 +21,8 @@ use Rattle.osi_rules.specs.declared.findings.Rule.TheVariants as rule
 use Rattle.osi_rules.specs.Rows.{acknowledge_tests, first_failed}
 use Rattle.osi_rules.specs.Sides.{is_live, is_named}
 use Rattle.osi_rules.specs.Sides as sides
-use Rattle.osi_rules.specs.Traffic.{Outcome, State, at_found, at_place, class_for, found, is_stopped, none_told, route, route_in, routed, takes}
+use Rattle.osi_rules.specs.Traffic.{Outcome, State, at_found, at_place, class_for, found, is_stopped, none_told, route, route_in}
+use Rattle.osi_rules.specs.Traffic.{routed, takes}
 use Rattle.osi_rules.specs.Traffic.{unnamed_by, uses_source}
 use Rattle.osi_fair.proofs.all_are_judged_unless_one_broke.{AreJudged}
 use Rattle.osi_honest.specs.Courses.{Deeds}
@@ -152,7 +153,8 @@ module _ (deeds : ℕ → Deeds) (known : Known) (at : ℕ) (rest : List Value) 
       (dt_clear (way_of d) (data2 n number end user) end s refl goes firm a.judged) none)
   own_goes d (acknowledge credit n number) goes two none ready a =
       own_ack d deeds known at credit n number rest s t a firm
-      (kept_of (takes (way_of d) (acknowledge credit n number) s).told.finding (ack_clear (way_of d) credit n number s goes firm a.judged) none)
+      (kept_of (takes (way_of d) (acknowledge credit n number) s).told.finding (ack_clear
+          (way_of d) credit n number s goes firm a.judged) none)
   own_goes d (data0 end user) goes two none ready a =
       zero_broke (class_for (way_of d) s.course) (way_of d) (is_stopped (sides.other (way_of d)) s.course) end user s two
       (goes_on (is_stopped (way_of d) s.course) (way_of d) s (under (way_of d) (data0 end user)) goes none)
@@ -172,7 +174,8 @@ module _ (deeds : ℕ → Deeds) (known : Known) (at : ℕ) (rest : List Value) 
       (goes_on (is_stopped way.Left s.course) way.Left s (under way.Left (confirm n x)) goes none)
 
 pub own_stands : (d : Direction) (deeds : ℕ → Deeds) (known : Known) (at : ℕ) (v : Value) (rest : List Value) (c : Course) →
-    c.traffic.course.loose ≡ false → is_stopped (way_of d) c.traffic.course ≡ false → (class_for (way_of d) c.traffic.course ≡ Some Zero → ⊥) →
+    c.traffic.course.loose ≡ false → is_stopped (way_of d) c.traffic.course ≡ false → (class_for
+        (way_of d) c.traffic.course ≡ Some Zero → ⊥) →
     IsNoBreak (takes (way_of d) v c.traffic).told.finding → IsReady d deeds known v rest c.traffic c.sessions →
     AllStand d deeds known (v ∷ rest) true c.traffic c.sessions →
     AllStand d deeds known rest false (unit_passes d at v c).traffic (unit_passes d at v c).sessions
@@ -208,7 +211,8 @@ module _ (deeds : ℕ → Deeds) (known then_known : Known) (at : ℕ) (put : Li
   other_goes d (acknowledge credit n number) goes two none heard a =
       other_close d deeds known then_known at (acknowledge credit n number) put b s t a (λ x. tt) (λ x e. cc e) heard
   other_goes d (data0 end user) goes two none heard a =
-      zero_broke (class_for (way_of (other d)) s.course) (way_of (other d)) (is_stopped (sides.other (way_of (other d))) s.course) end user s two
+      zero_broke (class_for (way_of (other d)) s.course) (way_of (other d)) (is_stopped (sides.other (way_of
+          (other d))) s.course) end user s two
       (goes_on (is_stopped (way_of (other d)) s.course) (way_of (other d)) s
       (routed (way_of (other d)) (data0 end user) s (route (way_of (other d)) s.course (data0 end user))) goes none)
   other_goes d (disconnect n source reason user) goes two none heard a =
@@ -220,19 +224,23 @@ module _ (deeds : ℕ → Deeds) (known then_known : Known) (at : ℕ) (put : Li
   other_goes Right (request x) goes two none heard a = other_cr deeds known then_known at x put b s t heard
   other_goes Left (request x) goes two none heard a =
       cr_broke (class_for way.Right s.course) (is_stopped way.Left s.course) x s
-      (goes_on (is_stopped way.Right s.course) way.Right s (routed way.Right (request x) s (route way.Right s.course (request x))) goes none)
+      (goes_on (is_stopped way.Right s.course) way.Right s (routed way.Right (request x) s (route way.Right s.course
+          (request x))) goes none)
   other_goes Left (confirm n x) goes two none heard a = other_cc deeds known then_known at n x put b s t heard.0 heard.1
   other_goes Right (confirm n x) goes two none heard a =
       cc_broke (class_for way.Left s.course) (is_stopped way.Right s.course) n x s firm a.judged
-      (goes_on (is_stopped way.Left s.course) way.Left s (routed way.Left (confirm n x) s (route way.Left s.course (confirm n x))) goes none)
+      (goes_on (is_stopped way.Left s.course) way.Left s (routed way.Left (confirm n x) s (route way.Left s.course
+          (confirm n x))) goes none)
 
-pub other_stands : (d : Direction) (deeds : ℕ → Deeds) (known then_known : Known) (at : ℕ) (v : Value) (put : List Value) (b : Bool) (c : Course) →
+pub other_stands : (d : Direction) (deeds : ℕ → Deeds) (known then_known : Known) (at : ℕ) (v : Value) (put : List Value) (b : Bool)
+    (c : Course) →
     c.traffic.course.loose ≡ false → is_stopped (way_of (other d)) c.traffic.course ≡ false →
     (class_for (way_of (other d)) c.traffic.course ≡ Some Zero → ⊥) → IsNoBreak (takes (way_of (other d)) v c.traffic).told.finding →
     IsHeard d known then_known v put c.traffic c.sessions → AllStand d deeds known put b c.traffic c.sessions →
     AllStand d deeds then_known put b (unit_passes (other d) at v c).traffic (unit_passes (other d) at v c).sessions
 other_stands d deeds known then_known at v put b c firm goes two none heard a =
     subst (λ (s : State). AllStand d deeds then_known put b s (unit_passes (other d) at v c).sessions) (sym (unit_knows (other d) at v c))
-    (subst (λ (t : Sessions). AllStand d deeds then_known put b (takes (way_of (other d)) v c.traffic).state t) (sym (unit_joins (other d) at v c))
+    (subst (λ (t : Sessions). AllStand d deeds then_known put b (takes (way_of (other d)) v c.traffic).state t) (sym (unit_joins
+        (other d) at v c))
     (all_after d deeds known then_known put put b b (other d) at v c.traffic c.sessions a
     (other_goes deeds known then_known at put b c.traffic c.sessions firm d v goes two none heard a)))

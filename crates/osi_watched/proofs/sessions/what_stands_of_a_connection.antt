@@ -23,7 +23,8 @@ use Rattle.osi_tap.specs.Lines.{Begun, Spoken, heard}
 use Rattle.osi_tap.specs.Lines as lines
 use Rattle.osi_fair.proofs.which_units_are_for_a_connection.{leads, picked, picked_first, picked_join, picked_rest}
 use Rattle.osi_watched.specs.Shown.{AreAfter, IsJoinedFrom, IsShownNow, IsShownOf, all_before, calls_from, parts_of, with_next}
-use Rattle.osi_watched.proofs.sessions.what_a_tap_shows_goes_on.{end_turns, none_passes, other_begins, other_passes, own_begins, part_begins}
+use Rattle.osi_watched.proofs.sessions.what_a_tap_shows_goes_on.{end_turns, none_passes, other_begins, other_passes, own_begins}
+use Rattle.osi_watched.proofs.sessions.what_a_tap_shows_goes_on.{part_begins}
 use Rattle.osi_watched.proofs.sessions.what_a_tap_shows_goes_on.{part_passes}
 
 -- ---- which units are for it
@@ -153,11 +154,13 @@ open_begun Left Right c = refl
 open_begun Right Left c = refl
 open_begun Right Right c = refl
 
-unsaid_begun : (d e : Direction) (j : Joined) → IsUnsaid (spoken d j) → IsUnsaid (spoken (other d) j) → IsUnsaid (spoken d (packet_begins e j))
+unsaid_begun : (d e : Direction) (j : Joined) → IsUnsaid (spoken d j) → IsUnsaid (spoken (other d) j) → IsUnsaid (spoken d
+    (packet_begins e j))
 unsaid_begun Left Left j h o = record { said = h.said; begun = h.begun; since = ap (λ (l : List lines.Said). offset_of (length l)) o.said }
 unsaid_begun Left Right j h o = h
 unsaid_begun Right Left j h o = h
-unsaid_begun Right Right j h o = record { said = h.said; begun = h.begun; since = ap (λ (l : List lines.Said). offset_of (length l)) o.said }
+unsaid_begun Right Right j h o = record { said = h.said; begun = h.begun; since = ap (λ (l : List lines.Said). offset_of
+    (length l)) o.said }
 
 other_unsaid_begun : (d e : Direction) (j : Joined) → IsUnsaid (spoken d j) → IsUnsaid (spoken (other d) j) →
     IsUnsaid (spoken (other d) (packet_begins e j))
@@ -234,7 +237,8 @@ stands_other_begins d deeds known put b c j (past r closed waiting later sure h)
 -- ---- a unit of the end passes
 
 -- at another place
-pub stands_elsewhere : (d : Direction) (deeds : ℕ → Deeds) (known : Known) (v : Value) (rest : List Value) (b : Bool) (c : Connection) (j : Joined) →
+pub stands_elsewhere : (d : Direction) (deeds : ℕ → Deeds) (known : Known) (v : Value) (rest : List Value) (b : Bool) (c : Connection)
+    (j : Joined) →
     (is_open (own (way_of d) c).phase ≡ true → is_for (reference_of (other d) j) v ≡ false) → Stands d deeds known (v ∷ rest) b c j →
     Stands d deeds known rest false c j
 stands_elsewhere d deeds known v rest b c j not_for (unnamed none mine theirs room) = unnamed none mine theirs room
@@ -252,7 +256,8 @@ not_none : {A : Type 0} (o : Option ℕ) (n : ℕ) → o ≡ Some n → o ≡ No
 not_none o n h k = absurd (cc)
 
 -- here: a DT
-pub stands_part : (d : Direction) (deeds : ℕ → Deeds) (known : Known) (v : Value) (rest : List Value) (at : ℕ) (end : Bool) (c after : Connection)
+pub stands_part : (d : Direction) (deeds : ℕ → Deeds) (known : Known) (v : Value) (rest : List Value) (at : ℕ) (end : Bool)
+    (c after : Connection)
     (j : Joined) → unit_parts v ≡ (end, user_of v) ∷ [] → is_part v ≡ true → is_for (reference_of (other d) j) v ≡ true →
     is_some (reference_of d j) ≡ true → is_open (own (way_of d) c).phase ≡ true → is_open (own (way_of d) after).phase ≡ true →
     reference_of (other d) (adds d at end (user_of v) j) ≡ reference_of (other d) j → Stands d deeds known (v ∷ rest) true c j →

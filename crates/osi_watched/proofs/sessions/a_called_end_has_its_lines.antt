@@ -1,0 +1,142 @@
+-- A called end that has not selected class 0, and that runs along with an end and a tap, has its lines as long as nobody has broken a
+-- rule; and no CC has come to it.
+-- For the units that a called end puts.
+use Rattle.std.proofs.Common.{◌≡◌, ◌∙◌, sym, ap, subst, ℕ, Bool, true, false, if◌then◌else◌, List, [], ◌∷◌, ◌++◌, Option, Some, None}
+use Rattle.std.proofs.Common.{is_some}
+use Rattle.std.specs.Prelude.{slice_get}
+use Rattle.std.specs.List.{AllByRecursion}
+use Rattle.osi_tpdu.specs.Value.{Connect, Value, confirm}
+use Rattle.osi_class.specs.declared.terms.Class.TheVariants.{Two, Zero}
+use Rattle.osi_class.specs.declared.terms.Local.{Local}
+use Rattle.osi_carrier.specs.State.{State as Carrier}
+use Rattle.osi_carrier.specs.declared.ends.EndReason.{EndReason}
+use Rattle.osi_judge.specs.declared.directions.Direction.TheVariants as side
+use Rattle.osi_rules.specs.declared.connections.Connection.{Connection}
+use Rattle.osi_rules.specs.declared.directions.Direction.TheVariants.{Left, Right}
+use Rattle.osi_rules.specs.declared.findings.Finding.TheVariants.{Broke, NotJudged}
+use Rattle.osi_rules.specs.declared.findings.Reach.TheVariants as reach
+use Rattle.osi_rules.specs.declared.findings.Rule.TheVariants as rule
+use Rattle.osi_rules.specs.Reaches.{is_applied, reach_of}
+use Rattle.osi_rules.specs.Traffic.{Outcome, State as Traffic, course_after, found_on, one_told, takes}
+use Rattle.osi_fair.specs.Naming.{Passing, packet, passes, rubbish, unit}
+use Rattle.osi_fair.specs.Wholes.{Event, HappenAlong, Happens, Whole, arrives, begin, begins_other, begins_own, calls}
+use Rattle.osi_fair.specs.Wholes.{passes_other, passes_own}
+use Rattle.osi_fair.specs.Wholes.{passes_rubbish}
+use Rattle.osi_fair.proofs.a_called_end_is_fair.{Joined, Stage, all_joined, first_joined, lines, selected, selecting}
+use Rattle.osi_fair.proofs.a_reference_names_one_connection.{no_item}
+use Rattle.osi_fair.proofs.all_are_judged_unless_one_broke.{AreJudged, still_judged}
+use Rattle.osi_fair.proofs.each_connection_has_its_line.{IsNoCc}
+use Rattle.osi_fair.proofs.each_connection_of_a_called_end.{Called}
+use Rattle.osi_fair.proofs.what_an_end_does_in_class_zero.{IsInZero, over, talks}
+use Rattle.osi_fair.proofs.what_lasts_at_the_tap.{lasts_passing}
+use Rattle.osi_fair.proofs.which_unit_comes_to_a_called_end.{Came, IsCalm, asks_so, calm_before, calm_reach, came_so, for_one, lost, only}
+use Rattle.osi_watched.specs.Joint.{Joint}
+use Rattle.osi_watched.proofs.a_carrier_does_events.{none_of}
+use Rattle.osi_watched.proofs.steps_are_events.{IsFollowed}
+
+-- ---- the lines
+
+over_not : {A : Type 0} (o : Option EndReason) → is_some o ≡ true → o ≡ None → A
+over_not None h e = absurd (cc)
+over_not (Some x) h e = absurd (cc)
+
+in_zero : (limit : ℕ) (s : Carrier) (begun : ℕ) (units : List Value) → IsInZero limit s begun units → s.ended ≡ None → s.class ≡ Some Zero
+in_zero limit s begun units (talks r peer link class live plain puts) lasts = class
+in_zero limit s begun units (over gone puts) lasts = over_not s.ended gone lasts
+
+lines_by : (local : Local) (w : Whole) → Stage local w → w.end.ended ≡ None → (w.end.class ≡ Some Zero → ⊥) → Called local w
+lines_by local w (lines f called) lasts two = f
+lines_by local w (selecting f) lasts two = absurd (two (in_zero _ w.end 0 f.more f.end lasts))
+lines_by local w (selected f) lasts two = absurd (two (in_zero f.limit w.end f.c.right.begun w.put f.end lasts))
+
+-- the invariant of osi_fair
+pub called_joined : (local : Local) (j : Joint) (f : IsFollowed side.Right (begin false local) j) → Joined local f.whole
+called_joined local j f = all_joined local f.events (begin false local) f.whole f.along (first_joined local)
+
+pub called_lines : (local : Local) (j : Joint) (f : IsFollowed side.Right (begin false local) j) → IsCalm j.course.traffic.course →
+    j.holding.end.carrier.ended ≡ None → (j.holding.end.carrier.class ≡ Some Zero → ⊥) → Called local f.whole
+called_lines local j f calm lasts two =
+    let still : f.whole.end.ended ≡ None = none_of f.whole.end.ended (sym f.like.over ∙ ap is_some lasts) in
+    lines_by local f.whole
+    ((called_joined local j f).stage (subst (λ (s : Traffic). IsCalm s.course) (sym f.tap) calm)) still
+    (λ zero. two (sym (ap (λ (c : Carrier). c.class) (f.like.lasts still)) ∙ zero))
+
+-- ---- no CC has come
+
+differ : {A : Type 0} (b : Bool) → b ≡ true → b ≡ false → A
+differ b h k = absurd (cc)
+
+found_wrong : (n : ℕ) (x : Connect) (s : Traffic) (c : Connection) → c.is_judged ≡ true →
+    found_on Left s c (confirm n x) ≡ Broke rule.WrongForm
+found_wrong n x s c judged = ap (λ (b : Bool). if b then Broke rule.WrongForm else NotJudged) judged
+
+one_wrong : {A : Type 0} (n : ℕ) (x : Connect) (s : Traffic) (q : ℕ) (c : Connection) → c.is_judged ≡ true →
+    IsCalm (one_told Left q c (confirm n x) s).state.course → A
+one_wrong n x s q c judged calm =
+    let f = found_on Left s c (confirm n x) in
+    let none : reach_of (Some Two) f ≡ reach.Nothing =
+    calm_reach (Some Two) s.course.class_seen f (course_after Left c (confirm n x) (is_applied f) s.course) calm in
+    let no : reach.Connection ≡ reach.Nothing = sym (ap (reach_of (Some Two)) (found_wrong n x s c judged)) ∙ none in
+    absurd (cc)
+
+cc_by : {A : Type 0} (n : ℕ) (x : Connect) (s : Traffic) (o : Outcome) →
+    ((i : ℕ) (c : Connection) → slice_get s.connections i ≡ Some c → c.is_judged ≡ true) → IsCalm o.state.course →
+    Came (confirm n x) s o → A
+cc_by n x s o judged calm (asks_so y is class kept told) = absurd (cc is)
+cc_by n x s o judged calm (for_one m q c named at is told) =
+    one_wrong n x s q c (judged q c at) (subst (λ (k : Outcome). IsCalm k.state.course) told calm)
+cc_by n x s o judged calm (only q c at zero told) =
+    one_wrong n x s q c (judged q c at) (subst (λ (k : Outcome). IsCalm k.state.course) told calm)
+cc_by n x s o judged calm (lost (m, k, is) strays same) = absurd (cc is)
+
+no_cc : (v : Value) (s : Traffic) → AreJudged s → IsCalm s.course → IsCalm (takes Left v s).state.course → IsNoCc v
+no_cc v s judged calm after n x is =
+    cc_by n x s (takes Left (confirm n x) s) (judged calm.firm)
+    (subst (λ (u : Value). IsCalm (takes Left u s).state.course) is after)
+    (came_so (confirm n x) s (judged calm.firm) calm.left calm.firm calm.right
+    (subst (λ (u : Value). IsCalm (takes Left u s).state.course) is after))
+
+record HasNoCc (w : Whole) : Type 0 where
+  judged : AreJudged w.tap
+  none : IsCalm w.tap.course → AllByRecursion IsNoCc w.coming
+
+calm_was : (p : Passing) (s : Traffic) → IsCalm (passes p s).course → IsCalm s.course
+calm_was p s h = calm_before s.course (passes p s).course (lasts_passing p s) h
+
+all_more : (vs : List Value) (v : Value) → AllByRecursion IsNoCc vs → IsNoCc v → AllByRecursion IsNoCc (vs ++ v ∷ [])
+all_more [] v h k = (k, tt)
+all_more (u ∷ vs) v h k = (h.0, all_more vs v h.1 k)
+
+-- what passes brings nothing to the end
+brings_none : (p : Passing) (w : Whole) → HasNoCc w → IsCalm (passes p w.tap).course → AllByRecursion IsNoCc w.coming
+brings_none p w h calm = h.none (calm_was p w.tap calm)
+
+next_no_cc : (event : Event) (w new : Whole) → Happens Right event w new → HasNoCc w → HasNoCc new
+next_no_cc arrives w new (u, coming, is) h =
+    subst HasNoCc (sym is) (record { judged = h.judged; none = λ calm. (subst (AllByRecursion IsNoCc) coming (h.none calm)).1 })
+next_no_cc (calls call) w new (may, is) h = subst HasNoCc (sym is) (record { judged = h.judged; none = h.none })
+next_no_cc begins_own w new (some, idle, is) h =
+    subst HasNoCc (sym is) (record { judged = still_judged (packet Right) w.tap h.judged; none = brings_none (packet Right) w h })
+next_no_cc passes_own w new (v, put, begun, is) h =
+    subst HasNoCc (sym is) (record { judged = still_judged (unit Right v) w.tap h.judged; none = brings_none (unit Right v) w h })
+next_no_cc begins_other w new is h =
+    subst HasNoCc (sym is) (record { judged = still_judged (packet Left) w.tap h.judged; none = brings_none (packet Left) w h })
+next_no_cc (passes_other v) w new (ranges, is) h =
+    subst HasNoCc (sym is) (record {
+      judged = still_judged (unit Left v) w.tap h.judged;
+      none = λ calm.
+          let before = calm_was (unit Left v) w.tap calm in
+          all_more w.coming v (h.none before) (no_cc v w.tap h.judged before calm);
+    })
+next_no_cc passes_rubbish w new is h =
+    subst HasNoCc (sym is) (record { judged = still_judged (rubbish Left) w.tap h.judged; none = brings_none (rubbish Left) w h })
+
+all_no_cc : (events : List Event) (w new : Whole) → HappenAlong Right w events new → HasNoCc w → HasNoCc new
+all_no_cc [] w new e h = subst HasNoCc (sym e) h
+all_no_cc (event ∷ events) w new (mid, first, more) h = all_no_cc events mid new more (next_no_cc event w mid first h)
+
+pub called_no_cc : (local : Local) (j : Joint) (f : IsFollowed side.Right (begin false local) j) → IsCalm j.course.traffic.course →
+    AllByRecursion IsNoCc f.whole.coming
+called_no_cc local j f calm =
+    (all_no_cc f.events (begin false local) f.whole f.along (record { judged = λ firm i c at. no_item i c at; none = λ calm. tt })).none
+    (subst (λ (s : Traffic). IsCalm s.course) (sym f.tap) calm)

@@ -1,0 +1,162 @@
+-- A calling end of class 2 hears each unit of the other side that breaks no rule: a DT adds to what is in flight at its connection alone,
+-- and a CC gives a reference for which nothing waits. So all its connections stand after a packet of the other side.
+-- For all connections of an end and a tap.
+use Rattle.std.proofs.Common.{◌≡◌, ◌∙◌, refl, sym, ap, subst, ℕ, Bool, List, [], ◌∷◌, ◌++◌, map, Some}
+use Rattle.std.proofs.Common.{append_assoc}
+use Rattle.std.specs.List.{AllByRecursion}
+use Rattle.std.proofs.lemmas.List.{append-nil}
+use Rattle.osi_tpdu.specs.Value.{HasFieldsInRange, Value, acknowledge, confirm, data0, data2, disconnect, disconnected, error, request}
+use Rattle.osi_tpdu.specs.Writing.{written}
+use Rattle.osi_class.specs.declared.terms.Local.{Local}
+use Rattle.osi_judge.specs.declared.directions.Direction.TheVariants.{Left, Right}
+use Rattle.osi_rules.specs.declared.connections.Connection.{Connection}
+use Rattle.osi_rules.specs.declared.directions.Direction.TheVariants as way
+use Rattle.osi_rules.specs.Traffic.{State, class_for, is_stopped, route, routed, takes}
+use Rattle.osi_fair.specs.Wholes.{Whole}
+use Rattle.osi_fair.specs.Wholes as wholes
+use Rattle.osi_fair.proofs.a_calling_end_is_fair_in_class_2.{Joined as Follows, next_joined}
+use Rattle.osi_fair.proofs.each_connection_has_its_line.{IsOwned}
+use Rattle.osi_fair.proofs.what_the_other_side_closes.{IsClear}
+use Rattle.osi_honest.specs.Courses.{Deeds}
+use Rattle.osi_honest.proofs.reading.what_is_written_is_read_again.{CanBeWritten}
+use Rattle.osi_tap.specs.declared.rooms.Room.TheVariants.{All}
+use Rattle.osi_tap.specs.Connections.{Joined, Sessions}
+use Rattle.osi_tap.specs.Courses.{Course, unit_passes, units_pass}
+use Rattle.osi_watched.proofs.the_first_break_is_not_of_an_end.{IsNoBreak}
+use Rattle.osi_watched.proofs.sessions.a_calling_end_is_ready.{IsPlain, cr_broke, goes_on, right_plain, zero_broke}
+use Rattle.osi_watched.proofs.sessions.a_cc_comes_before_what_is_put_for_it.{cc_heard, nothing_waits}
+use Rattle.osi_watched.proofs.sessions.a_dt_that_is_no_break_is_right.{dt_right}
+use Rattle.osi_watched.proofs.sessions.a_right_dt_has_one_place.{two_placed}
+use Rattle.osi_watched.proofs.sessions.a_unit_is_joined_where_it_is_named.{joined_named}
+use Rattle.osi_watched.proofs.sessions.all_connections_stand.{AllStand, there_too}
+use Rattle.osi_watched.proofs.sessions.connections_have_the_same_places.{at_same, unit_joins, unit_knows}
+use Rattle.osi_watched.proofs.sessions.nothing_is_done_before_a_cr_passes.{known_from}
+use Rattle.osi_watched.proofs.sessions.references_of_an_end_are_distinct.{AreDistinct, GivesNew, stays_so, unit_distinct}
+use Rattle.osi_watched.proofs.sessions.steps_leave_all_standing.{IsFine}
+use Rattle.osi_watched.proofs.sessions.units_written_alike_are_for_the_same.{none_written_so}
+use Rattle.osi_watched.proofs.sessions.what_is_in_flight_to_an_end.{flight_grows, flight_same, known_of}
+use Rattle.osi_watched.proofs.sessions.what_passes_leaves_all_standing.{IsHeard, other_stands}
+use Rattle.osi_watched.proofs.sessions.what_stands_of_a_connection.{Known, Stands, lives, past, unnamed}
+
+-- ---- units that are no break
+
+-- each, as it passes, while the rules have been kept
+abbrev pub AreFine : ℕ → List Value → Course → Type 0
+AreFine at [] c = Unit {0}
+AreFine at (v ∷ vs) c = IsFine Right v c × IsClear c.traffic.course × AreFine at vs (unit_passes Right at v c)
+
+pub fine_plain : (b at : ℕ) (vs : List Value) (c : Course) → AreFine at vs c → AllByRecursion (IsPlain b) vs
+fine_plain b at [] c h = tt
+fine_plain b at (v ∷ vs) c (fine, clear, more) =
+    (right_plain b v c.traffic fine.goes fine.two fine.none, fine_plain b at vs (unit_passes Right at v c) more)
+
+-- the other side gives no reference of this one
+gives_none : (v : Value) (c : Course) → IsFine Right v c → GivesNew Left v c.sessions
+gives_none (request x) c fine =
+    cr_broke (class_for way.Right c.traffic.course) (is_stopped way.Left c.traffic.course) x c.traffic
+    (goes_on (is_stopped way.Right c.traffic.course) c.traffic
+    (routed way.Right (request x) c.traffic (route way.Right c.traffic.course (request x))) fine.goes fine.none)
+gives_none (confirm n x) c fine = tt
+gives_none (disconnect n source reason user) c fine = tt
+gives_none (disconnected n source) c fine = tt
+gives_none (data0 end user) c fine = tt
+gives_none (data2 n number end user) c fine = tt
+gives_none (acknowledge credit n number) c fine = tt
+gives_none (error n cause) c fine = tt
+
+pub room_of : (deeds : ℕ → Deeds) (known : Known) (put : List Value) (b : Bool) (c : Connection) (j : Joined) →
+    Stands Left deeds known put b c j → j.room ≡ All
+room_of deeds known put b c j (unnamed none mine theirs room) = room
+room_of deeds known put b c j (lives r o is live later sure h) = h.room
+room_of deeds known put b c j (past r closed waiting later sure h) = h.room
+
+-- a whole end with this tap, which has put units that are written as these
+pub record IsBehind (local : Local) (put : List Value) (c : Course) : Type 0 where
+  pub whole : Whole
+  pub follows : Follows local whole
+  pub tap : whole.tap ≡ c.traffic
+  pub same : map written whole.put ≡ map written put
+  pub can : AllByRecursion CanBeWritten whole.put
+
+module _ (local : Local) (deeds : ℕ → Deeds) (is_live : ℕ → Bool) (put : List Value) (can : AllByRecursion CanBeWritten put) (b : Bool)
+    (at : ℕ) where
+  abbrev Stand : List Value → Course → Type 0
+  Stand coming c = AllStand Left deeds (known_from is_live coming) put b c.traffic c.sessions
+
+  unit_heard : (coming : List Value) (v : Value) (c : Course) → IsFine Right v c → IsClear c.traffic.course → IsBehind local put c →
+      Stand coming c → AreDistinct Left c.sessions →
+      IsHeard Left (known_of is_live coming) (known_of is_live (coming ++ v ∷ [])) v put c.traffic c.sessions
+  unit_heard coming (data2 n number end user) c fine clear w a distinct =
+      let v : Value = data2 n number end user in
+      let kept = dt_right way.Right v end c.traffic refl fine.goes fine.firm a.judged (λ r e. subst IsNoBreak e fine.none) in
+      let p = two_placed way.Right n number end user c.traffic kept in
+      let (k, here, one) = at_same c.traffic.connections c.sessions.live p.place p.connection a.places p.there in
+      let named = joined_named Right v c n p.place p.connection k a.places refl p.told p.there p.judged here in (
+        λ later sure. flight_grows is_live coming n number end user later sure,
+        stays_so Left is_live coming n number end user c.traffic c.sessions p.place k distinct here named p.told,
+      )
+  unit_heard coming (confirm n x) c fine clear w a distinct =
+      let owned = (w.follows.followed (subst (λ (s : State). IsClear s.course) (sym w.tap) clear)).owned in
+      cc_heard n x c.traffic c.sessions fine.firm a.judged a.places a.apart fine.goes fine.none is_live coming put
+      (none_written_so (Some x.source) w.whole.put put w.same w.can can
+      (nothing_waits n x c.traffic c.sessions fine.firm a.judged a.places a.apart fine.goes fine.none w.whole.put
+      (subst (λ (s : State). AllByRecursion (λ (u : Value). IsOwned s u) w.whole.put) w.tap owned)))
+  unit_heard coming (request x) c fine clear w a distinct = λ r later sure. flight_same is_live coming (request x) r later refl sure
+  unit_heard coming (disconnect n source reason user) c fine clear w a distinct =
+      λ r later sure. flight_same is_live coming (disconnect n source reason user) r later refl sure
+  unit_heard coming (disconnected n source) c fine clear w a distinct =
+      λ r later sure. flight_same is_live coming (disconnected n source) r later refl sure
+  unit_heard coming (data0 end user) c fine clear w a distinct =
+      zero_broke (class_for way.Right c.traffic.course) (is_stopped way.Left c.traffic.course) end user c.traffic fine.two
+      (goes_on (is_stopped way.Right c.traffic.course) c.traffic
+      (routed way.Right (data0 end user) c.traffic (route way.Right c.traffic.course (data0 end user))) fine.goes fine.none)
+  unit_heard coming (acknowledge credit n number) c fine clear w a distinct =
+      λ r later sure. flight_same is_live coming (acknowledge credit n number) r later refl sure
+  unit_heard coming (error n cause) c fine clear w a distinct =
+      λ r later sure. flight_same is_live coming (error n cause) r later refl sure
+
+  heard_from : (coming : List Value) (v : Value) (s : State) (t : Sessions) →
+      IsHeard Left (known_of is_live coming) (known_of is_live (coming ++ v ∷ [])) v put s t →
+      IsHeard Left (known_from is_live coming) (known_from is_live (coming ++ v ∷ [])) v put s t
+  heard_from coming (data2 n number end user) s t h = (
+    λ later sure. (sure.0, h.0 later sure.1),
+    record {
+      live = λ p i j apart told here r later named sure. (sure.0, h.1.live p i j apart told here r later named sure.1);
+      done = λ i j here r later named sure. (sure.0, h.1.done i j here r later named sure.1);
+    },
+  )
+  heard_from coming (confirm n x) s t h = (h.0, λ r later sure. (sure.0, h.1 r later sure.1))
+  heard_from coming (request x) s t h = λ r later sure. (sure.0, h r later sure.1)
+  heard_from coming (disconnect n source reason user) s t h = λ r later sure. (sure.0, h r later sure.1)
+  heard_from coming (disconnected n source) s t h = λ r later sure. (sure.0, h r later sure.1)
+  heard_from coming (data0 end user) s t h = λ r later sure. (sure.0, h r later sure.1)
+  heard_from coming (acknowledge credit n number) s t h = λ r later sure. (sure.0, h r later sure.1)
+  heard_from coming (error n cause) s t h = λ r later sure. (sure.0, h r later sure.1)
+
+  next_behind : (v : Value) (c : Course) → HasFieldsInRange v → IsBehind local put c → IsBehind local put (unit_passes Right at v c)
+  next_behind v c ranges w =
+      let next : Whole = record w.whole { tap = (takes way.Right v w.whole.tap).state; coming = w.whole.coming ++ v ∷ [] } in
+      record {
+        whole = next;
+        follows = next_joined local (wholes.passes_other v) w.whole next (ranges, refl) w.follows;
+        tap = ap (λ (s : State). (takes way.Right v s).state) w.tap ∙ sym (unit_knows Right at v c);
+        same = w.same;
+        can = w.can;
+      }
+
+  -- so all connections stand after these units, and are distinct
+  pub units_heard : (vs coming : List Value) (c : Course) → AreFine at vs c → AllByRecursion HasFieldsInRange vs → IsBehind local put c →
+      Stand coming c → AreDistinct Left c.sessions →
+      Stand (coming ++ vs) (units_pass Right at vs c) × AreDistinct Left (units_pass Right at vs c).sessions
+  units_heard [] coming c fine ranges w a distinct = (subst (λ (l : List Value). Stand l c) (sym (append-nil coming)) a, distinct)
+  units_heard (v ∷ vs) coming c (one, clear, more) ranges w a distinct =
+      let then_stand = other_stands Left deeds (known_from is_live coming) (known_from is_live (coming ++ v ∷ [])) at v put b c one.firm
+      one.goes one.two one.none (heard_from coming v c.traffic c.sessions (unit_heard coming v c one clear w a distinct)) a in
+      let then_distinct : AreDistinct Left (unit_passes Right at v c).sessions =
+      subst (AreDistinct Left) (sym (unit_joins Right at v c))
+      (unit_distinct Left Right at v c.traffic c.sessions a.places distinct (gives_none v c one)
+      (λ i j here. let (k, there) = there_too c.traffic.connections c.sessions.live i j a.places here in
+      room_of deeds (known_from is_live coming) put b k j (a.live i k j there here))) in
+      let (stand, apart) = units_heard vs (coming ++ v ∷ []) (unit_passes Right at v c) more ranges.1 (next_behind v c ranges.0 w)
+      then_stand then_distinct in
+      (subst (λ (l : List Value). Stand l (units_pass Right at (v ∷ vs) c)) (append_assoc coming (v ∷ []) vs) stand, apart)

@@ -1,0 +1,249 @@
+-- A calling end of class 2 is ready for each CR that passes: nothing is done at its connection, nothing in flight is for it, and its
+-- reference is new. Each step keeps it so, as long as nobody breaks a rule.
+-- For all connections of an end and a tap.
+use Rattle.std.proofs.Common.{◌≡◌, ◌∙◌, refl, sym, ap, subst, ℕ, ◌<◌, ◌≤◌, Bool, true, false, if◌then◌else◌, List, [], ◌∷◌, ◌++◌, Some}
+use Rattle.std.proofs.Common.{None, Option, arith}
+use Rattle.std.specs.List.{AllByRecursion}
+use Rattle.std.proofs.lemmas.List.{append-nil}
+use Rattle.osi_tpdu.specs.Packet.{units_of}
+use Rattle.osi_tpdu.specs.Value.{Connect, Value, acknowledge, confirm, data0, data2, disconnect, disconnected, error, request}
+use Rattle.osi_class.specs.declared.terms.Class.{Class}
+use Rattle.osi_class.specs.declared.terms.Class.TheVariants.{Two, Zero}
+use Rattle.osi_class.specs.declared.terms.Local.{Local}
+use Rattle.osi_carrier.specs.State.{State as Carrier}
+use Rattle.osi_judge.specs.declared.directions.Direction.TheVariants.{Left}
+use Rattle.osi_rules.specs.declared.directions.Direction.TheVariants as way
+use Rattle.osi_rules.specs.declared.findings.Finding.TheVariants.{NotJudged}
+use Rattle.osi_rules.specs.Traffic.{Outcome, State, class_for, is_stopped, none_told, route, route_in, routed, takes}
+use Rattle.osi_carrier.specs.Rows.{value_at}
+use Rattle.osi_stack.specs.Calls.{has_given}
+use Rattle.osi_stack.specs.State.{End, Holding}
+use Rattle.osi_fair.specs.Wholes.{Event, HappenAlong, Whole}
+use Rattle.osi_fair.specs.Wholes as wholes
+use Rattle.osi_fair.proofs.a_calling_end_is_fair_in_class_2.{Joined, first_joined, next_joined}
+use Rattle.osi_fair.proofs.each_connection_has_its_line.{Followed}
+use Rattle.osi_fair.proofs.what_the_other_side_closes.{IsClear}
+use Rattle.osi_honest.specs.Courses.{Continues, Deeds, no_deeds, then_did, units_in, units_read}
+use Rattle.osi_honest.specs.Seeing.{IsFresh}
+use Rattle.osi_honest.specs.Turns.{Turn}
+use Rattle.osi_honest.proofs.class_0.what_a_packet_does_in_class_0.{AllProper}
+use Rattle.osi_honest.proofs.courses.how_long_a_connection_is_open.{Life, amid, stage_at, stage_is, stage_there}
+use Rattle.osi_tap.specs.Courses.{Course}
+use Rattle.osi_watched.specs.Joint.{Joint, Steps, TakesTurn, begin, begins_other, begins_own, passes_other, passes_own}
+use Rattle.osi_watched.specs.ShownPlaces.{HaveSamePlaces}
+use Rattle.osi_watched.proofs.steps_are_events.{IsFollowed, begin_followed, own_first}
+use Rattle.osi_watched.proofs.the_first_break_is_not_of_an_end.{IsNoBreak}
+use Rattle.osi_watched.proofs.sessions.a_turn_does_what_its_deeds_say.{turn_leaves, units_join}
+use Rattle.osi_watched.proofs.sessions.crs_that_wait_are_above_those_that_passed.{AreAbove, above_along, passes_asked}
+use Rattle.osi_watched.proofs.sessions.each_cr_that_passes_gives_a_new_reference.{AreAhead, GoesOn, IsUpTo, begins_other_ahead}
+use Rattle.osi_watched.proofs.sessions.each_cr_that_passes_gives_a_new_reference.{begins_own_ahead, passes_other_ahead}
+use Rattle.osi_watched.proofs.sessions.each_cr_that_passes_gives_a_new_reference.{passes_own_ahead, turns_ahead}
+use Rattle.osi_watched.proofs.sessions.nothing_is_done_before_a_cr_passes.{AreUndone, IsNoZero, cr_calm, cr_ready, few_come, known_from}
+use Rattle.osi_watched.proofs.sessions.nothing_is_done_before_a_cr_passes.{may_take, turn_undone}
+use Rattle.osi_watched.proofs.sessions.steps_leave_all_standing.{Heard, all_heard, one_heard}
+use Rattle.osi_watched.proofs.sessions.what_passes_leaves_all_standing.{IsReady}
+use Rattle.osi_watched.proofs.sessions.what_stands_of_a_connection.{Known}
+
+-- ---- what comes in class 2
+
+pub goes_on : (b : Bool) (s : State) (o : Outcome) → b ≡ false → IsNoBreak (if b then none_told way.Right NotJudged s else o).told.finding →
+    IsNoBreak o.told.finding
+goes_on true s o h none = absurd (cc)
+goes_on false s o h none = none
+
+pub zero_broke : {A : Type 0} (k : Option Class) (b : Bool) (end : Bool) (user : List ℕ) (s : State) → (k ≡ Some Zero → ⊥) →
+    IsNoBreak (routed way.Right (data0 end user) s (route_in k way.Right b (data0 end user))).told.finding → A
+zero_broke None b end user s two none = absurd none
+zero_broke (Some Zero) b end user s two none = absurd (two refl)
+zero_broke (Some Two) b end user s two none = absurd none
+
+pub cr_broke : {A : Type 0} (k : Option Class) (b : Bool) (x : Connect) (s : State) →
+    IsNoBreak (routed way.Right (request x) s (route_in k way.Right b (request x))).told.finding → A
+cr_broke None b x s none = absurd none
+cr_broke (Some Zero) b x s none = absurd none
+cr_broke (Some Two) b x s none = absurd none
+
+-- neither a CR nor a DT of class 0
+abbrev pub IsPlain : ℕ → Value → Type 0
+IsPlain b v = IsNoZero v × IsUpTo Left b v
+
+pub right_plain : (b : ℕ) (v : Value) (s : State) → is_stopped way.Right s.course ≡ false → (class_for way.Right s.course ≡ Some Zero → ⊥) →
+    IsNoBreak (takes way.Right v s).told.finding → IsPlain b v
+right_plain b (request x) s goes two none =
+    cr_broke (class_for way.Right s.course) (is_stopped way.Left s.course) x s
+    (goes_on (is_stopped way.Right s.course) s (routed way.Right (request x) s (route way.Right s.course (request x))) goes none)
+right_plain b (data0 end user) s goes two none =
+    zero_broke (class_for way.Right s.course) (is_stopped way.Left s.course) end user s two
+    (goes_on (is_stopped way.Right s.course) s (routed way.Right (data0 end user) s (route way.Right s.course (data0 end user))) goes none)
+right_plain b (confirm n x) s goes two none = (tt, tt)
+right_plain b (disconnect n source reason user) s goes two none = (tt, tt)
+right_plain b (disconnected n source) s goes two none = (tt, tt)
+right_plain b (data2 n number end user) s goes two none = (tt, tt)
+right_plain b (acknowledge credit n number) s goes two none = (tt, tt)
+right_plain b (error n cause) s goes two none = (tt, tt)
+
+pub heard_plain : (b : ℕ) (put : List Value) (at : ℕ) (known then_known : Known) (vs : List Value) (c : Course) →
+    Heard Left put at known then_known vs c → AllByRecursion (IsPlain b) vs
+heard_plain b put at _ _ _ _ (all_heard known c) = tt
+heard_plain b put at _ _ _ _ (one_heard known mid then_known v vs c fine heard more) =
+    (right_plain b v c.traffic fine.goes fine.two fine.none, heard_plain b put at mid then_known vs _ more)
+
+zeros : (b : ℕ) (vs : List Value) → AllByRecursion (IsPlain b) vs → AllByRecursion IsNoZero vs
+zeros b [] h = tt
+zeros b (v ∷ vs) h = (h.0.0, zeros b vs h.1)
+
+ups : (b : ℕ) (vs : List Value) → AllByRecursion (IsPlain b) vs → AllByRecursion (IsUpTo Left b) vs
+ups b [] h = tt
+ups b (v ∷ vs) h = (h.0.1, ups b vs h.1)
+
+all_right : (P : Value → Type 0) (xs ys : List Value) → AllByRecursion P (xs ++ ys) → AllByRecursion P ys
+all_right P [] ys h = h
+all_right P (x ∷ xs) ys h = all_right P xs ys h.1
+
+all_join : (P : Value → Type 0) (xs ys : List Value) → AllByRecursion P xs → AllByRecursion P ys → AllByRecursion P (xs ++ ys)
+all_join P [] ys a b = b
+all_join P (x ∷ xs) ys a b = (a.0, all_join P xs ys a.1 b)
+
+-- ---- a calling end and a tap
+
+module _ (local : Local) (two : local.class2 ≡ true) where
+  abbrev pub first : Whole
+  first = wholes.begin true local
+
+  joined_along : (events : List Event) (old new : Whole) → HappenAlong way.Left old events new → Joined local old → Joined local new
+  joined_along [] old new e j = subst (Joined local) (sym e) j
+  joined_along (event ∷ events) old new (mid, step, more) j =
+      joined_along events mid new more (next_joined local event old mid step j)
+
+  pub whole_joined : (j : Joint) (f : IsFollowed Left first j) → Joined local f.whole
+  whole_joined j f = joined_along f.events first f.whole f.along (first_joined local two)
+
+  -- as long as nobody breaks a rule, the whole end that follows the joint is as osi_fair says
+  pub whole_followed : (j : Joint) (f : IsFollowed Left first j) → IsClear j.course.traffic.course → Followed local f.whole
+  whole_followed j f clear =
+      (whole_joined j f).followed (subst (λ (s : State). IsClear s.course) (sym f.tap) clear)
+
+  pub record IsCalling (deeds : ℕ → Deeds) (j : Joint) : Type 0 where
+    pub ahead : AreAhead first j
+    pub undone : AreUndone ahead.bound deeds j.holding.end.carrier
+    pub zero : AllByRecursion IsNoZero (units_in j.coming)
+
+  -- ---- at the beginning
+
+  none_open : (peer : ℕ) (given : Bool) → stage_there given None ≡ amid peer → ⊥
+  none_open peer true e = cc
+  none_open peer false e = cc
+
+  pub begin_calling : (holding : Holding) → IsFresh true local holding → IsCalling (λ r. no_deeds) (begin holding)
+  begin_calling holding fresh =
+      let f = begin_followed Left true local holding fresh in
+      let above : AreAbove 0 first = record { rise = tt; up = tt; given = omega arith } in
+      record {
+        ahead = record {
+          followed = f;
+          bound = 0;
+          above = above_along 0 f.events first f.whole f.along above;
+          below = record { live = λ i j r here named. absurd (cc here); done = λ i j r here named. absurd (cc here) };
+        };
+        undone = λ r less. record {
+          put = refl;
+          taken = refl;
+          shut = λ peer is. none_open peer (has_given r holding.end.carrier)
+              (sym (stage_is r holding.end.carrier None (has_given r holding.end.carrier)
+              (ap (λ (e : End). e.carrier.ended) fresh.end) refl (ap (λ (e : End). value_at r e.carrier.live) fresh.end)) ∙ is);
+        };
+        zero = tt;
+      }
+
+  -- ---- a unit that passes
+
+  pub is_ready : (deeds : ℕ → Deeds) (at : ℕ) (unit : Value) (old new : Joint) → Steps Left (passes_own at unit) old new →
+      IsClear old.course.traffic.course → IsCalling deeds old →
+      IsReady Left deeds (known_from (may_take old.holding.end.carrier) (units_in old.coming)) unit new.put old.course.traffic
+      old.course.sessions
+  is_ready deeds at (request x) old new (read, octets, put, begun, is) clear h =
+      let f = h.ahead.followed in
+      let s = own_first Left first old new (request x) (read, octets, put) f in
+      let k = passes_asked h.ahead.bound x s.rest f.whole (record f.whole { put = s.rest }) s.is refl refl h.ahead.above in
+      cr_ready h.ahead.bound deeds old.holding.end.carrier x (units_in old.coming) new.put old.course.traffic old.course.sessions k.new_is
+      h.undone
+      (λ lasts. cr_calm local first old f (whole_followed old f clear) x s.rest s.is h.zero lasts)
+  is_ready deeds at (confirm n x) old new step clear h = tt
+  is_ready deeds at (disconnect n source reason user) old new step clear h = tt
+  is_ready deeds at (disconnected n source) old new step clear h = tt
+  is_ready deeds at (data0 end user) old new step clear h = tt
+  is_ready deeds at (data2 n number end user) old new step clear h = tt
+  is_ready deeds at (acknowledge credit n number) old new step clear h = tt
+  is_ready deeds at (error n cause) old new step clear h = tt
+
+  -- ---- each step
+
+  higher : (b n : ℕ) (deeds : ℕ → Deeds) (c : Carrier) → b ≤ n → AreUndone b deeds c → AreUndone n deeds c
+  higher b n deeds c up u r less = u r (omega (arith, up, less))
+
+  -- the end does nothing
+  still : (deeds : ℕ → Deeds) (old new : Joint) (h : IsCalling deeds old) → GoesOn first h.ahead.bound new →
+      new.holding ≡ old.holding → AllByRecursion IsNoZero (units_in new.coming) → IsCalling deeds new
+  still deeds old new h g same zero = record {
+    ahead = g.ahead;
+    undone = higher h.ahead.bound g.ahead.bound deeds new.holding.end.carrier g.rises
+        (subst (λ (x : Holding). AreUndone h.ahead.bound deeds x.end.carrier) (sym same) h.undone);
+    zero = zero;
+  }
+
+  pub begins_own_calling : AllProper → (deeds : ℕ → Deeds) (old new : Joint) → Steps Left begins_own old new → IsCalling deeds old →
+      IsCalling deeds new
+  begins_own_calling proper deeds old new step h =
+      still deeds old new h (begins_own_ahead first proper old new step h.ahead) (ap (λ (j : Joint). j.holding) step.2)
+      (subst (λ (j : Joint). AllByRecursion IsNoZero (units_in j.coming)) (sym step.2) h.zero)
+
+  pub begins_other_calling : AllProper → (deeds : ℕ → Deeds) (old new : Joint) → Steps Left begins_other old new → IsCalling deeds old →
+      IsCalling deeds new
+  begins_other_calling proper deeds old new step h =
+      still deeds old new h (begins_other_ahead first proper old new step h.ahead) (ap (λ (j : Joint). j.holding) step)
+      (subst (λ (j : Joint). AllByRecursion IsNoZero (units_in j.coming)) (sym step) h.zero)
+
+  pub passes_own_calling : AllProper → (deeds : ℕ → Deeds) (at : ℕ) (unit : Value) (old new : Joint) →
+      Steps Left (passes_own at unit) old new → HaveSamePlaces old.course.traffic.connections old.course.sessions.live →
+      IsCalling deeds old → IsCalling deeds new
+  passes_own_calling proper deeds at unit old new step places h =
+      still deeds old new h (passes_own_ahead first proper at unit old new step places h.ahead) (ap (λ (j : Joint). j.holding) step.4)
+      (subst (λ (j : Joint). AllByRecursion IsNoZero (units_in j.coming)) (sym step.4) h.zero)
+
+  pub passes_other_plain : AllProper → (deeds : ℕ → Deeds) (at : ℕ) (packet : List ℕ) (units : List Value) (old new : Joint) →
+      Steps Left (passes_other at packet units) old new → HaveSamePlaces old.course.traffic.connections old.course.sessions.live →
+      (h : IsCalling deeds old) → AllByRecursion (IsPlain h.ahead.bound) units → IsCalling deeds new
+  passes_other_plain proper deeds at packet units old new step places h plain =
+      let one : units_in (packet ∷ []) ≡ units = append-nil (units_read (units_of packet)) ∙ ap units_read step.1 in
+      still deeds old new h
+      (passes_other_ahead first proper at packet units old new step places h.ahead (ups h.ahead.bound units plain))
+      (ap (λ (j : Joint). j.holding) step.2)
+      (subst (λ (j : Joint). AllByRecursion IsNoZero (units_in j.coming)) (sym step.2)
+      (subst (AllByRecursion IsNoZero) (sym (units_join old.coming (packet ∷ []) ∙ ap (λ (l : List Value). units_in old.coming ++ l) one))
+      (all_join IsNoZero (units_in old.coming) units h.zero (zeros h.ahead.bound units plain))))
+
+  pub passes_other_calling : AllProper → (deeds : ℕ → Deeds) (at : ℕ) (packet : List ℕ) (units put : List Value) (known then_known : Known)
+      (old new : Joint) → Steps Left (passes_other at packet units) old new →
+      HaveSamePlaces old.course.traffic.connections old.course.sessions.live → Heard Left put at known then_known units old.course →
+      IsCalling deeds old → IsCalling deeds new
+  passes_other_calling proper deeds at packet units put known then_known old new step places heard h =
+      passes_other_plain proper deeds at packet units old new step places h
+      (heard_plain h.ahead.bound put at known then_known units old.course heard)
+
+  -- a turn, with what was done at each connection
+  pub turns_calling : AllProper → (turn : Turn) (old new : Joint) (t : TakesTurn turn old new) (deeds : ℕ → Deeds)
+      (on : Continues true deeds old.holding turn new.holding) →
+      ((r : ℕ) → 0 < r → Life true r (stage_at r old.holding.end.carrier) on.took on.put (stage_at r new.holding.end.carrier)) →
+      HaveSamePlaces old.course.traffic.connections old.course.sessions.live → IsClear old.course.traffic.course →
+      IsCalling deeds old → IsCalling (λ r. then_did (deeds r) (on.more r)) new
+  turns_calling proper turn old new t deeds on life places clear h =
+      let g = turns_ahead first proper turn old new t h.ahead in
+      record {
+        ahead = g.ahead;
+        undone = higher h.ahead.bound g.ahead.bound (λ r. then_did (deeds r) (on.more r)) new.holding.end.carrier g.rises
+            (turn_undone h.ahead.bound turn old new t deeds on life
+            (few_come h.ahead.bound local first old h.ahead.followed (whole_followed old h.ahead.followed clear) places h.ahead.below)
+            h.undone);
+        zero = all_right IsNoZero (units_in t.used) (units_in new.coming)
+            (subst (AllByRecursion IsNoZero) (turn_leaves turn old new t) h.zero);
+      }

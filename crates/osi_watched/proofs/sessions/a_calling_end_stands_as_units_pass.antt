@@ -1,0 +1,175 @@
+-- A calling end of class 2 and a tap: what passes and breaks no rule leaves all connections of the end standing, and so does a turn.
+-- For the session of each connection of an end.
+use Rattle.std.proofs.Common.{◌≡◌, ◌∙◌, ◌⊎◌, refl, sym, ap, subst, ℕ, ◌^◌, ◌<◌, false, true, List, [], ◌∷◌, ◌++◌, Some, length}
+use Rattle.std.specs.Prelude.{slice_get}
+use Rattle.std.specs.List.{AllByRecursion}
+use Rattle.std.proofs.lemmas.List.{append-nil}
+use Rattle.osi_tpdu.specs.Packet.{units_of}
+use Rattle.osi_tpdu.specs.Value.{HasFieldsInRange, Value}
+use Rattle.osi_tpdu.specs.Writing.{Fits}
+use Rattle.osi_tpdu.proofs.the_units_of_a_packet.{units_fit, units_found}
+use Rattle.osi_class.specs.Tsdus.{Part}
+use Rattle.osi_class.specs.declared.terms.Local.{Local}
+use Rattle.osi_judge.specs.declared.directions.Direction.TheVariants.{Left, Right}
+use Rattle.osi_fair.proofs.each_connection_has_its_line.{Tracked}
+use Rattle.osi_fair.proofs.what_the_other_side_closes.{IsClear}
+use Rattle.osi_honest.specs.Courses.{Continues, Course, Deeds, then_did, units_in, units_read}
+use Rattle.osi_honest.specs.Marked.{all_units}
+use Rattle.osi_honest.specs.Turns.{Turn}
+use Rattle.osi_honest.proofs.class_0.what_a_packet_does_in_class_0.{AllProper}
+use Rattle.osi_honest.proofs.courses.how_long_a_connection_is_open.{Life, early, stage_at}
+use Rattle.osi_honest.proofs.reading.what_is_written_is_read_again.{CanBeWritten}
+use Rattle.osi_tap.specs.Connections.{Joined, reference_of, spoken}
+use Rattle.osi_tap.specs.Courses.{Course as Passed, packet_begins, units_pass}
+use Rattle.osi_tap.specs.Lines.{heard}
+use Rattle.osi_watched.specs.Joint.{Joint, Steps, TakesTurn, begins_other, begins_own, passes_other, passes_own}
+use Rattle.osi_watched.proofs.what_a_carrier_puts_can_be_written.{all_more}
+use Rattle.osi_watched.proofs.what_is_put_is_what_is_written.{none_written}
+use Rattle.osi_watched.proofs.sessions.a_calling_end_hears_what_breaks_no_rule.{AreFine, IsBehind, fine_plain, room_of, units_heard}
+use Rattle.osi_watched.proofs.sessions.a_calling_end_is_ready.{IsCalling, begins_other_calling, begins_own_calling, is_ready}
+use Rattle.osi_watched.proofs.sessions.a_calling_end_is_ready.{passes_other_plain, passes_own_calling, turns_calling, whole_followed}
+use Rattle.osi_watched.proofs.sessions.a_calling_end_is_ready.{whole_joined}
+use Rattle.osi_watched.proofs.sessions.a_calling_end_takes_what_is_in_flight.{calling_takes}
+use Rattle.osi_watched.proofs.sessions.a_turn_leaves_all_standing.{Turns}
+use Rattle.osi_watched.proofs.sessions.a_turn_does_what_its_deeds_say.{units_join}
+use Rattle.osi_watched.proofs.sessions.all_connections_stand.{AllStand, there_too}
+use Rattle.osi_watched.proofs.sessions.connections_have_the_same_places.{unit_joins}
+use Rattle.osi_watched.proofs.sessions.each_unit_of_a_turn_has_one_connection.{IsMarked, puts_wait}
+use Rattle.osi_watched.proofs.sessions.each_cr_that_passes_gives_a_new_reference.{gives_new}
+use Rattle.osi_watched.proofs.sessions.nothing_is_done_before_a_cr_passes.{known_from, may_take}
+use Rattle.osi_watched.proofs.sessions.references_of_an_end_are_distinct.{AreDistinct, begins_distinct, unit_distinct}
+use Rattle.osi_watched.proofs.sessions.steps_leave_all_standing.{IsFine, Standing, step_begins_other, step_begins_own, step_passes_own}
+use Rattle.osi_watched.proofs.sessions.steps_leave_all_standing.{step_turns}
+use Rattle.osi_watched.proofs.sessions.what_is_in_flight_to_an_end.{known_of}
+use Rattle.osi_watched.proofs.sessions.what_stands_of_a_connection.{Known, Takes, waiting_for}
+
+-- what is known of the parts in flight
+abbrev pub known_at : Joint → Known
+known_at j = known_from (may_take j.holding.end.carrier) (units_in j.coming)
+
+ranges_of : (units : List Value) → AllByRecursion Fits units → AllByRecursion HasFieldsInRange units
+ranges_of [] h = tt
+ranges_of (v ∷ units) h = (h.0.in_range, ranges_of units h.1)
+
+module _ (local : Local) (two : local.class2 ≡ true) (proper : AllProper) where
+  pub record StandsCalling (deeds : ℕ → Deeds) (j : Joint) : Type 0 where
+    pub calling : IsCalling local two deeds j
+    pub standing : Standing Left deeds (known_at j) j
+    pub distinct : AreDistinct Left j.course.sessions
+    pub can : AllByRecursion CanBeWritten j.put
+
+  pub begins_own_stands : (deeds : ℕ → Deeds) (old new : Joint) → Steps Left begins_own old new →
+      ((r : ℕ) → Course true r (deeds r) old.holding.end) →
+      ((i : ℕ) (j : Joined) → slice_get old.course.sessions.live i ≡ Some j → length (heard (spoken Right j)) < 2 ^ 64) →
+      StandsCalling deeds old → StandsCalling deeds new
+  begins_own_stands deeds old new (some, none, is) courses few h =
+      let mid : Joint = record old { begun = true; course = packet_begins Left old.course } in
+      subst (StandsCalling deeds) (sym is) (record {
+        calling = begins_own_calling local two proper deeds old mid (some, none, refl) h.calling;
+        standing = step_begins_own Left deeds (known_at old) old mid (some, none, refl) courses few h.standing;
+        distinct = begins_distinct Left Left old.course.sessions h.distinct;
+        can = h.can;
+      })
+
+  pub begins_other_stands : (deeds : ℕ → Deeds) (old new : Joint) → Steps Left begins_other old new → StandsCalling deeds old →
+      StandsCalling deeds new
+  begins_other_stands deeds old new is h =
+      let mid : Joint = record old { course = packet_begins Right old.course } in
+      subst (StandsCalling deeds) (sym is) (record {
+        calling = begins_other_calling local two proper deeds old mid refl h.calling;
+        standing = step_begins_other Left deeds (known_at old) old mid refl h.standing;
+        distinct = begins_distinct Left Right old.course.sessions h.distinct;
+        can = h.can;
+      })
+
+  pub passes_own_stands : (deeds : ℕ → Deeds) (at : ℕ) (unit : Value) (old new : Joint) → Steps Left (passes_own at unit) old new →
+      IsFine Left unit old.course → IsClear old.course.traffic.course → StandsCalling deeds old → StandsCalling deeds new
+  passes_own_stands deeds at unit old new (read, octets, put, begun, is) fine clear h =
+      let mid : Joint = record old { put = new.put; begun = false; course = units_pass Left at (unit ∷ []) old.course } in
+      let step : Steps Left (passes_own at unit) old mid = (read, octets, put, begun, refl) in
+      let a = h.standing.all in
+      subst (StandsCalling deeds) (sym is) (record {
+        calling = passes_own_calling local two proper deeds at unit old mid step a.places h.calling;
+        standing = step_passes_own Left deeds (known_at old) at unit old mid step fine
+            (is_ready local two deeds at unit old mid step clear h.calling) h.standing;
+        distinct = subst (AreDistinct Left) (sym (unit_joins Left at unit old.course))
+            (unit_distinct Left Left at unit old.course.traffic old.course.sessions a.places h.distinct
+            (gives_new _ at unit old mid step h.calling.ahead)
+            (λ i j here. let (k, there) = there_too old.course.traffic.connections old.course.sessions.live i j a.places here in
+            room_of deeds (known_at old) old.put old.begun k j (a.live i k j there here)));
+        can = (subst (AllByRecursion CanBeWritten) put h.can).1;
+      })
+
+  pub passes_other_stands : (deeds : ℕ → Deeds) (at : ℕ) (packet : List ℕ) (units : List Value) (old new : Joint) →
+      Steps Left (passes_other at packet units) old new → AreFine at units old.course → StandsCalling deeds old → StandsCalling deeds new
+  passes_other_stands deeds at packet units old new (octets, read, is) fine h =
+      let mid : Joint = record old { course = units_pass Right at units old.course; coming = old.coming ++ packet ∷ [] } in
+      let f = h.calling.ahead.followed in
+      let behind : IsBehind local old.put old.course = record {
+        whole = f.whole;
+        follows = whole_joined local two old f;
+        tap = f.tap;
+        same = f.put;
+        can = f.can;
+      } in
+      let one : units_in (packet ∷ []) ≡ units = append-nil (units_read (units_of packet)) ∙ ap units_read read in
+      let all : units_in old.coming ++ units ≡ units_in (old.coming ++ packet ∷ []) =
+      sym (units_join old.coming (packet ∷ []) ∙ ap (λ (l : List Value). units_in old.coming ++ l) one) in
+      let (stand, apart) = units_heard local deeds (may_take old.holding.end.carrier) old.put h.can old.begun at units (units_in old.coming)
+      old.course fine (ranges_of units (units_fit units packet (units_found packet units octets read))) behind h.standing.all h.distinct in
+      subst (StandsCalling deeds) (sym is) (record {
+        calling = passes_other_plain local two proper deeds at packet units old mid (octets, read, refl) h.standing.all.places h.calling
+            (fine_plain h.calling.ahead.bound at units old.course fine);
+        standing = record {
+          all = subst (λ (l : List Value). AllStand Left deeds (known_from (may_take old.holding.end.carrier) l) old.put old.begun
+              (units_pass Right at units old.course).traffic (units_pass Right at units old.course).sessions) all stand;
+        };
+        distinct = apart;
+        can = h.can;
+      })
+
+  -- A turn that puts the units of its deeds, each with its mark, and takes the first of what is in flight to each connection.
+  pub turns_stand : (turn : Turn) (old new : Joint) (t : TakesTurn turn old new) (deeds : ℕ → Deeds)
+      (on : Continues true deeds old.holding turn new.holding) →
+      ((r : ℕ) → 0 < r → Life true r (stage_at r old.holding.end.carrier) on.took on.put (stage_at r new.holding.end.carrier)) →
+      t.units ≡ all_units on.put → AllByRecursion CanBeWritten (all_units on.put) →
+      AllByRecursion (IsMarked Left old.course.traffic old.course.sessions) on.put →
+      ((r : ℕ) → 0 < r → (later : List Part) → known_of (may_take old.holding.end.carrier) (units_in old.coming) r later →
+      Takes (on.more r) later (known_of (may_take new.holding.end.carrier) (units_in new.coming) r)) →
+      IsClear old.course.traffic.course → StandsCalling deeds old → StandsCalling (λ r. then_did (deeds r) (on.more r)) new
+  turns_stand turn old new t deeds on life units can marked takes clear h =
+      let a = h.standing.all in
+      let f = h.calling.ahead.followed in
+      let turns : Turns Left on.more (known_at old) (known_at new) t.units old.course.traffic old.course.sessions = record {
+        puts = λ i c j r there here mine live.
+            puts_wait Left deeds (known_at old) old.put old.begun old.course.traffic old.course.sessions a clear.sure.firm h.distinct i c j
+            r there here mine live (h.calling.ahead.below.live i j r here mine).0 on.put marked (on.more r).put
+            (on.own r (h.calling.ahead.below.live i j r here mine).0)
+            ∙ ap (waiting_for (reference_of Right j)) (sym units);
+        takes = λ r later sure.
+            let x = takes r sure.0 later sure.1 in record { rest = x.rest; first = x.first; sure = (sure.0, x.sure) };
+      } in
+      record {
+        calling = turns_calling local two proper turn old new t deeds on life a.places clear h.calling;
+        standing = step_turns Left deeds (known_at old) turn on.more (known_at new) old new t
+            (λ begun. none_written old.put f.whole.put (sym f.put) ((whole_followed local two old f clear).some (f.begun ∙ begun))) turns
+            h.standing;
+        distinct = subst (λ (c : Passed). AreDistinct Left c.sessions) (sym t.course) h.distinct;
+        can = subst (AllByRecursion CanBeWritten) (sym (t.put ∙ ap (λ (l : List Value). old.put ++ l) units))
+            (all_more old.put (all_units on.put) h.can can);
+      }
+
+  -- So it is if at each connection that may open the CC has passed the tap, or nothing of what has come is for it.
+  pub turns_stand_early : (turn : Turn) (old new : Joint) (t : TakesTurn turn old new) (deeds : ℕ → Deeds)
+      (on : Continues true deeds old.holding turn new.holding) →
+      ((r : ℕ) → 0 < r → Life true r (stage_at r old.holding.end.carrier) on.took on.put (stage_at r new.holding.end.carrier)) →
+      t.units ≡ all_units on.put → AllByRecursion CanBeWritten (all_units on.put) →
+      AllByRecursion (IsMarked Left old.course.traffic old.course.sessions) on.put →
+      ((r : ℕ) → 0 < r → stage_at r old.holding.end.carrier ≡ early →
+      Tracked old.course.traffic.connections r ⊎ (waiting_for (Some r) (units_in old.coming) ≡ [])) →
+      IsClear old.course.traffic.course → StandsCalling deeds old → StandsCalling (λ r. then_did (deeds r) (on.more r)) new
+  turns_stand_early turn old new t deeds on life units can marked quiet clear h =
+      let then_calling = turns_calling local two proper turn old new t deeds on life h.standing.all.places clear h.calling in
+      turns_stand turn old new t deeds on life units can marked
+      (λ r some later sure. calling_takes local two turn old new t deeds on h.calling then_calling clear h.standing.all.places r some
+      (life r some) (quiet r some) later sure) clear h

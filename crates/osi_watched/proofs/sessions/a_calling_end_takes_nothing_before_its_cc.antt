@@ -1,0 +1,142 @@
+-- A calling end takes no unit of a connection before its CC: of what comes for the connection, only DCs come before the CC, and after it no
+-- other CC. So the end is calm in a turn before the connection opens.
+-- For all connections of an end and a tap.
+use Rattle.std.proofs.Common.{◌≡◌, ◌∙◌, ◌⊎◌, inl, inr, refl, sym, ap, subst, ℕ, Bool, true, List, [], ◌∷◌, ◌++◌, Option, Some, None}
+use Rattle.std.proofs.Common.{append_assoc, is_some}
+use Rattle.std.specs.List.{AllByRecursion}
+use Rattle.std.proofs.lemmas.Bool.{eq-eqb}
+use Rattle.std.proofs.lemmas.List.{append-nil}
+use Rattle.osi_tpdu.specs.Value.{Connect, Value, acknowledge, confirm, data0, data2, disconnect, disconnected, error, request}
+use Rattle.osi_class.specs.declared.terms.Local.{Local}
+use Rattle.osi_carrier.specs.Rows.{value_at}
+use Rattle.osi_carrier.specs.State.{Connection as Live, State as Carrier, closing, linked}
+use Rattle.osi_carrier.specs.declared.ends.EndReason.{EndReason}
+use Rattle.osi_stack.specs.Calls.{has_given}
+use Rattle.osi_fair.specs.Lines.{Line}
+use Rattle.osi_fair.specs.Wholes.{Whole}
+use Rattle.osi_fair.proofs.each_connection_has_its_line.{Followed, IsNoCc, Row, Tracked, asks, closes, over, talks}
+use Rattle.osi_fair.proofs.which_units_are_for_a_connection.{IsDc, first_kept, picked_join, those, those_join}
+use Rattle.osi_honest.specs.Arriving.{Opens}
+use Rattle.osi_honest.specs.Marked.{Marked, all_units}
+use Rattle.osi_honest.proofs.courses.how_long_a_connection_is_open.{Stage, amid, early, past, stage_at, stage_is}
+use Rattle.osi_honest.proofs.courses.units_of_each_connection.{all_units_more}
+use Rattle.osi_watched.proofs.sessions.nothing_is_done_before_a_cr_passes.{IsNoZero, dcs_none}
+use Rattle.osi_watched.proofs.sessions.what_an_end_takes_at_each_stage.{AreCalm, EndsEarly, calm_before, dcs_before, opens_next, opens_not}
+use Rattle.osi_watched.proofs.sessions.what_stands_of_a_connection.{is_for, waiting_for}
+
+-- ---- what comes for a connection
+
+-- DCs, then the CC, and no other CC
+pub record AwaitsCc (r : ℕ) (coming : List Value) : Type 0 where
+  pub confirmed : Connect
+  pub before : List Value
+  pub after : List Value
+  pub is : those r coming ≡ before ++ confirm r confirmed ∷ after
+  pub only : AllByRecursion IsDc before
+  pub calm : AllByRecursion IsNoCc after
+
+early_amid : {A : Type 0} (s : Stage) (peer : ℕ) → s ≡ early → s ≡ amid peer → A
+early_amid s peer e h = absurd (cc (sym e ∙ h))
+
+early_past : {A : Type 0} (s : Stage) → s ≡ early → s ≡ past → A
+early_past s e h = absurd (cc (sym e ∙ h))
+
+lasts_not : {A : Type 0} (o : Option EndReason) → is_some o ≡ true → o ≡ None → A
+lasts_not None h e = absurd (cc)
+lasts_not (Some x) h e = absurd (cc)
+
+module _ (local : Local) (c : Carrier) (r : ℕ) (given : has_given r c ≡ true) (may : stage_at r c ≡ early) (lasts : c.ended ≡ None) where
+  row_gone : {A : Type 0} (o : Option Live) (q : ℕ) → value_at r c.live ≡ o → (o ≡ Some (closing q)) ⊎ (o ≡ None) → A
+  row_gone o q e (inl is) =
+      early_past (stage_at r c) may (stage_is r c (Some (closing q)) true lasts given (e ∙ is))
+  row_gone o q e (inr is) = early_past (stage_at r c) may (stage_is r c None true lasts given (e ∙ is))
+
+  -- as long as it may open, its row awaits the CC
+  row_awaits : (coming : List Value) (peer : ℕ) (line : Line) → AllByRecursion IsNoCc line.coming → Row local c coming r peer line →
+      AwaitsCc r coming
+  row_awaits coming peer line calm (asks there x source dcs only those_are link) = record {
+    confirmed = x;
+    before = dcs;
+    after = line.coming;
+    is = those_are;
+    only = only;
+    calm = calm;
+  }
+  row_awaits coming peer line calm (talks link there is those_are) =
+      early_amid (stage_at r c) peer may (stage_is r c (Some (linked peer link)) true lasts given there)
+  row_awaits coming peer line calm (closes o there q e is those_are) = row_gone o q there e
+  row_awaits coming peer line calm (over h) = lasts_not c.ended h lasts
+
+-- of a whole end
+pub awaits_cc : (local : Local) (w : Whole) (r : ℕ) → Followed local w → Tracked w.tap.connections r → has_given r w.end ≡ true →
+    stage_at r w.end ≡ early → w.end.ended ≡ None → AwaitsCc r w.coming
+awaits_cc local w r h (p, c, at, tracked, same) given may lasts =
+    let f = h.lines p c at tracked in
+    let is : f.r ≡ r = sym f.left ∙ same in
+    row_awaits local w.end r given may lasts w.coming f.peer f.line f.calm
+    (subst (λ (q : ℕ). Row local w.end w.coming q f.peer f.line) is f.row)
+
+-- ---- a turn
+
+zero_front : (xs ys : List Value) → AllByRecursion IsNoZero (xs ++ ys) → AllByRecursion IsNoZero xs
+zero_front [] ys h = tt
+zero_front (x ∷ xs) ys h = (h.0, zero_front xs ys h.1)
+
+own_cc : (r : ℕ) (y : Connect) (rest : List Value) → those r (confirm r y ∷ rest) ≡ confirm r y ∷ those r rest
+own_cc r y rest = first_kept r (confirm r y) rest (eq-eqb r r refl)
+
+-- a front of what comes, right before a CC for the connection
+before_cc : (r : ℕ) (front rest : List Value) (y : Connect) → AwaitsCc r (front ++ confirm r y ∷ rest) → AllByRecursion IsNoZero front →
+    waiting_for (Some r) front ≡ []
+before_cc r front rest y a zero =
+    dcs_none r front zero
+    (dcs_before r a.confirmed y (those r front) (those r rest) a.before a.after
+    (ap (λ (l : List Value). those r front ++ l) (sym (own_cc r y rest)) ∙ sym (those_join r front (confirm r y ∷ rest)) ∙ a.is)
+    a.only a.calm)
+
+before_opening : (r peer : ℕ) (unit : Value) (front rest : List Value) → Opens true r peer unit → AwaitsCc r (front ++ unit ∷ rest) →
+    AllByRecursion IsNoZero front → waiting_for (Some r) front ≡ []
+before_opening r peer (confirm n x) front rest o a zero =
+    before_cc r front rest x (subst (λ (m : ℕ). AwaitsCc r (front ++ confirm m x ∷ rest)) o.0 a) zero
+before_opening r peer (request x) front rest o a zero = absurd (cc o.0)
+before_opening r peer (disconnect n source reason user) front rest o a zero = absurd o
+before_opening r peer (disconnected n source) front rest o a zero = absurd o
+before_opening r peer (data0 end user) front rest o a zero = absurd o
+before_opening r peer (data2 n number end user) front rest o a zero = absurd o
+before_opening r peer (acknowledge credit n number) front rest o a zero = absurd o
+before_opening r peer (error n cause) front rest o a zero = absurd o
+
+-- The end took these units, the first of those that had come. If it may still open afterwards, the CC is among the others.
+pub calm_turn : (r : ℕ) (t : Stage) (took : List Marked) (others : List Value) → AwaitsCc r (all_units took ++ others) →
+    (t ≡ early → AwaitsCc r others) → AllByRecursion IsNoZero (all_units took ++ others) → AreCalm true r t took
+calm_turn r t took others a then_awaits zero front back parts ends = by back parts ends
+  where
+    by : (back : List Marked) → took ≡ front ++ back → EndsEarly true r t back → waiting_for (Some r) (all_units front) ≡ []
+    by _ is (opens_not still) =
+        let same : took ≡ front = is ∙ append-nil front in
+        let b = then_awaits still in
+        calm_before r a.confirmed b.confirmed (all_units front) others a.before a.after b.before b.after
+        (subst (λ (l : List Marked). those r (all_units l ++ others) ≡ a.before ++ confirm r a.confirmed ∷ a.after) same a.is)
+        a.only a.calm b.is
+        (zero_front (all_units front) others (subst (λ (l : List Marked). AllByRecursion IsNoZero (all_units l ++ others)) same zero))
+    by _ is (opens_next peer unit rest o) =
+        let units : all_units took ++ others ≡ all_units front ++ unit ∷ (all_units rest ++ others) =
+        ap (λ (l : List Marked). all_units l ++ others) is
+        ∙ ap (λ (l : List Value). l ++ others) (all_units_more front ((0, unit) ∷ rest))
+        ∙ append_assoc (all_units front) (unit ∷ all_units rest) others in
+        before_opening r peer unit (all_units front) (all_units rest ++ others) o (subst (AwaitsCc r) units a)
+        (zero_front (all_units front) (unit ∷ (all_units rest ++ others)) (subst (AllByRecursion IsNoZero) units zero))
+
+-- or none of what has come is for it
+pub quiet_turn : (is_caller : Bool) (r : ℕ) (t : Stage) (took : List Marked) (others : List Value) →
+    waiting_for (Some r) (all_units took ++ others) ≡ [] → AreCalm is_caller r t took
+quiet_turn is_caller r t took others none front back parts ends =
+    none_first (waiting_for (Some r) (all_units front)) (waiting_for (Some r) (all_units back ++ others))
+    (sym (picked_join (is_for (Some r)) (all_units front) (all_units back ++ others))
+    ∙ ap (waiting_for (Some r)) (sym (append_assoc (all_units front) (all_units back) others)
+    ∙ ap (λ (l : List Value). l ++ others) (sym (all_units_more front back)) ∙ ap (λ (l : List Marked). all_units l ++ others) (sym parts))
+    ∙ none)
+  where
+    none_first : (xs ys : List Value) → xs ++ ys ≡ [] → xs ≡ []
+    none_first [] ys e = refl
+    none_first (x ∷ xs) ys e = absurd (cc)

@@ -1,0 +1,95 @@
+-- What a calling end takes in a turn at a connection is the first of what is in flight to it, if its CC has passed the tap, or nothing of
+-- what has come is for it, or it can open no more.
+-- For all connections of an end and a tap.
+use Rattle.std.proofs.Common.{◌≡◌, ◌∙◌, ◌⊎◌, inl, inr, refl, sym, ap, subst, ℕ, ◌<◌, ◌≤◌, Bool, true, List, [], ◌++◌}
+use Rattle.std.proofs.Common.{Option, Some, None, arith, is_some}
+use Rattle.std.specs.Prelude.{◌&&◌, nat_le}
+use Rattle.std.specs.List.{AllByRecursion}
+use Rattle.std.proofs.lemmas.Bool.{le-leb, lt-ltb}
+use Rattle.osi_tpdu.specs.Value.{Value}
+use Rattle.osi_class.specs.Tsdus.{Part}
+use Rattle.osi_class.specs.declared.terms.Local.{Local}
+use Rattle.osi_carrier.specs.State.{State as Carrier}
+use Rattle.osi_carrier.specs.declared.ends.EndReason.{EndReason}
+use Rattle.osi_rules.specs.Traffic.{State}
+use Rattle.osi_stack.specs.Calls.{has_given}
+use Rattle.osi_fair.proofs.each_connection_has_its_line.{Tracked}
+use Rattle.osi_fair.proofs.what_the_other_side_closes.{IsClear}
+use Rattle.osi_honest.specs.Courses.{Continues, Deeds, then_did, units_in}
+use Rattle.osi_honest.specs.Turns.{Turn}
+use Rattle.osi_honest.proofs.courses.how_long_a_connection_is_open.{Life, Stage, early, past, stage_at, stage_over}
+use Rattle.osi_tap.specs.Courses.{Course}
+use Rattle.osi_watched.specs.Joint.{Joint, TakesTurn}
+use Rattle.osi_watched.specs.ShownPlaces.{HaveSamePlaces}
+use Rattle.osi_watched.proofs.a_carrier_does_events.{none_of}
+use Rattle.osi_watched.proofs.sessions.a_calling_end_is_ready.{IsCalling, whole_followed}
+use Rattle.osi_watched.proofs.sessions.a_calling_end_takes_nothing_before_its_cc.{AwaitsCc, awaits_cc, calm_turn, quiet_turn}
+use Rattle.osi_watched.proofs.sessions.a_turn_does_what_its_deeds_say.{turn_uses}
+use Rattle.osi_watched.proofs.sessions.connections_have_the_same_places.{at_same}
+use Rattle.osi_watched.proofs.sessions.nothing_is_done_before_a_cr_passes.{IsNoZero, may_take, same_units}
+use Rattle.osi_watched.proofs.sessions.what_an_end_takes_at_each_stage.{AreCalm, turn_takes}
+use Rattle.osi_watched.proofs.sessions.what_is_in_flight_to_an_end.{known_of}
+use Rattle.osi_watched.proofs.sessions.what_stands_of_a_connection.{Takes, waiting_for}
+
+early_not : {A : Type 0} (s : Stage) → s ≡ early → s ≡ past → A
+early_not s e h = absurd (cc (sym e ∙ h))
+
+-- an end at which a connection may still open lasts
+early_lasts : (r : ℕ) (c : Carrier) → stage_at r c ≡ early → c.ended ≡ None
+early_lasts r c may = by c.ended refl
+  where
+    by : (o : Option EndReason) → c.ended ≡ o → c.ended ≡ None
+    by None e = e
+    by (Some reason) e = early_not (stage_at r c) may (stage_over r c (ap is_some e))
+
+given_so : (r : ℕ) (c : Carrier) → 0 < r → r ≤ c.given → has_given r c ≡ true
+given_so r c some up = ap (λ (b : Bool). b && nat_le r c.given) (lt-ltb 0 r some) ∙ le-leb r c.given up
+
+module _ (local : Local) (two : local.class2 ≡ true) where
+  -- at a connection whose CC has passed and that has not opened, what has come awaits the CC
+  pub joint_awaits : (deeds : ℕ → Deeds) (j : Joint) → IsCalling local two deeds j → IsClear j.course.traffic.course →
+      HaveSamePlaces j.course.traffic.connections j.course.sessions.live → (r : ℕ) → 0 < r → Tracked j.course.traffic.connections r →
+      stage_at r j.holding.end.carrier ≡ early → AwaitsCc r (units_in j.coming)
+  joint_awaits deeds j h clear places r some tracked may =
+      let f = h.ahead.followed in
+      let lasts = early_lasts r j.holding.end.carrier may in
+      let whole_lasts = none_of f.whole.end.ended (sym f.like.over ∙ ap is_some lasts) in
+      let alike : stage_at r f.whole.end ≡ stage_at r j.holding.end.carrier = ap (stage_at r) (f.like.lasts whole_lasts) in
+      let (p, c, at, is, same) = tracked in
+      let (k, here, one) = at_same j.course.traffic.connections j.course.sessions.live p c places at in
+      let low : r ≤ h.ahead.bound = (h.ahead.below.live p k r here (ap (λ (m : ℕ). Some m) (one.calling ∙ same))).1 in
+      let most : h.ahead.bound ≤ f.whole.end.given = h.ahead.above.given in
+      subst (AwaitsCc r) (f.coming lasts ∙ same_units j.coming)
+      (awaits_cc local f.whole r (whole_followed local two j f clear) (subst (λ (s : State). Tracked s.connections r) (sym f.tap) tracked)
+      (given_so r f.whole.end some (omega (arith, low, most))) (alike ∙ may) whole_lasts)
+
+  pub calling_takes : (turn : Turn) (old new : Joint) (t : TakesTurn turn old new) (deeds : ℕ → Deeds)
+      (on : Continues true deeds old.holding turn new.holding) → IsCalling local two deeds old →
+      IsCalling local two (λ r. then_did (deeds r) (on.more r)) new → IsClear old.course.traffic.course →
+      HaveSamePlaces old.course.traffic.connections old.course.sessions.live → (r : ℕ) → 0 < r →
+      Life true r (stage_at r old.holding.end.carrier) on.took on.put (stage_at r new.holding.end.carrier) →
+      (stage_at r old.holding.end.carrier ≡ early →
+      Tracked old.course.traffic.connections r ⊎ (waiting_for (Some r) (units_in old.coming) ≡ [])) → (later : List Part) →
+      known_of (may_take old.holding.end.carrier) (units_in old.coming) r later →
+      Takes (on.more r) later (known_of (may_take new.holding.end.carrier) (units_in new.coming) r)
+  calling_takes turn old new t deeds on h then_h clear places r some life known later sure =
+      turn_takes true turn old new t deeds on r some life (λ may. by may (known may)) later sure
+    where
+      by : stage_at r old.holding.end.carrier ≡ early →
+          Tracked old.course.traffic.connections r ⊎ (waiting_for (Some r) (units_in old.coming) ≡ []) →
+          AreCalm true r (stage_at r new.holding.end.carrier) on.took
+      by may (inr none) =
+          let s = turn_uses turn old new t true deeds on (early_lasts r old.holding.end.carrier may) in
+          quiet_turn true r (stage_at r new.holding.end.carrier) on.took (s.left ++ units_in new.coming)
+          (ap (waiting_for (Some r)) (sym s.coming) ∙ none)
+      by may (inl tracked) =
+          let s = turn_uses turn old new t true deeds on (early_lasts r old.holding.end.carrier may) in
+          calm_turn r (stage_at r new.holding.end.carrier) on.took (s.left ++ units_in new.coming)
+          (subst (AwaitsCc r) s.coming (joint_awaits deeds old h clear places r some tracked may))
+          (λ still. subst (λ (l : List Value). AwaitsCc r (l ++ units_in new.coming))
+          (sym (s.all (early_lasts r new.holding.end.carrier still)))
+          (joint_awaits (λ q. then_did (deeds q) (on.more q)) new then_h
+          (subst (λ (c : Course). IsClear c.traffic.course) (sym t.course) clear)
+          (subst (λ (c : Course). HaveSamePlaces c.traffic.connections c.sessions.live) (sym t.course) places) r some
+          (subst (λ (c : Course). Tracked c.traffic.connections r) (sym t.course) tracked) still))
+          (subst (AllByRecursion IsNoZero) s.coming h.zero)

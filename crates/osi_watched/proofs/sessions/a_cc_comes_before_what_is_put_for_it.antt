@@ -1,0 +1,163 @@
+-- A CC that is no break gives a reference that no connection has which the calling end has not closed. So none of the units that wait to
+-- pass are for this reference: each of them is for a connection whose CC has passed.
+-- For all connections of an end and a tap.
+use Rattle.std.proofs.Common.{◌≡◌, ◌∙◌, refl, sym, ap, ℕ, Bool, true, false, if◌then◌else◌, List, [], ◌∷◌, ◌++◌, Option, Some, None}
+use Rattle.std.specs.Prelude.{◌==◌, ◌||◌, ◌&&◌, not, position, slice_get}
+use Rattle.std.specs.List.{AllByRecursion}
+use Rattle.std.proofs.lemmas.Bool.{eqb-true}
+use Rattle.osi_tpdu.specs.Value.{Connect, Value, acknowledge, confirm, data0, data2, destination_of, disconnect, disconnected, error}
+use Rattle.osi_tpdu.specs.Value.{request}
+use Rattle.osi_class.specs.declared.terms.Class.{Class}
+use Rattle.osi_class.specs.declared.terms.Class.TheVariants.{Two, Zero}
+use Rattle.osi_judge.specs.declared.directions.Direction.TheVariants.{Left}
+use Rattle.osi_rules.specs.declared.connections.Connection.{Connection}
+use Rattle.osi_rules.specs.declared.directions.Direction.TheVariants as way
+use Rattle.osi_rules.specs.declared.findings.Finding.TheVariants.{Broke, NotJudged, Outside}
+use Rattle.osi_rules.specs.declared.findings.Rule.TheVariants as rule
+use Rattle.osi_rules.specs.declared.halves.Phase.{Phase}
+use Rattle.osi_rules.specs.declared.halves.Phase.TheVariants as phase
+use Rattle.osi_rules.specs.Rows.{first_failed, is_inside, is_offered}
+use Rattle.osi_rules.specs.Sides.{is_closing, is_named, is_open, is_silent, uses}
+use Rattle.osi_rules.specs.Traffic.{Outcome, State, at_found, at_place, class_for, found, found_on, is_stopped, none_told, route, route_in}
+use Rattle.osi_rules.specs.Traffic.{routed, takes, unnamed_by, uses_source}
+use Rattle.osi_fair.proofs.all_are_judged_unless_one_broke.{AreJudged}
+use Rattle.osi_fair.proofs.each_connection_has_its_line.{IsOwned, asking, is_tracked, of, stray}
+use Rattle.osi_fair.proofs.what_holds_of_one_item.{none_true}
+use Rattle.osi_fair.proofs.what_keeps_names_apart.{AreApart}
+use Rattle.osi_fair.proofs.which_units_are_for_a_connection.{picked_rest}
+use Rattle.osi_tap.specs.Connections.{Sessions}
+use Rattle.osi_watched.specs.ShownPlaces.{HaveSamePlaces, named_by}
+use Rattle.osi_watched.proofs.the_first_break_is_not_of_an_end.{IsNoBreak}
+use Rattle.osi_watched.proofs.sessions.a_right_dt_has_one_place.{still_used}
+use Rattle.osi_watched.proofs.sessions.connections_have_the_same_places.{at_same}
+use Rattle.osi_watched.proofs.sessions.what_is_in_flight_to_an_end.{flight_same, known_of}
+use Rattle.osi_watched.proofs.sessions.what_passes_leaves_all_standing.{IsHeard}
+use Rattle.osi_watched.proofs.sessions.what_stands_of_a_connection.{is_for, waiting_for}
+
+-- ---- a CC that is no break
+
+first_new : (a b i u z : Bool) →
+    IsNoBreak (first_failed ((a, Broke rule.WrongForm) ∷ (b, Broke rule.BadAnswer) ∷ (i, Outside)
+    ∷ (u, Broke rule.ReferenceInUse) ∷ (z, Broke rule.LargerSize) ∷ [])) → u ≡ true
+first_new false b i u z h = absurd h
+first_new true false i u z h = absurd h
+first_new true true false u z h = absurd h
+first_new true true true false z h = absurd h
+first_new true true true true z h = refl
+
+not_so : (b : Bool) → not b ≡ true → b ≡ false
+not_so true h = absurd (cc)
+not_so false h = refl
+
+module _ (n : ℕ) (x : Connect) (s : State) (firm : s.course.loose ≡ false) (judged : AreJudged s) where
+  abbrev IsNew : Type 0
+  IsNew = uses_source way.Right s.connections (confirm n x) ≡ false
+
+  cc_on : (c : Connection) → c.is_judged ≡ true → IsNoBreak (found_on way.Right s c (confirm n x)) → IsNew
+  cc_on c is none = by c.is_judged is none
+    where
+      by : (b : Bool) → b ≡ true →
+          IsNoBreak (if b then found way.Right s.course (uses_source way.Right s.connections (confirm n x)) c
+              (confirm n x) else NotJudged) →
+          IsNew
+      by true h k =
+          not_so (uses_source way.Right s.connections (confirm n x))
+          (first_new (is_silent c.right.phase) (is_offered c.offer s.course.class x) (is_inside x)
+          (not (uses_source way.Right s.connections (confirm n x))) _ k)
+      by false h k = absurd (cc)
+
+  cc_nowhere : {A : Type 0} (loose strays : Bool) → loose ≡ false →
+      IsNoBreak (if loose then NotJudged else unnamed_by strays (confirm n x)) → A
+  cc_nowhere true strays h none = absurd (cc)
+  cc_nowhere false true h none = absurd none
+  cc_nowhere false false h none = absurd none
+
+  cc_here : (i : ℕ) (o : Option Connection) → slice_get s.connections i ≡ o →
+      IsNoBreak (at_found way.Right (confirm n x) s i o).told.finding → IsNew
+  cc_here i None e none = cc_nowhere s.course.loose s.course.strays firm none
+  cc_here i (Some c) e none = cc_on c (judged firm i c e) none
+
+  cc_any : (o : Option ℕ) → IsNoBreak (at_place way.Right (confirm n x) s o).told.finding → IsNew
+  cc_any None none = cc_nowhere s.course.loose s.course.strays firm none
+  cc_any (Some i) none = cc_here i (slice_get s.connections i) refl none
+
+  cc_routed : (k : Option Class) (b : Bool) →
+      IsNoBreak (routed way.Right (confirm n x) s (route_in k way.Right b (confirm n x))).told.finding → IsNew
+  cc_routed None b none = cc_any (position (is_named way.Right n) s.connections) none
+  cc_routed (Some Zero) true none = absurd none
+  cc_routed (Some Zero) false none = absurd none
+  cc_routed (Some Two) b none = cc_any (position (is_named way.Right n) s.connections) none
+
+  goes_on : (b : Bool) (o : Outcome) → b ≡ false → IsNoBreak (if b then none_told way.Right NotJudged s else o).told.finding →
+      IsNoBreak o.told.finding
+  goes_on true o h none = absurd (cc)
+  goes_on false o h none = none
+
+  pub cc_new : is_stopped way.Right s.course ≡ false → IsNoBreak (takes way.Right (confirm n x) s).told.finding →
+      uses_source way.Right s.connections (confirm n x) ≡ false
+  cc_new goes none =
+      cc_routed (class_for way.Right s.course) (is_stopped way.Left s.course)
+      (goes_on (is_stopped way.Right s.course) (routed way.Right (confirm n x) s (route way.Right s.course (confirm n x))) goes none)
+
+-- ---- so no connection that is open has its reference
+
+differ : {A : Type 0} (b : Bool) → b ≡ true → b ≡ false → A
+differ b h k = absurd (cc)
+
+both_so : (a b : Bool) → (a && b) ≡ true → (a ≡ true) × (b ≡ true)
+both_so true b h = (refl, h)
+both_so false b h = absurd (cc)
+
+named_tracked : (p : Phase) (r : ℕ) → (is_open p || is_closing p) ≡ true → named_by p r ≡ Some r
+named_tracked phase.Silent r h = absurd (cc)
+named_tracked phase.Open r h = refl
+named_tracked phase.Refused r h = absurd (cc)
+named_tracked phase.Closing r h = refl
+named_tracked phase.Closed r h = absurd (cc)
+
+unlike : (m n : ℕ) (b : Bool) → (m == n) ≡ b → (m ≡ n → ⊥) → b ≡ false
+unlike m n true e h = absurd (h (eqb-true m n e))
+unlike m n false e h = refl
+
+some_same : (m n : ℕ) → Some m ≡ Some n → m ≡ n
+some_same m n e = cc
+
+-- a unit for another reference
+for_another : (n m : ℕ) (v : Value) → destination_of v ≡ Some m → (m ≡ n → ⊥) → is_for (Some n) v ≡ false
+for_another n m (request x) e other = refl
+for_another n m (confirm k x) e other = refl
+for_another n m (disconnect k source reason user) e other = refl
+for_another n m (disconnected k source) e other = refl
+for_another n m (data0 end user) e other = absurd (cc)
+for_another n m (data2 k number end user) e other = unlike k n (k == n) refl (λ same. other (sym (some_same k m e) ∙ same))
+for_another n m (acknowledge credit k number) e other = unlike k n (k == n) refl (λ same. other (sym (some_same k m e) ∙ same))
+for_another n m (error k cause) e other = refl
+
+module _ (n : ℕ) (x : Connect) (s : State) (t : Sessions) (firm : s.course.loose ≡ false) (judged : AreJudged s)
+    (places : HaveSamePlaces s.connections t.live) (apart : AreApart s.connections) (goes : is_stopped way.Right s.course ≡ false)
+    (none : IsNoBreak (takes way.Right (confirm n x) s).told.finding) where
+  pub none_open : (i : ℕ) (c : Connection) → slice_get s.connections i ≡ Some c → is_tracked c ≡ true →
+      c.right.reference ≡ x.source → ⊥
+  none_open i c there tracked same =
+      let (j, here, one) = at_same s.connections t.live i c places there in
+      let (live, answered) = both_so (is_open c.left.phase) (is_open c.right.phase || is_closing c.right.phase) tracked in
+      let named : j.called ≡ Some x.source =
+      one.called ∙ named_tracked c.right.phase c.right.reference answered ∙ ap (λ (m : ℕ). Some m) same in
+      differ (uses way.Right x.source c)
+      (still_used Left x.source c j one (apart.sound i c there (judged firm i c there)) live named)
+      (none_true (λ (k : Connection). uses way.Right x.source k) s.connections i c (cc_new n x s firm judged goes none) there)
+
+  owned_not : (v : Value) → IsOwned s v → is_for (Some x.source) v ≡ false
+  owned_not v (asking y is) = ap (is_for (Some x.source)) is
+  owned_not v (of p c at tracked own) =
+      for_another x.source c.right.reference v own.named (λ same. none_open p c at tracked same)
+  owned_not v (stray m source is strays) = ap (is_for (Some x.source)) is
+
+  pub nothing_waits : (put : List Value) → AllByRecursion (λ (v : Value). IsOwned s v) put → waiting_for (Some x.source) put ≡ []
+  nothing_waits [] h = refl
+  nothing_waits (v ∷ put) h = picked_rest (is_for (Some x.source)) v put (owned_not v h.0) ∙ nothing_waits put h.1
+
+  -- what waits are the units of a whole end, or units that are for the same connections
+  pub cc_heard : (is_live : ℕ → Bool) (coming put : List Value) → waiting_for (Some x.source) put ≡ [] →
+      IsHeard Left (known_of is_live coming) (known_of is_live (coming ++ confirm n x ∷ [])) (confirm n x) put s t
+  cc_heard is_live coming put unheard = (unheard, λ r later sure. flight_same is_live coming (confirm n x) r later refl sure)

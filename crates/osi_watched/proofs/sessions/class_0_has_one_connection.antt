@@ -1,0 +1,674 @@
+-- Until class 2 is selected, one connection at most is not over for left; so in class 0 one was opened, and each other one was refused.
+-- For the session of the connection of an end in class 0.
+use Rattle.std.proofs.Common.{◌≡◌, ◌∙◌, ◌⊎◌, inl, inr, refl, sym, ap, subst, ℕ, zero, suc, Bool, true, false, if◌then◌else◌}
+use Rattle.std.proofs.Common.{List, [], ◌∷◌, set, Option, Some, None, is_some}
+use Rattle.std.specs.Prelude.{◌&&◌, ◌||◌, ◌==◌, not, option_map, position, slice_get}
+use Rattle.std.specs.List.{list_all}
+use Rattle.std.proofs.lemmas.Bool.{eqb-true}
+use Rattle.std.proofs.lemmas.Option.{slice_get-map}
+use Rattle.osi_tpdu.specs.Value.{Connect, Value, acknowledge, confirm, data0, data2, disconnect, disconnected, error, request}
+use Rattle.osi_class.specs.declared.terms.Class.{Class}
+use Rattle.osi_class.specs.declared.terms.Class.TheVariants.{Two, Zero}
+use Rattle.osi_rules.specs.declared.connections.Connection.{Connection}
+use Rattle.osi_rules.specs.declared.courses.Course.{Course as Rules}
+use Rattle.osi_rules.specs.declared.directions.Direction.{Direction}
+use Rattle.osi_rules.specs.declared.directions.Direction.TheVariants.{Left, Right}
+use Rattle.osi_rules.specs.declared.findings.Finding.{Finding}
+use Rattle.osi_rules.specs.declared.findings.Finding.TheVariants.{Broke, Kept, NotJudged, Outside, TooMany}
+use Rattle.osi_rules.specs.declared.findings.Reach.{Reach}
+use Rattle.osi_rules.specs.declared.findings.Reach.TheVariants as reach
+use Rattle.osi_rules.specs.declared.findings.Rule.TheVariants as rule
+use Rattle.osi_rules.specs.declared.halves.Half.{Half}
+use Rattle.osi_rules.specs.declared.halves.Phase.{Phase}
+use Rattle.osi_rules.specs.declared.halves.Phase.TheVariants as phase
+use Rattle.osi_rules.specs.declared.routes.Route.{Route}
+use Rattle.osi_rules.specs.Reaches.{is_applied, reach_of}
+use Rattle.osi_rules.specs.Rows.{first_failed, is_due}
+use Rattle.osi_rules.specs.Sides.{begins, is_closed, is_closing, is_free, is_live, is_named, is_open, is_over, is_over_by, is_refused}
+use Rattle.osi_rules.specs.Sides.{is_silent, seen}
+use Rattle.osi_rules.specs.Traffic.{State, asked_by, asks_by, asks_kept, at_found, at_place, class_for, closing_phase, connection_after}
+use Rattle.osi_rules.specs.Traffic.{course_after, course_after_none, course_begins, found, found_on, fresh, half_after, is_stopped}
+use Rattle.osi_rules.specs.Traffic.{judged_on}
+use Rattle.osi_rules.specs.Traffic.{none_told, reached, refused_reach, request_tests, route, route_in, routed, sent_on}
+use Rattle.osi_rules.specs.Traffic.{takes, unnamed, unnamed_told, uses_source}
+use Rattle.osi_fair.specs.Naming.{HoldsOfOne, Passing, packet, passes, rubbish, unit}
+use Rattle.osi_fair.proofs.a_reference_names_one_connection.{applied_found, applied_judged, differ, no_item, not_first, not_true}
+use Rattle.osi_fair.proofs.a_dt_of_class_zero_passes.{unlike}
+use Rattle.osi_fair.proofs.all_are_judged_unless_one_broke.{AreJudged}
+use Rattle.osi_fair.proofs.class_0_stays_selected.{reached_class}
+use Rattle.osi_fair.proofs.one_request_waits.{begun_live}
+use Rattle.osi_fair.proofs.what_holds_of_one_item.{HoldsOfEach, each_add, each_map, each_set, first_true, one_added, one_changed}
+use Rattle.osi_fair.proofs.what_holds_of_one_item.{one_mapped, one_put}
+use Rattle.osi_fair.proofs.what_is_right_passes_each_test.{passes_each}
+use Rattle.osi_fair.proofs.what_keeps_names_apart.{AreApart, Sound}
+use Rattle.osi_fair.proofs.what_lasts_at_the_tap.{lasts_passing}
+use Rattle.osi_fair.proofs.while_no_class_is_selected.{set_there}
+use Rattle.osi_watched.proofs.sessions.a_dt_of_class_0_has_one_place.{IsOnly, open_not_refused}
+
+-- ---- what holds until class 2 is selected
+
+-- a CR waits, is refused, or has its CC
+pub record IsAnswer (p : Phase) : Type 0 where
+  pub closing : is_closing p ≡ false
+  pub closed : is_closed p ≡ false
+
+pub record IsOpened (cs : List Connection) : Type 0 where
+  pub place : ℕ
+  pub connection : Connection
+  pub there : slice_get cs place ≡ Some connection
+  pub live : is_open connection.right.phase ≡ true
+
+-- Left has closed no connection, and right none that it has opened. One at most is not over for left. As soon as class 0 is selected,
+-- one is opened, and before that none is.
+pub record Narrow (s : State) : Type 0 where
+  pub known : s.course.class_seen ≡ Some Two → ⊥
+  pub asked : HoldsOfEach (λ (c : Connection). is_open c.left.phase ≡ true) s.connections
+  pub answered : HoldsOfEach (λ (c : Connection). IsAnswer c.right.phase) s.connections
+  pub one : HoldsOfOne (is_live Left) s.connections
+  pub none : s.course.class ≡ None → HoldsOfEach (λ (c : Connection). is_open c.right.phase ≡ false) s.connections
+  pub opened : s.course.class ≡ Some Zero → IsOpened s.connections
+
+abbrev pub NarrowIf : State → Type 0
+NarrowIf s = (s.course.class ≡ Some Two → ⊥) → Narrow s
+
+-- ---- what it says in class 0
+
+over_so : (j : Bool) (p k : Phase) → is_open p ≡ true →
+    (j && (is_refused p || (is_refused k || (is_closed p || (is_closing p && (is_closing k || is_closed k)))))) ≡ true → is_refused k ≡ true
+over_so true phase.Open phase.Refused h e = refl
+over_so true phase.Open phase.Silent h e = absurd (cc)
+over_so true phase.Open phase.Open h e = absurd (cc)
+over_so true phase.Open phase.Closing h e = absurd (cc)
+over_so true phase.Open phase.Closed h e = absurd (cc)
+over_so true phase.Silent k h e = absurd (cc)
+over_so true phase.Refused k h e = absurd (cc)
+over_so true phase.Closing k h e = absurd (cc)
+over_so true phase.Closed k h e = absurd (cc)
+over_so false p k h e = absurd (cc)
+
+both_first : (a b : Bool) → (a && b) ≡ true → a ≡ true
+both_first true b h = refl
+both_first false b h = absurd (cc)
+
+not_over : (b : Bool) → (b ≡ true → ⊥) → not b ≡ true
+not_over true h = absurd (h refl)
+not_over false h = refl
+
+-- what is over for left was refused by right
+refused_so : (cs : List Connection) (i : ℕ) (c : Connection) → AreApart cs → slice_get cs i ≡ Some c → is_open c.left.phase ≡ true →
+    is_over Left c ≡ true → (is_refused c.seen_by_left.phase ≡ true) × (is_refused c.right.phase ≡ true)
+refused_so cs i c apart there up over =
+    let judged = both_first c.is_judged (is_over_by c.left c.seen_by_left) over in
+    let known = over_so c.is_judged c.left.phase c.seen_by_left.phase up over in
+    (known, (apart.sound i c there judged).left_knows.refused known)
+
+-- so what right has opened is not over for left
+opened_live : (cs : List Connection) (i : ℕ) (c : Connection) → AreApart cs → slice_get cs i ≡ Some c → is_open c.left.phase ≡ true →
+    is_open c.right.phase ≡ true → is_over Left c ≡ true → ⊥
+opened_live cs i c apart there up live over =
+    let (known, refused) = refused_so cs i c apart there up over in open_not_refused c.right.phase live refused
+
+pub narrow_only : (s : State) → AreApart s.connections → AreJudged s → s.course.loose ≡ false → Narrow s → s.course.class ≡ Some Zero →
+    IsOnly s
+narrow_only s apart judged firm n class =
+    let o = n.opened class in
+    record {
+      place = o.place;
+      connection = o.connection;
+      there = o.there;
+      left = n.asked o.place o.connection o.there;
+      right = o.live;
+      others = λ i e there other.
+          (refused_so s.connections i e apart there (n.asked i e there) (over_by o (is_over Left e) i e refl there other)).1;
+      known = λ seen i e there other.
+          (refused_so s.connections i e apart there (n.asked i e there) (over_by o (is_over Left e) i e refl there other)).0;
+    }
+  where
+    over_by : (o : IsOpened s.connections) (b : Bool) (i : ℕ) (e : Connection) → is_over Left e ≡ b → slice_get s.connections i ≡ Some e →
+        (i ≡ o.place → ⊥) → is_over Left e ≡ true
+    over_by o true i e is there other = is
+    over_by o false i e is there other =
+        absurd (other (n.one i o.place e o.connection there o.there (judged firm i e there) (judged firm o.place o.connection o.there)
+        (ap not is) (not_over (is_over Left o.connection)
+        (λ h. opened_live s.connections o.place o.connection apart o.there (n.asked o.place o.connection o.there) o.live h))))
+
+-- ---- what is of no single connection
+
+pub reached_seen : (d : Direction) (r : Reach) (c : Rules) → (reached d r c).class_seen ≡ c.class_seen
+reached_seen d reach.Nothing c = refl
+reached_seen d reach.Connection c = refl
+reached_seen Left reach.Side c = refl
+reached_seen Right reach.Side c = refl
+reached_seen d reach.Everything c = refl
+
+pub none_same : (v : Value) (c : Rules) → ((course_after_none v c).class ≡ c.class) × ((course_after_none v c).class_seen ≡ c.class_seen)
+none_same (request x) c = (refl, refl)
+none_same (confirm destination x) c = (refl, refl)
+none_same (disconnect destination source reason user) c = (refl, refl)
+none_same (disconnected destination source) c = (refl, refl)
+none_same (data0 end user) c = (refl, refl)
+none_same (data2 destination number end user) c = (refl, refl)
+none_same (acknowledge credit destination number) c = (refl, refl)
+none_same (error destination cause) c = (refl, refl)
+
+pub after_seen : (d : Direction) (c : Connection) (v : Value) (x : Bool) (course : Rules) →
+    (course_after d c v x course).class_seen ≡ course.class_seen
+after_seen d c (confirm destination y) true course = refl
+after_seen d c (confirm destination y) false course = refl
+after_seen d c (disconnect destination source reason user) x course = refl
+after_seen d c (request y) x course = refl
+after_seen d c (disconnected destination source) x course = refl
+after_seen d c (data0 end user) x course = refl
+after_seen d c (data2 destination number end user) x course = refl
+after_seen d c (acknowledge credit destination number) x course = refl
+after_seen d c (error destination cause) x course = refl
+
+after_false : (d : Direction) (c : Connection) (v : Value) (course : Rules) → (course_after d c v false course).class ≡ course.class
+after_false d c (confirm destination y) course = refl
+after_false d c (disconnect destination source reason user) course = refl
+after_false d c (request y) course = refl
+after_false d c (disconnected destination source) course = refl
+after_false d c (data0 end user) course = refl
+after_false d c (data2 destination number end user) course = refl
+after_false d c (acknowledge credit destination number) course = refl
+after_false d c (error destination cause) course = refl
+
+with_course : (s : State) (c : Rules) → c.class ≡ s.course.class → c.class_seen ≡ s.course.class_seen → Narrow s →
+    Narrow (record s { course = c })
+with_course s c class seen n = record {
+  known = λ h. n.known (sym seen ∙ h);
+  asked = n.asked;
+  answered = n.answered;
+  one = n.one;
+  none = λ h. n.none (sym class ∙ h);
+  opened = λ h. n.opened (sym class ∙ h);
+}
+
+none_narrow : (d : Direction) (f : Finding) (s : State) → Narrow s → Narrow (none_told d f s).state
+none_narrow d f s n =
+    let r = reach_of (class_for d s.course) f in
+    with_course s (reached d r s.course) (reached_class d r s.course) (reached_seen d r s.course) n
+
+unnamed_narrow : (d : Direction) (v : Value) (s : State) → Narrow s → Narrow (unnamed_told d v s).state
+unnamed_narrow d v s n =
+    let (class, seen) = none_same v s.course in
+    none_narrow d (unnamed s.course v) (record s { course = course_after_none v s.course })
+    (with_course s (course_after_none v s.course) class seen n)
+
+-- ---- one connection changes
+
+set_other : (cs : List Connection) (p q : ℕ) (x : Connection) → (q ≡ p → ⊥) → slice_get (set cs p x) q ≡ slice_get cs q
+set_other [] p q x h = refl
+set_other (z ∷ cs) zero zero x h = absurd (h refl)
+set_other (z ∷ cs) zero (suc q) x h = refl
+set_other (z ∷ cs) (suc p) zero x h = refl
+set_other (z ∷ cs) (suc p) (suc q) x h = set_other cs p q x (λ e. h (ap suc e))
+
+same_item : (c e : Connection) → Some c ≡ Some e → c ≡ e
+same_item c e h = cc
+
+-- for left only what was not over before is not over after it
+abbrev WasLive : Connection → Connection → Type 0
+WasLive c e = e.is_judged ≡ true → is_live Left e ≡ true → (c.is_judged ≡ true) × (is_live Left c ≡ true)
+
+-- what a change of a connection keeps
+record Fits (s : State) (course : Rules) (c new : Connection) : Type 0 where
+  up : is_open new.left.phase ≡ true
+  answers : IsAnswer new.right.phase
+  live : WasLive c new
+  none : course.class ≡ None → (s.course.class ≡ None) × (is_open new.right.phase ≡ false)
+  zero : course.class ≡ Some Zero →
+      (is_open new.right.phase ≡ true) ⊎ ((s.course.class ≡ Some Zero) × (is_open new.right.phase ≡ is_open c.right.phase))
+
+module _ (s : State) (p : ℕ) (c new : Connection) (course : Rules) (there : slice_get s.connections p ≡ Some c)
+    (seen : course.class_seen ≡ s.course.class_seen) (f : Fits s course c new) (n : Narrow s) where
+  opened_by : (b : Bool) (o : IsOpened s.connections) → (o.place == p) ≡ b → is_open new.right.phase ≡ is_open c.right.phase →
+      IsOpened (set s.connections p new)
+  opened_by true o e same = record {
+    place = p;
+    connection = new;
+    there = set_there s.connections p new c there;
+    live = same ∙ ap (λ (x : Connection). is_open x.right.phase) (same_item c o.connection
+        (sym there ∙ ap (slice_get s.connections) (sym (eqb-true o.place p e)) ∙ o.there)) ∙ o.live;
+  }
+  opened_by false o e same = record {
+    place = o.place;
+    connection = o.connection;
+    there = set_other s.connections p o.place new (unlike o.place p e) ∙ o.there;
+    live = o.live;
+  }
+
+  opened_so : (is_open new.right.phase ≡ true) ⊎ ((s.course.class ≡ Some Zero) × (is_open new.right.phase ≡ is_open c.right.phase)) →
+      IsOpened (set s.connections p new)
+  opened_so (inl live) = record { place = p; connection = new; there = set_there s.connections p new c there; live = live }
+  opened_so (inr (class, same)) = let o = n.opened class in opened_by (o.place == p) o refl same
+
+  changed_narrow : Narrow (record { connections = set s.connections p new; course = course })
+  changed_narrow = record {
+    known = λ h. n.known (sym seen ∙ h);
+    asked = each_set (λ (x : Connection). is_open x.left.phase ≡ true) s.connections p new n.asked f.up;
+    answered = each_set (λ (x : Connection). IsAnswer x.right.phase) s.connections p new n.answered f.answers;
+    one = one_changed (is_live Left) s.connections p new c n.one there f.live;
+    none = λ h. let (class, closed) = f.none h in
+        each_set (λ (x : Connection). is_open x.right.phase ≡ false) s.connections p new (n.none class) closed;
+    opened = λ h. opened_so (f.zero h);
+  }
+
+-- ---- a unit for a connection
+
+judged_fits : (s : State) (course : Rules) (c new : Connection) (r : Reach) → Fits s course c new → Fits s course c (judged_on r new)
+judged_fits s course c new reach.Nothing f = f
+judged_fits s course c new reach.Side f = f
+judged_fits s course c new reach.Everything f = f
+judged_fits s course c new reach.Connection f = record {
+  up = f.up;
+  answers = f.answers;
+  live = λ j k. absurd (cc j);
+  none = f.none;
+  zero = f.zero;
+}
+
+-- which units may be for a connection: a DR of right, while no class is selected
+abbrev IsRefusal : Direction → State → Type 0
+IsRefusal Left s = ⊥
+IsRefusal Right s = s.course.class ≡ None
+
+abbrev MayBe : Value → Direction → State → Type 0
+MayBe (disconnect destination source reason user) d s = IsRefusal d s
+MayBe (request x) d s = Unit {0}
+MayBe (confirm destination x) d s = Unit {0}
+MayBe (disconnected destination source) d s = Unit {0}
+MayBe (data0 end user) d s = Unit {0}
+MayBe (data2 destination number end user) d s = Unit {0}
+MayBe (acknowledge credit destination number) d s = Unit {0}
+MayBe (error destination cause) d s = Unit {0}
+
+one_test : (b : Bool) → is_applied (first_failed ((b, Broke rule.Closed) ∷ [])) ≡ true → b ≡ true
+one_test true h = refl
+one_test false h = absurd (cc)
+
+form_test : (b : Bool) → is_applied (first_failed ((b, Broke rule.WrongForm) ∷ [])) ≡ true → b ≡ true
+form_test true h = refl
+form_test false h = absurd (cc)
+
+due_test : (due strays : Bool) →
+    is_applied (first_failed ((due || not strays, NotJudged) ∷ (due, Broke rule.NothingToAnswer) ∷ [])) ≡ true → due ≡ true
+due_test true strays h = refl
+due_test false true h = absurd (cc)
+due_test false false h = absurd (cc)
+
+due_closing : (a b c : Bool) → (a && (b && c)) ≡ true → b ≡ true
+due_closing true true c h = refl
+due_closing true false c h = absurd (cc)
+due_closing false b c h = absurd (cc)
+
+open_silent : (p : Phase) → is_open p ≡ true → is_silent p ≡ true → ⊥
+open_silent phase.Silent h k = cc
+open_silent phase.Open h k = cc
+open_silent phase.Refused h k = cc
+open_silent phase.Closing h k = cc
+open_silent phase.Closed h k = cc
+
+open_closing : (p : Phase) → is_open p ≡ true → is_closing p ≡ true → ⊥
+open_closing phase.Silent h k = cc
+open_closing phase.Open h k = cc
+open_closing phase.Refused h k = cc
+open_closing phase.Closing h k = cc
+open_closing phase.Closed h k = cc
+
+silent_closed : (p : Phase) → is_silent p ≡ true → is_open p ≡ false
+silent_closed phase.Silent h = refl
+silent_closed phase.Open h = absurd (cc)
+silent_closed phase.Refused h = refl
+silent_closed phase.Closing h = refl
+silent_closed phase.Closed h = refl
+
+or_not : (a b : Bool) → (a || b) ≡ true → b ≡ false → a ≡ true
+or_not true b h k = refl
+or_not false b h k = absurd (differ b h k)
+
+module _ (s : State) (c : Connection) (in_use : Bool) (up : is_open c.left.phase ≡ true) (answers : IsAnswer c.right.phase)
+    (sound : Sound c) (none : s.course.class ≡ None → is_open c.right.phase ≡ false) where
+  -- ---- of left
+
+  left_same : (half : Half) → half.phase ≡ c.left.phase → is_over Left c ≡ false →
+      Fits s s.course c (record c { left = half })
+  left_same half same live = record {
+    up = ap is_open same ∙ up;
+    answers = answers;
+    live = λ j k. (j, ap not live);
+    none = λ h. (h, none h);
+    zero = λ h. inr (h, refl);
+  }
+
+  left_fits : (v : Value) → MayBe v Left s → is_over Left c ≡ false → is_applied (found Left s.course in_use c v) ≡ true →
+      Fits s (course_after Left c v true s.course) c (sent_on Left v c)
+  left_fits (request x) may live h = absurd (cc)
+  left_fits (confirm destination x) may live h = absurd (cc)
+  left_fits (disconnect destination source reason user) may live h = absurd may
+  left_fits (disconnected destination source) may live h =
+      let due = due_test (is_due Left c source) s.course.strays h in
+      let closing = due_closing (is_open c.left.phase) (is_closing c.seen_by_left.phase) (source == c.left.reference) due in
+      differ (is_closing c.right.phase) (sound.left_knows.closing closing) answers.closing
+  left_fits (data0 end user) may live h = left_same (half_after (data0 end user) c.left) refl live
+  left_fits (data2 destination number end user) may live h = left_same (half_after (data2 destination number end user) c.left) refl live
+  left_fits (acknowledge credit destination number) may live h =
+      left_same (half_after (acknowledge credit destination number) c.left) refl live
+  left_fits (error destination cause) may live h = absurd (open_silent c.left.phase up (form_test (is_silent c.left.phase) h))
+
+  -- ---- of right
+
+  right_same : (half : Half) → half.phase ≡ c.right.phase → Fits s s.course c (record c { right = half })
+  right_same half same = record {
+    up = up;
+    answers = record { closing = ap is_closing same ∙ answers.closing; closed = ap is_closed same ∙ answers.closed };
+    live = λ j k. (j, k);
+    none = λ h. (h, ap is_open same ∙ none h);
+    zero = λ h. inr (h, ap is_open same);
+  }
+
+  right_refuses : (half : Half) → half.phase ≡ phase.Refused → is_open c.right.phase ≡ false → Fits s s.course c (record c { right = half })
+  right_refuses half refused closed = record {
+    up = up;
+    answers = record { closing = ap is_closing refused; closed = ap is_closed refused };
+    live = λ j k. (j, k);
+    none = λ h. (h, ap is_open refused);
+    zero = λ h. inr (h, ap is_open refused ∙ sym closed);
+  }
+
+  closing_so : (b : Bool) (half : Half) → b ≡ true → (closing_phase b half).phase ≡ phase.Refused
+  closing_so true half h = refl
+  closing_so false half h = absurd (cc)
+
+  right_closes : (destination source reason : ℕ) (user : List ℕ) → s.course.class ≡ None → is_silent c.right.phase ≡ true →
+      Fits s (course_after Right c (disconnect destination source reason user) true s.course) c
+      (sent_on Right (disconnect destination source reason user) c)
+  right_closes destination source reason user class silent =
+      let f = right_refuses (closing_phase (is_silent c.right.phase) c.right) (closing_so (is_silent c.right.phase) c.right silent)
+      (silent_closed c.right.phase silent) in
+      record { up = f.up; answers = f.answers; live = f.live; none = f.none; zero = f.zero }
+
+  right_fits : (v : Value) → MayBe v Right s → is_applied (found Right s.course in_use c v) ≡ true →
+      Fits s (course_after Right c v true s.course) c (sent_on Right v c)
+  right_fits (request x) may h = absurd (cc)
+  right_fits (confirm destination x) may h = record {
+    up = up;
+    answers = record { closing = refl; closed = refl };
+    live = λ j k. (j, k);
+    none = λ k. absurd (cc);
+    zero = λ k. inl refl;
+  }
+  right_fits (disconnect destination source reason user) may h =
+      right_closes destination source reason user may
+      (or_not (is_silent c.right.phase) (is_open c.right.phase) (one_test (is_silent c.right.phase || is_open c.right.phase) h) (none may))
+  right_fits (disconnected destination source) may h =
+      let due = due_test (is_due Right c source) s.course.strays h in
+      let closing = due_closing (is_open c.right.phase) (is_closing c.seen_by_right.phase) (source == c.right.reference) due in
+      absurd (open_closing c.left.phase up (sound.right_knows.closing closing))
+  right_fits (data0 end user) may h = right_same (half_after (data0 end user) c.right) refl
+  right_fits (data2 destination number end user) may h = right_same (half_after (data2 destination number end user) c.right) refl
+  right_fits (acknowledge credit destination number) may h = right_same (half_after (acknowledge credit destination number) c.right) refl
+  right_fits (error destination cause) may h =
+      right_refuses (half_after (error destination cause) c.right) refl
+      (silent_closed c.right.phase (form_test (is_silent c.right.phase) h))
+
+  both_fits : (d : Direction) (v : Value) → MayBe v d s → is_over d c ≡ false → is_applied (found d s.course in_use c v) ≡ true →
+      Fits s (course_after d c v true s.course) c (sent_on d v c)
+  both_fits Left v may live h = left_fits v may live h
+  both_fits Right v may live h = right_fits v may h
+
+-- what stays of a connection
+same_fits : (s : State) (course : Rules) (c : Connection) → course.class ≡ s.course.class → is_open c.left.phase ≡ true →
+    IsAnswer c.right.phase → (s.course.class ≡ None → is_open c.right.phase ≡ false) → Fits s course c c
+same_fits s course c class up answers none = record {
+  up = up;
+  answers = answers;
+  live = λ j k. (j, k);
+  none = λ h. (sym class ∙ h, none (sym class ∙ h));
+  zero = λ h. inr (sym class ∙ h, refl);
+}
+
+-- ---- by the way that a unit takes
+
+class_reached : (s : State) (d : Direction) (r : Reach) (course : Rules) (c new : Connection) → Fits s course c new →
+    Fits s (reached d r course) c new
+class_reached s d r course c new f = record {
+  up = f.up;
+  answers = f.answers;
+  live = f.live;
+  none = λ h. f.none (sym (reached_class d r course) ∙ h);
+  zero = λ h. f.zero (sym (reached_class d r course) ∙ h);
+}
+
+module _ (d : Direction) (v : Value) (s : State) (apart : AreApart s.connections) (n : Narrow s) (may : MayBe v d s) where
+  one_by : (x : Bool) (p : ℕ) (c : Connection) (r : Reach) → slice_get s.connections p ≡ Some c → is_over d c ≡ false →
+      is_applied (found_on d s c v) ≡ x →
+      Narrow (record {
+        connections = set s.connections p (connection_after d v x r c);
+        course = reached d r (course_after d c v x s.course);
+      })
+  one_by true p c r there live e =
+      let judged = applied_judged c.is_judged (found d s.course (uses_source d s.connections v) c v) e in
+      let course = course_after d c v true s.course in
+      changed_narrow s p c (judged_on r (sent_on d v c)) (reached d r course) there
+      (reached_seen d r course ∙ after_seen d c v true s.course)
+      (class_reached s d r course c (judged_on r (sent_on d v c)) (judged_fits s course c (sent_on d v c) r
+      (both_fits s c (uses_source d s.connections v) (n.asked p c there) (n.answered p c there) (apart.sound p c there judged)
+      (λ h. n.none h p c there) d v may live
+      (applied_found c.is_judged (found d s.course (uses_source d s.connections v) c v) e)))) n
+  one_by false p c r there live e =
+      let course = course_after d c v false s.course in
+      changed_narrow s p c (judged_on r c) (reached d r course) there
+      (reached_seen d r course ∙ after_seen d c v false s.course)
+      (class_reached s d r course c (judged_on r c) (judged_fits s course c c r
+      (same_fits s course c (after_false d c v s.course) (n.asked p c there) (n.answered p c there) (λ h. n.none h p c there)))) n
+
+  found_narrow : (p : ℕ) (o : Option Connection) → slice_get s.connections p ≡ o →
+      ((e : Connection) → slice_get s.connections p ≡ Some e → is_over d e ≡ false) → Narrow (at_found d v s p o).state
+  found_narrow p None there live = unnamed_narrow d v s n
+  found_narrow p (Some c) there live =
+      one_by (is_applied (found_on d s c v)) p c (reach_of (class_for d s.course) (found_on d s c v)) there (live c there) refl
+
+  place_narrow : (o : Option ℕ) → ((i : ℕ) (e : Connection) → o ≡ Some i → slice_get s.connections i ≡ Some e → is_over d e ≡ false) →
+      Narrow (at_place d v s o).state
+  place_narrow None live = unnamed_narrow d v s n
+  place_narrow (Some p) live = found_narrow p (slice_get s.connections p) refl (λ e there. live p e refl there)
+
+  named_narrow : (number : ℕ) → Narrow (at_place d v s (position (is_named d number) s.connections)).state
+  named_narrow number =
+      place_narrow (position (is_named d number) s.connections)
+      (λ i e first at. not_first (is_over d e) (not (is_silent (seen d e).phase) && ((seen d e).reference == number))
+      (first_true (is_named d number) s.connections i e first at))
+
+  only_narrow : Narrow (at_place d v s (position (is_live d) s.connections)).state
+  only_narrow =
+      place_narrow (position (is_live d) s.connections)
+      (λ i e first at. not_true (is_over d e) (first_true (is_live d) s.connections i e first at))
+
+-- ---- a CR
+
+all_so : (f : Connection → Bool) (cs : List Connection) (i : ℕ) (c : Connection) → list_all f cs ≡ true → slice_get cs i ≡ Some c →
+    f c ≡ true
+all_so f [] i c h at = no_item i c at
+all_so f (x ∷ xs) zero c h at = ap f (sym (same_item x c at)) ∙ both_first (f x) (list_all f xs) h
+all_so f (x ∷ xs) (suc i) c h at = all_so f xs i c (both_last (f x) (list_all f xs) h) at
+  where
+    both_last : (a b : Bool) → (a && b) ≡ true → b ≡ true
+    both_last true b h = h
+    both_last false b h = absurd (cc)
+
+none_waits : (cs : List Connection) (i : ℕ) (e : Connection) → list_all (is_over Left) cs ≡ true → slice_get cs i ≡ Some e →
+    is_live Left e ≡ true → ⊥
+none_waits cs i e all at live = differ (is_over Left e) (all_so (is_over Left) cs i e all at) (not_true (is_over Left e) live)
+
+unknown_all : (k : Option Class) (all : Bool) → k ≡ None → (is_some k || all) ≡ true → all ≡ true
+unknown_all None all e h = h
+unknown_all (Some class) all e h = absurd (cc)
+
+module _ (x : Connect) (s : State) (apart : AreApart s.connections) (n : Narrow s) (unknown : s.course.class_seen ≡ None)
+    (all : list_all (is_over Left) s.connections ≡ true) where
+  -- class 0 is not selected yet
+  not_opened : {A : Type 0} → s.course.class ≡ Some Zero → A
+  not_opened class =
+      let o = n.opened class in
+      absurd (opened_live s.connections o.place o.connection apart o.there (n.asked o.place o.connection o.there) o.live
+      (all_so (is_over Left) s.connections o.place o.connection all o.there))
+
+  kept_narrow : (p : Option ℕ) → Narrow (asks_kept x s p).state
+  kept_narrow (Some p) = record {
+    known = n.known;
+    asked = each_set (λ (c : Connection). is_open c.left.phase ≡ true) s.connections p (asked_by x) n.asked refl;
+    answered = each_set (λ (c : Connection). IsAnswer c.right.phase) s.connections p (asked_by x) n.answered
+        (record { closing = refl; closed = refl });
+    one = one_put (is_live Left) s.connections p (asked_by x) n.one (λ i e at j f k h. none_waits s.connections i e all at f);
+    none = λ h. each_set (λ (c : Connection). is_open c.right.phase ≡ false) s.connections p (asked_by x) (n.none h) refl;
+    opened = λ h. not_opened h;
+  }
+  kept_narrow None = record {
+    known = n.known;
+    asked = each_add (λ (c : Connection). is_open c.left.phase ≡ true) s.connections (asked_by x) n.asked refl;
+    answered = each_add (λ (c : Connection). IsAnswer c.right.phase) s.connections (asked_by x) n.answered
+        (record { closing = refl; closed = refl });
+    one = one_added (is_live Left) s.connections (asked_by x) n.one (λ i e at j f k h. none_waits s.connections i e all at f);
+    none = λ h. each_add (λ (c : Connection). is_open c.right.phase ≡ false) s.connections (asked_by x) (n.none h) refl;
+    opened = λ h. not_opened h;
+  }
+
+asks_narrow : (f : Finding) (x : Connect) (s : State) → first_failed (request_tests s x) ≡ f → AreApart s.connections → Narrow s →
+    s.course.class_seen ≡ None → Narrow (asks_by Left f x s).state
+asks_narrow Kept x s e apart n unknown =
+    let t = passes_each (request_tests s x) refl e in
+    kept_narrow x s apart n unknown (unknown_all s.course.class_seen (list_all (is_over Left) s.connections) unknown t.0)
+    (position is_free s.connections)
+asks_narrow (Broke rule) x s e apart n unknown = none_narrow Left (Broke rule) s n
+asks_narrow Outside x s e apart n unknown = none_narrow Left Outside s n
+asks_narrow TooMany x s e apart n unknown = none_narrow Left TooMany s n
+asks_narrow NotJudged x s e apart n unknown = none_narrow Left NotJudged s n
+
+-- ---- a unit passes
+
+module _ (s : State) (apart : AreApart s.connections) (n : Narrow s) where
+  left_routed : (k : Option Class) (b : Bool) (v : Value) → s.course.class_seen ≡ k → Narrow (routed Left v s (route_in k Left b v)).state
+  left_routed (Some Two) b v e = absurd (n.known e)
+  left_routed None b (request x) e = asks_narrow (first_failed (request_tests s x)) x s refl apart n e
+  left_routed None b (disconnected destination source) e = named_narrow Left (disconnected destination source) s apart n tt destination
+  left_routed None b (confirm destination x) e = none_narrow Left (Broke rule.UnexpectedUnit) s n
+  left_routed None b (disconnect destination source reason user) e = none_narrow Left (Broke rule.UnexpectedUnit) s n
+  left_routed None b (data0 end user) e = none_narrow Left (Broke rule.UnexpectedUnit) s n
+  left_routed None b (data2 destination number end user) e = none_narrow Left (Broke rule.UnexpectedUnit) s n
+  left_routed None b (acknowledge credit destination number) e = none_narrow Left (Broke rule.UnexpectedUnit) s n
+  left_routed None b (error destination cause) e = none_narrow Left (Broke rule.UnexpectedUnit) s n
+  left_routed (Some Zero) b (request x) e = none_narrow Left (Broke rule.OneConnection) s n
+  left_routed (Some Zero) b (data0 end user) e = only_narrow Left (data0 end user) s apart n tt
+  left_routed (Some Zero) b (disconnected destination source) e =
+      named_narrow Left (disconnected destination source) s apart n tt destination
+  left_routed (Some Zero) true (error destination cause) e = none_narrow Left Kept s n
+  left_routed (Some Zero) false (error destination cause) e = none_narrow Left (Broke rule.WrongForm) s n
+  left_routed (Some Zero) b (confirm destination x) e = none_narrow Left (Broke rule.WrongForm) s n
+  left_routed (Some Zero) b (disconnect destination source reason user) e = none_narrow Left (Broke rule.WrongForm) s n
+  left_routed (Some Zero) b (data2 destination number end user) e = none_narrow Left (Broke rule.WrongForm) s n
+  left_routed (Some Zero) b (acknowledge credit destination number) e = none_narrow Left (Broke rule.WrongForm) s n
+
+  right_routed : (k : Option Class) (b : Bool) (v : Value) → s.course.class ≡ k → (k ≡ Some Two → ⊥) →
+      Narrow (routed Right v s (route_in k Right b v)).state
+  right_routed (Some Two) b v e not_two = absurd (not_two refl)
+  right_routed None b (request x) e not_two = none_narrow Right (Broke rule.UnexpectedUnit) s n
+  right_routed None b (confirm destination x) e not_two = named_narrow Right (confirm destination x) s apart n tt destination
+  right_routed None b (disconnect destination source reason user) e not_two =
+      named_narrow Right (disconnect destination source reason user) s apart n e destination
+  right_routed None b (disconnected destination source) e not_two =
+      named_narrow Right (disconnected destination source) s apart n tt destination
+  right_routed None b (data0 end user) e not_two = none_narrow Right (Broke rule.UnexpectedUnit) s n
+  right_routed None b (data2 destination number end user) e not_two = none_narrow Right (Broke rule.UnexpectedUnit) s n
+  right_routed None b (acknowledge credit destination number) e not_two = none_narrow Right (Broke rule.UnexpectedUnit) s n
+  right_routed None b (error destination cause) e not_two = named_narrow Right (error destination cause) s apart n tt destination
+  right_routed (Some Zero) b (request x) e not_two = none_narrow Right (Broke rule.UnexpectedUnit) s n
+  right_routed (Some Zero) b (data0 end user) e not_two = only_narrow Right (data0 end user) s apart n tt
+  right_routed (Some Zero) b (disconnected destination source) e not_two =
+      named_narrow Right (disconnected destination source) s apart n tt destination
+  right_routed (Some Zero) true (error destination cause) e not_two = none_narrow Right Kept s n
+  right_routed (Some Zero) false (error destination cause) e not_two = none_narrow Right (Broke rule.WrongForm) s n
+  right_routed (Some Zero) b (confirm destination x) e not_two = none_narrow Right (Broke rule.WrongForm) s n
+  right_routed (Some Zero) b (disconnect destination source reason user) e not_two = none_narrow Right (Broke rule.WrongForm) s n
+  right_routed (Some Zero) b (data2 destination number end user) e not_two = none_narrow Right (Broke rule.WrongForm) s n
+  right_routed (Some Zero) b (acknowledge credit destination number) e not_two = none_narrow Right (Broke rule.WrongForm) s n
+
+  goes_narrow : (b : Bool) (d : Direction) (v : Value) (r : Route) → Narrow (routed d v s r).state →
+      Narrow (if b then none_told d NotJudged s else routed d v s r).state
+  goes_narrow true d v r h = none_narrow d NotJudged s n
+  goes_narrow false d v r h = h
+
+  unit_narrow : (d : Direction) (v : Value) → (s.course.class ≡ Some Two → ⊥) → Narrow (takes d v s).state
+  unit_narrow Left v not_two =
+      goes_narrow (is_stopped Left s.course) Left v (route Left s.course v)
+      (left_routed s.course.class_seen (is_stopped Right s.course) v refl)
+  unit_narrow Right v not_two =
+      goes_narrow (is_stopped Right s.course) Right v (route Right s.course v)
+      (right_routed s.course.class (is_stopped Left s.course) v refl not_two)
+
+-- ---- a packet begins
+
+begun_left : (d : Direction) (c : Connection) → (begins d c).left ≡ c.left
+begun_left Left c = refl
+begun_left Right c = refl
+
+begun_right : (d : Direction) (c : Connection) → (begins d c).right ≡ c.right
+begun_right Left c = refl
+begun_right Right c = refl
+
+begun_judged : (d : Direction) (c : Connection) → (begins d c).is_judged ≡ true → c.is_judged ≡ true
+begun_judged Left c j = j
+begun_judged Right c j = j
+
+begun_class : (d : Direction) (c : Rules) → (course_begins d c).class ≡ c.class
+begun_class Left c = refl
+begun_class Right c = refl
+
+begun_seen : (d : Direction) (c : Rules) → (c.class ≡ Some Two → ⊥) → (c.class_seen ≡ Some Two → ⊥) →
+    (course_begins d c).class_seen ≡ Some Two → ⊥
+begun_seen Left c class seen h = class h
+begun_seen Right c class seen h = seen h
+
+begins_narrow : (d : Direction) (s : State) → AreApart s.connections → (s.course.class ≡ Some Two → ⊥) → Narrow s →
+    Narrow (passes (packet d) s)
+begins_narrow d s apart not_two n = record {
+  known = begun_seen d s.course not_two n.known;
+  asked = each_map (λ (c : Connection). is_open c.left.phase ≡ true) (begins d) s.connections n.asked
+      (λ c h. ap (λ (x : Half). is_open x.phase) (begun_left d c) ∙ h);
+  answered = each_map (λ (c : Connection). IsAnswer c.right.phase) (begins d) s.connections n.answered
+      (λ c h. subst (λ (x : Half). IsAnswer x.phase) (sym (begun_right d c)) h);
+  one = one_mapped (is_live Left) (is_live Left) (begins d) s.connections n.one
+      (λ i c at j k. begun_live d c (apart.sound i c at (begun_judged d c j)).left_knows j k);
+  none = λ h. each_map (λ (c : Connection). is_open c.right.phase ≡ false) (begins d) s.connections
+      (n.none (sym (begun_class d s.course) ∙ h))
+      (λ c k. ap (λ (x : Half). is_open x.phase) (begun_right d c) ∙ k);
+  opened = λ h. let o = n.opened (sym (begun_class d s.course) ∙ h) in record {
+    place = o.place;
+    connection = begins d o.connection;
+    there = slice_get-map (begins d) s.connections o.place ∙ ap (λ (x : Option Connection). option_map (begins d) x) o.there;
+    live = ap (λ (x : Half). is_open x.phase) (begun_right d o.connection) ∙ o.live;
+  };
+}
+
+-- ---- whatever passes
+
+passing_narrow : (p : Passing) (s : State) → AreApart s.connections → (s.course.class ≡ Some Two → ⊥) → Narrow s → Narrow (passes p s)
+passing_narrow (packet d) s apart not_two n = begins_narrow d s apart not_two n
+passing_narrow (unit d v) s apart not_two n = unit_narrow s apart n d v not_two
+passing_narrow (rubbish d) s apart not_two n =
+    let r = refused_reach d s in with_course s (reached d r s.course) (reached_class d r s.course) (reached_seen d r s.course) n
+
+pub still_narrow : (p : Passing) (s : State) → AreApart s.connections → NarrowIf s → NarrowIf (passes p s)
+still_narrow p s apart n not_two =
+    let before : s.course.class ≡ Some Two → ⊥ = λ h. not_two ((lasts_passing p s).two h) in
+    passing_narrow p s apart before (n before)
+
+pub fresh_narrow : NarrowIf fresh
+fresh_narrow not_two = record {
+  known = λ h. absurd (cc h);
+  asked = λ i c at. no_item i c at;
+  answered = λ i c at. no_item i c at;
+  one = λ i j c e at there jc je fc fe. no_item i c at;
+  none = λ h i c at. no_item i c at;
+  opened = λ h. absurd (cc h);
+}

@@ -1,0 +1,326 @@
+-- At a tap each CR of a calling end that passes gives a new reference; and this stays so with each step.
+-- For all connections of an end and a tap.
+use Rattle.std.proofs.Common.{◌≡◌, ◌∙◌, ◌⊎◌, inl, inr, refl, sym, ap, subst, ℕ, ◌<◌, ◌≤◌, Bool, true, false, List, [], ◌∷◌, ◌++◌, length}
+use Rattle.std.proofs.Common.{Some, arith}
+use Rattle.std.specs.Prelude.{slice_get}
+use Rattle.std.specs.List.{AllByRecursion}
+use Rattle.osi_tpdu.specs.Value.{Connect, Value, acknowledge, confirm, data0, data2, disconnect, disconnected, error, request}
+use Rattle.osi_judge.specs.declared.directions.Direction.{Direction}
+use Rattle.osi_judge.specs.declared.directions.Direction.TheVariants.{Left, Right}
+use Rattle.osi_rules.specs.Traffic.{State, meaning_if, meant, takes}
+use Rattle.osi_fair.specs.Wholes.{Whole}
+use Rattle.osi_fair.specs.Wholes as wholes
+use Rattle.osi_fair.proofs.what_holds_of_one_item.{after_add, after_set}
+use Rattle.osi_honest.specs.Turns.{Turn}
+use Rattle.osi_honest.proofs.class_0.what_a_packet_does_in_class_0.{AllProper}
+use Rattle.osi_tap.specs.declared.rooms.Room.{Room}
+use Rattle.osi_tap.specs.Connections.{Joined, Sessions, adds, adds_if, all_begin, asked, packet_begins, reference_of, taken, user_of}
+use Rattle.osi_tap.specs.Connections as joined
+use Rattle.osi_tap.specs.Courses.{Course, unit_passes, units_pass, way_of}
+use Rattle.osi_tap.specs.Rooms.{fits, spent}
+use Rattle.osi_watched.specs.Joint.{Joint, Step, Steps, TakesTurn, begins_other, begins_own, passes_other, passes_own, turns}
+use Rattle.osi_watched.specs.ShownPlaces.{HaveSamePlaces}
+use Rattle.osi_watched.proofs.a_carrier_does_events.{happen_join}
+use Rattle.osi_watched.proofs.steps_are_events.{IsFollowed, own_first, step_followed}
+use Rattle.osi_watched.proofs.sessions.all_connections_stand.{map_of}
+use Rattle.osi_watched.proofs.sessions.connections_have_the_same_places.{unit_agrees, unit_joins, unit_knows}
+use Rattle.osi_watched.proofs.sessions.crs_that_wait_are_above_those_that_passed.{AreAbove, above_along, passes_asked}
+use Rattle.osi_watched.proofs.sessions.references_of_an_end_are_distinct.{GivesNew}
+use Rattle.osi_watched.proofs.sessions.what_a_unit_does_at_its_place.{Does, asks_again, asks_more, nowhere, somewhere, unit_does}
+
+-- ---- references at a tap
+
+-- from 1 up to this one
+abbrev pub IsWithin : (b r : ℕ) → Type 0
+IsWithin b r = (0 < r) × (r ≤ b)
+
+-- this end gave such references to what is joined
+pub record AreUpTo (d : Direction) (b : ℕ) (t : Sessions) : Type 0 where
+  pub live : (i : ℕ) (j : Joined) (r : ℕ) → slice_get t.live i ≡ Some j → reference_of d j ≡ Some r → IsWithin b r
+  pub done : (i : ℕ) (j : Joined) (r : ℕ) → slice_get t.done i ≡ Some j → reference_of d j ≡ Some r → IsWithin b r
+
+-- a CR of left and a CC of right give such a reference
+abbrev pub IsUpTo : Direction → ℕ → Value → Type 0
+IsUpTo Left b (request x) = IsWithin b x.source
+IsUpTo Right b (confirm n x) = IsWithin b x.source
+IsUpTo d b v = Unit {0}
+
+up_higher : (d : Direction) (b n : ℕ) (t : Sessions) → b ≤ n → AreUpTo d b t → AreUpTo d n t
+up_higher d b n t h u = record {
+  live = λ i j r here named. let (some, low) = u.live i j r here named in (some, omega (arith, low, h));
+  done = λ i j r here named. let (some, low) = u.done i j r here named in (some, omega (arith, low, h));
+}
+
+named_if : (x : Bool) (room : Room) (d e : Direction) (at : ℕ) (end : Bool) (octets : List ℕ) (j : Joined) →
+    reference_of d (adds_if x room e at end octets j) ≡ reference_of d j
+named_if true room Left Left at end octets j = refl
+named_if true room Left Right at end octets j = refl
+named_if true room Right Left at end octets j = refl
+named_if true room Right Right at end octets j = refl
+named_if false room Left e at end octets j = refl
+named_if false room Right e at end octets j = refl
+
+named_adds : (d e : Direction) (at : ℕ) (end : Bool) (octets : List ℕ) (j : Joined) →
+    reference_of d (adds e at end octets j) ≡ reference_of d j
+named_adds d e at end octets j = named_if (fits j.room (length octets)) (spent j.room (length octets)) d e at end octets j
+
+named_shut : (d : Direction) (j : Joined) → reference_of d (joined.shut j) ≡ reference_of d j
+named_shut Left j = refl
+named_shut Right j = refl
+
+named_begun : (d e : Direction) (j : Joined) → reference_of d (packet_begins e j) ≡ reference_of d j
+named_begun Left Left j = refl
+named_begun Left Right j = refl
+named_begun Right Left j = refl
+named_begun Right Right j = refl
+
+some_same : (m n : ℕ) → Some m ≡ Some n → m ≡ n
+some_same m n e = cc
+
+module _ (d : Direction) (b : ℕ) where
+  abbrev IsLow : Joined → Type 0
+  IsLow j = (r : ℕ) → reference_of d j ≡ Some r → IsWithin b r
+
+  low_same : (j k : Joined) → reference_of d k ≡ reference_of d j → IsLow j → IsLow k
+  low_same j k same low r is = low r (sym same ∙ is)
+
+asked_low : (d : Direction) (b : ℕ) (x : Connect) (number : ℕ) (room : Room) → IsUpTo d b (request x) →
+    IsLow d b (asked number x.source room)
+asked_low Left b x number room up r is = subst (IsWithin b) (some_same x.source r is) up
+asked_low Right b x number room up r is = absurd (cc)
+
+meant_low : (d : Direction) (b : ℕ) (e : Direction) (at : ℕ) (v : Value) (x : Bool) (j : Joined) → IsUpTo d b v → IsLow d b j →
+    IsLow d b (joined.meant e at v (meaning_if x (meant v)) j)
+meant_low d b e at v false j up low = low
+meant_low d b e at (request x) true j up low = low
+meant_low Left b e at (confirm n x) true j up low = low
+meant_low Right b e at (confirm n x) true j up low = λ r is. subst (IsWithin b) (some_same x.source r is) up
+meant_low d b e at (disconnect n source reason user) true j up low = low_same d b j (joined.shut j) (named_shut d j) low
+meant_low d b e at (disconnected n source) true j up low = low
+meant_low d b e at (data0 end user) true j up low = low_same d b j (adds e at end user j) (named_adds d e at end user j) low
+meant_low d b e at (data2 n number end user) true j up low = low_same d b j (adds e at end user j) (named_adds d e at end user j) low
+meant_low d b e at (acknowledge credit n number) true j up low = low
+meant_low d b e at (error n cause) true j up low = low_same d b j (joined.shut j) (named_shut d j) low
+
+module _ (d : Direction) (b : ℕ) (t : Sessions) (h : AreUpTo d b t) where
+  low_of : (p i : ℕ) (new j : Joined) → IsLow d b new → ((i ≡ p) × (j ≡ new)) ⊎ (slice_get t.live i ≡ Some j) → IsLow d b j
+  low_of p i new j low (inl (a, same)) = low_same d b new j (ap (reference_of d) same) low
+  low_of p i new j low (inr there) = λ r is. h.live i j r there is
+
+  low_done : (i : ℕ) (old j : Joined) → IsLow d b old → ((i ≡ length t.done) × (j ≡ old)) ⊎ (slice_get t.done i ≡ Some j) → IsLow d b j
+  low_done i old j low (inl (a, same)) = low_same d b old j (ap (reference_of d) same) low
+  low_done i old j low (inr there) = λ r is. h.done i j r there is
+
+  up_by : (e : Direction) (at : ℕ) (v : Value) (s : State) → IsUpTo d b v → Does e at v s t (takes (way_of e) v s) →
+      AreUpTo d b (taken e at v (takes (way_of e) v s).told.meaning (takes (way_of e) v s).told.place t)
+  up_by e at v s up (nowhere place cs ts) = subst (AreUpTo d b) (sym ts) h
+  up_by e at v s up (somewhere p c k x r place there here one finding is cs ts) =
+      let new : Joined = joined.meant e at v (meaning_if x (meant v)) k in
+      let low : IsLow d b new = meant_low d b e at v x k up (λ q named. h.live p k q here named) in
+      subst (AreUpTo d b) (sym ts) (record {
+        live = λ i j q at_i named. low_of p i new j low (after_set t.live p i new j at_i) q named;
+        done = h.done;
+      })
+  up_by e at v s up (asks_more x is number cs ts) =
+      let new : Joined = asked number x.source t.room in
+      let low : IsLow d b new = asked_low d b x number t.room (subst (IsUpTo d b) is up) in
+      subst (AreUpTo d b) (sym ts) (record {
+        live = λ i j q at_i named. low_of (length t.live) i new j low (after_add t.live i new j at_i) q named;
+        done = h.done;
+      })
+  up_by e at v s up (asks_again x is number p k here cs ts) =
+      let new : Joined = asked number x.source t.room in
+      let low : IsLow d b new = asked_low d b x number t.room (subst (IsUpTo d b) is up) in
+      subst (AreUpTo d b) (sym ts) (record {
+        live = λ i j q at_i named. low_of p i new j low (after_set t.live p i new j at_i) q named;
+        done = λ i j q at_i named. low_done i k j (λ m is_m. h.live p k m here is_m) (after_add t.done i k j at_i) q named;
+      })
+
+pub begins_up : (d e : Direction) (b : ℕ) (t : Sessions) → AreUpTo d b t → AreUpTo d b (all_begin e t)
+begins_up d e b t h = record {
+  live = λ i j r at_i named.
+      let (k, there, same) = map_of (packet_begins e) t.live i j at_i in
+      h.live i k r there (sym (named_begun d e k) ∙ ap (reference_of d) (sym same) ∙ named);
+  done = h.done;
+}
+
+pub unit_up : (d e : Direction) (b at : ℕ) (v : Value) (c : Course) → HaveSamePlaces c.traffic.connections c.sessions.live →
+    IsUpTo d b v → AreUpTo d b c.sessions → AreUpTo d b (unit_passes e at v c).sessions
+unit_up d e b at v c places up h =
+    subst (AreUpTo d b) (sym (unit_joins e at v c))
+    (up_by d b c.sessions h e at v c.traffic up (unit_does e at v c.traffic c.sessions places))
+
+pub units_up : (d e : Direction) (b at : ℕ) (vs : List Value) (c : Course) → HaveSamePlaces c.traffic.connections c.sessions.live →
+    AllByRecursion (IsUpTo d b) vs → AreUpTo d b c.sessions → AreUpTo d b (units_pass e at vs c).sessions
+units_up d e b at [] c places up h = h
+units_up d e b at (v ∷ vs) c places up h =
+    units_up d e b at vs (unit_passes e at v c) (unit_agrees e at v c places) up.1 (unit_up d e b at v c places up.0 h)
+
+-- ---- a calling end and a tap
+
+-- All references at the tap are up to this one, and those of the CRs that have not passed are above it.
+pub record AreAhead (first : Whole) (j : Joint) : Type 0 where
+  pub followed : IsFollowed Left first j
+  pub bound : ℕ
+  pub above : AreAbove bound followed.whole
+  pub below : AreUpTo Left bound j.course.sessions
+
+-- so after a step, with a reference that is as high
+pub record GoesOn (first : Whole) (b : ℕ) (j : Joint) : Type 0 where
+  pub ahead : AreAhead first j
+  pub rises : b ≤ ahead.bound
+
+pub begins_ahead : (first : Whole) (j : Joint) (f : IsFollowed Left first j) → AreAbove 0 f.whole → j.course.sessions.live ≡ [] →
+    j.course.sessions.done ≡ [] → AreAhead first j
+begins_ahead first j f above none none_done = record {
+  followed = f;
+  bound = 0;
+  above = above;
+  below = record {
+    live = λ i k r here named. nowhere_in j.course.sessions.live i k none here;
+    done = λ i k r here named. nowhere_in j.course.sessions.done i k none_done here;
+  };
+}
+  where
+    nowhere_in : {A : Type 0} (js : List Joined) (i : ℕ) (k : Joined) → js ≡ [] → slice_get js i ≡ Some k → A
+    nowhere_in [] i k e h = absurd (cc)
+    nowhere_in (x ∷ js) i k e h = absurd (cc e)
+
+module _ (first : Whole) where
+  -- a CR that passes gives a new reference
+  pub gives_new : (at : ℕ) (unit : Value) (old new : Joint) → Steps Left (passes_own at unit) old new → AreAhead first old →
+      GivesNew Left unit old.course.sessions
+  gives_new at (request x) old new (read, octets, put, begun, is) h =
+      let f = h.followed in
+      let s = own_first Left first old new (request x) (read, octets, put) f in
+      let k = passes_asked h.bound x s.rest f.whole (record f.whole { put = s.rest }) s.is refl refl h.above in
+      let less : h.bound < x.source = k.new_is in
+      record {
+        live = λ i j here named. (let (some, low) = h.below.live i j x.source here named in absurd (omega (arith, low, less)));
+        done = λ i j here named. (let (some, low) = h.below.done i j x.source here named in absurd (omega (arith, low, less)));
+      }
+  gives_new at (confirm n x) old new step h = tt
+  gives_new at (disconnect n source reason user) old new step h = tt
+  gives_new at (disconnected n source) old new step h = tt
+  gives_new at (data0 end user) old new step h = tt
+  gives_new at (data2 n number end user) old new step h = tt
+  gives_new at (acknowledge credit n number) old new step h = tt
+  gives_new at (error n cause) old new step h = tt
+
+  -- a whole end from here on
+  from_here : (j : Joint) (f : IsFollowed Left first j) → IsFollowed Left f.whole j
+  from_here j f = record {
+    whole = f.whole;
+    events = [];
+    along = refl;
+    put = f.put;
+    begun = f.begun;
+    tap = f.tap;
+    coming = f.coming;
+    like = f.like;
+    can = f.can;
+    links = f.links;
+  }
+
+  goes_on : AllProper → (step : Step) (old new : Joint) → Steps Left step old new → (h : AreAhead first old) →
+      AreUpTo Left h.bound new.course.sessions → GoesOn first h.bound new
+  goes_on proper step old new does h up =
+      let f = h.followed in
+      let g : IsFollowed Left f.whole new = step_followed Left f.whole proper step old new does (from_here old f) in
+      let ahead : AreAhead first new = record {
+        followed = record {
+          whole = g.whole;
+          events = f.events ++ g.events;
+          along = happen_join (way_of Left) f.events g.events first f.whole g.whole f.along g.along;
+          put = g.put;
+          begun = g.begun;
+          tap = g.tap;
+          coming = g.coming;
+          like = g.like;
+          can = g.can;
+          links = g.links;
+        };
+        bound = h.bound;
+        above = above_along h.bound g.events f.whole g.whole g.along h.above;
+        below = up;
+      } in
+      record { ahead = ahead; rises = omega arith }
+
+  pub turns_ahead : AllProper → (turn : Turn) (old new : Joint) → (t : TakesTurn turn old new) → (h : AreAhead first old) →
+      GoesOn first h.bound new
+  turns_ahead proper turn old new t h =
+      goes_on proper (turns turn) old new t h (subst (λ (c : Course). AreUpTo Left h.bound c.sessions) (sym t.course) h.below)
+
+  pub begins_own_ahead : AllProper → (old new : Joint) → Steps Left begins_own old new → (h : AreAhead first old) →
+      GoesOn first h.bound new
+  begins_own_ahead proper old new step h =
+      goes_on proper begins_own old new step h
+      (subst (λ (j : Joint). AreUpTo Left h.bound j.course.sessions) (sym step.2) (begins_up Left Left h.bound old.course.sessions h.below))
+
+  pub begins_other_ahead : AllProper → (old new : Joint) → Steps Left begins_other old new → (h : AreAhead first old) →
+      GoesOn first h.bound new
+  begins_other_ahead proper old new step h =
+      goes_on proper begins_other old new step h
+      (subst (λ (j : Joint). AreUpTo Left h.bound j.course.sessions) (sym step) (begins_up Left Right h.bound old.course.sessions h.below))
+
+  -- no CR is among the units of the other side
+  pub passes_other_ahead : AllProper → (at : ℕ) (packet : List ℕ) (units : List Value) (old new : Joint) →
+      Steps Left (passes_other at packet units) old new → HaveSamePlaces old.course.traffic.connections old.course.sessions.live →
+      (h : AreAhead first old) → AllByRecursion (IsUpTo Left h.bound) units → GoesOn first h.bound new
+  passes_other_ahead proper at packet units old new step places h none =
+      goes_on proper (passes_other at packet units) old new step h
+      (subst (λ (j : Joint). AreUpTo Left h.bound j.course.sessions) (sym step.2)
+      (units_up Left Right h.bound at units old.course places none h.below))
+
+  passes_another : AllProper → (at : ℕ) (unit : Value) (old new : Joint) → Steps Left (passes_own at unit) old new →
+      HaveSamePlaces old.course.traffic.connections old.course.sessions.live → (h : AreAhead first old) → IsUpTo Left h.bound unit →
+      GoesOn first h.bound new
+  passes_another proper at unit old new step places h none =
+      goes_on proper (passes_own at unit) old new step h
+      (subst (λ (j : Joint). AreUpTo Left h.bound j.course.sessions) (sym step.4)
+      (unit_up Left Left h.bound at unit old.course places none h.below))
+
+  passes_cr : (at : ℕ) (x : Connect) (old new : Joint) → Steps Left (passes_own at (request x)) old new →
+      HaveSamePlaces old.course.traffic.connections old.course.sessions.live → (h : AreAhead first old) → GoesOn first h.bound new
+  passes_cr at x old new (read, octets, put, begun, is) places h =
+      let f = h.followed in
+      let s = own_first Left first old new (request x) (read, octets, put) f in
+      let next : Whole = record f.whole { put = s.rest; begun = false; tap = (takes (way_of Left) (request x) f.whole.tap).state } in
+      let k = passes_asked h.bound x s.rest f.whole next s.is refl refl h.above in
+      let mid : Joint = record old { put = new.put; begun = false; course = units_pass Left at (request x ∷ []) old.course } in
+      let ahead : AreAhead first mid = record {
+        followed = record {
+          whole = next;
+          events = f.events ++ wholes.passes_own ∷ [];
+          along = happen_join (way_of Left) f.events (wholes.passes_own ∷ []) first f.whole next f.along
+              (next, (request x, s.is, f.begun ∙ begun, refl), refl);
+          put = s.same;
+          begun = refl;
+          tap = ap (λ (t : State). (takes (way_of Left) (request x) t).state) f.tap ∙ sym (unit_knows Left at (request x) old.course);
+          coming = f.coming;
+          like = f.like;
+          can = s.can;
+          links = f.links;
+        };
+        bound = x.source;
+        above = k.above;
+        below = unit_up Left Left x.source at (request x) old.course places
+            ((let less = k.new_is in omega (arith, less)), omega arith)
+            (up_higher Left h.bound x.source old.course.sessions (let less = k.new_is in omega (arith, less)) h.below);
+      } in
+      subst (GoesOn first h.bound) (sym is) (record { ahead = ahead; rises = (let less = k.new_is in omega (arith, less)) })
+
+  pub passes_own_ahead : AllProper → (at : ℕ) (unit : Value) (old new : Joint) → Steps Left (passes_own at unit) old new →
+      HaveSamePlaces old.course.traffic.connections old.course.sessions.live → (h : AreAhead first old) → GoesOn first h.bound new
+  passes_own_ahead proper at (request x) old new step places h = passes_cr at x old new step places h
+  passes_own_ahead proper at (confirm n x) old new step places h = passes_another proper at (confirm n x) old new step places h tt
+  passes_own_ahead proper at (disconnect n source reason user) old new step places h =
+      passes_another proper at (disconnect n source reason user) old new step places h tt
+  passes_own_ahead proper at (disconnected n source) old new step places h =
+      passes_another proper at (disconnected n source) old new step places h tt
+  passes_own_ahead proper at (data0 end user) old new step places h = passes_another proper at (data0 end user) old new step places h tt
+  passes_own_ahead proper at (data2 n number end user) old new step places h =
+      passes_another proper at (data2 n number end user) old new step places h tt
+  passes_own_ahead proper at (acknowledge credit n number) old new step places h =
+      passes_another proper at (acknowledge credit n number) old new step places h tt
+  passes_own_ahead proper at (error n cause) old new step places h = passes_another proper at (error n cause) old new step places h tt

@@ -1,0 +1,342 @@
+-- Each DT and each AK that a called end of class 2 puts in a turn is for a connection that the tap knows by its references and that this
+-- end has not closed there, or for one whose CC has not passed; each other unit is for none.
+-- For all connections of an end and a tap.
+use Rattle.std.proofs.Common.{◌≡◌, ◌∙◌, refl, sym, ap, subst, ℕ, Bool, true, false, List, [], ◌∷◌, ◌++◌}
+use Rattle.std.proofs.Common.{Option, Some, None, is_some, inl, inr, append_assoc}
+use Rattle.std.specs.Prelude.{◌&&◌, ◌==◌, not, slice_get}
+use Rattle.std.specs.List.{AllByRecursion}
+use Rattle.std.proofs.lemmas.Bool.{eq-eqb}
+use Rattle.osi_tpdu.specs.Value.{Connect, Value, acknowledge, confirm, data0, data2, disconnect, disconnected, error, request}
+use Rattle.osi_class.specs.Link.{Standing}
+use Rattle.osi_class.specs.declared.terms.Class.TheVariants.{Zero}
+use Rattle.osi_class.specs.declared.terms.Local.{Local}
+use Rattle.osi_carrier.specs.Rows.{value_at}
+use Rattle.osi_carrier.specs.State.{State as Carrier, linked}
+use Rattle.osi_carrier.specs.declared.ends.EndReason.{EndReason}
+use Rattle.osi_judge.specs.declared.directions.Direction.TheVariants.{Left, Right}
+use Rattle.osi_rules.specs.declared.connections.Connection.{Connection}
+use Rattle.osi_rules.specs.declared.directions.Direction.TheVariants as way
+use Rattle.osi_rules.specs.declared.halves.Half.{Half}
+use Rattle.osi_rules.specs.declared.halves.Phase.{Phase}
+use Rattle.osi_rules.specs.declared.halves.Phase.TheVariants.{Silent, Open, Refused, Closing, Closed}
+use Rattle.osi_rules.specs.Sides.{is_open, is_over_by, is_refused, is_silent, uses}
+use Rattle.osi_rules.specs.Traffic.{State, silent_half}
+use Rattle.osi_fair.specs.Lines.{opened_half}
+use Rattle.osi_fair.specs.Wholes.{Whole, begin}
+use Rattle.osi_fair.proofs.each_connection_has_its_line.{IsNoCc}
+use Rattle.osi_fair.proofs.each_connection_of_a_called_end.{Asked, Called, Row, Stand, Untagged, answers, closes, comes}
+use Rattle.osi_fair.proofs.each_connection_of_a_called_end.{over, past, refuses, runs, talks}
+use Rattle.osi_fair.proofs.units_by_their_place.{Placed, at_first, at_join, first_at, units_at, values}
+use Rattle.osi_fair.proofs.what_keeps_names_apart.{AreApart as NamesApart}
+use Rattle.osi_fair.proofs.which_unit_comes_to_a_called_end.{IsCalm}
+use Rattle.osi_honest.specs.Arriving.{Answers, AreApart, Begins, Opens, is_shut, opens}
+use Rattle.osi_honest.specs.Arriving.{is_open as opened}
+use Rattle.osi_honest.specs.Courses.{Continues, Deeds}
+use Rattle.osi_honest.specs.Marked.{Marked, all_units}
+use Rattle.osi_honest.specs.Turns.{Turn}
+use Rattle.osi_tap.specs.Connections.{Joined, Sessions, reference_of}
+use Rattle.osi_watched.specs.Joint.{Joint, TakesTurn}
+use Rattle.osi_watched.specs.ShownPlaces.{HaveSamePlaces, named_by}
+use Rattle.osi_watched.proofs.steps_are_events.{IsFollowed}
+use Rattle.osi_watched.proofs.sessions.a_called_end_has_its_lines.{called_joined, called_lines, called_no_cc}
+use Rattle.osi_watched.proofs.sessions.a_right_dt_has_one_place.{still_used}
+use Rattle.osi_watched.proofs.sessions.all_connections_stand.{one_at, there_too}
+use Rattle.osi_watched.proofs.sessions.connections_have_the_same_places.{at_same}
+use Rattle.osi_watched.proofs.sessions.each_unit_of_a_turn_has_one_connection.{IsHomed, IsMarked, known, unknown}
+use Rattle.osi_watched.proofs.sessions.references_of_an_end_are_distinct.{GivesNew, IsUnused}
+use Rattle.osi_watched.proofs.sessions.what_a_turn_puts_goes_to_its_peer.{IsNotZero, IsThere, Lived, all_front, by_units, came}
+use Rattle.osi_watched.proofs.sessions.what_a_turn_puts_goes_to_its_peer.{differ, linked_so}
+use Rattle.osi_watched.proofs.sessions.what_a_turn_puts_goes_to_its_peer.{none_shut, one_of, turn_marked, whole_lasts}
+
+-- ---- small facts
+
+not_none : {A : Type 0} (o : Option ℕ) (n : ℕ) → o ≡ Some n → o ≡ None → A
+not_none o n h k = let no : Some n ≡ None = sym h ∙ k in absurd (cc)
+
+same_number : (o : Option ℕ) (m n : ℕ) → o ≡ Some m → o ≡ Some n → m ≡ n
+same_number o m n h k = let both : Some m ≡ Some n = sym h ∙ k in cc
+
+over_not : {A : Type 0} (o : Option EndReason) → is_some o ≡ true → o ≡ None → A
+over_not None h e = absurd (cc)
+over_not (Some x) h e = absurd (cc)
+
+same_peer : (m n : ℕ) (a b : Standing) → Some (linked m a) ≡ Some (linked n b) → m ≡ n
+same_peer m n a b e = cc
+
+-- ---- the reference of right
+
+named_is : (p : Phase) (n q : ℕ) → named_by p n ≡ Some q → n ≡ q
+named_is Silent n q h = absurd (cc)
+named_is Open n q h = cc
+named_is Refused n q h = absurd (cc)
+named_is Closing n q h = cc
+named_is Closed n q h = cc
+
+named_open : (p : Phase) (n : ℕ) → is_open p ≡ true → named_by p n ≡ Some n
+named_open Silent n h = absurd (cc)
+named_open Open n h = refl
+named_open Refused n h = absurd (cc)
+named_open Closing n h = absurd (cc)
+named_open Closed n h = absurd (cc)
+
+silent_none : (c : Connection) (q : ℕ) → c.right ≡ silent_half → named_by c.right.phase c.right.reference ≡ Some q → ⊥
+silent_none c q silent h =
+    let no : None ≡ Some q = sym (ap (λ (x : Half). named_by x.phase x.reference) silent) ∙ h in cc
+
+refused_none : (p : Phase) (n q : ℕ) → is_refused p ≡ true → named_by p n ≡ Some q → ⊥
+refused_none Silent n q r h = cc
+refused_none Open n q r h = cc
+refused_none Refused n q r h = cc
+refused_none Closing n q r h = cc
+refused_none Closed n q r h = cc
+
+-- ---- a connection that is asked for
+
+used_now : (b : Bool) (n credit : ℕ) → (not (b && is_over_by (opened_half n credit) silent_half)
+    && (not (is_silent (opened_half n credit).phase) && ((opened_half n credit).reference == n))) ≡ true
+used_now true n credit = eq-eqb n n refl
+used_now false n credit = eq-eqb n n refl
+
+used_asked : (x : Connect) (c : Connection) → Asked x c → uses way.Left x.source c ≡ true
+used_asked x c a =
+    ap (λ (l : Half). not (c.is_judged && is_over_by l c.seen_by_left) && (not (is_silent l.phase) && (l.reference == x.source))) a.left
+    ∙ ap (λ (k : Half). not (c.is_judged && is_over_by (opened_half x.source x.credit) k)
+    && (not (is_silent (opened_half x.source x.credit).phase) && ((opened_half x.source x.credit).reference == x.source))) a.known
+    ∙ used_now c.is_judged x.source x.credit
+
+-- ---- what came
+
+only_one : (xs ys : List Value) (u v : Value) → xs ++ v ∷ ys ≡ u ∷ [] → v ≡ u
+only_one [] ys u v e = cc
+only_one (x ∷ []) ys u v e = absurd (cc)
+only_one (x ∷ (y ∷ xs)) ys u v e = absurd (cc)
+
+not_empty : {A : Type 0} (xs ys : List Value) (v : Value) → xs ++ v ∷ ys ≡ [] → A
+not_empty [] ys v e = absurd (cc)
+not_empty (x ∷ xs) ys v e = absurd (cc)
+
+module _ (local : Local) (w : Whole) (t : Sessions) (f : Called local w) (apart : NamesApart w.tap.connections)
+    (judged : (i : ℕ) (c : Connection) → slice_get w.tap.connections i ≡ Some c → c.is_judged ≡ true)
+    (places : HaveSamePlaces w.tap.connections t.live) (lasts : w.end.ended ≡ None) where
+  abbrev StandsAt : ℕ → Connection → Type 0
+  StandsAt p c = Stand local f.shut w.end w.coming (units_at p f.tagged) (units_at p f.came) (w.begun && first_at p f.tagged) (f.refs p) c
+
+  -- no other connection that right has open has this reference of left
+  none_open : (x : Connect) (p : ℕ) (c : Connection) → slice_get w.tap.connections p ≡ Some c → Asked x c →
+      (i : ℕ) (e : Connection) (j : Joined) → slice_get w.tap.connections i ≡ Some e → slice_get t.live i ≡ Some j →
+      is_open e.right.phase ≡ true → reference_of Left j ≡ Some x.source → ⊥
+  none_open x p c at a i e j there here lives is =
+      let used = still_used Right x.source e j (one_at w.tap.connections t.live i e j places there here)
+      (apart.sound i e there (judged i e there)) lives is in
+      let same : p ≡ i =
+      apart.used_left x.source p i c e at there (judged p c at) (judged i e there) (used_asked x c a) used in
+      let one : c ≡ e = item (sym at ∙ ap (λ (n : ℕ). slice_get w.tap.connections n) same ∙ there) in
+      differ (is_open e.right.phase) lives
+      (ap (λ (k : Connection). is_open k.right.phase) (sym one) ∙ ap (λ (h : Half). is_open h.phase) a.right)
+    where
+      item : {c e : Connection} → Some c ≡ Some e → c ≡ e
+      item h = cc
+
+  -- a connection that right has answered has the reference that the end gave it
+  given_by : (q i : ℕ) (c : Connection) → named_by c.right.phase c.right.reference ≡ Some q → StandsAt i c → f.refs i ≡ Some q
+  given_by q i c is (comes x a none ask index) = absurd (silent_none c q a.right is)
+  given_by q i c is (refuses x a reason put none index seen) = absurd (silent_none c q a.right is)
+  given_by q i c is (answers h none) = absurd (silent_none c q h.asked.right is)
+  given_by q i c is (runs h none) =
+      h.index ∙ ap (λ (n : ℕ). Some n) (sym h.right ∙ named_is c.right.phase c.right.reference q is)
+  given_by q i c is (past silent up none asks un (inl (index, refused))) =
+      index ∙ ap (λ (n : ℕ). Some n) (named_is c.right.phase c.right.reference q is)
+  given_by q i c is (past silent up none asks un (inr (refused, seen))) =
+      absurd (refused_none c.right.phase c.right.reference q refused is)
+
+  -- the CC with its reference has not passed
+  none_named : (q p : ℕ) (c : Connection) → slice_get w.tap.connections p ≡ Some c → c.right ≡ silent_half → f.refs p ≡ Some q →
+      (i : ℕ) (j : Joined) → slice_get t.live i ≡ Some j → reference_of Right j ≡ Some q → ⊥
+  none_named q p c at silent index i j here is =
+      let (e, there) = there_too w.tap.connections t.live i j places here in
+      let one = one_at w.tap.connections t.live i e j places there here in
+      let named = sym one.called ∙ is in
+      let same : i ≡ p = sym (f.homes i q (given_by q i e named (f.stands i e there))).0 ∙ (f.homes p q index).0 in
+      let both : c ≡ e = item (sym at ∙ ap (λ (n : ℕ). slice_get w.tap.connections n) (sym same) ∙ there) in
+      silent_none e q (ap (λ (k : Connection). k.right) (sym both) ∙ silent) named
+    where
+      item : {c e : Connection} → Some c ≡ Some e → c ≡ e
+      item h = cc
+
+  -- ---- the end has the connection open
+
+  row_peer : (r peer : ℕ) (link : Option Standing) (come : List Value) (m : ℕ) (l : Standing) → Row w.end w.coming r peer link come →
+      value_at r w.end.live ≡ Some (linked m l) → m ≡ peer
+  row_peer r peer link come m l (talks k there is among) e = same_peer m peer l k (sym e ∙ there)
+  row_peer r peer link come m l (closes gone is among) e = absurd (gone lasts m l e)
+  row_peer r peer link come m l (over h) e = over_not w.end.ended h lasts
+
+  at_home : (q peer : ℕ) (link : Standing) → value_at q w.end.live ≡ Some (linked peer link) → (p : ℕ) (c : Connection) →
+      slice_get w.tap.connections p ≡ Some c → f.refs p ≡ Some q → StandsAt p c → IsHomed Right q peer w.tap t
+  at_home q peer link is p c at index (comes x a none ask none_given) = not_none (f.refs p) q index none_given
+  at_home q peer link is p c at index (refuses x a reason put none none_given seen) = not_none (f.refs p) q index none_given
+  at_home q peer link is p c at index (answers h none) =
+      let name : h.r ≡ q = same_number (f.refs p) h.r q h.index index in
+      let same : peer ≡ h.x.source =
+      row_peer h.r h.x.source h.link h.come peer link h.row (ap (λ (n : ℕ). value_at n w.end.live) name ∙ is) in
+      unknown
+      (λ i e j there here lives mine.
+      none_open h.x p c at h.asked i e j there here lives (mine ∙ ap (λ (n : ℕ). Some n) same))
+      (none_named q p c at h.asked.right index)
+  at_home q peer link is p c at index (runs h none) =
+      let name : h.r ≡ q = same_number (f.refs p) h.r q h.index index in
+      let same : peer ≡ h.peer =
+      row_peer h.r h.peer h.line.link h.line.coming peer link h.row (ap (λ (n : ℕ). value_at n w.end.live) name ∙ is) in
+      let (j, here, one) = at_same w.tap.connections t.live p c places at in
+      known (record {
+        place = p;
+        connection = c;
+        joined = j;
+        there = at;
+        here = here;
+        lives = h.there;
+        mine = one.called ∙ named_open c.right.phase c.right.reference h.there ∙ ap (λ (n : ℕ). Some n) (h.right ∙ name);
+        theirs = ap (λ (n : ℕ). Some n) (one.calling ∙ h.left ∙ sym same);
+      })
+  at_home q peer link is p c at index (past silent up none asks un off) = absurd (un q index lasts peer link is)
+
+  linked_homed : (q peer : ℕ) (link : Standing) → value_at q w.end.live ≡ Some (linked peer link) → IsHomed Right q peer w.tap t
+  linked_homed q peer link is = by (slice_get w.tap.connections (f.home q)) refl
+    where
+      index : f.refs (f.home q) ≡ Some q
+      index = f.linked_at lasts q peer link is
+
+      by : (o : Option Connection) → slice_get w.tap.connections (f.home q) ≡ o → IsHomed Right q peer w.tap t
+      by None e = absurd ((f.beyond (f.home q) e).2 q index lasts peer link is)
+      by (Some c) e = at_home q peer link is (f.home q) c e index (f.stands (f.home q) c e)
+
+  -- ---- its CR has come
+
+  record AskedAt (x : Connect) : Type 0 where
+    place : ℕ
+    connection : Connection
+    there : slice_get w.tap.connections place ≡ Some connection
+    asked : Asked x connection
+
+  abbrev IsAskedFor : Value → Type 0
+  IsAskedFor v = (x : Connect) → v ≡ request x → AskedAt x
+
+  asked_as : (x y : Connect) (p : ℕ) (c : Connection) → slice_get w.tap.connections p ≡ Some c → Asked y c → request x ≡ request y →
+      AskedAt x
+  asked_as x y p c at a e =
+      let same : x ≡ y = cc in
+      record { place = p; connection = c; there = at; asked = subst (λ (z : Connect). Asked z c) (sym same) a }
+
+  asked_by : (v : Value) (p : ℕ) (c : Connection) (xs ys : List Value) → slice_get w.tap.connections p ≡ Some c →
+      units_at p f.came ≡ xs ++ v ∷ ys → StandsAt p c → IsAskedFor v
+  asked_by v p c xs ys at e (comes y a none ask index) x is =
+      asked_as x y p c at a (sym is ∙ only_one xs ys (request y) v (sym e ∙ ask lasts))
+  asked_by v p c xs ys at e (refuses y a reason put none index seen) x is = not_empty xs ys v (sym e ∙ none)
+  asked_by v p c xs ys at e (answers h none) x is = not_empty xs ys v (sym e ∙ none)
+  asked_by v p c xs ys at e (runs h none) x is = not_empty xs ys v (sym e ∙ none)
+  asked_by v p c xs ys at e (past silent up none asks un off) x is = not_empty xs ys v (sym e ∙ asks)
+
+  one_asked : (front rest : List Placed) (o : Option ℕ) (v : Value) → f.came ≡ front ++ (o, v) ∷ rest → IsAskedFor v
+  one_asked front rest None v is =
+      λ x e. absurd (one_of Untagged front rest (None, v) (subst (AllByRecursion Untagged) is f.untagged) refl x e)
+  one_asked front rest (Some p) v is = by (slice_get w.tap.connections p) refl
+    where
+      here : units_at p f.came ≡ units_at p front ++ v ∷ units_at p rest
+      here =
+          ap (units_at p) is ∙ at_join p front ((Some p, v) ∷ rest)
+          ∙ ap (λ (l : List Value). units_at p front ++ l) (at_first p v rest)
+
+      by : (o : Option Connection) → slice_get w.tap.connections p ≡ o → IsAskedFor v
+      by None e = λ x same. not_empty (units_at p front) (units_at p rest) v (sym here ∙ (f.beyond p e).1)
+      by (Some c) e = asked_by v p c (units_at p front) (units_at p rest) e here (f.stands p c e)
+
+  all_asked : (front rest : List Placed) → f.came ≡ front ++ rest → AllByRecursion IsAskedFor (values rest)
+  all_asked front [] is = tt
+  all_asked front (m ∷ rest) is =
+      (one_asked front rest m.0 m.1 is, all_asked (front ++ m ∷ []) rest (is ∙ sym (append_assoc front (m ∷ []) rest)))
+
+  asked_homed : (q : ℕ) (x : Connect) → IsThere (request x) w.coming → IsUnused Right q t → IsHomed Right q x.source w.tap t
+  asked_homed q x come unused =
+      let a = come IsAskedFor (subst (AllByRecursion IsAskedFor) (sym f.come) (all_asked [] f.came refl)) x refl in
+      unknown (λ i e j there here lives mine. none_open x a.place a.connection a.there a.asked i e j there here lives mine)
+      (λ i j here is. unused.live i j here is)
+
+-- ---- a turn
+
+module _ (local : Local) (deeds : ℕ → Deeds) (turn : Turn) (old new : Joint) (step : TakesTurn turn old new)
+    (on : Continues false deeds old.holding turn new.holding) (f : IsFollowed Right (begin false local) old)
+    (calm : IsCalm old.course.traffic.course) (two : old.holding.end.carrier.class ≡ Some Zero → ⊥)
+    (places : HaveSamePlaces old.course.traffic.connections old.course.sessions.live)
+    (news : AllByRecursion (λ (v : Value). GivesNew Right v old.course.sessions) (all_units on.put))
+    (class_2 : AllByRecursion IsNotZero (all_units on.put)) where
+  abbrev s : State
+  s = old.course.traffic
+
+  abbrev t : Sessions
+  t = old.course.sessions
+
+  abbrev carrier : Carrier
+  carrier = old.holding.end.carrier
+
+  abbrev LivedSo : ℕ → Type 0
+  LivedSo q = Lived Right false (begin false local) deeds turn old new step on f q
+
+  lines : carrier.ended ≡ None → Called local f.whole
+  lines lasts = called_lines local old f calm lasts two
+
+  apart : NamesApart f.whole.tap.connections
+  apart = (called_joined local old f).apart
+
+  judged : (i : ℕ) (c : Connection) → slice_get f.whole.tap.connections i ≡ Some c → c.is_judged ≡ true
+  judged i c at = (called_joined local old f).judged (ap (λ (x : State). x.course.loose) f.tap ∙ calm.firm) i c at
+
+  places_so : HaveSamePlaces f.whole.tap.connections t.live
+  places_so = subst (λ (x : State). HaveSamePlaces x.connections t.live) (sym f.tap) places
+
+  no_cc : AllByRecursion IsNoCc f.whole.coming
+  no_cc = called_no_cc local old f calm
+
+  -- a CC that is put gives a new reference
+  new_reference : (q : ℕ) (l : LivedSo q) (others answer : List Marked) → l.left.before ≡ others ++ answer → (cc_is : Connect) →
+      cc_is.source ≡ q → answer ≡ (0, confirm l.peer cc_is) ∷ [] → IsUnused Right q t
+  new_reference q l others answer parts cc_is source is =
+      let all = subst (AllByRecursion (λ (m : Marked). GivesNew Right m.1 t)) l.left.is
+      (by_units (λ (v : Value). GivesNew Right v t) on.put news) in
+      let before = all_front (λ (m : Marked). GivesNew Right m.1 t) l.left.before (l.left.during ++ l.left.after) all in
+      subst (λ (n : ℕ). IsUnused Right n t) source
+      (one_of (λ (m : Marked). GivesNew Right m.1 t) others [] (0, confirm l.peer cc_is)
+      (subst (AllByRecursion (λ (m : Marked). GivesNew Right m.1 t)) (parts ∙ ap (λ (x : List Marked). others ++ x) is) before))
+
+  home_by : (lasts : carrier.ended ≡ None) (q : ℕ) (l : LivedSo q) →
+      Begins false q l.peer carrier new.holding.end.carrier l.arrived l.left → (AreApart q on.put → ⊥) →
+      IsHomed Right q l.peer f.whole.tap t
+  home_by lasts q l (opened link there none none_left) some =
+      linked_homed local f.whole t (lines lasts) apart judged places_so
+      (whole_lasts Right false (begin false local) deeds turn old new step on f lasts) q l.peer link
+      (linked_so Right false (begin false local) deeds turn old new step on f lasts q l.peer link there)
+  home_by lasts q l (opens shut unit opening front is others answer gives put) some = by unit opening gives is
+    where
+      by : (u : Value) → Opens false q l.peer u → Answers q l.peer u answer → l.arrived.before ≡ front ++ (0, u) ∷ [] →
+          IsHomed Right q l.peer f.whole.tap t
+      by (confirm n x) opening gives come =
+          absurd (came Right false (begin false local) deeds turn old new step on f lasts
+          (confirm n x) front q l come IsNoCc no_cc n x refl)
+      by (request x) (called, theirs) (cc_is, source, one) come =
+          subst (λ (k : ℕ). IsHomed Right q k f.whole.tap t) theirs
+          (asked_homed local f.whole t (lines lasts) apart judged places_so
+          (whole_lasts Right false (begin false local) deeds turn old new step on f lasts) q x
+          (came Right false (begin false local) deeds turn old new step on f lasts (request x) front q l come)
+          (new_reference q l others answer put cc_is source one))
+      by (disconnect n source reason user) h gives come = absurd h
+      by (disconnected n source) h gives come = absurd h
+      by (data0 end user) h gives come = absurd h
+      by (data2 n number end user) h gives come = absurd h
+      by (acknowledge credit n number) h gives come = absurd h
+      by (error n cause) h gives come = absurd h
+  home_by lasts q l (is_shut shut then_shut none none_left) some =
+      absurd (some (none_shut Right false (begin false local) deeds turn old new step on f q l none_left))
+
+  pub called_marked : AllByRecursion (IsMarked Right s t) on.put
+  called_marked =
+      turn_marked Right false (begin false local) deeds turn old new step on f s t class_2
+      (λ lasts q positive l some. subst (λ (x : State). IsHomed Right q l.peer x t) f.tap (home_by lasts q l l.begins some))

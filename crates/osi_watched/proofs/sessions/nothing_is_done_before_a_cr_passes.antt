@@ -1,0 +1,250 @@
+-- Nothing is done at a connection of a calling end before its CR has passed; and then the CR may pass.
+-- For all connections of an end and a tap.
+use Rattle.std.proofs.Common.{◌≡◌, ◌∙◌, refl, sym, ap, subst, ℕ, ◌<◌, ◌≤◌, Bool, true, false, if◌then◌else◌, List, [], ◌∷◌, ◌++◌}
+use Rattle.std.proofs.Common.{Option, Some}
+use Rattle.std.proofs.Common.{None, arith, inl, inr, is_some}
+use Rattle.std.specs.List.{AllByRecursion}
+use Rattle.osi_tpdu.specs.Packet.{units_of}
+use Rattle.osi_tpdu.specs.Value.{Connect, Value, acknowledge, confirm, data0, data2, disconnect, disconnected, error, request}
+use Rattle.osi_class.specs.declared.terms.Local.{Local}
+use Rattle.osi_carrier.specs.State.{State as Carrier}
+use Rattle.osi_carrier.specs.declared.ends.EndReason.{EndReason}
+use Rattle.osi_judge.specs.declared.directions.Direction.TheVariants.{Left}
+use Rattle.osi_rules.specs.Traffic.{State}
+use Rattle.osi_fair.specs.Pieces as pieces
+use Rattle.osi_fair.specs.Wholes.{Whole}
+use Rattle.osi_fair.proofs.each_connection_has_its_line.{Followed, IsAnswer, IsAsking}
+use Rattle.osi_fair.proofs.which_units_are_for_a_connection.{IsDc, first_kept, first_left, names, picked_rest, those}
+use Rattle.osi_honest.specs.Arriving.{AreApart, Opens}
+use Rattle.osi_honest.specs.Courses.{Continues, Deeds, then_did, units_in, units_taken}
+use Rattle.osi_honest.specs.Marked.{Marked, all_units, units_at}
+use Rattle.osi_honest.specs.Turns.{Turn}
+use Rattle.osi_honest.proofs.courses.how_long_a_connection_is_open.{Life, Stage, amid, early, opens_by, past, stage_at, stage_over, stays}
+use Rattle.osi_honest.proofs.courses.what_calls_of_a_link_say.{taken_more}
+use Rattle.osi_tap.specs.Connections.{Sessions}
+use Rattle.osi_watched.specs.Joint.{Joint, TakesTurn}
+use Rattle.osi_watched.specs.Shown.{parts_of}
+use Rattle.osi_watched.specs.ShownPlaces.{HaveSamePlaces}
+use Rattle.osi_watched.proofs.a_carrier_does_events.{none_of}
+use Rattle.osi_watched.proofs.steps_are_events.{IsFollowed}
+use Rattle.osi_watched.proofs.sessions.a_turn_does_what_its_deeds_say.{turn_uses}
+use Rattle.osi_watched.proofs.sessions.connections_have_the_same_places.{at_same}
+use Rattle.osi_watched.proofs.sessions.each_cr_that_passes_gives_a_new_reference.{AreUpTo}
+use Rattle.osi_watched.proofs.sessions.what_is_in_flight_to_an_end.{known_of, parts_taken}
+use Rattle.osi_watched.proofs.sessions.what_passes_leaves_all_standing.{IsReady}
+use Rattle.osi_watched.proofs.sessions.what_stands_of_a_connection.{Known, is_for, waiting_for}
+
+-- ---- one connection
+
+-- nothing was put or taken there, and it is not open
+pub record IsUndone (deeds : Deeds) (s : Stage) : Type 0 where
+  pub put : deeds.put ≡ []
+  pub taken : units_taken deeds.calls ≡ []
+  pub shut : (peer : ℕ) → s ≡ amid peer → ⊥
+
+-- no CC for it
+abbrev pub IsNotCc : ℕ → Value → Type 0
+IsNotCc r v = (x : Connect) → v ≡ confirm r x → ⊥
+
+apart_none : (r : ℕ) (units : List Marked) → AreApart r units → units_at r units ≡ []
+apart_none r [] h = refl
+apart_none r (m ∷ units) h =
+    ap (λ (b : Bool). (if b then m.1 ∷ [] else []) ++ units_at r units) h.0 ∙ apart_none r units h.1
+
+not_amid : {A : Type 0} (s : Stage) (peer : ℕ) → s ≡ early → s ≡ amid peer → A
+not_amid s peer e h = absurd (cc (sym e ∙ h))
+
+past_not_amid : {A : Type 0} (s : Stage) (peer : ℕ) → s ≡ past → s ≡ amid peer → A
+past_not_amid s peer e h = absurd (cc (sym e ∙ h))
+
+-- a CC for it among the units
+cc_among : {A : Type 0} (r : ℕ) (some later : List Marked) (unit : Value) (x : Connect) → unit ≡ confirm r x →
+    AllByRecursion (IsNotCc r) (all_units (some ++ (0, unit) ∷ later)) → A
+cc_among r [] later unit x is h = absurd (h.0 x is)
+cc_among r (m ∷ some) later unit x is h = cc_among r some later unit x is h.1
+
+opens_not : {A : Type 0} (r peer : ℕ) (unit : Value) (some later : List Marked) → Opens true r peer unit →
+    AllByRecursion (IsNotCc r) (all_units (some ++ (0, unit) ∷ later)) → A
+opens_not r peer (confirm n x) some later o h = cc_among r some later (confirm n x) x (ap (λ (m : ℕ). confirm m x) o.0) h
+opens_not r peer (request x) some later o h = absurd (cc o.0)
+opens_not r peer (disconnect n source reason user) some later o h = absurd o
+opens_not r peer (disconnected n source) some later o h = absurd o
+opens_not r peer (data0 end user) some later o h = absurd o
+opens_not r peer (data2 n number end user) some later o h = absurd o
+opens_not r peer (acknowledge credit n number) some later o h = absurd o
+opens_not r peer (error n cause) some later o h = absurd o
+
+module _ (r : ℕ) (deeds more : Deeds) (took put : List Marked) (put_is : more.put ≡ units_at r put)
+    (taken : units_taken more.calls ≡ units_at r took) where
+  none_more : (s t : Stage) → AreApart r took → AreApart r put → ((peer : ℕ) → t ≡ amid peer → ⊥) → IsUndone deeds s →
+      IsUndone (then_did deeds more) t
+  none_more s t none none_put shut u = record {
+    put = (λ i. u.put i ++ (put_is ∙ apart_none r put none_put) i);
+    taken = taken_more deeds.calls more.calls ∙ (λ i. u.taken i ++ (taken ∙ apart_none r took none) i);
+    shut = shut;
+  }
+
+  pub life_undone : (s t : Stage) → Life true r s took put t → (s ≡ early → AllByRecursion (IsNotCc r) (all_units took)) →
+      IsUndone deeds s → IsUndone (then_did deeds more) t
+  life_undone early t (stays a b (inl is)) none u = none_more early t a b (λ peer e. not_amid t peer is e) u
+  life_undone early t (stays a b (inr is)) none u = none_more early t a b (λ peer e. past_not_amid t peer is e) u
+  life_undone early t (opens_by peer unit o some later none_some is others answer put_later apart none_answer ans put_so w) none u =
+      opens_not r peer unit some later o (subst (λ (l : List Marked). AllByRecursion (IsNotCc r) (all_units l)) is (none refl))
+  life_undone (amid peer) t w none u = absurd (u.shut peer refl)
+  life_undone past t w none u = none_more past t w.none_took w.none_put (λ peer e. past_not_amid t peer w.is e) u
+
+-- ---- all of them
+
+-- of each reference above this one
+abbrev pub AreUndone : ℕ → (ℕ → Deeds) → Carrier → Type 0
+AreUndone b deeds c = (r : ℕ) → b < r → IsUndone (deeds r) (stage_at r c)
+
+-- a CC is for a reference up to this one
+abbrev pub IsFew : ℕ → Value → Type 0
+IsFew b v = (n : ℕ) (x : Connect) → v ≡ confirm n x → n ≤ b
+
+all_front : (P : Value → Type 0) (xs ys : List Value) → AllByRecursion P (xs ++ ys) → AllByRecursion P xs
+all_front P [] ys h = tt
+all_front P (x ∷ xs) ys h = (h.0, all_front P xs ys h.1)
+
+few_not : (b r : ℕ) (vs : List Value) → b < r → AllByRecursion (IsFew b) vs → AllByRecursion (IsNotCc r) vs
+few_not b r [] less h = tt
+few_not b r (v ∷ vs) less h =
+    ((λ x is. let low = h.0 r x is in absurd (omega (arith, low, less))), few_not b r vs less h.1)
+
+never_early : {A : Type 0} (s : Stage) → s ≡ past → s ≡ early → A
+never_early s e h = absurd (cc (sym e ∙ h))
+
+pub turn_undone : (b : ℕ) (turn : Turn) (old new : Joint) (t : TakesTurn turn old new) (deeds : ℕ → Deeds)
+    (on : Continues true deeds old.holding turn new.holding) →
+    ((r : ℕ) → 0 < r → Life true r (stage_at r old.holding.end.carrier) on.took on.put (stage_at r new.holding.end.carrier)) →
+    (old.holding.end.carrier.ended ≡ None → AllByRecursion (IsFew b) (units_in old.coming)) →
+    AreUndone b deeds old.holding.end.carrier → AreUndone b (λ r. then_did (deeds r) (on.more r)) new.holding.end.carrier
+turn_undone b turn old new t deeds on life few u r less =
+    let some : 0 < r = omega (arith, less) in
+    life_undone r (deeds r) (on.more r) on.took on.put (on.own r some) (on.taken r some) (stage_at r old.holding.end.carrier)
+    (stage_at r new.holding.end.carrier) (life r some) (λ is. by old.holding.end.carrier.ended refl is) (u r less)
+  where
+    by : (o : Option EndReason) → old.holding.end.carrier.ended ≡ o → stage_at r old.holding.end.carrier ≡ early →
+        AllByRecursion (IsNotCc r) (all_units on.took)
+    by None lasts is =
+        let s = turn_uses turn old new t true deeds on lasts in
+        few_not b r (all_units on.took) less
+        (all_front (IsFew b) (all_units on.took) (s.left ++ units_in new.coming)
+        (subst (AllByRecursion (IsFew b)) s.coming (few lasts)))
+    by (Some reason) over is =
+        never_early (stage_at r old.holding.end.carrier) (stage_over r old.holding.end.carrier (ap is_some over)) is
+
+-- ---- what has come, as the whole end has it
+
+pub same_units : (packets : List (List ℕ)) → pieces.units_in packets ≡ units_in packets
+same_units [] = refl
+same_units (p ∷ packets) = ap (λ (l : List Value). pieces.units_by (units_of p) ++ l) (same_units packets)
+
+-- each CC that has come is for a connection at the tap
+answers_few : (b : ℕ) (s : State) (t : Sessions) (end : Carrier) (vs : List Value) → HaveSamePlaces s.connections t.live →
+    AreUpTo Left b t → end.ended ≡ None → AllByRecursion (λ (v : Value). IsAnswer s.connections end v) vs → AllByRecursion (IsFew b) vs
+answers_few b s t end [] places up lasts h = tt
+answers_few b s t end (v ∷ vs) places up lasts h = (
+  λ n x is.
+      let ((p, c, at, tracked, same), row) = h.0 n x is lasts in
+      let (j, here, one) = at_same s.connections t.live p c places at in
+      (up.live p j n here (ap (λ (m : ℕ). Some m) (one.calling ∙ same))).1,
+  answers_few b s t end vs places up lasts h.1,
+)
+
+pub few_come : (b : ℕ) (local : Local) (first : Whole) (j : Joint) (f : IsFollowed Left first j) → Followed local f.whole →
+    HaveSamePlaces j.course.traffic.connections j.course.sessions.live → AreUpTo Left b j.course.sessions →
+    j.holding.end.carrier.ended ≡ None → AllByRecursion (IsFew b) (units_in j.coming)
+few_come b local first j f h places up lasts =
+    answers_few b j.course.traffic j.course.sessions f.whole.end (units_in j.coming) places up
+    (none_of f.whole.end.ended (sym f.like.over ∙ ap is_some lasts))
+    (subst (λ (l : List Value). AllByRecursion (λ (v : Value). IsAnswer j.course.traffic.connections f.whole.end v) l)
+    (f.coming lasts ∙ same_units j.coming)
+    (subst (λ (s : State). AllByRecursion (λ (v : Value). IsAnswer s.connections f.whole.end v) f.whole.coming) f.tap h.answers))
+
+-- ---- a CR that passes
+
+-- no DT of class 0
+abbrev pub IsNoZero : Value → Type 0
+IsNoZero (data0 end user) = ⊥
+IsNoZero (request x) = Unit {0}
+IsNoZero (confirm n x) = Unit {0}
+IsNoZero (disconnect n source reason user) = Unit {0}
+IsNoZero (disconnected n source) = Unit {0}
+IsNoZero (data2 n number end user) = Unit {0}
+IsNoZero (acknowledge credit n number) = Unit {0}
+IsNoZero (error n cause) = Unit {0}
+
+dc_not : (r : ℕ) (v : Value) → IsDc v → is_for (Some r) v ≡ false
+dc_not r (disconnected n source) h = refl
+dc_not r (request x) h = absurd (cc)
+dc_not r (confirm n x) h = absurd (cc)
+dc_not r (disconnect n source reason user) h = absurd (cc)
+dc_not r (data0 end user) h = absurd (cc)
+dc_not r (data2 n number end user) h = absurd (cc)
+dc_not r (acknowledge credit n number) h = absurd (cc)
+dc_not r (error n cause) h = absurd (cc)
+
+unnamed_not : (r : ℕ) (v : Value) → IsNoZero v → names r v ≡ false → is_for (Some r) v ≡ false
+unnamed_not r (disconnected n source) z h = refl
+unnamed_not r (request x) z h = refl
+unnamed_not r (confirm n x) z h = refl
+unnamed_not r (disconnect n source reason user) z h = refl
+unnamed_not r (data0 end user) z h = absurd z
+unnamed_not r (data2 n number end user) z h = h
+unnamed_not r (acknowledge credit n number) z h = h
+unnamed_not r (error n cause) z h = refl
+
+-- of DCs none adds to the connection
+pub dcs_none : (r : ℕ) (vs : List Value) → AllByRecursion IsNoZero vs → AllByRecursion IsDc (those r vs) → waiting_for (Some r) vs ≡ []
+dcs_none r [] z h = refl
+dcs_none r (v ∷ vs) z h = by (names r v) refl (λ more. dcs_none r vs z.1 more)
+  where
+    by : (b : Bool) → names r v ≡ b → (AllByRecursion IsDc (those r vs) → waiting_for (Some r) vs ≡ []) →
+        waiting_for (Some r) (v ∷ vs) ≡ []
+    by true e rest =
+        let both = subst (AllByRecursion IsDc) (first_kept r v vs e) h in
+        picked_rest (is_for (Some r)) v vs (dc_not r v both.0) ∙ rest both.1
+    by false e rest =
+        picked_rest (is_for (Some r)) v vs (unnamed_not r v z.0 e) ∙ rest (subst (AllByRecursion IsDc) (first_left r v vs e) h)
+
+-- as long as the connection may open or is open
+abbrev pub is_under_way : Stage → Bool
+is_under_way early = true
+is_under_way (amid peer) = true
+is_under_way past = false
+
+abbrev pub may_take : Carrier → ℕ → Bool
+may_take c r = is_under_way (stage_at r c)
+
+-- of the references that an end gives this is known
+abbrev pub known_from : (ℕ → Bool) → List Value → Known
+known_from is_live coming r later = (0 < r) × known_of is_live coming r later
+
+-- nothing is done there, and none of the units in flight is for it unless the end is over
+pub cr_ready : (b : ℕ) (deeds : ℕ → Deeds) (c : Carrier) (x : Connect) (coming rest : List Value) (s : State) (t : Sessions) →
+    b < x.source →
+    AreUndone b deeds c → (c.ended ≡ None → waiting_for (Some x.source) coming ≡ []) →
+    IsReady Left deeds (known_from (may_take c) coming) (request x) rest s t
+cr_ready b deeds c x coming rest s t less u none =
+    let h = u x.source less in
+    (h.put, parts_taken (deeds x.source).calls ∙ ap parts_of h.taken, (omega (arith, less), λ live. by c.ended refl live))
+  where
+    over_not : {A : Type 0} (z : Stage) → z ≡ past → is_under_way z ≡ true → A
+    over_not z e h = absurd (let gone : is_under_way z ≡ false = ap is_under_way e in cc)
+
+    by : (o : Option EndReason) → c.ended ≡ o → may_take c x.source ≡ true → [] ≡ parts_of (waiting_for (Some x.source) coming)
+    by None lasts live = sym (ap parts_of (none lasts))
+    by (Some reason) over live = over_not (stage_at x.source c) (stage_over x.source c (ap is_some over)) live
+
+-- as the whole end says of a CR that it has put
+pub cr_calm : (local : Local) (first : Whole) (j : Joint) (f : IsFollowed Left first j) → Followed local f.whole → (x : Connect)
+    (rest : List Value) → f.whole.put ≡ request x ∷ rest → AllByRecursion IsNoZero (units_in j.coming) →
+    j.holding.end.carrier.ended ≡ None → waiting_for (Some x.source) (units_in j.coming) ≡ []
+cr_calm local first j f h x rest put zero lasts =
+    let asking =
+    (subst (AllByRecursion (λ (v : Value). (y : Connect) → v ≡ request y → IsAsking local f.whole.end f.whole.coming y)) put h.requests).0
+    x refl in
+    dcs_none x.source (units_in j.coming) zero
+    (subst (λ (l : List Value). AllByRecursion IsDc (those x.source l)) (f.coming lasts ∙ same_units j.coming) asking.early)

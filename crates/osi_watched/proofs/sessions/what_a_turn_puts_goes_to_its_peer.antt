@@ -1,0 +1,212 @@
+-- What an end puts in a turn for a connection goes to the peer that the connection has there, and the unit with which the connection
+-- opens in the turn had come: so each DT and each AK of the turn has a home at a tap if the connection has.
+-- For calling and called ends.
+use Rattle.std.proofs.Common.{◌≡◌, ◌∙◌, refl, sym, ap, subst, ℕ, suc, zero, ◌<◌, Bool, true, false, List, [], ◌∷◌, ◌++◌}
+use Rattle.std.proofs.Common.{Option, Some, None, is_some, IsSome, Result, Ok, Err, if◌then◌else◌, append_assoc, arith}
+use Rattle.std.specs.Prelude.{◌==◌, nat_lt}
+use Rattle.std.specs.List.{AllByRecursion}
+use Rattle.std.proofs.lemmas.Bool.{eq-eqb, eqb-true}
+use Rattle.std.proofs.lemmas.List.{append-nil}
+use Rattle.osi_tpdu.specs.Packet.{units_of}
+use Rattle.osi_tpdu.specs.Value.{Value, acknowledge, confirm, data0, data2, disconnect, disconnected, error, request}
+use Rattle.osi_tpdu.specs.declared.faults.TpduFault.{TpduFault}
+use Rattle.osi_class.specs.Link.{Standing}
+use Rattle.osi_carrier.specs.Calls.{link_of, open_link}
+use Rattle.osi_carrier.specs.Rows.{value_at}
+use Rattle.osi_carrier.specs.State.{Connection as Live, State as Carrier, asked, closing, linked, packets}
+use Rattle.osi_carrier.specs.declared.ends.EndReason.{EndReason}
+use Rattle.osi_judge.specs.declared.directions.Direction.{Direction}
+use Rattle.osi_rules.specs.Traffic.{State}
+use Rattle.osi_fair.specs.Pieces.{units_by, units_in}
+use Rattle.osi_fair.specs.Wholes.{Whole}
+use Rattle.osi_honest.specs.Arriving.{AreApart, Begins, GivesTo, Lives, Parts, is_shut, opens}
+use Rattle.osi_honest.specs.Arriving.{is_open as opened}
+use Rattle.osi_honest.specs.Arriving as arriving
+use Rattle.osi_honest.specs.Courses.{Continues, Deeds}
+use Rattle.osi_honest.specs.Courses as courses
+use Rattle.osi_honest.specs.Marked.{Marked, all_units, is_of_link}
+use Rattle.osi_honest.proofs.class_0.what_a_call_does_in_class_0.{over_acts}
+use Rattle.osi_honest.proofs.courses.units_of_each_connection.{all_units_more}
+use Rattle.osi_honest.specs.Turns.{Turn}
+use Rattle.osi_tap.specs.Connections.{Sessions}
+use Rattle.osi_watched.specs.Joint.{Joint, TakesTurn}
+use Rattle.osi_watched.proofs.a_carrier_does_events.{none_of, units_join}
+use Rattle.osi_watched.proofs.steps_are_events.{IsFollowed}
+use Rattle.osi_watched.proofs.what_is_put_is_what_is_written.{are_first}
+use Rattle.osi_watched.proofs.sessions.each_unit_of_a_turn_has_one_connection.{IsFor, IsHomed, IsMarked, of_none, of_one}
+use Rattle.osi_watched.proofs.sessions.what_stands_of_a_connection.{is_for}
+
+-- ---- lists
+
+pub all_front : {X : Type 0} (P : X → Type 0) (xs ys : List X) → AllByRecursion P (xs ++ ys) → AllByRecursion P xs
+all_front P [] ys h = tt
+all_front P (x ∷ xs) ys h = (h.0, all_front P xs ys h.1)
+
+pub all_back : {X : Type 0} (P : X → Type 0) (xs ys : List X) → AllByRecursion P (xs ++ ys) → AllByRecursion P ys
+all_back P [] ys h = h
+all_back P (x ∷ xs) ys h = all_back P xs ys h.1
+
+pub one_of : {X : Type 0} (P : X → Type 0) (xs ys : List X) (x : X) → AllByRecursion P (xs ++ x ∷ ys) → P x
+one_of P [] ys x h = h.0
+one_of P (y ∷ xs) ys x h = one_of P xs ys x h.1
+
+pub all_of_both : {X : Type 0} (P : X → Type 0) (xs ys : List X) → AllByRecursion P xs → AllByRecursion P ys → AllByRecursion P (xs ++ ys)
+all_of_both P [] ys a b = b
+all_of_both P (x ∷ xs) ys a b = (a.0, all_of_both P xs ys a.1 b)
+
+pub all_so : {X : Type 0} (P Q : X → Type 0) → ((x : X) → P x → Q x) → (xs : List X) → AllByRecursion P xs → AllByRecursion Q xs
+all_so P Q f [] h = tt
+all_so P Q f (x ∷ xs) h = (f x h.0, all_so P Q f xs h.1)
+
+-- ---- what the end has done in the turn
+
+-- a unit has come
+abbrev pub IsThere : Value → List Value → Type 1
+IsThere v coming = (P : Value → Type 0) → AllByRecursion P coming → P v
+
+pub link_is : (o : Option Live) (peer : ℕ) (link : Standing) → ◌≡◌ {A = Option (ℕ × Standing)} (link_of o) (Some (peer, link)) →
+    o ≡ Some (linked peer link)
+link_is None peer link e = absurd (cc)
+link_is (Some asked) peer link e = absurd (cc)
+link_is (Some (linked m l)) peer link e =
+    let pair : ◌≡◌ {A = ℕ × Standing} (m, l) (peer, link) = cc in λ i. Some (linked (pair i).0 (pair i).1)
+link_is (Some (closing m)) peer link e = absurd (cc)
+
+by_read : (r : Result (List Value) TpduFault) → courses.units_read r ≡ units_by r
+by_read (Ok units) = refl
+by_read (Err fault) = refl
+
+-- the units of packets, as a turn has them and as a whole end has them
+pub same_units : (us : List (List ℕ)) → courses.units_in us ≡ units_in us
+same_units [] = refl
+same_units (u ∷ us) = λ i. by_read (units_of u) i ++ same_units us i
+
+pub differ : {A : Type 0} (b : Bool) → b ≡ true → b ≡ false → A
+differ b h k = absurd (cc)
+
+never : {A : Type 0} → false ≡ true → A
+never e = absurd (cc)
+
+-- no DT of class 0
+abbrev pub IsNotZero : Value → Type 0
+IsNotZero v = (end : Bool) (user : List ℕ) → v ≡ data0 end user → ⊥
+
+pub for_so : (peer : ℕ) (v : Value) → arriving.is_for peer v ≡ true → IsNotZero v → IsFor peer v
+for_so peer (data2 n number end user) h unlike = eqb-true n peer h
+for_so peer (acknowledge credit n number) h unlike = eqb-true n peer h
+for_so peer (data0 end user) h unlike = unlike end user refl
+for_so peer (request x) h unlike = never h
+for_so peer (confirm n x) h unlike = never h
+for_so peer (disconnect n source reason user) h unlike = never h
+for_so peer (disconnected n source) h unlike = never h
+for_so peer (error n cause) h unlike = never h
+
+pub none_for : (v : Value) → is_of_link v ≡ false → (o : Option ℕ) → is_for o v ≡ false
+none_for (data2 n number end user) h o = absurd (cc)
+none_for (acknowledge credit n number) h o = absurd (cc)
+none_for (data0 end user) h o = absurd (cc)
+none_for (request x) h o = refl
+none_for (confirm n x) h o = refl
+none_for (disconnect n source reason user) h o = refl
+none_for (disconnected n source) h o = refl
+none_for (error n cause) h o = refl
+
+-- a unit of this connection is for its peer
+abbrev pub GoesTo : (q peer : ℕ) → Marked → Type 0
+GoesTo q peer m = (m.0 == q) ≡ true → arriving.is_for peer m.1 ≡ true
+
+pub goes_to : (q : ℕ) (put : List Marked) (peer : ℕ) (left : Parts q put) → GivesTo q peer left.during → AllByRecursion (GoesTo q peer) put
+goes_to q put peer left gives =
+    subst (AllByRecursion (GoesTo q peer)) (sym left.is)
+    (all_of_both (GoesTo q peer) left.before (left.during ++ left.after) (apart left.before left.none_before)
+    (all_of_both (GoesTo q peer) left.during left.after gives (apart left.after left.none_after)))
+  where
+    apart : (units : List Marked) → AreApart q units → AllByRecursion (GoesTo q peer) units
+    apart units h = all_so (λ (m : Marked). (m.0 == q) ≡ false) (GoesTo q peer) (λ m k e. differ (m.0 == q) e k) units h
+
+pub none_put : (P : Marked → Type 0) (units : List Marked) → packets (all_units units) ≡ [] → AllByRecursion P units
+none_put P [] e = tt
+none_put P (m ∷ units) e = absurd (cc)
+
+pub by_units : (P : Value → Type 0) (units : List Marked) → AllByRecursion P (all_units units) →
+    AllByRecursion (λ (m : Marked). P m.1) units
+by_units P [] h = tt
+by_units P (m ∷ units) h = (h.0, by_units P units h.1)
+
+module _ (d : Direction) (is_caller : Bool) (first : Whole) (deeds : ℕ → Deeds) (turn : Turn) (old new : Joint)
+    (step : TakesTurn turn old new) (on : Continues is_caller deeds old.holding turn new.holding) (f : IsFollowed d first old) where
+  abbrev carrier : Carrier
+  carrier = old.holding.end.carrier
+
+  abbrev pub Lived : ℕ → Type 0
+  Lived q = Lives is_caller q carrier on.took on.put new.holding.end.carrier
+
+  module _ (lasts : carrier.ended ≡ None) where
+    pub whole_lasts : f.whole.end.ended ≡ None
+    whole_lasts = none_of f.whole.end.ended (sym f.like.over ∙ ap is_some lasts)
+
+    pub linked_so : (q peer : ℕ) (link : Standing) → ◌≡◌ {A = Option (ℕ × Standing)} (open_link q carrier) (Some (peer, link)) →
+        value_at q f.whole.end.live ≡ Some (linked peer link)
+    linked_so q peer link e =
+        ap (λ (c : Carrier). value_at q c.live) (f.like.lasts whole_lasts)
+        ∙ link_is (value_at q carrier.live) peer link
+        (sym (ap (λ (b : Bool). if b then None else link_of (value_at q carrier.live)) (ap is_some lasts)) ∙ e)
+
+    -- the unit with which a connection opens had come
+    pub came : (x : Value) (some : List Marked) (q : ℕ) (l : Lived q) → l.arrived.before ≡ some ++ (0, x) ∷ [] → IsThere x f.whole.coming
+    came x some q l is P all =
+        let a = are_first on.used step.used (old.holding.held.octets ++ turn.used) on.rest step.rest new.holding.end.carrier.ended
+        on.cut (step.cut lasts) (λ still. on.held still ∙ sym (step.held still)) (step.all lasts) in
+        let order : f.whole.coming ≡ units_in on.used ++ units_in (a.more ++ new.coming) =
+        f.coming lasts
+        ∙ ap units_in (step.coming ∙ ap (λ (l : List (List ℕ)). l ++ new.coming) a.is ∙ append_assoc on.used a.more new.coming)
+        ∙ units_join on.used (a.more ++ new.coming) in
+        let used = all_front P (units_in on.used) (units_in (a.more ++ new.coming)) (subst (AllByRecursion P) order all) in
+        let took = subst (AllByRecursion P) (sym (on.all ∙ same_units on.used)) used in
+        let later = l.arrived.during ++ l.arrived.after in
+        let before = all_front P (all_units l.arrived.before) (all_units later)
+        (subst (AllByRecursion P) (ap all_units l.arrived.is ∙ all_units_more l.arrived.before later) took) in
+        one_of P (all_units some) [] x (subst (AllByRecursion P) (ap all_units is ∙ all_units_more some ((0, x) ∷ [])) before)
+
+  -- a connection that did not open put nothing
+  pub none_shut : (q : ℕ) (l : Lived q) → l.left.during ++ l.left.after ≡ [] → AreApart q on.put
+  none_shut q l none =
+      let all : on.put ≡ l.left.before =
+      l.left.is ∙ ap (λ (x : List Marked). l.left.before ++ x) none ∙ append-nil l.left.before in
+      subst (AreApart q) (sym all) l.left.none_before
+
+  -- ---- each unit has a home if each connection that put one has
+
+  module _ (s : State) (t : Sessions) (class_2 : AllByRecursion IsNotZero (all_units on.put))
+      (home : carrier.ended ≡ None → (q : ℕ) → 0 < q → (l : Lived q) → (AreApart q on.put → ⊥) → IsHomed d q l.peer s t) where
+    unit_marked : carrier.ended ≡ None → (front rest : List Marked) (m : Marked) → on.put ≡ front ++ m ∷ rest → IsMarked d s t m
+    unit_marked lasts front rest m is = by m.0 refl
+      where
+        at : (P : Marked → Type 0) → AllByRecursion P on.put → P m
+        at P all = one_of P front rest m (subst (AllByRecursion P) is all)
+
+        by : (q : ℕ) → m.0 ≡ q → IsMarked d s t m
+        by zero e = of_none e (none_for m.1 (at (λ (k : Marked). is_of_link k.1 ≡ nat_lt 0 k.0) on.by_links ∙ ap (nat_lt 0) e))
+        by (suc n) e =
+            let some : 0 < m.0 = omega (arith, e) in
+            let l = on.lives m.0 some in
+            let mine : (m.0 == m.0) ≡ true = eq-eqb m.0 m.0 refl in
+            let goes = at (GoesTo m.0 l.peer) (goes_to m.0 on.put l.peer l.left l.gives) mine in
+            let unlike = at (λ (k : Marked). IsNotZero k.1) (by_units IsNotZero on.put class_2) in
+            of_one l.peer (for_so l.peer m.1 goes unlike)
+            (home lasts m.0 some l (λ apart. differ (m.0 == m.0) mine (at (λ (k : Marked). (k.0 == m.0) ≡ false) apart)))
+
+    all_marked : carrier.ended ≡ None → (front units : List Marked) → on.put ≡ front ++ units → AllByRecursion (IsMarked d s t) units
+    all_marked lasts front [] is = tt
+    all_marked lasts front (m ∷ units) is =
+        (unit_marked lasts front units m is, all_marked lasts (front ++ m ∷ []) units (is ∙ sym (append_assoc front (m ∷ []) units)))
+
+    -- an end that is over puts nothing
+    pub turn_marked : AllByRecursion (IsMarked d s t) on.put
+    turn_marked = by carrier.ended refl
+      where
+        by : (o : Option EndReason) → carrier.ended ≡ o → AllByRecursion (IsMarked d s t) on.put
+        by None lasts = all_marked lasts [] on.put refl
+        by (Some reason) gone =
+            let done = over_acts turn old.holding new.holding (subst IsSome (sym gone) refl) step.takes in
+            none_put (IsMarked d s t) on.put (sym on.written ∙ done.1)
