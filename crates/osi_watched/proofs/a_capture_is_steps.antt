@@ -323,7 +323,7 @@ module _ (d : Direction) (x : ℕ) (capture : Capture) (s : State) (j : Joint) (
       (octet_first d (of (other d) x) capture s last
       (subst (λ (t : State). Comes d capture t last) (sym (passes_so (other d) x s (whole u) st.other_reads front))
       (on next last refl (other_moved d (advanced other_now) s after_it last still
-          (ahead ++ x ∷ []) course st.own_reads st.other_reads st.own
+      (ahead ++ x ∷ []) course st.own_reads st.other_reads st.own
       others))))
 
   other_octet : Comes d (of (other d) x ∷ capture) s j

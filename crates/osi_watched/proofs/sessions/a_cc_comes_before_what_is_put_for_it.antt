@@ -58,7 +58,7 @@ module _ (n : ℕ) (x : Connect) (s : State) (firm : s.course.loose ≡ false) (
     where
       by : (b : Bool) → b ≡ true →
           IsNoBreak (if b then found way.Right s.course (uses_source way.Right s.connections (confirm n x)) c
-              (confirm n x) else NotJudged) →
+          (confirm n x) else NotJudged) →
           IsNew
       by true h k =
           not_so (uses_source way.Right s.connections (confirm n x))

@@ -151,13 +151,13 @@ pub named_there : (d : Direction) (n : ℕ) (c : Connection) (j : Joined) → Is
 named_there Left n c j h judged is_so =
     let known = c.seen_by_left in
     let (over, silent, same) = judged_so c.is_judged (is_over_by c.left known) (is_silent known.phase)
-        (known.reference == n) judged is_so in
+    (known.reference == n) judged is_so in
     h.left_knows n (given_so known.phase known.reference n silent
     (or_first (is_refused known.phase) _ (or_second (is_refused c.left.phase) _ over)) (eqb-true known.reference n same))
 named_there Right n c j h judged is_so =
     let known = c.seen_by_right in
     let (over, silent, same) = judged_so c.is_judged (is_over_by c.right known) (is_silent known.phase)
-        (known.reference == n) judged is_so in
+    (known.reference == n) judged is_so in
     ap (λ (i : ℕ). Some i) (h.right_knows silent ∙ eqb-true known.reference n same)
 
 -- ---- a unit, and what is joined

@@ -340,7 +340,7 @@ pub record Leaves (d : Direction) (deeds : ℕ → Deeds) (known then_known : Kn
       slice_get s.connections p ≡ Some c → slice_get t.live p ≡ Some j → IsOneOf c j →
       (takes (way_of e) v s).told.finding ≡ found_on (way_of e) s c v → is_applied (found_on (way_of e) s c v) ≡ x →
       Stands d deeds known put b c j → Stands d deeds then_known later then_begun (connection_after (way_of e) v x r c)
-          (joined.meant e at v (meaning_if x (meant v)) j)
+      (joined.meant e at v (meaning_if x (meant v)) j)
   pub asked_so : (x : Connect) (number : ℕ) → v ≡ request x →
       Stands d deeds then_known later then_begun (asked_by x) (asked number x.source All)
   pub others : (x : Connect) → v ≡ request x → (c : Connection) (j : Joined) → Stands d deeds known put b c j →

@@ -238,7 +238,7 @@ other_cc deeds known then_known at n x put b s t unheard stays = record {
         (subst (λ (l : List Value). IsShownNow Left q (deeds q) l later false j) none
         (no_next Left q (deeds q) (waiting_for o put) later (is_next o b put) j h)) in
         lives q (Some x.source) refl (ap (λ (y : Half). is_open y.phase) (other_after Left (confirm n x) true r c) ∙ live) later
-            (stays q later sure)
+        (stays q later sure)
         (subst (λ (y : Bool). IsShownNow Left q (deeds q) (waiting_for (Some x.source) put) later y k)
         (sym (next_none (Some x.source) b put unheard)) goes)
     opens c j r un (past q closed waiting later sure h) =

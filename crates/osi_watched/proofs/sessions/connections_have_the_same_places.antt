@@ -247,7 +247,7 @@ module _ (course : Rules) (in_use : Bool) (at : ℕ) (c : Connection) (j : Joine
       left_half (half_after (acknowledge credit destination number) c.left) j refl h.asks refl refl
   left_one (error destination cause) k =
       differ (is_silent c.left.phase) (form_test (is_silent c.left.phase) k) (or_first (is_silent c.left.phase)
-          (is_refused c.left.phase) h.asks)
+      (is_refused c.left.phase) h.asks)
 
   right_one : (v : Value) → is_applied (found way.Right course in_use c v) ≡ true →
       IsOneOf (sent_on way.Right v c) (joined.meant Right at v (meant v) j)
@@ -270,7 +270,7 @@ module _ (course : Rules) (in_use : Bool) (at : ℕ) (c : Connection) (j : Joine
       (and_first (is_open c.right.phase) _ (due_test (is_due way.Right c source) course.strays k))) refl refl
   right_one (data0 end user) k =
       adds_one Right at end user (sent_on way.Right (data0 end user) c) j (right_half (half_after
-          (data0 end user) c.right) j refl refl refl)
+      (data0 end user) c.right) j refl refl refl)
   right_one (data2 destination number end user) k =
       adds_one Right at end user (sent_on way.Right (data2 destination number end user) c) j
       (right_half (half_after (data2 destination number end user) c.right) j refl refl refl)

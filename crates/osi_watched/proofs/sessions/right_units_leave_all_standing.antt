@@ -161,7 +161,7 @@ module _ (d : Direction) (deeds : ℕ → Deeds) (known : Known) (at : ℕ) (v :
       (p i : ℕ) (first c : Connection) (k j : Joined) → (i ≡ p → ⊥) → (takes (way_of d) v s).told.place ≡ Some p →
       slice_get s.connections p ≡ Some first → IsOneOf first k → (takes (way_of d) v s).told.finding ≡ found_on (way_of d) s first v →
       slice_get s.connections i ≡ Some c → IsOneOf c j → is_open (own (way_of d) c).phase ≡ true → is_for (reference_of
-          (other d) j) v ≡ false
+      (other d) j) v ≡ false
   link_elsewhere n link kept p i first c k j apart place there one finding here another live =
       let judged = a.judged firm p first there in
       let named = named_there d n first k one judged (names_there (way_of d) v s n p first there (link_names v n link) place) in

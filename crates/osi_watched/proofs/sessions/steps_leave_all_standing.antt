@@ -68,9 +68,9 @@ module _ (d : Direction) (deeds : ℕ → Deeds) (known : Known) where
       record {
         all = subst (λ (l : List Value). AllStand d after then_known l new.begun new.course.traffic new.course.sessions) (sym step.put)
             (subst (λ (b : Bool). AllStand d after then_known (old.put ++ step.units) b new.course.traffic new.course.sessions)
-                (sym step.begun)
+            (sym step.begun)
             (subst (λ (c : Passed). AllStand d after then_known (old.put ++ step.units) old.begun c.traffic c.sessions)
-                (sym step.course) all));
+            (sym step.course) all));
       }
 
 -- ---- the units of a packet of the other side

@@ -84,7 +84,7 @@ counts_so at false octets s = refl
 heard_grows : (at : ℕ) (end : Bool) (octets : List ℕ) (s : Spoken) → length (heard s) ≤ length (heard (added at end octets s))
 heard_grows at true octets s =
     let more = ap length (map-append octets_of s.said
-        (record { octets = begun_octets s.begun ++ octets; before = before s; at = at } ∷ [])) in
+    (record { octets = begun_octets s.begun ++ octets; before = before s; at = at } ∷ [])) in
     let size = length-append (heard s) ((begun_octets s.begun ++ octets) ∷ []) in omega (arith, more, size)
 heard_grows at false octets s = omega arith
 

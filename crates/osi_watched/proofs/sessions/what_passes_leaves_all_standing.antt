@@ -154,7 +154,7 @@ module _ (deeds : ℕ → Deeds) (known : Known) (at : ℕ) (rest : List Value) 
   own_goes d (acknowledge credit n number) goes two none ready a =
       own_ack d deeds known at credit n number rest s t a firm
       (kept_of (takes (way_of d) (acknowledge credit n number) s).told.finding (ack_clear
-          (way_of d) credit n number s goes firm a.judged) none)
+      (way_of d) credit n number s goes firm a.judged) none)
   own_goes d (data0 end user) goes two none ready a =
       zero_broke (class_for (way_of d) s.course) (way_of d) (is_stopped (sides.other (way_of d)) s.course) end user s two
       (goes_on (is_stopped (way_of d) s.course) (way_of d) s (under (way_of d) (data0 end user)) goes none)
@@ -175,7 +175,7 @@ module _ (deeds : ℕ → Deeds) (known : Known) (at : ℕ) (rest : List Value) 
 
 pub own_stands : (d : Direction) (deeds : ℕ → Deeds) (known : Known) (at : ℕ) (v : Value) (rest : List Value) (c : Course) →
     c.traffic.course.loose ≡ false → is_stopped (way_of d) c.traffic.course ≡ false → (class_for
-        (way_of d) c.traffic.course ≡ Some Zero → ⊥) →
+    (way_of d) c.traffic.course ≡ Some Zero → ⊥) →
     IsNoBreak (takes (way_of d) v c.traffic).told.finding → IsReady d deeds known v rest c.traffic c.sessions →
     AllStand d deeds known (v ∷ rest) true c.traffic c.sessions →
     AllStand d deeds known rest false (unit_passes d at v c).traffic (unit_passes d at v c).sessions
@@ -212,7 +212,7 @@ module _ (deeds : ℕ → Deeds) (known then_known : Known) (at : ℕ) (put : Li
       other_close d deeds known then_known at (acknowledge credit n number) put b s t a (λ x. tt) (λ x e. cc e) heard
   other_goes d (data0 end user) goes two none heard a =
       zero_broke (class_for (way_of (other d)) s.course) (way_of (other d)) (is_stopped (sides.other (way_of
-          (other d))) s.course) end user s two
+      (other d))) s.course) end user s two
       (goes_on (is_stopped (way_of (other d)) s.course) (way_of (other d)) s
       (routed (way_of (other d)) (data0 end user) s (route (way_of (other d)) s.course (data0 end user))) goes none)
   other_goes d (disconnect n source reason user) goes two none heard a =
@@ -225,12 +225,12 @@ module _ (deeds : ℕ → Deeds) (known then_known : Known) (at : ℕ) (put : Li
   other_goes Left (request x) goes two none heard a =
       cr_broke (class_for way.Right s.course) (is_stopped way.Left s.course) x s
       (goes_on (is_stopped way.Right s.course) way.Right s (routed way.Right (request x) s (route way.Right s.course
-          (request x))) goes none)
+      (request x))) goes none)
   other_goes Left (confirm n x) goes two none heard a = other_cc deeds known then_known at n x put b s t heard.0 heard.1
   other_goes Right (confirm n x) goes two none heard a =
       cc_broke (class_for way.Left s.course) (is_stopped way.Right s.course) n x s firm a.judged
       (goes_on (is_stopped way.Left s.course) way.Left s (routed way.Left (confirm n x) s (route way.Left s.course
-          (confirm n x))) goes none)
+      (confirm n x))) goes none)
 
 pub other_stands : (d : Direction) (deeds : ℕ → Deeds) (known then_known : Known) (at : ℕ) (v : Value) (put : List Value) (b : Bool)
     (c : Course) →
@@ -241,6 +241,6 @@ pub other_stands : (d : Direction) (deeds : ℕ → Deeds) (known then_known : K
 other_stands d deeds known then_known at v put b c firm goes two none heard a =
     subst (λ (s : State). AllStand d deeds then_known put b s (unit_passes (other d) at v c).sessions) (sym (unit_knows (other d) at v c))
     (subst (λ (t : Sessions). AllStand d deeds then_known put b (takes (way_of (other d)) v c.traffic).state t) (sym (unit_joins
-        (other d) at v c))
+    (other d) at v c))
     (all_after d deeds known then_known put put b b (other d) at v c.traffic c.sessions a
     (other_goes deeds known then_known at put b c.traffic c.sessions firm d v goes two none heard a)))

@@ -159,8 +159,12 @@ unsaid_begun : (d e : Direction) (j : Joined) → IsUnsaid (spoken d j) → IsUn
 unsaid_begun Left Left j h o = record { said = h.said; begun = h.begun; since = ap (λ (l : List lines.Said). offset_of (length l)) o.said }
 unsaid_begun Left Right j h o = h
 unsaid_begun Right Left j h o = h
-unsaid_begun Right Right j h o = record { said = h.said; begun = h.begun; since = ap (λ (l : List lines.Said). offset_of
-    (length l)) o.said }
+unsaid_begun Right Right j h o = record {
+  said = h.said;
+  begun = h.begun;
+  since = ap (λ (l : List lines.Said). offset_of
+      (length l)) o.said;
+}
 
 other_unsaid_begun : (d e : Direction) (j : Joined) → IsUnsaid (spoken d j) → IsUnsaid (spoken (other d) j) →
     IsUnsaid (spoken (other d) (packet_begins e j))
