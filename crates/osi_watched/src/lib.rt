@@ -15,11 +15,13 @@
 //! - **The session of an end is not to blame for what a tap shows of it.** `IsShownOf` (`specs/Shown`) says what a tap has joined of a
 //!   connection beside what was done there: [`laws::a_session_that_is_shown_is_not_to_blame`]. It goes on so packet by packet:
 //!   [`laws::what_a_tap_shows_goes_on`]. A unit is joined at the place that the rules of transport tell:
-//!   [`laws::connections_have_the_same_places`]. In class 2, steps of a `Joint` leave this so of all its connections (`Standing` in
-//!   `proofs/sessions`), if nobody breaks a rule, the end takes at each connection the first of what is in flight to it, and what it
-//!   puts in a turn is for the connections that put it.
+//!   [`laws::connections_have_the_same_places`]. In either class, steps of a `Joint` leave this so of all its connections
+//!   (`Standing` in `proofs/sessions`), if nobody breaks a rule, the end takes at each connection the first of what is in flight to
+//!   it, and what it puts in a turn is for the connections that put it. Lemmas there say so of a calling end of class 2, and parts
+//!   of it of a called end.
 //!
-//! What is not here: that every run of an end meets these premises; and the sessions of class 0.
+//! What is not here: that every run of an end meets these premises. So the law that no session of an end is blamed first doesn't
+//! follow yet.
 #![tactic(auto)]
 
 pub mod laws;
