@@ -155,7 +155,7 @@ unanswered s n x c j one h =
     one.called ∙ none_given c.right.phase c.right.reference (first_answer (is_silent c.right.phase) (is_offered c.offer s.course.class x)
     (is_inside x) (not in_use) (nat_le (code_named x.parameters.size) c.offer.size_code) f)
 
--- of a called end: what it has put there is what waits behind the CC
+-- of a called end: what it has put there is what waits after the CC
 pub own_cc : (deeds : ℕ → Deeds) (known : Known) (at n : ℕ) (x : Connect) (rest : List Value) (s : State) (t : Sessions) →
     ((p : ℕ) (j : Joined) → (takes way.Right (confirm n x) s).told.place ≡ Some p → slice_get t.live p ≡ Some j →
     (deeds x.source).put ≡ waiting_for (Some j.calling) rest) → parts_in (deeds x.source).calls ≡ [] → known x.source [] →

@@ -129,7 +129,7 @@ goes_on false d s o h none = none
 
 -- ---- a unit of the end
 
--- Before a CR passes nothing is done at its connection. What waits behind a CC is all that was put there, and nothing was taken.
+-- Before a CR passes nothing is done at its connection. What waits after a CC is all that was put there, and nothing was taken.
 abbrev pub IsReady : Direction → (ℕ → Deeds) → Known → Value → (rest : List Value) → State → Sessions → Type 0
 IsReady Left deeds known (request x) rest s t = ((deeds x.source).put ≡ []) × (parts_in (deeds x.source).calls ≡ []) × known x.source []
 IsReady Right deeds known (confirm n x) rest s t =
