@@ -48,3 +48,5 @@ pub mod each_unit_of_a_calling_end_has_a_home
 pub mod a_called_end_has_its_lines
 pub mod a_called_end_of_class_2_puts_no_dt_of_class_0
 pub mod each_unit_of_a_called_end_has_a_home
+pub mod the_first_break_of_all_is_of_the_other_side
+pub mod no_more_tsdus_than_moments_have_passed
