@@ -48,3 +48,5 @@ pub mod each_unit_of_a_calling_end_has_a_home
 pub mod a_called_end_has_its_lines
 pub mod a_called_end_of_class_2_puts_no_dt_of_class_0
 pub mod each_unit_of_a_called_end_has_a_home
+pub mod ccs_that_wait_are_above_those_that_passed
+pub mod units_written_alike_have_the_same_ccs
