@@ -50,3 +50,4 @@ pub mod a_called_end_of_class_2_puts_no_dt_of_class_0
 pub mod each_unit_of_a_called_end_has_a_home
 pub mod ccs_that_wait_are_above_those_that_passed
 pub mod units_written_alike_have_the_same_ccs
+pub mod each_cc_that_passes_gives_a_new_reference
