@@ -51,3 +51,4 @@ pub mod each_unit_of_a_called_end_has_a_home
 pub mod ccs_that_wait_are_above_those_that_passed
 pub mod units_written_alike_have_the_same_ccs
 pub mod each_cc_that_passes_gives_a_new_reference
+pub mod nothing_comes_before_a_cc_passes
