@@ -52,3 +52,6 @@ pub mod ccs_that_wait_are_above_those_that_passed
 pub mod units_written_alike_have_the_same_ccs
 pub mod each_cc_that_passes_gives_a_new_reference
 pub mod nothing_comes_before_a_cc_passes
+pub mod each_cc_of_a_called_end_opens_another_connection
+pub mod a_called_end_of_class_2_has_its_lines
+pub mod a_called_end_answers_with_class_2_or_selects_class_0
