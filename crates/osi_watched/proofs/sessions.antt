@@ -55,3 +55,4 @@ pub mod nothing_comes_before_a_cc_passes
 pub mod each_cc_of_a_called_end_opens_another_connection
 pub mod a_called_end_of_class_2_has_its_lines
 pub mod a_called_end_answers_with_class_2_or_selects_class_0
+pub mod what_waits_after_the_ccs_of_a_called_end
