@@ -59,3 +59,4 @@ pub mod what_waits_after_the_ccs_of_a_called_end
 pub mod a_called_end_is_ready
 pub mod a_called_end_hears_what_breaks_no_rule
 pub mod a_called_end_takes_what_is_in_flight
+pub mod a_called_end_stands_as_units_pass
