@@ -38,6 +38,7 @@ pub mod a_calling_end_is_ready
 pub mod a_calling_end_takes_nothing_before_its_cc
 pub mod a_calling_end_takes_what_is_in_flight
 pub mod a_calling_end_hears_what_breaks_no_rule
+pub mod what_has_come_before_a_cc
 pub mod a_calling_end_stands_as_units_pass
 pub mod class_0_is_known_once_it_is_selected
 pub mod what_passes_is_no_break_while_none_is_told
