@@ -63,3 +63,5 @@ pub mod a_called_end_takes_what_is_in_flight
 pub mod a_called_end_stands_as_units_pass
 pub mod the_first_break_of_all_is_of_the_other_side
 pub mod no_more_tsdus_than_moments_have_passed
+pub mod no_session_of_an_end_breaks_first
+pub mod an_end_that_has_said_nothing_is_not_to_blame

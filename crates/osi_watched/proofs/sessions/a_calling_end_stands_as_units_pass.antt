@@ -47,7 +47,7 @@ use Rattle.osi_watched.proofs.sessions.what_stands_of_a_connection.{Known, Takes
 abbrev pub known_at : Joint → Known
 known_at j = known_from (may_take j.holding.end.carrier) (units_in j.coming)
 
-ranges_of : (units : List Value) → AllByRecursion Fits units → AllByRecursion HasFieldsInRange units
+pub ranges_of : (units : List Value) → AllByRecursion Fits units → AllByRecursion HasFieldsInRange units
 ranges_of [] h = tt
 ranges_of (v ∷ units) h = (h.0.in_range, ranges_of units h.1)
 

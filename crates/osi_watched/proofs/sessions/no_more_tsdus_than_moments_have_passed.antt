@@ -15,9 +15,9 @@ use Rattle.osi_rules.specs.Traffic as traffic
 use Rattle.osi_fair.proofs.what_holds_of_one_item.{after_add, after_set}
 use Rattle.osi_tap.specs.declared.marks.Cause.{Cause}
 use Rattle.osi_tap.specs.declared.rooms.Room.{Room}
-use Rattle.osi_tap.specs.Connections.{Joined, Sessions, adds_if, all_begin, asked, changed, count, meant, packet_begins, placed, source_of}
+use Rattle.osi_tap.specs.Connections.{Joined, Sessions, adds_if, asked, changed, count, meant, packet_begins, placed, source_of}
 use Rattle.osi_tap.specs.Connections.{spoken, taken, user_of}
-use Rattle.osi_tap.specs.Courses.{Course, marked, marks_of, moved, unit_passes, unread, unread_mark, unread_moment, way_of}
+use Rattle.osi_tap.specs.Courses.{Course, marked, marks_of, moved, unit_passes, unread_mark, unread_moment, way_of}
 use Rattle.osi_tap.specs.Lines.{Said, Spoken, added, before, begun_octets, heard, octets_of}
 use Rattle.osi_tap.specs.Rooms.{fits, spent}
 use Rattle.osi_tap.proofs.no_break_was_before_the_first.{marked_past}

@@ -18,10 +18,10 @@ use Rattle.osi_tap.specs.declared.marks.Cause.{Cause}
 use Rattle.osi_tap.specs.declared.marks.Cause.TheVariants as cause
 use Rattle.osi_tap.specs.declared.marks.First.{First}
 use Rattle.osi_tap.specs.declared.marks.Mark.{Mark}
-use Rattle.osi_tap.specs.Blaming.{AreSpotless, BreaksFirst, IsBreakOf, IsQuiet, IsToBlame, of_session, of_transport}
+use Rattle.osi_tap.specs.Blaming.{AreSpotless, BreaksFirst, IsBreakOf, IsFirstOf, IsQuiet, IsToBlame, of_session, of_transport}
 use Rattle.osi_tap.specs.Connections.{Sessions, taken}
 use Rattle.osi_tap.specs.Courses.{Course, Moment, cause_of, is_break, kind_of, mark_by, marked, marks_of, moment_of, moved, number_at}
-use Rattle.osi_tap.specs.Courses.{packet_begins, unit_passes, unread, unread_mark, unread_moment, way_of}
+use Rattle.osi_tap.specs.Courses.{unit_passes, unread, unread_mark, unread_moment, way_of}
 use Rattle.osi_tap.proofs.no_break_was_before_the_first.{marked_past, noted_past}
 use Rattle.osi_watched.proofs.the_first_break_is_not_of_an_end.{IsNoBreak}
 use Rattle.osi_watched.proofs.what_a_unit_leaves_at_a_tap.{IsJudged, IsOver, unread_over}
@@ -127,6 +127,12 @@ pub first_of_other : (d : Direction) (f : First) (past : List Moment) → AreCle
     f.direction ≡ other d
 first_of_other d f past (inl clean) b = among_clean d f b.moment b.back b.breaks past b.front clean b.parts
 first_of_other d f past (inr broken) b = among_broken d f b.moment b.back b.breaks past b.front broken b.parts b.before
+
+-- if it is neither of left nor of right, there is none
+pub neither_first : (o : Option First) (past : List Moment) → ((f : First) → BreaksFirst f past → f.direction ≡ Right) →
+    ((f : First) → BreaksFirst f past → f.direction ≡ Left) → IsFirstOf o past → o ≡ None
+neither_first None past left right is = refl
+neither_first (Some f) past left right is = let not : Right ≡ Left = sym (left f is) ∙ right f is in absurd (cc)
 
 -- ---- the moment of a unit
 

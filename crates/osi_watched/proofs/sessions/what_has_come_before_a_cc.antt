@@ -48,11 +48,11 @@ use Rattle.osi_fair.proofs.which_units_are_for_a_connection.{each_picked, names,
 use Rattle.osi_honest.specs.Courses.{Continues, Deeds, units_in, units_read}
 use Rattle.osi_honest.specs.Marked.{Marked}
 use Rattle.osi_honest.specs.Turns.{Turn}
-use Rattle.osi_honest.proofs.courses.how_long_a_connection_is_open.{Life, Stage, amid, early, past, stage_at, stays}
+use Rattle.osi_honest.proofs.courses.how_long_a_connection_is_open.{Life, Stage, amid, early, past, stage_at}
 use Rattle.osi_stack.specs.Calls.{has_given}
 use Rattle.osi_stack.specs.State.{Holding}
 use Rattle.osi_tap.specs.Connections.{Joined, Sessions}
-use Rattle.osi_tap.specs.Courses.{Course, packet_begins, unit_passes, units_pass}
+use Rattle.osi_tap.specs.Courses.{Course, unit_passes, units_pass}
 use Rattle.osi_watched.specs.Joint.{Joint, Steps, TakesTurn, begin, begins_other, begins_own, passes_other, passes_own}
 use Rattle.osi_watched.specs.ShownPlaces.{HaveSamePlaces, IsOneOf, named_by}
 use Rattle.osi_watched.proofs.a_carrier_does_events.{none_of}

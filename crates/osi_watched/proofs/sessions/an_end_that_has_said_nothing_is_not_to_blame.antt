@@ -1,0 +1,222 @@
+-- No session of an end is to blame that has sent no DT; and what passes keeps that so, unless it is a DT of the end.
+-- For the law that no session of an end is blamed first, if the end doesn't offer class 2 and class 0 is not selected.
+use Rattle.std.proofs.Common.{◌≡◌, ◌∙◌, ◌⊎◌, inl, inr, refl, sym, ap, subst, ℕ, Bool, true, false, List, [], ◌∷◌, length, map, Some}
+use Rattle.std.specs.Prelude.{slice_get}
+use Rattle.osi_tpdu.specs.Value.{Value, acknowledge, confirm, data0, data2, disconnect, disconnected, error, request}
+use Rattle.osi_class.specs.declared.terms.Local.{Local}
+use Rattle.osi_judge.specs.Captures.{other}
+use Rattle.osi_judge.specs.Stops.{broke_session}
+use Rattle.osi_judge.specs.Tapping.{begin_of}
+use Rattle.osi_judge.specs.declared.directions.Direction.{Direction}
+use Rattle.osi_judge.specs.declared.directions.Direction.TheVariants.{Left, Right}
+use Rattle.osi_rules.specs.declared.findings.Meaning.TheVariants as meaning
+use Rattle.osi_rules.specs.Traffic.{State, meaning_if, meant, takes}
+use Rattle.osi_fair.specs.Wholes as wholes
+use Rattle.osi_fair.proofs.what_holds_of_one_item.{after_add, after_set}
+use Rattle.osi_fair.proofs.what_the_other_side_closes.{IsClear}
+use Rattle.osi_honest.specs.Courses.{Deeds}
+use Rattle.osi_honest.proofs.class_0.what_a_packet_does_in_class_0.{AllProper}
+use Rattle.osi_tap.specs.declared.rooms.Room.{Room}
+use Rattle.osi_tap.specs.Blaming.{IsToBlame}
+use Rattle.osi_tap.specs.Connections.{Joined, Sessions, adds_if, all_begin, asked, packet_begins, spoken, taken}
+use Rattle.osi_tap.specs.Connections as joined
+use Rattle.osi_tap.specs.Courses.{Course, unit_passes, units_pass, way_of}
+use Rattle.osi_tap.specs.Lines.{Said, heard, told, told_of}
+use Rattle.osi_tap.specs.Rooms.{fits, spent}
+use Rattle.osi_watched.specs.Joint.{Joint, Step, Steps, begins_other, begins_own, passes_other, passes_own}
+use Rattle.osi_watched.specs.Shown.{calls_from}
+use Rattle.osi_watched.proofs.steps_are_events.{IsFollowed, begin_followed, step_followed}
+use Rattle.osi_watched.proofs.sessions.a_session_that_is_shown_is_not_to_blame.{none_broken, not_both}
+use Rattle.osi_watched.proofs.sessions.after_too_many_nobody_is_to_blame.{NoneIsToBlame}
+use Rattle.osi_watched.proofs.sessions.all_connections_stand.{map_of}
+use Rattle.osi_watched.proofs.sessions.connections_have_the_same_places.{Agree, packet_agrees, unit_agrees, unit_joins, units_agree}
+use Rattle.osi_watched.proofs.sessions.no_session_of_an_end_breaks_first.{KeepsNoneToBlame}
+use Rattle.osi_watched.proofs.sessions.what_a_unit_does_at_its_place.{Does, asks_again, asks_more, nowhere, somewhere, unit_does}
+use Rattle.osi_watched.proofs.sessions.what_stands_of_a_connection.{is_part}
+
+-- ---- sides that have said nothing
+
+abbrev IsUnsaid : Direction → Joined → Type 0
+IsUnsaid d j = (spoken d j).said ≡ []
+
+-- of all connections
+pub record IsMute (d : Direction) (t : Sessions) : Type 0 where
+  pub live : (i : ℕ) (j : Joined) → slice_get t.live i ≡ Some j → (spoken d j).said ≡ []
+  pub done : (i : ℕ) (j : Joined) → slice_get t.done i ≡ Some j → (spoken d j).said ≡ []
+
+not_blamed : (d : Direction) (j : Joined) → IsUnsaid d j → IsToBlame d j → ⊥
+not_blamed d j none blame =
+    not_both (broke_session blame.finding) blame.broke
+    (none_broken (begin_of d) (heard (spoken (other d) j)) (told (spoken d j)) blame.finding
+    (ap (λ (l : List Said). map told_of l) none) blame.found.found)
+
+pub mute_none : (d : Direction) (t : Sessions) → IsMute d t → NoneIsToBlame d t
+mute_none d t h = record {
+  live = λ i j here blame. not_blamed d j (h.live i j here) blame;
+  done = λ i j here blame. not_blamed d j (h.done i j here) blame;
+}
+
+-- ---- what passes
+
+said_begun : (d e : Direction) (j : Joined) → (spoken d (packet_begins e j)).said ≡ (spoken d j).said
+said_begun Left Left j = refl
+said_begun Left Right j = refl
+said_begun Right Left j = refl
+said_begun Right Right j = refl
+
+said_shut : (d : Direction) (j : Joined) → (spoken d (joined.shut j)).said ≡ (spoken d j).said
+said_shut Left j = refl
+said_shut Right j = refl
+
+said_opened : (d e : Direction) (at : ℕ) (v : Value) (j : Joined) →
+    (spoken d (joined.meant e at v meaning.Opens j)).said ≡ (spoken d j).said
+said_opened Left e at v j = refl
+said_opened Right e at v j = refl
+
+-- a DT of the other side
+said_added : (b : Bool) (room : Room) (d : Direction) (at : ℕ) (end : Bool) (octets : List ℕ) (j : Joined) →
+    (spoken d (adds_if b room (other d) at end octets j)).said ≡ (spoken d j).said
+said_added true room Left at end octets j = refl
+said_added true room Right at end octets j = refl
+said_added false room Left at end octets j = refl
+said_added false room Right at end octets j = refl
+
+said_part : (d e : Direction) (at : ℕ) (end : Bool) (octets : List ℕ) (j : Joined) → (e ≡ d → ⊥) →
+    (spoken d (joined.adds e at end octets j)).said ≡ (spoken d j).said
+said_part Left Left at end octets j apart = absurd (apart refl)
+said_part Left Right at end octets j apart =
+    said_added (fits j.room (length octets)) (spent j.room (length octets)) Left at end octets j
+said_part Right Left at end octets j apart =
+    said_added (fits j.room (length octets)) (spent j.room (length octets)) Right at end octets j
+said_part Right Right at end octets j apart = absurd (apart refl)
+
+differ : true ≡ false → ⊥
+differ e = cc
+
+-- what a unit means for its connection
+said_meant : (d e : Direction) (at : ℕ) (v : Value) (b : Bool) (j : Joined) → (e ≡ d → is_part v ≡ false) →
+    (spoken d (joined.meant e at v (meaning_if b (meant v)) j)).said ≡ (spoken d j).said
+said_meant d e at v false j not = refl
+said_meant d e at (request x) true j not = refl
+said_meant d e at (confirm n x) true j not = said_opened d e at (confirm n x) j
+said_meant d e at (disconnect n source reason user) true j not = said_shut d j
+said_meant d e at (disconnected n source) true j not = refl
+said_meant d e at (data0 end user) true j not = said_part d e at end user j (λ same. differ (not same))
+said_meant d e at (data2 n number end user) true j not = said_part d e at end user j (λ same. differ (not same))
+said_meant d e at (acknowledge credit n number) true j not = refl
+said_meant d e at (error n cause) true j not = said_shut d j
+
+said_asked : (d : Direction) (number calling : ℕ) (room : Room) → (spoken d (asked number calling room)).said ≡ []
+said_asked Left number calling room = refl
+said_asked Right number calling room = refl
+
+module _ (d e : Direction) (at : ℕ) (v : Value) (s : State) (t : Sessions) (not : e ≡ d → is_part v ≡ false) (h : IsMute d t) where
+  one_or : (p i : ℕ) (new j : Joined) → IsUnsaid d new → ((i ≡ p) × (j ≡ new)) ⊎ (slice_get t.live i ≡ Some j) → IsUnsaid d j
+  one_or p i new j none (inl (there, is)) = subst (IsUnsaid d) (sym is) none
+  one_or p i new j none (inr here) = h.live i j here
+
+  old_or : (p i : ℕ) (old j : Joined) → IsUnsaid d old → ((i ≡ p) × (j ≡ old)) ⊎ (slice_get t.done i ≡ Some j) → IsUnsaid d j
+  old_or p i old j none (inl (there, is)) = subst (IsUnsaid d) (sym is) none
+  old_or p i old j none (inr here) = h.done i j here
+
+  mute_by : Does e at v s t (takes (way_of e) v s) →
+      IsMute d (taken e at v (takes (way_of e) v s).told.meaning (takes (way_of e) v s).told.place t)
+  mute_by (nowhere place cs ts) = subst (IsMute d) (sym ts) h
+  mute_by (somewhere p c k b r place there here one finding is cs ts) =
+      let new : Joined = joined.meant e at v (meaning_if b (meant v)) k in
+      let none : IsUnsaid d new = said_meant d e at v b k not ∙ h.live p k here in
+      subst (IsMute d) (sym ts) (record {
+        live = λ i j here. one_or p i new j none (after_set t.live p i new j here);
+        done = h.done;
+      })
+  mute_by (asks_more x is number cs ts) =
+      let new : Joined = asked number x.source t.room in
+      subst (IsMute d) (sym ts) (record {
+        live = λ i j here. one_or (length t.live) i new j (said_asked d number x.source t.room) (after_add t.live i new j here);
+        done = h.done;
+      })
+  mute_by (asks_again x is number p k here cs ts) =
+      let new : Joined = asked number x.source t.room in
+      subst (IsMute d) (sym ts) (record {
+        live = λ i j here. one_or p i new j (said_asked d number x.source t.room) (after_set t.live p i new j here);
+        done = λ i j there. old_or (length t.done) i k j (h.live p k here) (after_add t.done i k j there);
+      })
+
+mute_unit : (d e : Direction) (at : ℕ) (v : Value) (c : Course) → Agree c → (e ≡ d → is_part v ≡ false) → IsMute d c.sessions →
+    IsMute d (unit_passes e at v c).sessions
+mute_unit d e at v c places not h =
+    subst (IsMute d) (sym (unit_joins e at v c))
+    (mute_by d e at v c.traffic c.sessions not h (unit_does e at v c.traffic c.sessions places))
+
+others_apart : {A : Type 0} (d : Direction) → other d ≡ d → A
+others_apart Left e = let no : Right ≡ Left = e in absurd (cc)
+others_apart Right e = let no : Left ≡ Right = e in absurd (cc)
+
+pub mute_units : (d : Direction) (at : ℕ) (vs : List Value) (c : Course) → Agree c → IsMute d c.sessions →
+    IsMute d (units_pass (other d) at vs c).sessions
+mute_units d at [] c places h = h
+mute_units d at (v ∷ vs) c places h =
+    mute_units d at vs (unit_passes (other d) at v c) (unit_agrees (other d) at v c places)
+    (mute_unit d (other d) at v c places (λ same. others_apart d same) h)
+
+pub mute_begins : (d e : Direction) (t : Sessions) → IsMute d t → IsMute d (all_begin e t)
+mute_begins d e t h = record {
+  live = λ i j here. let (k, there, is) = map_of (packet_begins e) t.live i j here in
+      ap (λ (x : Joined). (spoken d x).said) is ∙ said_begun d e k ∙ h.live i k there;
+  done = h.done;
+}
+
+-- ---- the steps
+
+pub record HasSaidNothing (d : Direction) (local : Local) (deeds : ℕ → Deeds) (j : Joint) : Type 0 where
+  pub followed : IsFollowed d (wholes.begin (calls_from d) local) j
+  pub places : Agree j.course
+  pub mute : IsMute d j.course.sessions
+
+-- as long as nobody has broken a rule, and class 0 is not selected, no unit that passes of the end is a DT
+abbrev pub PutsNoDt : Direction → Local → Type 0
+PutsNoDt d local = (at : ℕ) (v : Value) (old new : Joint) → Steps d (passes_own at v) old new →
+    IsFollowed d (wholes.begin (calls_from d) local) old → IsClear old.course.traffic.course → is_part v ≡ false
+
+module _ (proper : AllProper) (d : Direction) (local : Local) where
+  stays_mute : (deeds then_deeds : ℕ → Deeds) (step : Step) (old new : Joint) → Steps d step old new → Agree new.course →
+      IsMute d new.course.sessions → HasSaidNothing d local deeds old → HasSaidNothing d local then_deeds new
+  stays_mute deeds then_deeds step old new does places mute h = record {
+    followed = step_followed d (wholes.begin (calls_from d) local) proper step old new does h.followed;
+    places = places;
+    mute = mute;
+  }
+
+  pub mute_keeps : PutsNoDt d local → KeepsNoneToBlame d local (HasSaidNothing d local)
+  mute_keeps none_put = record {
+    begins = λ h fresh. record {
+      followed = begin_followed d (calls_from d) local h fresh;
+      places = tt;
+      mute = record { live = λ i j here. absurd (cc here); done = λ i j here. absurd (cc here) };
+    };
+    own_begins = λ deeds old new step courses few h.
+        stays_mute deeds deeds begins_own old new step
+        (subst (λ (j : Joint). Agree j.course) (sym step.2) (packet_agrees d old.course h.places))
+        (subst (λ (j : Joint). IsMute d j.course.sessions) (sym step.2) (mute_begins d d old.course.sessions h.mute)) h;
+    other_begins = λ deeds old new step h.
+        stays_mute deeds deeds begins_other old new step
+        (subst (λ (j : Joint). Agree j.course) (sym step) (packet_agrees (other d) old.course h.places))
+        (subst (λ (j : Joint). IsMute d j.course.sessions) (sym step) (mute_begins d (other d) old.course.sessions h.mute)) h;
+    own_passes = λ deeds at v old new step fine clear then_two h.
+        stays_mute deeds deeds (passes_own at v) old new step
+        (subst (λ (j : Joint). Agree j.course) (sym step.4) (unit_agrees d at v old.course h.places))
+        (subst (λ (j : Joint). IsMute d j.course.sessions) (sym step.4)
+        (mute_unit d d at v old.course h.places (λ same. none_put at v old new step h.followed clear) h.mute)) h;
+    other_passes = λ deeds at octets units old new step taken h.
+        stays_mute deeds deeds (passes_other at octets units) old new step
+        (subst (λ (j : Joint). Agree j.course) (sym step.2) (units_agree (other d) at units old.course h.places))
+        (subst (λ (j : Joint). IsMute d j.course.sessions) (sym step.2) (mute_units d at units old.course h.places h.mute)) h;
+    turn = λ turn old new t deeds does f g clear h. record {
+      followed = g;
+      places = subst Agree (sym t.course) h.places;
+      mute = subst (λ (c : Course). IsMute d c.sessions) (sym t.course) h.mute;
+    };
+    none = λ deeds j courses h. mute_none d j.course.sessions h.mute;
+    none_amid = λ deeds at octets front back old new step courses taken h.
+        mute_none d (units_pass (other d) at front old.course).sessions (mute_units d at front old.course h.places h.mute);
+  }

@@ -1,0 +1,548 @@
+-- The first break of all at a tap, of transport and of sessions, is never of the side of an end, if something holds at each step by
+-- which nobody of the end is to blame, as long as nobody has broken a rule.
+-- For the law that no session of an end is blamed first.
+use Rattle.std.proofs.Common.{◌≡◌, ◌≢◌, ◌∙◌, ◌⊎◌, inl, inr, refl, sym, ap, subst, ℕ, ◌^◌, ◌<◌, ◌≤◌, Bool, true, false, if◌then◌else◌}
+use Rattle.std.proofs.Common.{List, [], ◌∷◌, ◌++◌, length, Some, None, is_some, append_assoc, arith}
+use Rattle.std.specs.Prelude.{slice_get}
+use Rattle.std.proofs.lemmas.List.{append-nil, length-append}
+use Rattle.osi_tpdu.specs.Value.{Value}
+use Rattle.osi_class.specs.declared.terms.Class.TheVariants.{Zero}
+use Rattle.osi_class.specs.declared.terms.Local.{Local}
+use Rattle.osi_judge.specs.Captures.{Capture, other}
+use Rattle.osi_judge.specs.declared.directions.Direction.{Direction}
+use Rattle.osi_judge.specs.declared.directions.Direction.TheVariants.{Left, Right}
+use Rattle.osi_rules.specs.declared.findings.Finding.{Finding}
+use Rattle.osi_rules.specs.declared.findings.Finding.TheVariants.{Broke, Kept, NotJudged, Outside, TooMany}
+use Rattle.osi_rules.specs.Traffic.{State as Traffic, takes}
+use Rattle.osi_rules.specs.Traffic as traffic
+use Rattle.osi_fair.specs.Naming.{packet, rubbish, unit}
+use Rattle.osi_fair.specs.Wholes as wholes
+use Rattle.osi_fair.proofs.class_0_stays_selected.{zero_stays}
+use Rattle.osi_fair.proofs.what_the_other_side_closes.{IsClear}
+use Rattle.osi_stack.specs.State.{End, Holding}
+use Rattle.osi_honest.specs.Courses.{Course, Deeds, all_did, no_deeds, then_did}
+use Rattle.osi_honest.specs.Seeing.{IsFresh}
+use Rattle.osi_honest.specs.Turns.{Turn}
+use Rattle.osi_honest.proofs.class_0.what_a_packet_does_in_class_0.{AllProper}
+use Rattle.osi_honest.proofs.courses.what_a_run_does_to_it.{fresh_course}
+use Rattle.osi_tap.specs.declared.marks.Cause.{Cause}
+use Rattle.osi_tap.specs.declared.marks.First.{First}
+use Rattle.osi_tap.specs.Blaming.{BreaksFirst}
+use Rattle.osi_tap.specs.Connections.{Joined, spoken}
+use Rattle.osi_tap.specs.Courses.{Course as Passed, marked, marks_of, moved, packet_begins, unit_passes, units_pass, unread, unread_mark}
+use Rattle.osi_tap.specs.Courses.{unread_moment, way_of}
+use Rattle.osi_tap.specs.Lines.{heard}
+use Rattle.osi_tap.specs.Tapping as tapping
+use Rattle.osi_tap.specs.Tapping.{after, comes_to}
+use Rattle.osi_tap.proofs.no_break_was_before_the_first.{marked_past}
+use Rattle.osi_watched.specs.Joint.{Joint, Step, Steps, StepsAlong, TakesTurn, begin, begins_other, begins_own, passes_other, passes_own}
+use Rattle.osi_watched.specs.Joint.{turns}
+use Rattle.osi_watched.specs.Passing.{TurnsBad}
+use Rattle.osi_watched.specs.Shown.{calls_from}
+use Rattle.osi_watched.proofs.steps_are_events.{IsFollowed, begin_followed, step_followed}
+use Rattle.osi_watched.proofs.the_first_break_is_not_of_an_end.{IsFairFrom, IsNoBreak}
+use Rattle.osi_watched.proofs.what_a_unit_leaves_at_a_tap.{IsCalm, IsJudged, IsOver, Leaves, unit_leaves}
+use Rattle.osi_watched.proofs.what_passes_keeps_a_claim.{IsClaim, after_join, after_kept, step_kept, units_kept}
+use Rattle.osi_watched.proofs.what_the_turns_among_steps_do.{ComesByDoing, IsOfTap, StepsDo, TurnDoes}
+use Rattle.osi_watched.proofs.sessions.after_too_many_nobody_is_to_blame.{NoneIsToBlame, too_many_silenced}
+use Rattle.osi_watched.proofs.sessions.connections_have_the_same_places.{marked_traffic, unit_knows}
+use Rattle.osi_watched.proofs.sessions.each_step_leaves_class_0_one_connection.{Sure, fresh_sure, sure_claim}
+use Rattle.osi_watched.proofs.sessions.no_more_tsdus_than_moments_have_passed.{AreFew, few_claim}
+use Rattle.osi_watched.proofs.sessions.steps_leave_all_standing.{IsFine}
+use Rattle.osi_watched.proofs.sessions.the_first_break_of_all_is_of_the_other_side.{AreClean, HasBroken, IsSilent, broken_claim}
+use Rattle.osi_watched.proofs.sessions.the_first_break_of_all_is_of_the_other_side.{first_of_other, moment, silent_claim, unit_breaks}
+use Rattle.osi_watched.proofs.sessions.the_first_break_of_all_is_of_the_other_side.{unit_clean, unit_past, unread_breaks_so}
+use Rattle.osi_watched.proofs.sessions.what_passes_is_no_break_while_none_is_told.{fine_so, judged_clear, own_fine}
+
+-- ---- what is asked of what holds at each step
+
+-- a unit of the other side breaks no rule, and is not one connection too many
+pub record IsTaken (d : Direction) (v : Value) (c : Passed) : Type 0 where
+  pub fine : IsFine (other d) v c
+  pub clear : IsClear c.traffic.course
+  pub few : (takes (way_of (other d)) v c.traffic).told.finding ≢ TooMany
+
+-- each of these, as it passes
+abbrev pub AreTaken : (d : Direction) (at : ℕ) → List Value → Passed → Type 0
+AreTaken d at [] c = Unit {0}
+AreTaken d at (v ∷ vs) c = IsTaken d v c × AreTaken d at vs (unit_passes (other d) at v c)
+
+-- the courses of all connections of an end
+abbrev pub HaveCourses : Direction → (ℕ → Deeds) → Joint → Type 0
+HaveCourses d deeds j = (r : ℕ) → Course (calls_from d) r (deeds r) j.holding.end
+
+-- It holds at the beginning, and each step keeps it as long as nobody breaks a rule. Then nobody of the end is to blame, also after
+-- each unit of a packet of the other side.
+pub record KeepsNoneToBlame (d : Direction) (local : Local) (Inv : (ℕ → Deeds) → Joint → Type 0) : Type 0 where
+  pub begins : (h : Holding) → IsFresh (calls_from d) local h → Inv (λ r. no_deeds) (begin h)
+  pub own_begins : (deeds : ℕ → Deeds) (old new : Joint) → Steps d begins_own old new → HaveCourses d deeds old →
+      ((i : ℕ) (j : Joined) → slice_get old.course.sessions.live i ≡ Some j → length (heard (spoken (other d) j)) < 2 ^ 64) →
+      Inv deeds old → Inv deeds new
+  pub other_begins : (deeds : ℕ → Deeds) (old new : Joint) → Steps d begins_other old new → Inv deeds old → Inv deeds new
+  pub own_passes : (deeds : ℕ → Deeds) (at : ℕ) (v : Value) (old new : Joint) → Steps d (passes_own at v) old new →
+      IsFine d v old.course → IsClear old.course.traffic.course → (new.course.traffic.course.class ≡ Some Zero → ⊥) → Inv deeds old →
+      Inv deeds new
+  pub other_passes : (deeds : ℕ → Deeds) (at : ℕ) (octets : List ℕ) (units : List Value) (old new : Joint) →
+      Steps d (passes_other at octets units) old new → AreTaken d at units old.course → Inv deeds old → Inv deeds new
+  pub turn : (turn : Turn) (old new : Joint) (t : TakesTurn turn old new) (deeds : ℕ → Deeds)
+      (does : TurnDoes (calls_from d) deeds turn old new t) → IsFollowed d (wholes.begin (calls_from d) local) old →
+      IsFollowed d (wholes.begin (calls_from d) local) new → IsClear old.course.traffic.course → Inv deeds old →
+      Inv (λ r. then_did (deeds r) (does.of.on.more r)) new
+  pub none : (deeds : ℕ → Deeds) (j : Joint) → HaveCourses d deeds j → Inv deeds j → NoneIsToBlame d j.course.sessions
+  pub none_amid : (deeds : ℕ → Deeds) (at : ℕ) (octets : List ℕ) (front back : List Value) (old new : Joint) →
+      Steps d (passes_other at octets (front ++ back)) old new → HaveCourses d deeds old → AreTaken d at front old.course →
+      Inv deeds old → NoneIsToBlame d (units_pass (other d) at front old.course).sessions
+
+-- ---- what stays, whatever passes
+
+zero_bad : (b : Bool) (d : Direction) (at : ℕ) (cause : Cause) (c : Passed) → c.traffic.course.class ≡ Some Zero →
+    (if b then c else marked (unread_mark d at cause) (traffic.refused_reach (way_of d) c.traffic)
+    (moved (unread_moment d at cause c.sessions) (record c { traffic = traffic.refused (way_of d) c.traffic }))).traffic.course.class
+    ≡ Some Zero
+zero_bad true d at cause c h = h
+zero_bad false d at cause c h =
+    ap (λ (s : Traffic). s.course.class) (marked_traffic (unread_mark d at cause) (traffic.refused_reach (way_of d) c.traffic) _)
+    ∙ zero_stays (rubbish (way_of d)) c.traffic h
+
+-- class 0 stays selected
+zero_claim : IsClaim (λ c. c.traffic.course.class ≡ Some Zero)
+zero_claim = record {
+  begins = λ d c h. zero_stays (packet (way_of d)) c.traffic h;
+  passes = λ d at v c h.
+      ap (λ (s : Traffic). s.course.class) (unit_knows d at v c) ∙ zero_stays (unit (way_of d) v) c.traffic h;
+  bad = λ d at cause c h. zero_bad (is_some (marks_of d c).halted) d at cause c h;
+}
+
+long_bad : (n : ℕ) (b : Bool) (d : Direction) (at : ℕ) (cause : Cause) (c : Passed) → n ≤ length c.past →
+    n ≤ length (if b then c else marked (unread_mark d at cause) (traffic.refused_reach (way_of d) c.traffic)
+    (moved (unread_moment d at cause c.sessions) (record c { traffic = traffic.refused (way_of d) c.traffic }))).past
+long_bad n true d at cause c h = h
+long_bad n false d at cause c h =
+    let same = ap length (marked_past (unread_mark d at cause) (traffic.refused_reach (way_of d) c.traffic)
+    (moved (unread_moment d at cause c.sessions) (record c { traffic = traffic.refused (way_of d) c.traffic }))) in
+    let more = length-append c.past (unread_moment d at cause c.sessions ∷ []) in
+    omega (arith, same, more, h)
+
+-- no moment is lost
+long_claim : (n : ℕ) → IsClaim (λ c. n ≤ length c.past)
+long_claim n = record {
+  begins = λ d c h. h;
+  passes = λ d at v c h.
+      let same = ap length (unit_past d at v c) in let more = length-append c.past (moment d at v c ∷ []) in
+      omega (arith, same, more, h);
+  bad = λ d at cause c h. long_bad n (is_some (marks_of d c).halted) d at cause c h;
+}
+
+-- class 0 is not selected, and fewer units have passed than a tap counts
+pub record IsWithin (c : Passed) : Type 0 where
+  pub two : c.traffic.course.class ≡ Some Zero → ⊥
+  pub few : length c.past < 2 ^ 64
+
+within_before : (c new : Passed) → (c.traffic.course.class ≡ Some Zero → new.traffic.course.class ≡ Some Zero) →
+    length c.past ≤ length new.past → IsWithin new → IsWithin c
+within_before c new zero longer h = record { two = λ is. h.two (zero is); few = (let few = h.few in omega (arith, longer, few)) }
+
+step_within : (d : Direction) (step : Step) (old new : Joint) → Steps d step old new → IsWithin new.course → IsWithin old.course
+step_within d step old new does h =
+    within_before old.course new.course (step_kept (λ c. c.traffic.course.class ≡ Some Zero) zero_claim d step old new does)
+    (step_kept (λ c. length old.course.past ≤ length c.past) (long_claim (length old.course.past)) d step old new does (omega arith)) h
+
+after_within : (capture : Capture) (s : tapping.State) → IsWithin (after capture s).course → IsWithin s.course
+after_within capture s h =
+    within_before s.course (after capture s).course (after_kept (λ c. c.traffic.course.class ≡ Some Zero) zero_claim capture s)
+    (after_kept (λ c. length s.course.past ≤ length c.past) (long_claim (length s.course.past)) capture s (omega arith)) h
+
+unread_within : (d : Direction) (at : ℕ) (cause : Cause) (c : Passed) → IsWithin (unread d at cause c) → IsWithin c
+unread_within d at cause c h =
+    within_before c (unread d at cause c) (zero_claim.bad d at cause c) ((long_claim (length c.past)).bad d at cause c (omega arith)) h
+
+units_two : (d : Direction) (at : ℕ) (vs : List Value) (c : Passed) →
+    ((units_pass d at vs c).traffic.course.class ≡ Some Zero → ⊥) → c.traffic.course.class ≡ Some Zero → ⊥
+units_two d at vs c two zero = two (units_kept (λ c. c.traffic.course.class ≡ Some Zero) zero_claim d at vs c zero)
+
+-- ---- units
+
+units_join : (d : Direction) (at : ℕ) (xs ys : List Value) (c : Passed) →
+    units_pass d at (xs ++ ys) c ≡ units_pass d at ys (units_pass d at xs c)
+units_join d at [] ys c = refl
+units_join d at (x ∷ xs) ys c = units_join d at xs ys (unit_passes d at x c)
+
+taken_then : (d : Direction) (at : ℕ) (xs : List Value) (v : Value) (c : Passed) → AreTaken d at xs c →
+    IsTaken d v (units_pass (other d) at xs c) → AreTaken d at (xs ++ v ∷ []) c
+taken_then d at [] v c h k = (k, tt)
+taken_then d at (x ∷ xs) v c h k = (h.0, taken_then d at xs v (unit_passes (other d) at x c) h.1 k)
+
+calm_by : (e : Direction) (at : ℕ) (v : Value) (c : Passed) (f : Finding) (new : Passed) → IsNoBreak f → Leaves e at v c f new → IsCalm new
+calm_by e at v c Kept new none leaves = leaves
+calm_by e at v c NotJudged new none leaves = leaves
+calm_by e at v c TooMany new none leaves = leaves
+calm_by e at v c (Broke rule) new none leaves = absurd none
+calm_by e at v c Outside new none leaves = absurd none
+
+calm_after : (e : Direction) (at : ℕ) (v : Value) (c : Passed) → IsJudged c → c.first ≡ None →
+    IsNoBreak (takes (way_of e) v c.traffic).told.finding → IsCalm (unit_passes e at v c)
+calm_after e at v c j first none =
+    calm_by e at v c (takes (way_of e) v c.traffic).told.finding (unit_passes e at v c) none
+    (unit_leaves e at v c (record { none = first; how = inl j }))
+
+begins_judged : (e : Direction) (c : Passed) → IsJudged c → IsJudged (packet_begins e c)
+begins_judged Left c j =
+    record { left = j.left; right = j.right; firm = j.firm; left_goes = j.left_goes; right_goes = j.right_goes }
+begins_judged Right c j =
+    record { left = j.left; right = j.right; firm = j.firm; left_goes = j.left_goes; right_goes = j.right_goes }
+
+not_many : (f : Finding) → f ≡ TooMany → IsNoBreak f → (f ≡ Kept) ⊎ (f ≡ NotJudged) → ⊥
+not_many f many none (inl is) = let no : Kept ≡ TooMany = sym is ∙ many in cc
+not_many f many none (inr is) = let no : NotJudged ≡ TooMany = sym is ∙ many in cc
+
+-- ---- the steps
+
+module _ (proper : AllProper) (d : Direction) (local : Local) (fair : IsFairFrom (way_of d) (wholes.begin (calls_from d) local))
+    (Inv : (ℕ → Deeds) → Joint → Type 0) (k : KeepsNoneToBlame d local Inv) where
+  -- nobody has broken a rule, and both sides are judged
+  record Goes (deeds : ℕ → Deeds) (j : Joint) : Type 0 where
+    judged : IsJudged j.course
+    first : j.course.first ≡ None
+    holds : Inv deeds j
+    courses : HaveCourses d deeds j
+    followed : IsFollowed d (wholes.begin (calls_from d) local) j
+    clean : AreClean d j.course.past
+    few : AreFew (other d) j.course
+    sure : Sure j.course
+
+  data Stays (deeds : ℕ → Deeds) (j : Joint) : Type 0 where
+    goes : Goes deeds j → Stays deeds j
+    silent : IsSilent d j.course → Stays deeds j
+    broken : HasBroken d j.course.past → Stays deeds j
+
+  -- ---- a packet of the other side
+
+  data Passing (at : ℕ) (vs : List Value) (c : Passed) : Type 0 where
+    all_taken : AreTaken d at vs c → IsJudged (units_pass (other d) at vs c) → (units_pass (other d) at vs c).first ≡ None →
+        AreClean d (units_pass (other d) at vs c).past → Passing at vs c
+    then_silent : IsSilent d (units_pass (other d) at vs c) → Passing at vs c
+    then_broken : HasBroken d (units_pass (other d) at vs c).past → Passing at vs c
+
+  module _ (deeds : ℕ → Deeds) (at : ℕ) (octets : List ℕ) (units : List Value) (old new : Joint)
+      (step : Steps d (passes_other at octets units) old new) (g : Goes deeds old)
+      (two : (units_pass (other d) at units old.course).traffic.course.class ≡ Some Zero → ⊥) where
+    abbrev After : List Value → Passed
+    After front = units_pass (other d) at front old.course
+
+    blameless : (front back : List Value) → units ≡ front ++ back → AreTaken d at front old.course → NoneIsToBlame d (After front).sessions
+    blameless front back is taken =
+        k.none_amid deeds at octets front back old new (subst (λ (l : List Value). Steps d (passes_other at octets l) old new) is step)
+        g.courses taken g.holds
+
+    record AllSoFar (front : List Value) : Type 0 where
+      taken : AreTaken d at front old.course
+      judged : IsJudged (After front)
+      first : (After front).first ≡ None
+      clean : AreClean d (After front).past
+
+    module _ (front back : List Value) (v : Value) (is : units ≡ front ++ v ∷ back) (so : AllSoFar front) where
+      abbrev c : Passed
+      c = After front
+
+      abbrev next : Passed
+      next = unit_passes (other d) at v c
+
+      abbrev found : Finding
+      found = (takes (way_of (other d)) v c.traffic).told.finding
+
+      joined : After (front ++ v ∷ []) ≡ next
+      joined = units_join (other d) at front (v ∷ []) old.course
+
+      is_clear : IsClear c.traffic.course
+      is_clear = judged_clear c so.judged
+          (units_two (other d) at (v ∷ back) c
+          (λ zero. two (subst (λ (l : List Value). (After l).traffic.course.class ≡ Some Zero) (sym is)
+          (ap (λ (x : Passed). x.traffic.course.class) (units_join (other d) at front (v ∷ back) old.course) ∙ zero))))
+
+      is_sure : Sure c
+      is_sure = units_kept Sure sure_claim (other d) at front old.course g.sure
+
+      -- what comes of the unit
+      data One : Type 0 where
+        goes_on : AllSoFar (front ++ v ∷ []) → One
+        is_silent : IsSilent d next → One
+        is_broken : HasBroken d next.past → One
+
+      mild : IsNoBreak found → (found ≡ Kept) ⊎ (found ≡ NotJudged) → One
+      mild none how = by calm.how
+        where
+          taken : AreTaken d at (front ++ v ∷ []) old.course
+          taken = taken_then d at front v old.course so.taken (record {
+            fine = fine_so (other d) v c is_sure.agrees is_clear none;
+            clear = is_clear;
+            few = λ many. not_many found many none how;
+          })
+
+          calm : IsCalm next
+          calm = calm_after (other d) at v c so.judged so.first none
+
+          nobody : NoneIsToBlame d next.sessions
+          nobody = subst (λ (x : Passed). NoneIsToBlame d x.sessions) joined
+              (blameless (front ++ v ∷ []) back (is ∙ sym (append_assoc front (v ∷ []) back)) taken)
+
+          clean : AreClean d next.past
+          clean = unit_clean (other d) at v c d none nobody so.clean
+
+          by : IsJudged next ⊎ IsOver next → One
+          by (inl j) = goes_on (record {
+            taken = taken;
+            judged = subst IsJudged (sym joined) j;
+            first = ap (λ (x : Passed). x.first) joined ∙ calm.none;
+            clean = subst (λ (x : Passed). AreClean d x.past) (sym joined) clean;
+          })
+          by (inr over) = is_silent (record { silenced = record { first = calm.none; over = over; none = nobody }; clean = clean })
+
+      one_by : (f : Finding) → found ≡ f → One
+      one_by Kept told = mild (subst IsNoBreak (sym told) tt) (inl told)
+      one_by NotJudged told = mild (subst IsNoBreak (sym told) tt) (inr told)
+      one_by TooMany told =
+          let s = too_many_silenced d (other d) at v c (record { none = so.first; how = inl so.judged }) told
+          (blameless front (v ∷ back) is so.taken) in
+          is_silent (record { silenced = s; clean = unit_clean (other d) at v c d (subst IsNoBreak (sym told) tt) s.none so.clean })
+      one_by (Broke rule) told = is_broken (unit_breaks d at v c (λ none. subst IsNoBreak told none) so.clean)
+      one_by Outside told = is_broken (unit_breaks d at v c (λ none. subst IsNoBreak told none) so.clean)
+
+      all_join : After units ≡ units_pass (other d) at back next
+      all_join = ap After is ∙ units_join (other d) at front (v ∷ back) old.course
+
+      then_rest : One → (AllSoFar (front ++ v ∷ []) → Passing at units old.course) → Passing at units old.course
+      then_rest (goes_on more) rest = rest more
+      then_rest (is_silent s) rest =
+          then_silent (subst (IsSilent d) (sym all_join) (units_kept (IsSilent d) (silent_claim d) (other d) at back next s))
+      then_rest (is_broken b) rest =
+          then_broken (subst (λ (x : Passed). HasBroken d x.past) (sym all_join)
+          (units_kept (λ x. HasBroken d x.past) (broken_claim d) (other d) at back next b))
+
+    pass_on : (back front : List Value) → units ≡ front ++ back → AllSoFar front → Passing at units old.course
+    pass_on [] front is so =
+        subst (λ (l : List Value). Passing at l old.course) (sym (is ∙ append-nil front))
+        (all_taken so.taken so.judged so.first so.clean)
+    pass_on (v ∷ back) front is so =
+        then_rest front back v is so (one_by front back v is so (found front back v is so) refl)
+        (λ more. pass_on back (front ++ v ∷ []) (is ∙ sym (append_assoc front (v ∷ []) back)) more)
+
+    passed : Passing at units old.course
+    passed = pass_on units [] refl (record { taken = tt; judged = g.judged; first = g.first; clean = g.clean })
+
+    abbrev same : new.course ≡ After units
+    same = ap (λ (j : Joint). j.course) step.2
+
+    other_by : Passing at units old.course → Stays deeds new
+    other_by (all_taken taken judged first clean) = goes (record {
+      judged = subst IsJudged (sym same) judged;
+      first = ap (λ (x : Passed). x.first) same ∙ first;
+      holds = k.other_passes deeds at octets units old new step taken g.holds;
+      courses = subst (HaveCourses d deeds) (sym step.2) g.courses;
+      followed = step_followed d (wholes.begin (calls_from d) local) proper (passes_other at octets units) old new step g.followed;
+      clean = subst (λ (x : Passed). AreClean d x.past) (sym same) clean;
+      few = step_kept (AreFew (other d)) (few_claim (other d)) d (passes_other at octets units) old new step g.few;
+      sure = step_kept Sure sure_claim d (passes_other at octets units) old new step g.sure;
+    })
+    other_by (then_silent s) = silent (subst (IsSilent d) (sym same) s)
+    other_by (then_broken b) = broken (subst (λ (x : Passed). HasBroken d x.past) (sym same) b)
+
+  -- ---- a unit of the end
+
+  module _ (deeds : ℕ → Deeds) (at : ℕ) (v : Value) (old new : Joint) (step : Steps d (passes_own at v) old new) (g : Goes deeds old)
+      (clear : IsClear old.course.traffic.course) (two : new.course.traffic.course.class ≡ Some Zero → ⊥) where
+    abbrev now : new.course ≡ unit_passes d at v old.course
+    now = ap (λ (j : Joint). j.course) step.4
+
+    own_so : Stays deeds new
+    own_so = by calm.how
+      where
+        fine : IsFine d v old.course
+        fine = own_fine d (calls_from d) local fair at v old new step g.followed clear
+
+        holds : Inv deeds new
+        holds = k.own_passes deeds at v old new step fine clear two g.holds
+
+        courses : HaveCourses d deeds new
+        courses = subst (HaveCourses d deeds) (sym step.4) g.courses
+
+        nobody : NoneIsToBlame d new.course.sessions
+        nobody = k.none deeds new courses holds
+
+        calm : IsCalm new.course
+        calm = subst IsCalm (sym now) (calm_after d at v old.course g.judged g.first fine.none)
+
+        clean : AreClean d new.course.past
+        clean = subst (λ (x : Passed). AreClean d x.past) (sym now)
+            (unit_clean d at v old.course d fine.none (subst (λ (x : Passed). NoneIsToBlame d x.sessions) now nobody) g.clean)
+
+        by : IsJudged new.course ⊎ IsOver new.course → Stays deeds new
+        by (inl j) = goes (record {
+          judged = j;
+          first = calm.none;
+          holds = holds;
+          courses = courses;
+          followed = step_followed d (wholes.begin (calls_from d) local) proper (passes_own at v) old new step g.followed;
+          clean = clean;
+          few = step_kept (AreFew (other d)) (few_claim (other d)) d (passes_own at v) old new step g.few;
+          sure = step_kept Sure sure_claim d (passes_own at v) old new step g.sure;
+        })
+        by (inr over) = silent (record { silenced = record { first = calm.none; over = over; none = nobody }; clean = clean })
+
+  -- ---- each step
+
+  few_so : (deeds : ℕ → Deeds) (old : Joint) → Goes deeds old → IsWithin old.course → (i : ℕ) (j : Joined) →
+      slice_get old.course.sessions.live i ≡ Some j → length (heard (spoken (other d) j)) < 2 ^ 64
+  few_so deeds old g within i j here = let most = g.few i j here in let few = within.few in omega (arith, most, few)
+
+  -- nothing passes
+  still_goes : (deeds then_deeds : ℕ → Deeds) (step : Step) (old new : Joint) → Steps d step old new → Goes deeds old →
+      IsJudged new.course → new.course.first ≡ None → Inv then_deeds new → HaveCourses d then_deeds new →
+      AreClean d new.course.past → Stays then_deeds new
+  still_goes deeds then_deeds step old new does g judged first holds courses clean = goes (record {
+    judged = judged;
+    first = first;
+    holds = holds;
+    courses = courses;
+    followed = step_followed d (wholes.begin (calls_from d) local) proper step old new does g.followed;
+    clean = clean;
+    few = step_kept (AreFew (other d)) (few_claim (other d)) d step old new does g.few;
+    sure = step_kept Sure sure_claim d step old new does g.sure;
+  })
+
+  turn_so : (turn : Turn) (old new : Joint) (t : TakesTurn turn old new) (deeds : ℕ → Deeds)
+      (does : TurnDoes (calls_from d) deeds turn old new t) → Goes deeds old → IsWithin old.course →
+      Stays (all_did deeds does.of.on.more) new
+  turn_so turn old new t deeds does g within =
+      still_goes deeds (all_did deeds does.of.on.more) (turns turn) old new t g
+      (subst IsJudged (sym t.course) g.judged) (ap (λ (x : Passed). x.first) t.course ∙ g.first)
+      (k.turn turn old new t deeds does g.followed
+      (step_followed d (wholes.begin (calls_from d) local) proper (turns turn) old new t g.followed)
+      (judged_clear old.course g.judged within.two) g.holds)
+      does.of.on.course (subst (λ (x : Passed). AreClean d x.past) (sym t.course) g.clean)
+
+  own_begins_so : (old new : Joint) → Steps d begins_own old new → IsWithin old.course → (deeds : ℕ → Deeds) → Goes deeds old →
+      Stays deeds new
+  own_begins_so old new step within deeds g =
+      still_goes deeds deeds begins_own old new step g
+      (subst (λ (j : Joint). IsJudged j.course) (sym step.2) (begins_judged d old.course g.judged))
+      (ap (λ (j : Joint). j.course.first) step.2 ∙ g.first)
+      (k.own_begins deeds old new step g.courses (few_so deeds old g within) g.holds)
+      (subst (HaveCourses d deeds) (sym step.2) g.courses) (subst (λ (j : Joint). AreClean d j.course.past) (sym step.2) g.clean)
+
+  other_begins_so : (old new : Joint) → Steps d begins_other old new → (deeds : ℕ → Deeds) → Goes deeds old → Stays deeds new
+  other_begins_so old new step deeds g =
+      still_goes deeds deeds begins_other old new step g
+      (subst (λ (j : Joint). IsJudged j.course) (sym step) (begins_judged (other d) old.course g.judged))
+      (ap (λ (j : Joint). j.course.first) step ∙ g.first) (k.other_begins deeds old new step g.holds)
+      (subst (HaveCourses d deeds) (sym step) g.courses) (subst (λ (j : Joint). AreClean d j.course.past) (sym step) g.clean)
+
+  -- what passes
+  tap_so : (step : Step) → IsOfTap step → (old new : Joint) → Steps d step old new → IsWithin new.course → (deeds : ℕ → Deeds) →
+      Goes deeds old → Stays deeds new
+  tap_so (turns turn) tap old new t within deeds g = absurd tap
+  tap_so begins_own tap old new step within deeds g =
+      own_begins_so old new step (step_within d begins_own old new step within) deeds g
+  tap_so begins_other tap old new step within deeds g = other_begins_so old new step deeds g
+  tap_so (passes_own at v) tap old new step within deeds g =
+      own_so deeds at v old new step g
+      (judged_clear old.course g.judged (step_within d (passes_own at v) old new step within).two) within.two
+  tap_so (passes_other at octets units) tap old new step within deeds g =
+      let two : (units_pass (other d) at units old.course).traffic.course.class ≡ Some Zero → ⊥ =
+      λ zero. within.two (ap (λ (j : Joint). j.course.traffic.course.class) step.2 ∙ zero) in
+      other_by deeds at octets units old new step g two (passed deeds at octets units old new step g two)
+
+  -- what has ended or is broken stays so
+  step_stays : (step : Step) (deeds then_deeds : ℕ → Deeds) (old new : Joint) → Steps d step old new →
+      (Goes deeds old → Stays then_deeds new) → Stays deeds old → Stays then_deeds new
+  step_stays step deeds then_deeds old new does on (goes g) = on g
+  step_stays step deeds then_deeds old new does on (silent s) = silent (step_kept (IsSilent d) (silent_claim d) d step old new does s)
+  step_stays step deeds then_deeds old new does on (broken b) =
+      broken (step_kept (λ x. HasBroken d x.past) (broken_claim d) d step old new does b)
+
+  tap_stays : (step : Step) → IsOfTap step → (deeds : ℕ → Deeds) (old new : Joint) → Steps d step old new → IsWithin new.course →
+      Stays deeds old → Stays deeds new
+  tap_stays step tap deeds old new does within s =
+      step_stays step deeds deeds old new does (λ g. tap_so step tap old new does within deeds g) s
+
+  along_within : (steps : List Step) (old new : Joint) → StepsAlong d old steps new → IsWithin new.course → IsWithin old.course
+  along_within [] old new is h = subst (λ (j : Joint). IsWithin j.course) is h
+  along_within (step ∷ steps) old new (mid, one, more) h = step_within d step old mid one (along_within steps mid new more h)
+
+  abbrev Stood : Joint → Type 0
+  Stood j = (deeds : ℕ → Deeds) × Stays deeds j
+
+  along_so : (steps : List Step) (deeds : ℕ → Deeds) (old new : Joint) (along : StepsAlong d old steps new) →
+      StepsDo d (calls_from d) deeds old steps new along → IsWithin new.course → Stays deeds old → Stood new
+  along_so [] deeds old new is does within s = (deeds, subst (Stays deeds) (sym is) s)
+  along_so (turns turn ∷ steps) deeds old new (mid, t, more) (does, rest) within s =
+      let now = along_within steps mid new more within in
+      along_so steps (all_did deeds does.of.on.more) mid new more rest within
+      (step_stays (turns turn) deeds (all_did deeds does.of.on.more) old mid t
+      (λ g. turn_so turn old mid t deeds does g (subst IsWithin t.course now)) s)
+  along_so (begins_own ∷ steps) deeds old new (mid, one, more) does within s =
+      along_so steps deeds mid new more does within (tap_stays begins_own tt deeds old mid one (along_within steps mid new more within) s)
+  along_so (passes_own at v ∷ steps) deeds old new (mid, one, more) does within s =
+      along_so steps deeds mid new more does within
+      (tap_stays (passes_own at v) tt deeds old mid one (along_within steps mid new more within) s)
+  along_so (begins_other ∷ steps) deeds old new (mid, one, more) does within s =
+      along_so steps deeds mid new more does within (tap_stays begins_other tt deeds old mid one (along_within steps mid new more within) s)
+  along_so (passes_other at octets units ∷ steps) deeds old new (mid, one, more) does within s =
+      along_so steps deeds mid new more does within
+      (tap_stays (passes_other at octets units) tt deeds old mid one (along_within steps mid new more within) s)
+
+  -- ---- the capture
+
+  stays_first : (h : Holding) → IsFresh (calls_from d) local h → Stays (λ r. no_deeds) (begin h)
+  stays_first h fresh = goes (record {
+    judged = record { left = refl; right = refl; firm = refl; left_goes = refl; right_goes = refl };
+    first = refl;
+    holds = k.begins h fresh;
+    courses = λ r. subst (λ (e : End). Course (calls_from d) r no_deeds e) (sym fresh.end) (fresh_course (calls_from d) local r);
+    followed = begin_followed d (calls_from d) local h fresh;
+    clean = tt;
+    few = λ i j here. absurd (cc here);
+    sure = fresh_sure;
+  })
+
+  abbrev Ends : Passed → Type 0
+  Ends c = AreClean d c.past ⊎ HasBroken d c.past
+
+  ends_so : (j : Joint) → Stood j → Ends j.course
+  ends_so j (deeds, goes g) = inl g.clean
+  ends_so j (deeds, silent s) = inl s.clean
+  ends_so j (deeds, broken b) = inr b
+
+  -- the other side sends what can't be read, and then anything passes
+  bad_so : (capture : Capture) (j : Joint) → TurnsBad d capture j.course → Stood j → Ends (comes_to capture).course
+  bad_so capture j t stays =
+      let join = ap (λ (x : Capture). comes_to x) t.parts ∙ after_join t.front t.back tapping.begin in
+      subst (λ (s : tapping.State). Ends s.course) (sym join) (by stays)
+    where
+      broken_so : HasBroken d (unread (other d) t.at t.cause j.course).past → Ends (after t.back (comes_to t.front)).course
+      broken_so b = inr (after_kept (λ x. HasBroken d x.past) (broken_claim d) t.back (comes_to t.front)
+          (subst (λ (x : Passed). HasBroken d x.past) (sym t.unreadable) b))
+
+      by : Stood j → Ends (after t.back (comes_to t.front)).course
+      by (deeds, goes g) = broken_so (unread_breaks_so d t.at t.cause j.course t.bad g.judged g.clean)
+      by (deeds, broken b) = broken_so ((broken_claim d).bad (other d) t.at t.cause j.course b)
+      by (deeds, silent s) =
+          inl (after_kept (IsSilent d) (silent_claim d) t.back (comes_to t.front)
+          (subst (IsSilent d) (sym t.unreadable) ((silent_claim d).bad (other d) t.at t.cause j.course s))).clean
+
+  bad_within : (capture : Capture) (c : Passed) → TurnsBad d capture c → IsWithin (comes_to capture).course → IsWithin c
+  bad_within capture c t h =
+      let join = ap (λ (x : Capture). comes_to x) t.parts ∙ after_join t.front t.back tapping.begin in
+      unread_within (other d) t.at t.cause c (subst IsWithin t.unreadable
+      (after_within t.back (comes_to t.front) (subst (λ (s : tapping.State). IsWithin s.course) join h)))
+
+  pub never_first : (h : Holding) (capture : Capture) (f : First) → IsFresh (calls_from d) local h →
+      ComesByDoing d (calls_from d) capture h →
+      IsWithin (comes_to capture).course → BreaksFirst f (comes_to capture).course.past → f.direction ≡ other d
+  never_first h capture f fresh comes within earliest = first_of_other d f (comes_to capture).course.past (by comes.all) earliest
+    where
+      at_last : IsWithin comes.last.course → Stood comes.last
+      at_last w = along_so comes.steps (λ r. no_deeds) (begin h) comes.last comes.along comes.does w (stays_first h fresh)
+
+      by : ((comes_to capture).course ≡ comes.last.course) ⊎ TurnsBad d capture comes.last.course → Ends (comes_to capture).course
+      by (inl is) = subst Ends (sym is) (ends_so comes.last (at_last (subst IsWithin is within)))
+      by (inr bad) = bad_so capture comes.last bad (at_last (bad_within capture comes.last.course bad within))
