@@ -65,3 +65,6 @@ pub mod the_first_break_of_all_is_of_the_other_side
 pub mod no_more_tsdus_than_moments_have_passed
 pub mod no_session_of_an_end_breaks_first
 pub mod an_end_that_has_said_nothing_is_not_to_blame
+pub mod a_calling_end_without_class_2_puts_no_dt
+pub mod no_session_of_a_calling_end_breaks_first
+pub mod no_calling_end_is_blamed_first

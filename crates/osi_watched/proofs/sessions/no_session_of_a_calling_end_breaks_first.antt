@@ -1,0 +1,162 @@
+-- What holds of a calling end of class 2 at each step is as it is asked for: nobody of the end is to blame, as long as nobody has broken
+-- a rule.
+-- For the law that no session of an end is blamed first.
+use Rattle.std.proofs.Common.{◌≡◌, refl, ℕ, true, List, [], ◌∷◌, ◌++◌, Some}
+use Rattle.std.specs.List.{AllByRecursion}
+use Rattle.osi_tpdu.specs.Value.{HasFieldsInRange, Value}
+use Rattle.osi_tpdu.proofs.the_units_of_a_packet.{units_fit, units_found}
+use Rattle.osi_class.specs.declared.terms.Class.TheVariants.{Zero}
+use Rattle.osi_class.specs.declared.terms.Local.{Local}
+use Rattle.osi_judge.specs.declared.directions.Direction.TheVariants.{Left, Right}
+use Rattle.osi_judge.proofs.honest.a_call_is_explained.{AsSent}
+use Rattle.osi_judge.proofs.honest.an_honest_run_stays_in_the_profile.{AsParts}
+use Rattle.osi_judge.proofs.honest.an_honest_side_is_kept.{CalledLaw, CallerLaw}
+use Rattle.osi_fair.specs.Wholes as wholes
+use Rattle.osi_fair.proofs.a_reference_names_one_connection.{fresh_apart, no_item}
+use Rattle.osi_fair.proofs.what_the_other_side_closes.{IsClear}
+use Rattle.osi_stack.specs.State.{Holding}
+use Rattle.osi_honest.specs.Courses.{Deeds, no_deeds, then_did, units_in}
+use Rattle.osi_honest.specs.Seeing.{IsFresh}
+use Rattle.osi_honest.specs.Turns.{Turn}
+use Rattle.osi_honest.proofs.class_0.what_a_packet_does_in_class_0.{AllProper}
+use Rattle.osi_tap.specs.Connections.{none}
+use Rattle.osi_tap.specs.Courses.{Course as Passed, unit_passes, units_pass}
+use Rattle.osi_watched.specs.Joint.{Joint, Steps, TakesTurn, begin, passes_other, passes_own}
+use Rattle.osi_watched.proofs.steps_are_events.{IsFollowed}
+use Rattle.osi_watched.proofs.what_the_turns_among_steps_do.{TurnDoes}
+use Rattle.osi_watched.proofs.sessions.a_calling_end_hears_what_breaks_no_rule.{AreFine, IsBehind, units_heard}
+use Rattle.osi_watched.proofs.sessions.a_calling_end_is_ready.{begin_calling, whole_joined}
+use Rattle.osi_watched.proofs.sessions.a_calling_end_stands_as_units_pass.{StandsCalling, begins_other_stands, begins_own_stands, known_at}
+use Rattle.osi_watched.proofs.sessions.a_calling_end_stands_as_units_pass.{passes_other_stands, passes_own_stands, ranges_of}
+use Rattle.osi_watched.proofs.sessions.a_calling_end_stands_as_units_pass.{turns_stand_early}
+use Rattle.osi_watched.proofs.sessions.after_too_many_nobody_is_to_blame.{NoneIsToBlame}
+use Rattle.osi_watched.proofs.sessions.each_unit_of_a_calling_end_has_a_home.{calling_marked}
+use Rattle.osi_watched.proofs.sessions.no_session_of_an_end_breaks_first.{AreTaken, HaveCourses, KeepsNoneToBlame}
+use Rattle.osi_watched.proofs.sessions.nothing_is_done_before_a_cr_passes.{known_from, may_take}
+use Rattle.osi_watched.proofs.sessions.references_of_an_end_are_distinct.{AreDistinct}
+use Rattle.osi_watched.proofs.sessions.steps_leave_all_standing.{IsFine, Standing}
+use Rattle.osi_watched.proofs.sessions.steps_of_either_class_leave_all_standing.{stand_none}
+use Rattle.osi_watched.proofs.sessions.what_has_come_before_a_cc.{AreQuiet, begin_quiet, begins_other_quiet, begins_own_quiet}
+use Rattle.osi_watched.proofs.sessions.what_has_come_before_a_cc.{passes_other_quiet, passes_own_quiet, turns_quiet}
+use Rattle.osi_watched.proofs.sessions.what_stands_of_a_connection.{Known}
+
+-- ---- at the beginning
+
+distinct_first : AreDistinct Left none
+distinct_first = record { live = λ i k j l r here. absurd (cc here); done = λ i k j l r here. absurd (cc here) }
+
+standing_first : (known : Known) (h : Holding) → Standing Left (λ r. no_deeds) known (begin h)
+standing_first known h = record {
+  all = record {
+    places = tt;
+    apart = fresh_apart;
+    judged = λ firm i c at. no_item i c at;
+    room = refl;
+    live = λ i c j there here. absurd (cc here);
+    done = λ i j here. absurd (cc here);
+  };
+}
+
+-- ---- a packet of the called side
+
+fine_of : (at : ℕ) (vs : List Value) (c : Passed) → AreTaken Left at vs c → AreFine at vs c
+fine_of at [] c h = tt
+fine_of at (v ∷ vs) c h = (h.0.fine, h.0.clear, fine_of at vs (unit_passes Right at v c) h.1)
+
+all_front : {X : Type 0} (P : X → Type 0) (xs ys : List X) → AllByRecursion P (xs ++ ys) → AllByRecursion P xs
+all_front P [] ys h = tt
+all_front P (x ∷ xs) ys h = (h.0, all_front P xs ys h.1)
+
+module _ (local : Local) (two : local.class2 ≡ true) (proper : AllProper) where
+  -- all connections stand, and nothing is in flight to one whose CC has not passed
+  pub record StandsQuiet (deeds : ℕ → Deeds) (j : Joint) : Type 0 where
+    pub stands : StandsCalling local two proper deeds j
+    pub quiet : AreQuiet j
+
+  stands_first : (h : Holding) → IsFresh true local h → StandsQuiet (λ r. no_deeds) (begin h)
+  stands_first h fresh = record {
+    stands = record {
+      calling = begin_calling local two h fresh;
+      standing = standing_first (known_at (begin h)) h;
+      distinct = distinct_first;
+      can = tt;
+    };
+    quiet = begin_quiet h;
+  }
+
+  own_passes : (deeds : ℕ → Deeds) (at : ℕ) (v : Value) (old new : Joint) → Steps Left (passes_own at v) old new →
+      IsFine Left v old.course → IsClear old.course.traffic.course → (new.course.traffic.course.class ≡ Some Zero → ⊥) →
+      StandsQuiet deeds old → StandsQuiet deeds new
+  own_passes deeds at v old new step fine clear then_two h = record {
+    stands = passes_own_stands local two proper deeds at v old new step fine clear h.stands;
+    quiet = passes_own_quiet local two deeds at v old new step h.stands.calling h.stands.standing.all.places h.quiet;
+  }
+
+  other_passes : (deeds : ℕ → Deeds) (at : ℕ) (octets : List ℕ) (units : List Value) (old new : Joint) →
+      Steps Left (passes_other at octets units) old new → AreTaken Left at units old.course → StandsQuiet deeds old →
+      StandsQuiet deeds new
+  other_passes deeds at octets units old new step taken h =
+      let fine = fine_of at units old.course taken in
+      record {
+        stands = passes_other_stands local two proper deeds at octets units old new step fine h.stands;
+        quiet = passes_other_quiet local two deeds at octets units old new step h.stands.calling fine h.quiet;
+      }
+
+  takes_turn : (turn : Turn) (old new : Joint) (t : TakesTurn turn old new) (deeds : ℕ → Deeds)
+      (does : TurnDoes true deeds turn old new t) → IsFollowed Left (wholes.begin true local) old →
+      IsFollowed Left (wholes.begin true local) new → IsClear old.course.traffic.course → StandsQuiet deeds old →
+      StandsQuiet (λ r. then_did (deeds r) (does.of.on.more r)) new
+  takes_turn turn old new t deeds does f g clear h =
+      let on = does.of.on in
+      record {
+        stands = turns_stand_early local two proper turn old new t deeds on does.of.life does.units on.can
+            (calling_marked local two deeds turn old new t on f g clear h.stands.standing.all.places)
+            (λ r some may. (h.quiet clear).before r (some, may)) clear h.stands;
+        quiet = turns_quiet turn old new t deeds on does.of.life h.quiet;
+      }
+
+  module _ (known_of : AsSent) (parts : AsParts) (caller : CallerLaw) (called : CalledLaw) where
+    nobody : (deeds : ℕ → Deeds) (j : Joint) → HaveCourses Left deeds j → StandsQuiet deeds j → NoneIsToBlame Left j.course.sessions
+    nobody deeds j courses h =
+        stand_none known_of parts caller called Left deeds j.put j.begun j.holding.end courses (known_at j) j.course.traffic
+        j.course.sessions h.stands.standing.all
+
+    -- after some units of a packet
+    nobody_amid : (deeds : ℕ → Deeds) (at : ℕ) (octets : List ℕ) (front back : List Value) (old new : Joint) →
+        Steps Left (passes_other at octets (front ++ back)) old new → HaveCourses Left deeds old → AreTaken Left at front old.course →
+        StandsQuiet deeds old → NoneIsToBlame Left (units_pass Right at front old.course).sessions
+    nobody_amid deeds at octets front back old new (all_octets, read, is) courses taken all =
+        let h = all.stands in
+        let f = h.calling.ahead.followed in
+        let behind : IsBehind local old.put old.course = record {
+          whole = f.whole;
+          follows = whole_joined local two old f;
+          tap = f.tap;
+          same = f.put;
+          can = f.can;
+        } in
+        let ranges = ranges_of (front ++ back) (units_fit (front ++ back) octets (units_found octets (front ++ back) all_octets read)) in
+        let after = units_pass Right at front old.course in
+        let live = may_take old.holding.end.carrier in
+        let (stand, apart) = units_heard local deeds live old.put h.can old.begun at front (units_in old.coming) old.course
+        (fine_of at front old.course taken) (all_front HasFieldsInRange front back ranges) behind h.standing.all h.distinct in
+        stand_none known_of parts caller called Left deeds old.put old.begun old.holding.end courses
+        (known_from live (units_in old.coming ++ front)) after.traffic after.sessions stand
+
+    pub calling_keeps : KeepsNoneToBlame Left local StandsQuiet
+    calling_keeps = record {
+      begins = stands_first;
+      own_begins = λ deeds old new step courses few h. record {
+        stands = begins_own_stands local two proper deeds old new step courses few h.stands;
+        quiet = begins_own_quiet old new step h.quiet;
+      };
+      other_begins = λ deeds old new step h. record {
+        stands = begins_other_stands local two proper deeds old new step h.stands;
+        quiet = begins_other_quiet old new step h.quiet;
+      };
+      own_passes = own_passes;
+      other_passes = other_passes;
+      turn = takes_turn;
+      none = nobody;
+      none_amid = nobody_amid;
+    }
