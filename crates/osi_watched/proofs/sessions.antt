@@ -68,3 +68,6 @@ pub mod an_end_that_has_said_nothing_is_not_to_blame
 pub mod a_calling_end_without_class_2_puts_no_dt
 pub mod no_session_of_a_calling_end_breaks_first
 pub mod no_calling_end_is_blamed_first
+pub mod no_connection_is_opened_before_a_class_is_selected
+pub mod no_session_of_a_called_end_breaks_first
+pub mod no_called_end_is_blamed_first
