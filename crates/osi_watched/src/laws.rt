@@ -1,6 +1,7 @@
 //! Laws of an end and of a tap on its byte connection. Each function does nothing: its clauses are the laws.
 
-ghost use Rattle.std.specs.Prelude.{◌≡◌, Bool, false, true, List, None, Some, ◌≢◌, ◌<◌, ◌^◌, ◌++◌, ◌∷◌, [], ℕ, length, slice_get};
+ghost use Rattle.std.specs.Prelude.{◌≡◌, Bool, false, true, List, None, Option, Some, ◌≢◌, ◌<◌, ◌^◌, ◌++◌, ◌∷◌, [], ℕ, length, slice_get};
+ghost use Rattle.osi_class.specs.declared.terms.Class.{Class};
 ghost use Rattle.osi_class.specs.declared.terms.Local.{Local};
 ghost use Rattle.osi_judge.specs.Captures.{Capture, other};
 ghost use Rattle.osi_judge.specs.declared.directions.Direction.{Direction};
@@ -18,10 +19,12 @@ ghost use Rattle.osi_rules.specs.Sides.{is_open, own};
 ghost use Rattle.osi_rules.specs.declared.findings.Finding.{Finding};
 ghost use Rattle.osi_rules.specs.declared.findings.Rule.{Rule};
 ghost use Rattle.osi_honest.specs.Courses.{Course, Deeds, then_did};
-ghost use Rattle.osi_tap.specs.Blaming.{IsToBlame};
+ghost use Rattle.osi_tap.specs.Blaming.{IsFirstOf, IsToBlame};
 ghost use Rattle.osi_tap.specs.Connections.{Joined, adds, packet_begins, reference_of, spoken, user_of};
 ghost use Rattle.osi_tap.specs.Courses.{Course as Passed, unit_passes, way_of};
 ghost use Rattle.osi_tap.specs.Lines.{heard};
+ghost use Rattle.osi_tap.specs.Standing.{IsFed, IsJudged, first_in};
+ghost use Rattle.osi_tap.specs.declared.tap.Tap.{Tap};
 ghost use Rattle.osi_tpdu.specs.Value.{Value, destination_of};
 ghost use Rattle.osi_watched.specs.Shown.{IsShownNow, IsShownOf, calls_from};
 ghost use Rattle.osi_watched.specs.ShownPlaces.{HaveSamePlaces, IsJoinedAt, IsOneOf};
@@ -29,6 +32,7 @@ ghost use Rattle.osi_watched.specs.ShownPlaces.{HaveSamePlaces, IsJoinedAt, IsOn
 use osi_judge::laws::an_honest_session_is_explained;
 use osi_session::laws::what_closes_sends_nothing;
 use osi_spdu::laws::{few_octets_fit, serial_digits};
+use osi_tap::laws::the_first_break_is_the_earliest;
 
 /// A capture of an end is steps of the end and of the tap. Take any run of an end of this library from its beginning, and any
 /// capture of it at a tap anywhere between the two sides ([`IsSeen`]). What the capture comes to is what these steps come to:
@@ -148,3 +152,54 @@ pub fn connections_have_the_same_places()
         IsOneOf a j → IsOneOf b k → is_open (own (way_of d) a).phase ≡ true → is_open (own (way_of d) b).phase ≡ true →
         reference_of (other d) j ≡ Some n → reference_of (other d) k ≡ Some n → p ≡ q }
 {}
+
+/// No session of an end is blamed first, and neither is its transport. Take any run of an end of this library from its beginning: any
+/// pieces of whatever octets arrive, any calls of its user, any shortage of memory, any number of connections, whatever classes it offers.
+/// Take any capture of it, at a tap anywhere between it and the other side ([`IsSeen`]). The first break of all, of transport or of a
+/// session, is of the other side, if there is one, be the end the called one (`called`) or the calling one (`calling`): no moment of the
+/// capture before it has a break ([`IsFirstOf`]). If both ends are of this library, there is none (`both`). So a tap that was fed the
+/// capture, and has judged it, never tells such an end as the first (`called_at_a_tap`, `calling_at_a_tap`, `both_at_a_tap`).
+///
+/// It is assumed that class 0 is not selected on the byte connection, and that fewer than 2^64 units have passed: a tap counts no further.
+///
+/// [`IsSeen`]: ../../osi_honest/specs/Seeing.antt
+/// [`IsFirstOf`]: ../../osi_tap/specs/Blaming.antt
+pub fn no_session_of_an_end_is_blamed_first()
+    ensures called { (local : Local) (begin end : Holding) (turns : List Turn) (capture : Capture) (f : First) →
+        IsFresh false local begin → Run begin turns end → AreOctets capture → IsSeen Direction.Right turns capture →
+        (comes_to capture).course.traffic.course.class ≢ Some Class.Zero → length (comes_to capture).course.past < 2 ^ 64 →
+        IsFirstOf (Some f) (comes_to capture).course.past → f.direction ≡ Direction.Left }
+    ensures calling { (local : Local) (begin end : Holding) (turns : List Turn) (capture : Capture) (f : First) →
+        IsFresh true local begin → Run begin turns end → AreOctets capture → IsSeen Direction.Left turns capture →
+        (comes_to capture).course.traffic.course.class ≢ Some Class.Zero → length (comes_to capture).course.past < 2 ^ 64 →
+        IsFirstOf (Some f) (comes_to capture).course.past → f.direction ≡ Direction.Right }
+    ensures both { (mine theirs : Local) (begin end called_begin called_end : Holding) (turns called_turns : List Turn)
+        (capture : Capture) (first : Option First) → AreOctets capture →
+        IsFresh true mine begin → Run begin turns end → IsSeen Direction.Left turns capture →
+        IsFresh false theirs called_begin → Run called_begin called_turns called_end → IsSeen Direction.Right called_turns capture →
+        (comes_to capture).course.traffic.course.class ≢ Some Class.Zero → length (comes_to capture).course.past < 2 ^ 64 →
+        IsFirstOf first (comes_to capture).course.past → first ≡ None }
+    ensures called_at_a_tap { (local : Local) (begin end : Holding) (turns : List Turn) (capture : Capture) (t : Tap) (f : First) →
+        IsFresh false local begin → Run begin turns end → AreOctets capture → IsSeen Direction.Right turns capture →
+        (comes_to capture).course.traffic.course.class ≢ Some Class.Zero → length (comes_to capture).course.past < 2 ^ 64 →
+        IsFed capture t → IsJudged t → first_in t ≡ Some f → f.direction ≡ Direction.Left }
+    ensures calling_at_a_tap { (local : Local) (begin end : Holding) (turns : List Turn) (capture : Capture) (t : Tap) (f : First) →
+        IsFresh true local begin → Run begin turns end → AreOctets capture → IsSeen Direction.Left turns capture →
+        (comes_to capture).course.traffic.course.class ≢ Some Class.Zero → length (comes_to capture).course.past < 2 ^ 64 →
+        IsFed capture t → IsJudged t → first_in t ≡ Some f → f.direction ≡ Direction.Right }
+    ensures both_at_a_tap { (mine theirs : Local) (begin end called_begin called_end : Holding) (turns called_turns : List Turn)
+        (capture : Capture) (t : Tap) → AreOctets capture →
+        IsFresh true mine begin → Run begin turns end → IsSeen Direction.Left turns capture →
+        IsFresh false theirs called_begin → Run called_begin called_turns called_end → IsSeen Direction.Right called_turns capture →
+        (comes_to capture).course.traffic.course.class ≢ Some Class.Zero → length (comes_to capture).course.past < 2 ^ 64 →
+        IsFed capture t → IsJudged t → first_in t ≡ None }
+{
+    few_octets_fit();
+    serial_digits();
+    what_closes_sends_nothing();
+    osi_message::laws::what_is_sent_is_read();
+    osi_message::laws::what_a_part_says();
+    osi_message::laws::what_leaves_in_parts();
+    an_honest_session_is_explained();
+    the_first_break_is_the_earliest();
+}

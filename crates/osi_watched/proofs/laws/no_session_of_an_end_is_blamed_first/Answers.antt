@@ -1,0 +1,87 @@
+use Rattle.std.proofs.Common.{◌≡◌, Option, Some, subst}
+use Rattle.osi_judge.proofs.honest.a_call_is_explained.{AsSent}
+use Rattle.osi_judge.specs.Captures.{Capture}
+use Rattle.osi_session.proofs.tsdu.what_is_sent_is_taken_as_meant.{said_again}
+use Rattle.osi_stack.proofs.called.what_is_sent_is_short.{SpduLaws}
+use Rattle.osi_honest.proofs.class_0.what_a_session_answers_fits.{all_proper}
+use Rattle.osi_honest.proofs.courses.what_sessions_hear_of_it.{Known}
+use Rattle.osi_honest.proofs.opening.what_an_asking_end_does.{can_begin}
+use Rattle.osi_tap.specs.declared.marks.First.{First}
+use Rattle.osi_tap.specs.declared.tap.Tap.{Tap}
+use Rattle.osi_tap.specs.Blaming.{BreaksFirst, IsFirstOf}
+use Rattle.osi_tap.specs.Standing.{IsFed, IsJudged, first_in}
+use Rattle.osi_tap.specs.Tapping.{comes_to}
+use Rattle.osi_watched.proofs.sessions.no_called_end_is_blamed_first.{called_never_first}
+use Rattle.osi_watched.proofs.sessions.no_calling_end_is_blamed_first.{calling_never_first}
+use Rattle.osi_watched.proofs.sessions.the_first_break_of_all_is_of_the_other_side.{neither_first}
+use Rattle.osi_watched.proofs.laws.no_session_of_an_end_is_blamed_first.Goals as goal
+
+-- what the laws of messages and of units state
+as_sent : (c : goal.After-the_first_break_is_the_earliest) → AsSent
+as_sent c = record {
+  message = λ m s. said_again m (c.what_is_sent_is_read.ensures.read m s) (c.what_is_sent_is_read.ensures.said m s);
+  part = c.what_a_part_says.ensures;
+  whole = c.what_leaves_in_parts.ensures.whole;
+  parts = c.what_leaves_in_parts.ensures.parts;
+  joined = c.what_leaves_in_parts.ensures.joined;
+  full = c.what_leaves_in_parts.ensures.full;
+}
+
+known : (c : goal.After-the_first_break_is_the_earliest) → Known
+known c =
+    let law : SpduLaws = record { room = c.few_octets_fit.ensures; digits = c.serial_digits.ensures } in
+    record { proper = all_proper law c.what_closes_sends_nothing.ensures.octets; can = can_begin law }
+
+-- what a tap tells is the first break
+told_first : (c : goal.After-the_first_break_is_the_earliest) (capture : Capture) (t : Tap) (f : First) → IsFed capture t → IsJudged t →
+    first_in t ≡ Some f → BreaksFirst f (comes_to capture).course.past
+told_first c capture t f was_fed judged told =
+    subst (λ (o : Option First). IsFirstOf o (comes_to capture).course.past) told
+    (c.the_first_break_is_the_earliest.ensures.first capture t was_fed judged)
+
+pub returns-clause-called : goal.returns-clause-called
+returns-clause-called c = λ local begin end turns capture f fresh run octets seen two few first.
+    called_never_first (known c) (as_sent c) c.what_leaves_in_parts.ensures.read c.an_honest_session_is_explained.ensures.caller
+    c.an_honest_session_is_explained.ensures.called local capture (record { two = two; few = few }) f first begin end turns fresh run
+    octets seen
+
+pub returns-clause-calling : goal.returns-clause-calling
+returns-clause-calling c = λ local begin end turns capture f fresh run octets seen two few first.
+    calling_never_first (known c) (as_sent c) c.what_leaves_in_parts.ensures.read c.an_honest_session_is_explained.ensures.caller
+    c.an_honest_session_is_explained.ensures.called local capture (record { two = two; few = few }) f first begin end turns fresh run
+    octets seen
+
+pub returns-clause-both : goal.returns-clause-both
+returns-clause-both c = λ mine theirs begin end called_begin called_end turns called_turns capture first octets fresh run seen called_fresh
+    called_run called_seen two few is.
+    neither_first first (comes_to capture).course.past
+    (λ f earliest. calling_never_first (known c) (as_sent c) c.what_leaves_in_parts.ensures.read
+    c.an_honest_session_is_explained.ensures.caller c.an_honest_session_is_explained.ensures.called mine capture
+    (record { two = two; few = few }) f earliest begin end turns fresh run octets seen)
+    (λ f earliest. called_never_first (known c) (as_sent c) c.what_leaves_in_parts.ensures.read
+    c.an_honest_session_is_explained.ensures.caller c.an_honest_session_is_explained.ensures.called theirs capture
+    (record { two = two; few = few }) f earliest called_begin called_end called_turns called_fresh called_run octets called_seen) is
+
+pub returns-clause-called_at_a_tap : goal.returns-clause-called_at_a_tap
+returns-clause-called_at_a_tap c = λ local begin end turns capture t f fresh run octets seen two few was_fed judged told.
+    called_never_first (known c) (as_sent c) c.what_leaves_in_parts.ensures.read c.an_honest_session_is_explained.ensures.caller
+    c.an_honest_session_is_explained.ensures.called local capture (record { two = two; few = few }) f
+    (told_first c capture t f was_fed judged told) begin end turns fresh run octets seen
+
+pub returns-clause-calling_at_a_tap : goal.returns-clause-calling_at_a_tap
+returns-clause-calling_at_a_tap c = λ local begin end turns capture t f fresh run octets seen two few was_fed judged told.
+    calling_never_first (known c) (as_sent c) c.what_leaves_in_parts.ensures.read c.an_honest_session_is_explained.ensures.caller
+    c.an_honest_session_is_explained.ensures.called local capture (record { two = two; few = few }) f
+    (told_first c capture t f was_fed judged told) begin end turns fresh run octets seen
+
+pub returns-clause-both_at_a_tap : goal.returns-clause-both_at_a_tap
+returns-clause-both_at_a_tap c = λ mine theirs begin end called_begin called_end turns called_turns capture t octets fresh run seen
+    called_fresh called_run called_seen two few was_fed judged.
+    neither_first (first_in t) (comes_to capture).course.past
+    (λ f earliest. calling_never_first (known c) (as_sent c) c.what_leaves_in_parts.ensures.read
+    c.an_honest_session_is_explained.ensures.caller c.an_honest_session_is_explained.ensures.called mine capture
+    (record { two = two; few = few }) f earliest begin end turns fresh run octets seen)
+    (λ f earliest. called_never_first (known c) (as_sent c) c.what_leaves_in_parts.ensures.read
+    c.an_honest_session_is_explained.ensures.caller c.an_honest_session_is_explained.ensures.called theirs capture
+    (record { two = two; few = few }) f earliest called_begin called_end called_turns called_fresh called_run octets called_seen)
+    (c.the_first_break_is_the_earliest.ensures.first capture t was_fed judged)
