@@ -444,10 +444,12 @@ module _ (local : Local) (w : Whole) (t : Sessions) (f : Called local w) (apart 
   two_at p c (comes x a none ask index) = subst (AllByRecursion AnswersTwo) (sym none) tt
   two_at p c (refuses x a reason put none index seen) = subst (AllByRecursion AnswersTwo) (sym put) (tt, tt)
   two_at p c (answering h none) =
-      subst (AllByRecursion AnswersTwo) (sym h.mine_is)
-      (refl, all_so (IsTo h.x.source) AnswersTwo (to_two h.x.source) h.more
-      (acts_to Right h.r h.x.source h.acts (opened_line (opened_link Two h.size local h.x.credit) c)
-      (line_of h.link h.more h.come c) (h.along c) tt))
+      subst (AllByRecursion AnswersTwo) (sym h.mine_is) (
+        refl,
+        all_so (IsTo h.x.source) AnswersTwo (to_two h.x.source) h.more
+            (acts_to Right h.r h.x.source h.acts (opened_line (opened_link Two h.size local h.x.credit) c)
+            (line_of h.link h.more h.come c) (h.along c) tt),
+      )
   two_at p c (runs h none) = all_so (IsTo h.peer) AnswersTwo (to_two h.peer) (units_at p f.tagged) (runs_to p c h)
   two_at p c (past silent up none asks un off) = subst (AllByRecursion AnswersTwo) (sym none) tt
 
