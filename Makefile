@@ -8,10 +8,12 @@
 # make lib: builds the library for C, into build/: libosi-session.a and libosi-session.so, with the number of its soname.
 # make install PREFIX=.. LIBDIR=.. DESTDIR=..: puts what was built, program or library or both, where the system finds it,
 # and says where; make uninstall takes it away (scripts/install). Neither proves or builds anything.
-# make dist: builds the program and the library, and makes an archive and packages of them in dist/ (scripts/dist; over what
-# was built). make check-dist: the same, and installs them into empty roots and runs them there (scripts/check_dist).
+# make dist: builds the program and the library, and makes archives and packages in dist/, of them and of the sources
+# (scripts/dist; over what was built). make check-dist: the same, and installs them into empty roots and runs them there
+# (scripts/check_dist).
 # make release: what make dist makes, and releases/VERSION/SHA256SUMS, which says what each file is (scripts/release). make
-# check-release: builds the sources of a release anew, and compares octet for octet (scripts/check_release).
+# check-release: builds the sources of a release anew, and compares octet for octet (scripts/check_release); in an archive of
+# sources make check-release SUMS=../SHA256SUMS.
 # make gateways: builds the program and the library, and builds and runs the programs of examples/gateway, and the tests and
 # clients of bindings/ (scripts/gateways does so with what was built before).
 # make trials: builds the same and runs what is proved against hostile octets, failing allocations and breaks
@@ -77,7 +79,7 @@ release:
 	scripts/release
 
 check-release:
-	scripts/check_release
+	scripts/check_release $(SUMS)
 
 gateways: all lib
 	scripts/gateways

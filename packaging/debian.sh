@@ -1,7 +1,7 @@
 # What scripts/dist makes of an installation for Debian, as its policy and lintian want packages: read by scripts/dist.
 debian=$version-1
-maintainer="${DEBFULLNAME:-The maintainers of osi} <${DEBEMAIL:-osi@localhost}>"
-homepage=$(sed -n 's|^repository = "\(https://.*\)"$|\1|p' bindings/rust/Cargo.toml)
+maintainer=$(packaging/maintainer) || true
+homepage=$(scripts/version --address)
 libdir=/usr/lib/x86_64-linux-gnu
 
 # The newest version of the C library that a file asks for.

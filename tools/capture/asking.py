@@ -1,5 +1,6 @@
 """Finds the streams that the words of a program ask for, writes files, and ends the program: what osi-capture and scripts/judge share."""
 import argparse
+import errno
 import os
 import sys
 import tempfile
@@ -26,7 +27,10 @@ def status_of(name, run):
     except BadInput as error:
         print(f"{name}: {error}", file=sys.stderr)
         return 2
-    except BrokenPipeError:
+    except OSError as error:
+        # A reader that has enough closes the pipe, and need not be told.
+        if not isinstance(error, BrokenPipeError):
+            print(f"{name}: {error.filename or 'standard output'}: {error.strerror}", file=sys.stderr)
         os.dup2(os.open(os.devnull, os.O_WRONLY), sys.stdout.fileno())
         return 2
     except KeyboardInterrupt:
@@ -65,6 +69,9 @@ def write_all(files):
     """Writes files, all of them or none."""
     made = {}
     try:
+        for name in files:
+            if os.path.isdir(name):
+                raise IsADirectoryError(errno.EISDIR, os.strerror(errno.EISDIR))
         for name, content in files.items():
             whole = content.encode() if isinstance(content, str) else content
             room, made[name] = tempfile.mkstemp(prefix=".osi-capture-", dir=os.path.dirname(name) or ".")
@@ -77,4 +84,4 @@ def write_all(files):
         for written in made.values():
             if os.path.exists(written):
                 os.remove(written)
-        raise BadInput(f"{error.filename or name}: {error.strerror}") from None
+        raise BadInput(f"{name}: {error.strerror}") from None

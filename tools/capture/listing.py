@@ -3,6 +3,8 @@ import os
 import re
 import subprocess
 
+from ladders.script import MOST_OCTETS
+
 from .streams import SIDES, packets
 from .tshark import BadInput
 
@@ -30,7 +32,9 @@ def program(asked):
 
 
 def shown(osi, octets):
-    """The lines that `osi show` prints for octets."""
+    """The lines that `osi show` prints for the octets of one side."""
+    if len(octets) > MOST_OCTETS:
+        raise BadInput(f"a side sent {len(octets):,} octets, and osi show lists at most {MOST_OCTETS:,} of a side")
     try:
         done = subprocess.run([osi, "show"], input=octets.hex(), capture_output=True, text=True, check=False)
     except OSError as error:

@@ -16,8 +16,10 @@ TEXT = """\
   osi-capture judge FILE                which side of each stream first broke the protocol, if one did; FILE as for show
   osi-capture split FILE -o NAME        NAME.left and NAME.right, what each side sent, and NAME.follow, both in their order
   osi-capture join NAME -o FILE         the way back: a pcap with a TCP segment for each TPKT packet
-"""
 
+show lists at most 8,388,608 octets of a side, as `osi show` does. judge takes about as many of both sides together. The other
+jobs have no limit. Options of a job: osi-capture show --help.
+"""
 
 def words():
     """The options of the program."""

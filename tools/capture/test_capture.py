@@ -7,6 +7,7 @@ import os
 import re
 import shutil
 import subprocess
+import sys
 import tempfile
 import unittest
 from unittest import mock
@@ -173,9 +174,18 @@ class Captures(unittest.TestCase):
         self.assertIn("no such file", self.refused("list", self.path("nothing")))
         self.refused("list", os.path.join(TOP, "README.md"))
         self.refused("list", self.capture(), "--wrong")
-        self.refused("split", self.capture(), "-o", "/no/such/folder/out")
+        self.assertIn("/no/such/folder/out.left: No such file", self.refused("split", self.capture(), "-o", "/no/such/folder/out"))
+        os.mkdir(self.path("out.follow"))
+        self.assertIn("out.follow: Is a directory", self.refused("split", self.capture(), "-o", self.path("out")))
+        self.assertIn("it is no file", self.refused("list", self.room.name))
         self.refused("join", os.path.join(TOP, "examples", "hello"), "-o", self.path("x.pcap"))
         self.refused()
+
+    def test_what_can_not_be_written_is_refused(self):
+        with open("/dev/full", "wb") as full:
+            words = [sys.executable, os.path.join(TOP, "scripts", "osi-capture"), "list", self.capture()]
+            ran = subprocess.run(words, stdout=full, stderr=subprocess.PIPE, text=True, check=False)
+        self.assertEqual((ran.returncode, ran.stderr), (2, "osi-capture: standard output: No space left on device\n"))
 
     @unittest.skipUnless(os.path.exists(OSI), "`make` has not built the program")
     def test_both_directions_are_listed_in_their_order(self):
@@ -239,6 +249,13 @@ class Texts(unittest.TestCase):
         for text in ("# a capture\n03 00 zz\n", "# a capture\n", ""):
             status, out, err = call("show", self.write("bad.left", text), "--osi", OSI)
             self.assertEqual((status, out, err.count("\n")), (2, "", 1))
+
+    def test_a_file_that_may_not_be_read_is_refused(self):
+        name = self.write("secret.left", "# a capture\n03\n")
+        with mock.patch("builtins.open", side_effect=PermissionError(13, "Permission denied")):
+            for job in ("show", "judge"):
+                status, out, err = call(job, name, "--osi", OSI)
+                self.assertEqual((status, out, err), (2, "", f"osi-capture: {name}: Permission denied\n"))
 
     def test_user_data_is_found_in_each_unit(self):
         for line, wanted in (("    FN 193=0a0b", "0a0b"), ("    CN 5(19=01 22=02) 20=0002 193=3160", "3160"), ("    AB 17=01", None),

@@ -69,8 +69,11 @@ def side_of(name, parts):
 
 def is_text(path):
     """Whether a file is such a text and no capture of a network. (A pcapng begins with a line feed, but no text has a zero.)"""
-    with open(path, "rb") as file:
-        return re.fullmatch(rb"[\t\n\r ]*([0-9a-fA-F#][\t\n\r -~]*)?", file.read(4096)) is not None
+    try:
+        with open(path, "rb") as file:
+            return re.fullmatch(rb"[\t\n\r ]*([0-9a-fA-F#][\t\n\r -~]*)?", file.read(4096)) is not None
+    except OSError as error:
+        raise BadInput(f"{path}: {error.strerror}") from None
 
 
 def read(name):

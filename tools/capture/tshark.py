@@ -28,7 +28,7 @@ class Segment:
 def segments(path):
     """The TCP segments of a capture, one by one."""
     if not os.path.isfile(path):
-        raise BadInput(f"{path}: there is no such file")
+        raise BadInput(f"{path}: {'it is no file' if os.path.exists(path) else 'there is no such file'}")
     if not shutil.which("tshark"):
         raise BadInput("there is no tshark, which reads captures (Debian has it in the package tshark)")
     words = ["tshark", "-n", "-r", path, "-Y", "tcp", "-T", "fields", "-E", "separator=/t", "-E", "occurrence=f",
@@ -41,10 +41,11 @@ def segments(path):
                 yield Segment(values)
         said = run.stderr.read()
     if run.returncode != 0:
-        raise BadInput(f"{path}: {reason(said)}")
+        raise BadInput(f"{path}: {reason(said, path)}")
 
 
-def reason(said):
-    """What tshark says of a file that it can't read, as one line."""
+def reason(said, path):
+    """What tshark says of a file that it can't read, as one line: the one that names the file, if there is one."""
     lines = [line for line in said.splitlines() if line and not line.startswith("Running as user")]
+    lines = [line for line in lines if f'"{path}"' in line] + lines
     return lines[0].removeprefix("tshark: ") if lines else "tshark can't read it"

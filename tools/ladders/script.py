@@ -7,6 +7,9 @@ from .lengths import SIZES
 from .transcript import BadInput, CALLS
 
 TOP = os.path.dirname(os.path.dirname(os.path.dirname(os.path.abspath(__file__))))
+# The characters that the program reads at most, and the octets of a capture of one side that these spell.
+LONGEST = 16_777_216
+MOST_OCTETS = LONGEST // 2
 SETTINGS = ("caller", "called", "size", "window")
 WORDS_OF = {"accept": ("units", "serial", "sides", "data"), "give": ("tokens",), "please": ("tokens", "data"),
             "minor": ("confirm", "data"), "minorconfirm": ("number", "data"),
@@ -82,6 +85,8 @@ def title_of(text):
 
 def run(program, word, text, tick=lambda seconds: None):
     """Runs the program `osi` on a text, and gives what it prints; `BadInput` if it prints nothing."""
+    if len(text) > LONGEST:
+        raise BadInput(f"this is {len(text):,} characters of hexadecimal digits and lines, and osi {word} reads at most {LONGEST:,}")
     beside = os.path.join(TOP, "osi")
     command = [program or (beside if os.path.isfile(beside) else "osi"), word]
     try:
