@@ -9,7 +9,7 @@
 /* A slice is passed as a pointer and a length; the allocator passes nothing. */
 uint64_t osi_bench_sessions(const uint8_t *data, size_t length, size_t rounds, size_t part);
 
-#define RUNS 101
+#define RUNS 1001
 #define ROUNDS 1000
 #define PARTS 9
 

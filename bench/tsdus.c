@@ -10,7 +10,7 @@
 uint64_t osi_bench_tsdus(const uint8_t *tsdu, size_t length, size_t rounds);
 
 #define ROUNDS 10000
-#define RUNS 201
+#define RUNS 2001
 #define DATA 1000
 
 /* The expected unit: its SI, the length of its user information, and two serial numbers plus 1, 0 for none. */

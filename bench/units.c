@@ -359,7 +359,7 @@ struct work {
 typedef uint64_t job(const uint8_t *, size_t, const size_t *, size_t);
 
 #define JOBS 3
-#define RUNS 201
+#define RUNS 2001
 
 static job *const jobs[JOBS] = {osi_bench_units, read_twice, read_once};
 

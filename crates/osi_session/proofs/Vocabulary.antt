@@ -77,6 +77,7 @@ pub use Rattle.osi_session.specs.Sessions.{CanBeSent, IsPlanOf, Planned, Refused
 pub use Rattle.osi_session.specs.Sessions.{lone_of, takes_memory}
 unfoldable pub use Rattle.osi_session.specs.Sessions.{unit_in}
 pub use Rattle.osi_session.specs.Shown.{Aborted, BadUnit, Lost, MinorConfirmed, PeerAbort, Shown, is_connect, shown_by, shows_connect}
+unfoldable pub use Rattle.osi_session.specs.Room.{most_whole, most_within}
 pub use Rattle.osi_session.specs.Sizes.{fits_limit, is_bounded, is_data, limit_of, smaller}
 unfoldable pub use Rattle.osi_session.specs.Sizes.{answered_sizes, smaller_sizes}
 pub use Rattle.osi_session.specs.Sound.{AreOrdered, IsSound}

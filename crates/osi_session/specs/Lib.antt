@@ -13,6 +13,7 @@ pub mod Openings
 pub mod Phases
 pub mod Points
 pub mod Respond
+pub mod Room
 pub mod Restarts
 pub mod Runs
 pub mod Sessions

@@ -8,6 +8,7 @@ ghost use Rattle.osi_session.specs.Calls.{called_by, refusal_by, Accept, Refuse,
 ghost use Rattle.osi_message.specs.Meanings.{meant_by, DT, MIP, MIA};
 ghost use Rattle.osi_session.specs.Numbers.{minor_confirmed, point_sent};
 ghost use Rattle.osi_session.specs.Points.{call_for, may_advance};
+ghost use Rattle.osi_session.specs.Room.{most_whole};
 ghost use Rattle.osi_session.specs.Sound.{IsSound};
 ghost use Rattle.osi_session.specs.State.{without_tokens};
 ghost use Rattle.osi_session.specs.Steps.{Answers, Finds, step_of};
@@ -22,7 +23,7 @@ use crate::plans::SentPoint;
 use crate::requests::{Refusal, Request};
 use crate::selected::{FunctionalUnits, is_profile};
 use crate::sides::{Sides, offered};
-use crate::sizes::{answered_sizes, fits_ack, fits_limit, fits_point};
+use crate::sizes::{answered_sizes, fits_ack, fits_limit, fits_point, limit_of, most_within};
 use crate::state::State;
 use osi_message::{Message, Tokens};
 use osi_spdu::{Requirements, ResyncType, Serial, TokenSet, TokenSetting, TsduSizes};
@@ -566,6 +567,20 @@ pub(crate) fn allow_data(state: &State, user_data: &[u8]) -> Result<(), CallErro
         return Err(CallError::TooLong);
     }
     Ok(())
+}
+
+/// The most octets of data that may be sent in one TSDU now; 0 if no data may be sent.
+#[tactic(auto, unfolding(crate::specs::Room::most_whole))]
+pub(crate) fn most_whole(state: &State) -> usize
+    ensures { result ≡ most_whole state.now }
+{
+    if !state.phase.is_ready() {
+        return 0;
+    }
+    if !state.rights().data_token {
+        return 0;
+    }
+    most_within(limit_of(state))
 }
 
 /// The first error of a minor point, or its number; then only the numbers change, and MIP is sent.

@@ -5,12 +5,12 @@ ghost use Rattle.std.specs.Prelude.{◌≡◌, ◌<◌, false, length, option_ma
 ghost use Rattle.osi_session.specs.Openings.{asked_for};
 ghost use Rattle.osi_session.specs.Sessions.{unit_in};
 ghost use Rattle.osi_session.specs.Steps.{reply_of};
-ghost use Rattle.osi_message.specs.Meanings.{meant_by};
-ghost use Rattle.osi_message.specs.Parting.{in_one, tsdus_sent};
+ghost use Rattle.osi_message.specs.Meanings.{DT, meant_by};
+ghost use Rattle.osi_message.specs.Parting.{in_one, is_whole, tsdus_sent};
 ghost use Rattle.osi_message.specs.Written.{user_data_of};
 ghost use Rattle.osi_session.specs.Sizes.{limit_of};
 
-use crate::calling::{MOST_USER_DATA, allow_data, decide};
+use crate::calling::{MOST_USER_DATA, allow_data, decide, most_whole};
 use crate::expected::Expected;
 use crate::faults::CallError;
 use crate::grouping::{Reactions, judge_unread, take_all};
@@ -24,7 +24,7 @@ use crate::plans::Plan;
 use crate::reactions::{Reaction, Reply};
 use crate::requests::Request;
 use crate::selected::is_profile;
-use crate::sizes::{limit_of, size_limit};
+use crate::sizes::size_limit;
 use crate::state::State;
 use crate::taken::Taken;
 use osi_message::{Message, Octets, Sent, data_head, laws};
@@ -41,6 +41,8 @@ mod points;
 pub struct Session {
     alloc: Global,
     state: State,
+    /// The most octets of data that may be sent in one TSDU in this state; 0 if no data may be sent.
+    room: usize,
     /// The CN, until the transport connection is open.
     waiting: Option<Sent>,
     /// The octets of an unfinished SSDU, at most 1,048,572.
@@ -54,6 +56,7 @@ impl Model for Session {
     ghost use Rattle.osi_session.specs.Joining.{joined_octets, kept_in};
     ghost use Rattle.osi_session.specs.Listening.{Listener};
     ghost use Rattle.osi_session.specs.Phases.{is_wait_transport};
+    ghost use Rattle.osi_session.specs.Room.{most_whole};
     ghost use Rattle.osi_session.specs.Sessions.{unit_in};
     ghost use Rattle.osi_session.specs.Sound.{IsSound};
 
@@ -64,7 +67,8 @@ impl Model for Session {
     ghost invariant = { λ s. IsSound s.state × (is_wait_transport s.state.phase ≡ true → IsSome s.waiting)
         × (option_map in_one (option_and_then unit_in s.waiting) ≡ s.waiting)
         × (kept_in s.state.phase s.joined ≡ s.joined)
-        × (length (joined_octets s.joined) ≤ 1048572) };
+        × (length (joined_octets s.joined) ≤ 1048572)
+        × (s.room ≡ most_whole s.state) };
 }
 
 /// The octets of an answer, if there is one. An allocation failure is possible only if there is one.
@@ -100,12 +104,13 @@ fn written_connect(alloc: Global, opening: &Opening) -> Result<Sent, AllocError>
 }
 
 impl Session {
-    ghost use Rattle.std.specs.Prelude.{◌≡◌, ◌++◌, [], ◌∷◌, true, false, map, option_map, None, Some, IsSome, IfSome, OnSome, IfNone, ◌≢◌, IfOk, IsOk, OnOk, IfErr, OnErr, length, ◌≤◌};
+    ghost use Rattle.std.specs.Prelude.{◌≡◌, ◌++◌, [], ◌∷◌, true, false, map, option_map, None, Some, Ok, IsSome, IfSome, OnSome, IfNone, ◌≢◌, IfOk, IsOk, OnOk, IfErr, OnErr, length, ◌≤◌};
     ghost use Rattle.osi_spdu.specs.Groups.{units_of};
     ghost use Rattle.osi_message.specs.Reading.{said_by_units};
     ghost use Rattle.osi_message.specs.Tokens.{named, token_octet};
     ghost use Rattle.osi_session.specs.Calls.{Data, called_by};
     ghost use Rattle.osi_session.specs.Lent.{tsdus_lent, FitTsdus};
+    ghost use Rattle.osi_session.specs.Allowed.{allowed};
     ghost use Rattle.osi_session.specs.Listening.{called, taken, unread, came, opened, refused, broken, in_state, moved, react};
     ghost use Rattle.osi_session.specs.Phases.{is_wait_transport};
     ghost use Rattle.osi_session.specs.Sessions.{Refused, CanBeSent, IsPlanOf, is_memory, opens, refusal_of, awaits, shown_in, takes_memory, Takes};
@@ -131,10 +136,12 @@ impl Session {
         if opening.user_data.len() > MOST_USER_DATA {
             return Err(CallError::TooLong);
         }
+        let state = State::asking(opening);
         match written_connect(alloc, opening) {
             Ok(sent) => Ok(Session {
                 alloc,
-                state: State::asking(opening),
+                state,
+                room: most_whole(&state),
                 waiting: Some(sent),
                 joined: None,
             }),
@@ -147,9 +154,11 @@ impl Session {
     pub fn called(alloc: Global) -> Session
         ensures { result ≡ awaits }
     {
+        let state = State::AWAITING;
         Session {
             alloc,
-            state: State::AWAITING,
+            state,
+            room: most_whole(&state),
             waiting: None,
             joined: None,
         }
@@ -165,6 +174,7 @@ impl Session {
         if !next.phase.may_hold() {
             self.joined = None;
         }
+        self.room = most_whole(&next);
         self.state = next;
     }
 
@@ -252,6 +262,21 @@ impl Session {
         Ok(sent)
     }
 
+    /// Whether this data may be sent now, in one TSDU. The state is not looked at: what it allows is known.
+    #[inline(always)]
+    fn goes_whole(&self, user_data: &[u8]) -> bool
+        ensures allowed { result ≡ true → allowed self.now.state (Data user_data.now) ≡ Ok (record { next = self.now.state; sent = DT user_data.now }) }
+        ensures whole { result ≡ true → is_whole (limit_of self.now.state) user_data.now ≡ true }
+        ensures sound { IsSound self.now.state }
+        ensures kept { kept_in self.now.state.phase self.now.joined ≡ self.now.joined }
+    {
+        let room = self.room;
+        if user_data.is_empty() {
+            return false;
+        }
+        user_data.len() <= room
+    }
+
     /// A call of the user for data, which changes nothing and needs no plan. It does what [`Session::call`] does with
     /// it.
     #[inline(always)]
@@ -263,7 +288,7 @@ impl Session {
         ensures sendable { OnOk result (CanBeSent (react self.now (called (Data user_data.now))).reply) }
         ensures refused { IfErr result (λ e. Refused e (react self.now (called (Data user_data.now))).error) }
     {
-        if allow_data(&self.state, user_data).is_err() || limit_of(&self.state) != 0 {
+        if !self.goes_whole(user_data) {
             // A value of its own: otherwise other data, too, would be answered in the stack space of this one.
             let answer = self.call_bounded_data(user_data);
             return answer;
@@ -284,10 +309,7 @@ impl Session {
         ensures accepted { OnSome result ((react self.now (called (Data user_data.now))).error ≡ None) }
         ensures sendable { OnSome result (CanBeSent (react self.now (called (Data user_data.now))).reply) }
     {
-        let Ok(()) = allow_data(&self.state, user_data) else {
-            return None;
-        };
-        if !Sent::is_whole(limit_of(&self.state), user_data) {
+        if !self.goes_whole(user_data) {
             return None;
         }
         Some(data_head())
@@ -312,8 +334,7 @@ impl Session {
         }
     }
 
-    /// Data that is refused, or for which a size was agreed. The function is kept out of line, because other data is
-    /// more frequent.
+    /// Data that is refused, or sent in parts. The function is kept out of line, because other data is more frequent.
     #[cold]
     #[inline(never)]
     #[tactic(auto, using(crate::proofs::tables::what_the_table_of_calls_answers::refused, crate::proofs::tables::what_the_table_of_calls_answers::wanting), unfolding(osi_message::specs::Written::user_data_of))]
@@ -408,6 +429,7 @@ impl Session {
             Err(error) => return Err(error),
         };
         reactions.joined.put(&mut self.joined);
+        self.room = most_whole(&reactions.next);
         self.state = reactions.next;
         Ok(Taken {
             first: reactions.first,

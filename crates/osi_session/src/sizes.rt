@@ -6,13 +6,18 @@ ghost use Rattle.osi_spdu.specs.Values.{is_size};
 ghost use Rattle.osi_message.specs.Meanings.{MIP, MIA, meant_by};
 ghost use Rattle.osi_message.specs.Written.{user_data_of, written};
 ghost use Rattle.osi_session.specs.Calls.{called_by};
+ghost use Rattle.osi_session.specs.Room.{most_within};
 ghost use Rattle.osi_session.specs.Sizes.{smaller, answered, smaller_sizes, answered_sizes, limit_of, fits_limit};
 ghost use Rattle.osi_session.specs.Sound.{IsSound};
 
+use crate::calling::MOST_DATA;
 use crate::requests::Request;
 use crate::state::State;
 use osi_message::Message;
 use osi_spdu::{Serial, TsduMaximumSize, TsduSize};
+
+/// The most octets of a TSDU.
+const MOST_OCTETS: usize = 1_048_576;
 
 /// Whether a user may give this size: no limit, or at least 64 octets.
 fn is_size(octets: u16) -> bool
@@ -85,6 +90,18 @@ pub(crate) fn limit_of(state: &State) -> u16
     } else {
         state.sizes.from_answerer
     }
+}
+
+/// The most octets of data in a TSDU of at most this many octets, 0 for no limit.
+#[tactic(auto, unfolding(crate::specs::Room::most_within))]
+pub(crate) fn most_within(limit: u16) -> usize
+    ensures { result ≡ most_within limit }
+{
+    let limit = limit as usize;
+    if limit == 0 || limit > MOST_OCTETS {
+        return MOST_DATA;
+    }
+    limit.saturating_sub(4)
 }
 
 /// The same, as a size that a user may give.

@@ -1,19 +1,19 @@
-use Rattle.std.proofs.Common.{◌≡◌, ◌∙◌, Ok, rules, arith}
-use Rattle.osi_session.proofs.Vocabulary.{DT, words_sent, allowed, Data, limit_of}
+use Rattle.std.proofs.Common.{refl, ◌∙◌, sym}
+use Rattle.osi_message.proofs.the_tsdus_of_a_message.{sent_whole}
+use Rattle.osi_session.proofs.Vocabulary.{DT, Data, Listener, limit_of}
 use Rattle.osi_session.proofs.tables.what_an_accepted_call_does.{accepts, rests_by}
 use Rattle.osi_session.proofs.sessions.Session.call_data.Goals as goal
 
 pub returns-in-Ok : goal.returns-in-Ok
-unfolding words_sent
 returns-in-Ok c =
-    let h : allowed c.self.inside.state (Data c.args.user_data.now) ≡ Ok
-    (record { next = c.self.inside.state; sent = DT c.args.user_data.now }) = search rules in
-    let z : 0 ≡ limit_of c.self.inside.state = grind arith in
-    let a = accepts 0 _ c.args.self.now (Data c.args.user_data.now) (record { next = c.self.inside.state; sent = DT c.args.user_data.now })
-    z c.self.view_is c.self.invariant.0 tt h in
+    let user = c.args.user_data.now in
+    let l : Listener = c.args.self.now in
+    let e = c.goes_whole.ensures in
+    let yes = c.if-not-goes_whole.false in
+    let a = accepts (limit_of l.state) l l (Data user) (record { next = l.state; sent = DT user }) refl refl e.sound tt (e.allowed yes) in
     record {
-      state = rests_by _ c.args.self.now (Data c.args.user_data.now) (DT c.args.user_data.now) c.self.view_is c.self.invariant.3 h;
-      sent = c.in-Ok.ensures ∙ a.sends;
+      state = rests_by l l (Data user) (DT user) refl e.kept (e.allowed yes);
+      sent = c.in-Ok.ensures ∙ sym (sent_whole (limit_of l.state) user (e.whole yes)) ∙ a.sends;
       accepted = a.passes;
       sendable = a.sendable;
       refused = tt;
@@ -21,8 +21,8 @@ returns-in-Ok c =
 
 pub returns-in-Err-clause-refused : goal.returns-in-Err-clause-refused
 returns-in-Err-clause-refused c =
-    let h : allowed c.self.inside.state (Data c.args.user_data.now) ≡ Ok
-    (record { next = c.self.inside.state; sent = DT c.args.user_data.now }) = search rules in
-    let z : 0 ≡ limit_of c.self.inside.state = grind arith in
-    (accepts 0 _ c.args.self.now (Data c.args.user_data.now) (record { next = c.self.inside.state; sent = DT c.args.user_data.now }) z
-    c.self.view_is c.self.invariant.0 tt h).passes
+    let user = c.args.user_data.now in
+    let l : Listener = c.args.self.now in
+    let e = c.goes_whole.ensures in
+    let yes = c.if-not-goes_whole.false in
+    (accepts (limit_of l.state) l l (Data user) (record { next = l.state; sent = DT user }) refl refl e.sound tt (e.allowed yes)).passes

@@ -1,8 +1,9 @@
-use Rattle.osi_session.proofs.Vocabulary.{option_and_then, plain_word, unit_in}
+use Rattle.osi_session.proofs.Vocabulary.{most_whole, option_and_then, plain_word, unit_in}
 use Rattle.osi_session.proofs.tables.points_that_are_expected.{plain_numbered, point_leaves, word_shows}
 use Rattle.osi_session.proofs.sessions.Session.take_point.Goals as goal
 
 pub invariant_of-self : goal.invariant_of-self
+unfolding most_whole
 invariant_of-self c = (
   point_leaves c.self.inside.state (option_and_then unit_in c.self.inside.waiting) c.self.inside.joined c.is_some.result
       c.in-Some.expected.numbers c.in-Some.expected.shown
@@ -12,6 +13,7 @@ invariant_of-self c = (
   c.self.invariant.2,
   c.self.invariant.3,
   c.self.invariant.4,
+  c.self.invariant.5,
 )
 
 pub returns : goal.returns
