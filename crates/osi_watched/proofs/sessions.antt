@@ -48,3 +48,11 @@ pub mod each_unit_of_a_calling_end_has_a_home
 pub mod a_called_end_has_its_lines
 pub mod a_called_end_of_class_2_puts_no_dt_of_class_0
 pub mod each_unit_of_a_called_end_has_a_home
+pub mod units_of_class_0_come_after_its_cc
+pub mod what_the_stage_of_a_calling_end_says
+pub mod class_0_keeps_its_one_place
+pub mod a_cc_of_class_0_opens_one_connection
+pub mod a_calling_end_hears_what_comes_until_class_2
+pub mod a_calling_end_stands_until_class_2
+pub mod a_turn_of_a_calling_end_until_class_2
+pub mod nobody_of_a_calling_end_is_to_blame_until_class_2
