@@ -16,5 +16,6 @@ pub mod what_units_do_to_a_course
 pub mod what_sessions_hear_of_it
 pub mod what_a_packet_does_to_it
 pub mod what_a_call_does_to_it
+pub mod what_is_put_in_a_turn_can_be_written
 pub mod what_a_run_does_to_it
 pub mod what_was_said_is_explained

@@ -5,5 +5,6 @@ pub mod what_is_put_and_taken_is_read
 pub mod what_the_judge_reads_of_a_side
 pub mod how_far_the_other_side_had_come
 pub mod what_is_written_is_read_again
+pub mod a_cr_and_a_cc_can_be_written
 pub mod what_a_link_gives_can_be_written
 pub mod all_that_an_end_puts_can_be_read

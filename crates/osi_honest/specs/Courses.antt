@@ -1,7 +1,7 @@
 -- The course of one connection of an end, of either class and among any number of others: the calls of its link, and what its
 -- session took and sent by them.
 use Rattle.std.specs.Prelude.{◌≡◌, ◌+◌, ◌<◌, ℕ, Bool, true, false, List, [], ◌∷◌, ◌++◌, map, Option, Some, None, IsSome, Result, Ok, Err}
-use Rattle.std.specs.List.{flat_map}
+use Rattle.std.specs.List.{AllByRecursion, flat_map}
 use Rattle.osi_tpkt.specs.Stream.{ArePackets}
 use Rattle.osi_tpdu.specs.Packet.{units_of}
 use Rattle.osi_tpdu.specs.Value.{Value}
@@ -25,6 +25,7 @@ use Rattle.osi_honest.specs.Arriving.{Lives}
 use Rattle.osi_honest.specs.Marked.{AreByLinks, Marked, all_units, units_at}
 use Rattle.osi_honest.specs.Talking.{History, Said}
 use Rattle.osi_honest.specs.Turns.{Takes, Turn}
+use Rattle.osi_honest.specs.Writable.{CanBeWritten}
 
 -- ---- the calls of a link
 
@@ -146,9 +147,11 @@ units_in packets = flat_map (λ packet. units_read (units_of packet)) packets
 pub record Continues (is_caller : Bool) (deeds : ℕ → Deeds) (old : Holding) (turn : Turn) (new : Holding) : Type 0 where
   pub more : ℕ → Deeds
   pub course : (r : ℕ) → Course is_caller r (then_did (deeds r) (more r)) new.end
-  -- All that was put is these units: those of a connection are all that was put for it, and those of none are no DTs and no AKs.
+  -- All that was put is these units, each of which can be written: those of a connection are all that was put for it, and those of
+  -- none are no DTs and no AKs.
   pub put : List Marked
   pub written : turn.put ≡ packets (all_units put)
+  pub can : AllByRecursion CanBeWritten (all_units put)
   pub by_links : AreByLinks put
   pub own : (r : ℕ) → 0 < r → (more r).put ≡ units_at r put
   -- What was used is these packets and a rest, which is held unless the end is over. Those of their units that are of a connection

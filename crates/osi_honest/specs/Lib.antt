@@ -7,5 +7,6 @@ pub mod Showing
 pub mod Openings
 pub mod Seeing
 pub mod Marked
+pub mod Writable
 pub mod Arriving
 pub mod Courses

@@ -217,8 +217,8 @@ pub fn an_honest_end_is_never_blamed()
 ///
 /// All that is put in a turn is accounted for. Each unit is marked with the reference of the connection whose link gave it, or with 0 if
 /// none did. The units with the mark of a connection are all that was put for it, in order. The units with the mark 0 are no DTs and no
-/// AKs: CRs, CCs, DRs and DCs. The units of the packets that were used are marked too, with the connection whose link took them
-/// ([`Continues`]).
+/// AKs: CRs, CCs, DRs and DCs. The numbers of each unit have room in its fields ([`CanBeWritten`]), so it is read again as it was put.
+/// The units of the packets that were used are marked too, with the connection whose link took them ([`Continues`]).
 ///
 /// A link takes and gives no unit before its connection is open, and none after it was closed. A connection opens with its CC, or at a
 /// called end with a CR, for which a CC is put. While it is open, its link takes each DT and AK that is for it, and no other unit; and
@@ -228,6 +228,7 @@ pub fn an_honest_end_is_never_blamed()
 ///
 /// [`Course`]: ../specs/Courses.antt
 /// [`Continues`]: ../specs/Courses.antt
+/// [`CanBeWritten`]: ../specs/Writable.antt
 /// [`Lives`]: ../specs/Arriving.antt
 /// [`SoFar`]: ../specs/Courses.antt
 pub fn what_a_session_hands_to_its_link()

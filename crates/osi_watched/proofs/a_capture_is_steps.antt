@@ -14,20 +14,21 @@ use Rattle.osi_tpdu.specs.Value.{Value, acknowledge, confirm, data0, data2, disc
 use Rattle.osi_tpdu.specs.Writing.{written, written_header}
 use Rattle.osi_tpdu.specs.declared.faults.TpduFault.{TpduFault}
 use Rattle.osi_class.specs.declared.terms.Local.{Local}
-use Rattle.osi_carrier.specs.State.{State as Carrier, packets}
+use Rattle.osi_carrier.specs.State.{packets}
 use Rattle.osi_carrier.specs.declared.ends.EndReason.{EndReason}
 use Rattle.osi_judge.specs.declared.directions.Direction.{Direction}
 use Rattle.osi_judge.specs.declared.directions.Direction.TheVariants.{Left, Right}
 use Rattle.osi_judge.specs.Captures.{Capture, Passed, of, other}
 use Rattle.osi_stack.specs.State.{Holding}
-use Rattle.osi_honest.specs.Courses.{ContinuesAlong, Deeds}
-use Rattle.osi_honest.specs.Marked.{Marked}
+use Rattle.osi_honest.specs.Courses.{Continues, Deeds, all_did, no_deeds}
+use Rattle.osi_honest.specs.Marked.{all_units}
 use Rattle.osi_honest.specs.Seeing.{IsFresh, IsSeen}
-use Rattle.osi_honest.specs.Turns.{Run, Turn}
-use Rattle.osi_honest.proofs.class_0.what_a_packet_does_in_class_0.{AllProper}
+use Rattle.osi_honest.specs.Turns.{Run, Takes, Turn}
+use Rattle.osi_honest.proofs.class_0.what_a_call_does_in_class_0.{over_acts}
 use Rattle.osi_honest.proofs.class_0.what_class_0_writes_of_a_tsdu.{packets_joined}
 use Rattle.osi_honest.proofs.class_0.what_packets_do_in_class_0.{never_lasts}
-use Rattle.osi_honest.proofs.reading.all_that_an_end_puts_can_be_read.{run_to_read}
+use Rattle.osi_honest.proofs.courses.what_a_run_does_to_it.{TurnOf, TurnsOf, fresh_turns}
+use Rattle.osi_honest.proofs.courses.what_sessions_hear_of_it.{Known}
 use Rattle.osi_honest.proofs.reading.two_readings_of_a_stream_agree.{packets_on, packets_then}
 use Rattle.osi_honest.proofs.reading.what_is_written_is_read_again.{CanBeWritten, read_again}
 use Rattle.osi_tap.specs.declared.marks.Cause.{Cause}
@@ -39,10 +40,10 @@ use Rattle.osi_tap.specs.Tapping as tapping
 use Rattle.osi_watched.specs.Joint.{Joint, Step, Steps, StepsAlong, TakesTurn}
 use Rattle.osi_watched.specs.Joint as joints
 use Rattle.osi_watched.specs.Joint.Step.{turns, begins_own, passes_own, begins_other, passes_other}
-use Rattle.osi_watched.specs.Passing.{AreOctets, ComesBySteps, IsOctet, TurnsBad}
+use Rattle.osi_watched.specs.Passing.{AreOctets, IsOctet, TurnsBad}
 use Rattle.osi_watched.proofs.turns_are_taken_late.{Follows, all_passed, other_passes, own_passes, seen_follows, turn_taken}
 use Rattle.osi_watched.proofs.what_an_octet_does.{begins, passes_so, same_course}
-use Rattle.osi_watched.proofs.what_each_turn_does.{Does, DoesAlong, all_done}
+use Rattle.osi_watched.proofs.what_the_turns_among_steps_do.{ComesByDoing, IsOfTap, StepsDo, TurnDoes, tap_first}
 use Rattle.osi_watched.proofs.what_the_first_octets_are.{own_front, packets_octets, used_first, whole_front, whole_packet}
 
 -- ---- what the rest of a capture comes to, from a state of the tap and of the end on
@@ -56,24 +57,38 @@ record Stops (d : Direction) (capture : Capture) (s : State) (c : Course) : Type
   bad : is_break cause ≡ true
   unreadable : (after front s).course ≡ unread (other d) at cause c
 
-record Comes (d : Direction) (capture : Capture) (s : State) (j : Joint) : Type 0 where
+-- this was done before at each connection of the end
+record Comes (d : Direction) (is_caller : Bool) (deeds : ℕ → Deeds) (capture : Capture) (s : State) (j : Joint) : Type 0 where
   steps : List Step
   last : Joint
   along : StepsAlong d j steps last
+  does : StepsDo d is_caller deeds j steps last along
   all : ((after capture s).course ≡ last.course) ⊎ Stops d capture s last.course
 
-step_first : (d : Direction) (capture : Capture) (s : State) (step : Step) (j mid : Joint) → Steps d step j mid →
-    Comes d capture s mid → Comes d capture s j
-step_first d capture s step j mid does c = record {
+step_first : (d : Direction) (is_caller : Bool) (deeds : ℕ → Deeds) (capture : Capture) (s : State) (step : Step) → IsOfTap step →
+    (j mid : Joint) → Steps d step j mid → Comes d is_caller deeds capture s mid → Comes d is_caller deeds capture s j
+step_first d is_caller deeds capture s step tap j mid one c = record {
   steps = step ∷ c.steps;
   last = c.last;
-  along = (mid, does, c.along);
+  along = (mid, one, c.along);
+  does = tap_first d is_caller deeds step tap c.steps j mid c.last one c.along c.does;
   all = c.all;
 }
 
-octet_first : (d : Direction) (o : Passed) (capture : Capture) (s : State) (j : Joint) → Comes d capture (octet_passes o s) j →
-    Comes d (o ∷ capture) s j
-octet_first d o capture s j c = record { steps = c.steps; last = c.last; along = c.along; all = by c.all }
+turn_first : (d : Direction) (is_caller : Bool) (deeds : ℕ → Deeds) (capture : Capture) (s : State) (turn : Turn) (j mid : Joint)
+    (t : TakesTurn turn j mid) (does : TurnDoes is_caller deeds turn j mid t) →
+    Comes d is_caller (all_did deeds does.of.on.more) capture s mid → Comes d is_caller deeds capture s j
+turn_first d is_caller deeds capture s turn j mid t does c = record {
+  steps = turns turn ∷ c.steps;
+  last = c.last;
+  along = (mid, t, c.along);
+  does = (does, c.does);
+  all = c.all;
+}
+
+octet_first : (d : Direction) (is_caller : Bool) (deeds : ℕ → Deeds) (o : Passed) (capture : Capture) (s : State) (j : Joint) →
+    Comes d is_caller deeds capture (octet_passes o s) j → Comes d is_caller deeds (o ∷ capture) s j
+octet_first d is_caller deeds o capture s j c = record { steps = c.steps; last = c.last; along = c.along; does = c.does; all = by c.all }
   where
     by : ((after capture (octet_passes o s)).course ≡ c.last.course) ⊎ Stops d capture (octet_passes o s) c.last.course →
         ((after (o ∷ capture) s).course ≡ c.last.course) ⊎ Stops d (o ∷ capture) s c.last.course
@@ -166,15 +181,17 @@ begun_now [] x = refl
 begun_now (o ∷ held) x = refl
 
 -- the packet begins, unless some of its octets have passed
-own_begins : (d : Direction) (capture : Capture) (s : State) (held : List ℕ) (j : Joint) → j.begun ≡ has_begun held → j.put ≢ [] →
-    Comes d capture s (record j { begun = true; course = begins d held j.course }) → Comes d capture s j
-own_begins d capture s [] j is some c =
-    step_first d capture s begins_own j (record j { begun = true; course = begins d [] j.course }) (some, is, refl) c
-own_begins d capture s (o ∷ held) j is some c = subst (λ (b : Bool). Comes d capture s (record j { begun = b })) (sym is) c
+own_begins : (d : Direction) (is_caller : Bool) (deeds : ℕ → Deeds) (capture : Capture) (s : State) (held : List ℕ) (j : Joint) →
+    j.begun ≡ has_begun held → j.put ≢ [] →
+    Comes d is_caller deeds capture s (record j { begun = true; course = begins d held j.course }) → Comes d is_caller deeds capture s j
+own_begins d is_caller deeds capture s [] j is some c =
+    step_first d is_caller deeds capture s begins_own tt j (record j { begun = true; course = begins d [] j.course }) (some, is, refl) c
+own_begins d is_caller deeds capture s (o ∷ held) j is some c =
+    subst (λ (b : Bool). Comes d is_caller deeds capture s (record j { begun = b })) (sym is) c
 
-module _ (d : Direction) (x : ℕ) (capture : Capture) (s : State) (j : Joint) (still ahead : List ℕ) (small : x < 256)
-    (st : Stands d s j (x ∷ still) ahead)
-    (on : (s2 : State) (j2 : Joint) → j2.holding ≡ j.holding → Stands d s2 j2 still ahead → Comes d capture s2 j2) where
+module _ (d : Direction) (is_caller : Bool) (deeds : ℕ → Deeds) (x : ℕ) (capture : Capture) (s : State) (j : Joint)
+    (still ahead : List ℕ) (small : x < 256) (st : Stands d s j (x ∷ still) ahead)
+    (on : (s2 : State) (j2 : Joint) → j2.holding ≡ j.holding → Stands d s2 j2 still ahead → Comes d is_caller deeds capture s2 j2) where
   abbrev own_held : List ℕ
   own_held = (stream_of d s).held
 
@@ -187,7 +204,7 @@ module _ (d : Direction) (x : ℕ) (capture : Capture) (s : State) (j : Joint) (
   abbrev own_course : Course
   own_course = begins d own_held s.course
 
-  own_goes_on : front_of (own_held ++ x ∷ []) ≡ partial → Comes d (of d x ∷ capture) s own_joint
+  own_goes_on : front_of (own_held ++ x ∷ []) ≡ partial → Comes d is_caller deeds (of d x ∷ capture) s own_joint
   own_goes_on part =
       let next : State = with_stream d own_now (record s { course = own_course }) in
       let own : OwnStands (own_held ++ x ∷ []) still j.put true = record {
@@ -197,13 +214,13 @@ module _ (d : Direction) (x : ℕ) (capture : Capture) (s : State) (j : Joint) (
         begun_so = begun_now own_held x;
         can = st.own.can;
       } in
-      octet_first d (of d x) capture s own_joint
-      (subst (λ (t : State). Comes d capture t own_joint) (sym (passes_so d x s partial st.own_reads part))
+      octet_first d is_caller deeds (of d x) capture s own_joint
+      (subst (λ (t : State). Comes d is_caller deeds capture t own_joint) (sym (passes_so d x s partial st.own_reads part))
       (on next own_joint refl (own_moved d own_now s own_course own_joint still ahead (ap (begins d own_held) st.course) st.own_reads
       st.other_reads own st.others)))
 
   own_ends : (v : Value) (vs : List Value) → j.put ≡ v ∷ vs → own_held ++ x ∷ [] ≡ packet_of (written v) → still ≡ packets vs →
-      Comes d (of d x ∷ capture) s own_joint
+      Comes d is_caller deeds (of d x ∷ capture) s own_joint
   own_ends v vs is same rest =
       let can = subst (AllByRecursion CanBeWritten) is st.own.can in
       let octets : IsOctets (written v) = octets_right (3 ∷ 0 ∷ _ ∷ _ ∷ []) (written v)
@@ -219,15 +236,15 @@ module _ (d : Direction) (x : ℕ) (capture : Capture) (s : State) (j : Joint) (
       let own : OwnStands [] still vs false =
       record { octets = octets_nil; part = refl; all = rest; begun_so = refl; can = can.1 } in
       let next : State = with_stream d (advanced own_now) (record s { course = after_it }) in
-      step_first d (of d x ∷ capture) s (passes_own at v) own_joint last (read, octets, is, refl, refl)
-      (octet_first d (of d x) capture s last
-      (subst (λ (t : State). Comes d capture t last) (sym (passes_so d x s (whole (written v)) st.own_reads front))
+      step_first d is_caller deeds (of d x ∷ capture) s (passes_own at v) tt own_joint last (read, octets, is, refl, refl)
+      (octet_first d is_caller deeds (of d x) capture s last
+      (subst (λ (t : State). Comes d is_caller deeds capture t last) (sym (passes_so d x s (whole (written v)) st.own_reads front))
       (on next last refl (own_moved d (advanced own_now) s after_it last still ahead course st.own_reads st.other_reads own st.others))))
 
-  own_octet : Comes d (of d x ∷ capture) s j
+  own_octet : Comes d is_caller deeds (of d x ∷ capture) s j
   own_octet =
       let p = first_put own_held still x j.put st.own.all in
-      own_begins d (of d x ∷ capture) s own_held j st.own.begun_so
+      own_begins d is_caller deeds (of d x ∷ capture) s own_held j st.own.begun_so
       (λ none. let both : p.0 ∷ p.1 ≡ [] = sym p.2 ∙ none in cc)
       (elim (own_front own_held (written p.0) (packets p.1) still x st.own.part (st.own.all ∙ ap packets p.2) (some_octets p.0)) [
         | inl part ↦ own_goes_on part
@@ -236,15 +253,16 @@ module _ (d : Direction) (x : ℕ) (capture : Capture) (s : State) (j : Joint) (
 
 -- ---- an octet of the other side
 
-other_begins : (d : Direction) (capture : Capture) (s : State) (held : List ℕ) (j : Joint) →
-    Comes d capture s (record j { course = begins (other d) held j.course }) → Comes d capture s j
-other_begins d capture s [] j c =
-    step_first d capture s begins_other j (record j { course = begins (other d) [] j.course }) refl c
-other_begins d capture s (o ∷ held) j c = c
+other_begins : (d : Direction) (is_caller : Bool) (deeds : ℕ → Deeds) (capture : Capture) (s : State) (held : List ℕ) (j : Joint) →
+    Comes d is_caller deeds capture s (record j { course = begins (other d) held j.course }) → Comes d is_caller deeds capture s j
+other_begins d is_caller deeds capture s [] j c =
+    step_first d is_caller deeds capture s begins_other tt j (record j { course = begins (other d) [] j.course }) refl c
+other_begins d is_caller deeds capture s (o ∷ held) j c = c
 
-module _ (d : Direction) (x : ℕ) (capture : Capture) (s : State) (j : Joint) (still ahead : List ℕ) (small : x < 256)
-    (st : Stands d s j still ahead)
-    (on : (s2 : State) (j2 : Joint) → j2.holding ≡ j.holding → Stands d s2 j2 still (ahead ++ x ∷ []) → Comes d capture s2 j2) where
+module _ (d : Direction) (is_caller : Bool) (deeds : ℕ → Deeds) (x : ℕ) (capture : Capture) (s : State) (j : Joint)
+    (still ahead : List ℕ) (small : x < 256) (st : Stands d s j still ahead)
+    (on : (s2 : State) (j2 : Joint) → j2.holding ≡ j.holding → Stands d s2 j2 still (ahead ++ x ∷ []) →
+    Comes d is_caller deeds capture s2 j2) where
   abbrev other_held : List ℕ
   other_held = (stream_of (other d) s).held
 
@@ -261,7 +279,7 @@ module _ (d : Direction) (x : ℕ) (capture : Capture) (s : State) (j : Joint) (
       ArePackets us (j.holding.held.octets ++ (ahead ++ x ∷ [])) r
   more_passed us r p = subst (λ (l : List ℕ). ArePackets us l r) (append_assoc j.holding.held.octets ahead (x ∷ [])) p
 
-  other_goes_on : front_of (other_held ++ x ∷ []) ≡ partial → Comes d (of (other d) x ∷ capture) s other_joint
+  other_goes_on : front_of (other_held ++ x ∷ []) ≡ partial → Comes d is_caller deeds (of (other d) x ∷ capture) s other_joint
   other_goes_on part =
       let next : State = with_stream (other d) other_now (record s { course = other_course }) in
       let others : OtherStands (other_held ++ x ∷ []) (ahead ++ x ∷ []) j.holding j.coming = record {
@@ -270,18 +288,19 @@ module _ (d : Direction) (x : ℕ) (capture : Capture) (s : State) (j : Joint) (
         cut = λ lasts. more_passed j.coming (other_held ++ x ∷ [])
             (packets_on j.coming (j.holding.held.octets ++ ahead) other_held (x ∷ []) (st.others.cut lasts));
       } in
-      octet_first d (of (other d) x) capture s other_joint
-      (subst (λ (t : State). Comes d capture t other_joint) (sym (passes_so (other d) x s partial st.other_reads part))
+      octet_first d is_caller deeds (of (other d) x) capture s other_joint
+      (subst (λ (t : State). Comes d is_caller deeds capture t other_joint) (sym (passes_so (other d) x s partial st.other_reads part))
       (on next other_joint refl (other_moved d other_now s other_course other_joint still (ahead ++ x ∷ [])
       (ap (begins (other d) other_held) st.course) st.own_reads st.other_reads st.own others)))
 
   other_stops : (t : Streamed) (cause : Cause) → is_break cause ≡ true →
       octet_passes (of (other d) x) s ≡ with_stream (other d) t (record s { course = unread (other d) other_now.at cause other_course }) →
-      Comes d (of (other d) x ∷ capture) s other_joint
+      Comes d is_caller deeds (of (other d) x ∷ capture) s other_joint
   other_stops t cause bad is = record {
     steps = [];
     last = other_joint;
     along = refl;
+    does = tt;
     all = inr (record {
       front = of (other d) x ∷ [];
       back = capture;
@@ -296,7 +315,7 @@ module _ (d : Direction) (x : ℕ) (capture : Capture) (s : State) (j : Joint) (
   }
 
   other_ends : (u : List ℕ) → front_of (other_held ++ x ∷ []) ≡ whole u → (r : Result (List Value) TpduFault) → units_of u ≡ r →
-      Comes d (of (other d) x ∷ capture) s other_joint
+      Comes d is_caller deeds (of (other d) x ∷ capture) s other_joint
   other_ends u front (Err fault) is =
       other_stops (advanced other_now) (BadUnit fault) refl (passes_so (other d) x s (whole u) st.other_reads front
       ∙ ap (λ (r : Result (List Value) TpduFault). with_stream (other d) (advanced other_now)
@@ -319,17 +338,17 @@ module _ (d : Direction) (x : ℕ) (capture : Capture) (s : State) (j : Joint) (
             (other_held ++ x ∷ [], [], packet, sym (append-nil (other_held ++ x ∷ [])), refl));
       } in
       let next : State = with_stream (other d) (advanced other_now) (record s { course = after_it }) in
-      step_first d (of (other d) x ∷ capture) s (passes_other other_now.at u units) other_joint last (octets, is, refl)
-      (octet_first d (of (other d) x) capture s last
-      (subst (λ (t : State). Comes d capture t last) (sym (passes_so (other d) x s (whole u) st.other_reads front))
+      step_first d is_caller deeds (of (other d) x ∷ capture) s (passes_other other_now.at u units) tt other_joint last (octets, is, refl)
+      (octet_first d is_caller deeds (of (other d) x) capture s last
+      (subst (λ (t : State). Comes d is_caller deeds capture t last) (sym (passes_so (other d) x s (whole u) st.other_reads front))
       (on next last refl (other_moved d (advanced other_now) s after_it last still
       (ahead ++ x ∷ []) course st.own_reads st.other_reads st.own
       others))))
 
-  other_octet : Comes d (of (other d) x ∷ capture) s j
-  other_octet = other_begins d (of (other d) x ∷ capture) s other_held j (by (front_of (other_held ++ x ∷ [])) refl)
+  other_octet : Comes d is_caller deeds (of (other d) x ∷ capture) s j
+  other_octet = other_begins d is_caller deeds (of (other d) x ∷ capture) s other_held j (by (front_of (other_held ++ x ∷ [])) refl)
     where
-      by : (f : Front) → front_of (other_held ++ x ∷ []) ≡ f → Comes d (of (other d) x ∷ capture) s other_joint
+      by : (f : Front) → front_of (other_held ++ x ∷ []) ≡ f → Comes d is_caller deeds (of (other d) x ∷ capture) s other_joint
       by partial is = other_goes_on is
       by (faulty fault) is =
           other_stops (ended other_now) (BadPacket fault) refl (passes_so (other d) x s (faulty fault) st.other_reads is)
@@ -358,7 +377,8 @@ record Uses (held ahead : List ℕ) (coming : List (List ℕ)) (old : Holding) (
       (more : List (List ℕ)) (last : List ℕ) → ArePackets more rest last → more ≡ []
   left : new.end.carrier.ended ≡ None → ArePackets later (new.held.octets ++ ahead) held
 
-module _ (held ahead : List ℕ) (coming : List (List ℕ)) (old : Holding) (turn : Turn) (new : Holding) (does : Does old turn new)
+module _ (held ahead : List ℕ) (coming : List (List ℕ)) (is_caller : Bool) (deeds : ℕ → Deeds) (old : Holding) (turn : Turn)
+    (new : Holding) (takes : Takes old turn new) (on : Continues is_caller deeds old turn new)
     (st : OtherStands held (turn.used ++ ahead) old coming) where
   abbrev octets_in : List ℕ
   octets_in = old.held.octets ++ turn.used
@@ -379,19 +399,19 @@ module _ (held ahead : List ℕ) (coming : List (List ℕ)) (old : Holding) (tur
     cut = λ lasts. absurd (not_both old.end.carrier.ended e was lasts);
     kept = λ lasts. refl;
     all = λ lasts over more last h. absurd (not_both old.end.carrier.ended e was lasts);
-    left = λ lasts. absurd (never_lasts new.end.carrier.ended (does.over (ap is_some was)) lasts);
+    left = λ lasts. absurd (never_lasts new.end.carrier.ended (over_acts turn old new (ap is_some was) takes).0 lasts);
   }
   uses None None was now =
-      let p = used_first does.used coming octets_in ahead does.rest held (passed was) does.cut st.part in
+      let p = used_first on.used coming octets_in ahead on.rest held (passed was) on.cut st.part in
       record {
-        used = does.used;
+        used = on.used;
         later = p.0;
         parts = p.1;
-        rest = does.rest;
-        cut = λ lasts. does.cut;
-        kept = does.held;
+        rest = on.rest;
+        cut = λ lasts. on.cut;
+        kept = on.held;
         all = λ lasts over more last h. absurd (over now);
-        left = λ lasts. subst (λ (l : List ℕ). ArePackets p.0 (l ++ ahead) held) (does.held lasts) p.2;
+        left = λ lasts. subst (λ (l : List ℕ). ArePackets p.0 (l ++ ahead) held) (on.held lasts) p.2;
       }
   uses None (Some e) was now =
       let octets = octets_left octets_in ahead (packets_octets coming (octets_in ++ ahead) held (passed was) st.octets) in
@@ -409,25 +429,32 @@ module _ (held ahead : List ℕ) (coming : List (List ℕ)) (old : Holding) (tur
       }
 
 -- the end and the tap after a turn
-record Turned (d : Direction) (s : State) (j : Joint) (turn : Turn) (new : Holding) (still ahead : List ℕ) : Type 0 where
+record Turned (d : Direction) (is_caller : Bool) (deeds : ℕ → Deeds) (s : State) (j : Joint) (turn : Turn) (new : Holding)
+    (at : TurnOf is_caller deeds turn j.holding new) (still ahead : List ℕ) : Type 0 where
   later : Joint
   takes : TakesTurn turn j later
-  holding : later.holding ≡ new
+  does : TurnDoes is_caller deeds turn j later takes
+  goes_on : (others : List Turn) (end : Holding) → TurnsOf is_caller (all_did deeds at.on.more) new others end →
+      TurnsOf is_caller (all_did deeds does.of.on.more) later.holding others end
   stands : Stands d s later (still ++ turn.put) ahead
 
-turned : (d : Direction) (s : State) (j : Joint) (turn : Turn) (new : Holding) (still ahead : List ℕ) → Does j.holding turn new →
-    Stands d s j still (turn.used ++ ahead) → Turned d s j turn new still ahead
-turned d s j turn new still ahead does st =
+turned : (d : Direction) (is_caller : Bool) (deeds : ℕ → Deeds) (s : State) (j : Joint) (turn : Turn) (new : Holding)
+    (still ahead : List ℕ) → Takes j.holding turn new → (at : TurnOf is_caller deeds turn j.holding new) →
+    Stands d s j still (turn.used ++ ahead) → Turned d is_caller deeds s j turn new at still ahead
+turned d is_caller deeds s j turn new still ahead takes at st =
+    let on = at.on in
+    let units = all_units on.put in
     let theirs = (stream_of (other d) s).held in
     let mine = (stream_of d s).held in
-    let u = uses theirs ahead j.coming j.holding turn new does st.others j.holding.end.carrier.ended new.end.carrier.ended refl refl in
-    let both : (mine ++ still) ++ turn.put ≡ packets j.put ++ packets does.units = (λ i. st.own.all i ++ does.written i) in
+    let u = uses theirs ahead j.coming is_caller deeds j.holding turn new takes on st.others j.holding.end.carrier.ended
+    new.end.carrier.ended refl refl in
+    let both : (mine ++ still) ++ turn.put ≡ packets j.put ++ packets units = (λ i. st.own.all i ++ on.written i) in
     record {
-      later = record j { holding = new; put = j.put ++ does.units; coming = u.later };
+      later = record j { holding = new; put = j.put ++ units; coming = u.later };
       takes = record {
-        takes = does.takes;
-        units = does.units;
-        written = does.written;
+        takes = takes;
+        units = units;
+        written = on.written;
         put = refl;
         used = u.used;
         coming = u.parts;
@@ -438,7 +465,8 @@ turned d s j turn new still ahead does st =
         begun = refl;
         course = refl;
       };
-      holding = refl;
+      does = record { of = at; units = refl };
+      goes_on = λ others end more. more;
       stands = record {
         course = st.course;
         own_reads = st.own_reads;
@@ -446,9 +474,9 @@ turned d s j turn new still ahead does st =
         own = record {
           octets = st.own.octets;
           part = st.own.part;
-          all = sym (append_assoc mine still turn.put) ∙ both ∙ sym (packets_joined j.put does.units);
+          all = sym (append_assoc mine still turn.put) ∙ both ∙ sym (packets_joined j.put units);
           begun_so = st.own.begun_so;
-          can = can_more j.put does.units st.own.can does.can;
+          can = can_more j.put units st.own.can on.can;
         };
         others = record { octets = st.others.octets; part = st.others.part; cut = u.left };
       };
@@ -456,28 +484,28 @@ turned d s j turn new still ahead does st =
 
 -- ---- all of the capture
 
-along_steps : (d : Direction) (still ahead : List ℕ) (capture : Capture) (turns_left : List Turn) →
-    Follows d still ahead capture turns_left → (s : State) (j : Joint) → AreOctets capture → DoesAlong j.holding turns_left →
-    Stands d s j still ahead → Comes d capture s j
-along_steps d _ _ _ _ (all_passed still ahead left) s j octets does st =
-    record { steps = []; last = j; along = refl; all = inl st.course }
-along_steps d _ _ _ _ (own_passes x o all still ahead capture left is front more) s j octets does st =
+along_steps : (d : Direction) (is_caller : Bool) (still ahead : List ℕ) (capture : Capture) (turns_left : List Turn) →
+    Follows d still ahead capture turns_left → (deeds : ℕ → Deeds) (s : State) (j : Joint) (end : Holding) → AreOctets capture →
+    TurnsOf is_caller deeds j.holding turns_left end → Stands d s j still ahead → Comes d is_caller deeds capture s j
+along_steps d is_caller _ _ _ _ (all_passed still ahead left) deeds s j end octets does st =
+    record { steps = []; last = j; along = refl; does = tt; all = inl st.course }
+along_steps d is_caller _ _ _ _ (own_passes x o all still ahead capture left is front more) deeds s j end octets does st =
     let small : x < 256 = subst IsOctet is octets.0 in
-    subst (λ (p : Passed). Comes d (p ∷ capture) s j) (sym is)
-    (own_octet d x capture s j still ahead small (subst (λ (l : List ℕ). Stands d s j l ahead) front st)
-    (λ s2 j2 same st2. along_steps d still ahead capture left more s2 j2 octets.1
-    (subst (λ (h : Holding). DoesAlong h left) (sym same) does) st2))
-along_steps d _ _ _ _ (other_passes x o still ahead capture left is more) s j octets does st =
+    subst (λ (p : Passed). Comes d is_caller deeds (p ∷ capture) s j) (sym is)
+    (own_octet d is_caller deeds x capture s j still ahead small (subst (λ (l : List ℕ). Stands d s j l ahead) front st)
+    (λ s2 j2 same st2. along_steps d is_caller still ahead capture left more deeds s2 j2 end octets.1
+    (subst (λ (h : Holding). TurnsOf is_caller deeds h left end) (sym same) does) st2))
+along_steps d is_caller _ _ _ _ (other_passes x o still ahead capture left is more) deeds s j end octets does st =
     let small : x < 256 = subst IsOctet is octets.0 in
-    subst (λ (p : Passed). Comes d (p ∷ capture) s j) (sym is)
-    (other_octet d x capture s j still ahead small st
-    (λ s2 j2 same st2. along_steps d still (ahead ++ x ∷ []) capture left more s2 j2 octets.1
-    (subst (λ (h : Holding). DoesAlong h left) (sym same) does) st2))
-along_steps d _ _ _ _ (turn_taken turn still all ahead capture left is more) s j octets does st =
-    let k = turned d s j turn does.0 still ahead does.1 (subst (λ (l : List ℕ). Stands d s j still l) is st) in
-    step_first d capture s (turns turn) j k.later k.takes
-    (along_steps d (still ++ turn.put) ahead capture left more s k.later octets
-    (subst (λ (h : Holding). DoesAlong h left) (sym k.holding) does.2) k.stands)
+    subst (λ (p : Passed). Comes d is_caller deeds (p ∷ capture) s j) (sym is)
+    (other_octet d is_caller deeds x capture s j still ahead small st
+    (λ s2 j2 same st2. along_steps d is_caller still (ahead ++ x ∷ []) capture left more deeds s2 j2 end octets.1
+    (subst (λ (h : Holding). TurnsOf is_caller deeds h left end) (sym same) does) st2))
+along_steps d is_caller _ _ _ _ (turn_taken turn still all ahead capture left is more) deeds s j end octets does st =
+    let k = turned d is_caller deeds s j turn does.0 still ahead does.1 does.2 (subst (λ (l : List ℕ). Stands d s j still l) is st) in
+    turn_first d is_caller deeds capture s turn j k.later k.takes k.does
+    (along_steps d is_caller (still ++ turn.put) ahead capture left more (all_did deeds k.does.of.on.more) s k.later end octets
+    (k.goes_on left end does.3) k.stands)
 
 stands_first : (d : Direction) (h : Holding) → h.held.octets ≡ [] → Stands d tapping.begin (joints.begin h) [] []
 stands_first Left h none = record {
@@ -495,16 +523,14 @@ stands_first Right h none = record {
   others = record { octets = octets_nil; part = refl; cut = λ lasts. append-nil h.held.octets ∙ none };
 }
 
-pub capture_steps : AllProper → (since : Carrier) (deeds : ℕ → Deeds) (took put : List Marked) (d : Direction) (is_caller : Bool)
-    (local : Local) (first end : Holding) (turns_all : List Turn) (capture : Capture) →
-    ContinuesAlong is_caller since deeds took put first turns_all end → IsFresh is_caller local first →
-    Run first turns_all end → AreOctets capture → IsSeen d turns_all capture → ComesBySteps d capture first
-capture_steps proper since deeds took put d is_caller local first end turns_all capture goes fresh run octets seen =
-    let read = run_to_read proper is_caller local first end turns_all fresh run in
-    let does = all_done is_caller since deeds took put turns_all first end goes read.units read.is read.written in
-    let c = along_steps d [] [] capture turns_all (seen_follows d turns_all capture seen) tapping.begin (joints.begin first) octets does
-    (stands_first d first fresh.held) in
-    record { steps = c.steps; last = c.last; along = c.along; all = by c.last.course c.all }
+pub capture_steps : Known → (d : Direction) (is_caller : Bool) (local : Local) (first end : Holding) (turns_all : List Turn)
+    (capture : Capture) → IsFresh is_caller local first → Run first turns_all end → AreOctets capture → IsSeen d turns_all capture →
+    ComesByDoing d is_caller capture first
+capture_steps known d is_caller local first end turns_all capture fresh run octets seen =
+    let does = fresh_turns known is_caller local first end turns_all fresh run in
+    let c = along_steps d is_caller [] [] capture turns_all (seen_follows d turns_all capture seen) (λ r. no_deeds) tapping.begin
+    (joints.begin first) end octets does (stands_first d first fresh.held) in
+    record { steps = c.steps; last = c.last; along = c.along; does = c.does; all = by c.last.course c.all }
   where
     by : (c : Course) → ((after capture tapping.begin).course ≡ c) ⊎ Stops d capture tapping.begin c →
         ((after capture tapping.begin).course ≡ c) ⊎ TurnsBad d capture c

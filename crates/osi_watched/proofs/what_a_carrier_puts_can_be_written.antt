@@ -1,11 +1,10 @@
 -- The units that a carrier puts as it takes a unit, and as its user makes a call, can be written, and its links stay numbered.
 -- For what a turn of an end does to its carrier.
-use Rattle.std.proofs.Common.{◌≡◌, ℕ, ◌+◌, ◌&&◌, ◌≤◌, min, Bool, true, false, if◌then◌else◌, List, [], ◌∷◌, ◌++◌, length}
-use Rattle.std.proofs.Common.{Option, Some, None, option_map, is_some, Result, Ok, Err, refl, subst, arith}
+use Rattle.std.proofs.Common.{◌≡◌, ℕ, ◌+◌, ◌&&◌, ◌≤◌, Bool, true, false, if◌then◌else◌, List, [], ◌∷◌, ◌++◌}
+use Rattle.std.proofs.Common.{Option, Some, None, option_map, is_some, Result, Ok, Err, refl, subst}
 use Rattle.std.specs.Prelude.{IfSome}
 use Rattle.std.specs.List.{AllByRecursion}
-use Rattle.osi_tpkt.specs.Octets.{IsOctets}
-use Rattle.osi_tpdu.specs.Limits.{size_code, tsap_octets}
+use Rattle.osi_tpdu.specs.Limits.{tsap_octets}
 use Rattle.osi_tpdu.specs.Value.{Connect, HasFieldsInRange, IsConnect, Value, confirm, data0, disconnect, disconnected}
 use Rattle.osi_tpdu.specs.Value.{error, request}
 use Rattle.osi_tpdu.specs.declared.tsaps.Tsap.{Tsap}
@@ -14,7 +13,6 @@ use Rattle.osi_class.specs.Negotiation.{accept, keeps_flow_control, proposes, pr
 use Rattle.osi_class.specs.declared.faults.LinkFault.{LinkFault}
 use Rattle.osi_class.specs.declared.terms.Class.{Class}
 use Rattle.osi_class.specs.declared.terms.Class.TheVariants.{Two, Zero}
-use Rattle.osi_class.specs.declared.terms.Local.{Local}
 use Rattle.osi_carrier.specs.Calls.{closed_on, closes as closes_in, closed_with, link_of, open_link, sent, sent_all, sent_on}
 use Rattle.osi_carrier.specs.Negotiation.{acceptance, agreed_size, confirmed, opened_link, proposes_two}
 use Rattle.osi_carrier.specs.Orderly.{connection_by}
@@ -31,9 +29,10 @@ use Rattle.osi_fair.specs.Putting.{put_at, put_before, put_by, put_closed, put_c
 use Rattle.osi_fair.specs.Putting.{put_in, put_in_two, put_in_zero, put_leaving, put_linked, put_only, put_sent, put_taking, put_to}
 use Rattle.osi_fair.specs.Putting.{put_together, put_unknown, refusal}
 use Rattle.osi_honest.proofs.keeping.what_holds_of_each_connection_stays.{row_at, row_more, row_put, row_without}
-use Rattle.osi_honest.proofs.reading.all_that_an_end_puts_can_be_read.{AreNumbered, cr_by}
-use Rattle.osi_honest.proofs.reading.what_a_link_gives_can_be_written.{IsNumbered, gives_written, taken_numbered}
-use Rattle.osi_honest.proofs.reading.what_is_written_is_read_again.{CanBeWritten, IsPlain}
+use Rattle.osi_honest.specs.Writable.{CanBeWritten}
+use Rattle.osi_honest.proofs.reading.a_cr_and_a_cc_can_be_written.{cc_plain, cr_by, size_in_range}
+use Rattle.osi_honest.proofs.reading.all_that_an_end_puts_can_be_read.{AreNumbered}
+use Rattle.osi_honest.proofs.reading.what_a_link_gives_can_be_written.{IsNumbered, gives_written, link_opens, taken_numbered}
 
 -- these units can be written, and the links are numbered
 abbrev pub Fine : List Value → State → Type 0
@@ -45,50 +44,6 @@ abbrev IsNumberedRow : Connection → Type 0
 IsNumberedRow asked = Unit {0}
 IsNumberedRow (linked peer link) = IsNumbered link.flow
 IsNumberedRow (closing peer) = Unit {0}
-
-link_opens : (class : Class) (size : Option ℕ) (local : Local) (credit : ℕ) → IsNumbered (opened_link class size local credit).flow
-link_opens Zero size local credit = tt
-link_opens Two size local credit = let most = local.window.at_most in (omega arith, omega arith)
-
--- ---- a CC
-
-size_in_range : (o : Option ℕ) (local : Local) → IfSome o (λ code. (7 ≤ code) × (code ≤ 13)) →
-    IfSome (option_map (λ code. min code (size_code local.size)) o) (λ code. (7 ≤ code) × (code ≤ 13))
-size_in_range None local h = tt
-size_in_range (Some code) local h =
-    let least = local.size.at_least in
-    let most : code ≤ 13 = h.1 in
-    let some : 7 ≤ code = h.0 in
-    (omega arith, omega arith)
-
-selector_fits : (o : Option (List ℕ)) → IfSome o (λ s. (length s ≤ 32) × IsOctets s) → IfSome o (λ s. length s ≤ 32)
-selector_fits None h = tt
-selector_fits (Some s) h = h.0
-
-cc_plain : (class : Class) (size : Option ℕ) (c : Connect) (local : Local) (r : ℕ) → IsConnect c →
-    IfSome size (λ code. (7 ≤ code) × (code ≤ 13)) → IsPlain (acceptance class size c local r)
-cc_plain Zero size c local r h range = record {
-  credit = omega arith;
-  class = omega arith;
-  options = omega arith;
-  size = range;
-  calling = selector_fits c.parameters.calling h.parameters.calling;
-  called = selector_fits c.parameters.called h.parameters.called;
-  additional = tt;
-  alternative = tt;
-  user = refl;
-}
-cc_plain Two size c local r h range = record {
-  credit = let most = local.window.at_most in omega arith;
-  class = omega arith;
-  options = omega arith;
-  size = range;
-  calling = selector_fits c.parameters.calling h.parameters.calling;
-  called = selector_fits c.parameters.called h.parameters.called;
-  additional = omega arith;
-  alternative = tt;
-  user = refl;
-}
 
 module _ (s : State) (p : AreNumbered s.live) where
   -- ---- a CR

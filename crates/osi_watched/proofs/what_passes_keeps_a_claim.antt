@@ -1,10 +1,11 @@
--- What a packet that begins, a unit and what can't be read leave true of a tap, a capture leaves true.
--- For the first break of transport.
-use Rattle.std.proofs.Common.{◌≡◌, ℕ, Bool, true, false, if◌then◌else◌, List, [], ◌∷◌, ◌++◌, length, Result, Ok, Err, refl}
+-- What a packet that begins, a unit and what can't be read leave true of a tap, a capture leaves true, and so does each step of an end
+-- and of the tap.
+-- For the first break.
+use Rattle.std.proofs.Common.{◌≡◌, ℕ, Bool, true, false, if◌then◌else◌, List, [], ◌∷◌, ◌++◌, length, Result, Ok, Err, refl, sym, subst}
 use Rattle.osi_tpdu.specs.Packet.{units_of}
 use Rattle.osi_tpdu.specs.Value.{Value}
 use Rattle.osi_tpdu.specs.declared.faults.TpduFault.{TpduFault}
-use Rattle.osi_judge.specs.Captures.{Capture, of}
+use Rattle.osi_judge.specs.Captures.{Capture, of, other}
 use Rattle.osi_judge.specs.declared.directions.Direction.{Direction}
 use Rattle.osi_judge.specs.declared.directions.Direction.TheVariants.{Left, Right}
 use Rattle.osi_tap.specs.declared.marks.Cause.{Cause}
@@ -13,6 +14,7 @@ use Rattle.osi_tap.specs.Courses.{Course, packet_begins, packet_by, unit_passes,
 use Rattle.osi_tap.specs.Streams.{Front, Streamed, counted, faulty, front_of, gathered, partial, whole}
 use Rattle.osi_tap.specs.Tapping.{State, after, begun, looked_at, octet_passes, stream_of, with_stream}
 use Rattle.osi_tap.proofs.a_piece_comes_to_what_its_octets_do.{looks}
+use Rattle.osi_watched.specs.Joint.{Joint, Step, Steps, StepsAlong, begins_other, begins_own, passes_other, passes_own, turns}
 
 pub record IsClaim (P : Course → Type 0) : Type 0 where
   pub begins : (d : Direction) (c : Course) → P c → P (packet_begins d c)
@@ -20,7 +22,7 @@ pub record IsClaim (P : Course → Type 0) : Type 0 where
   pub bad : (d : Direction) (at : ℕ) (cause : Cause) (c : Course) → P c → P (unread d at cause c)
 
 module _ (P : Course → Type 0) (k : IsClaim P) where
-  units_kept : (d : Direction) (at : ℕ) (vs : List Value) (c : Course) → P c → P (units_pass d at vs c)
+  pub units_kept : (d : Direction) (at : ℕ) (vs : List Value) (c : Course) → P c → P (units_pass d at vs c)
   units_kept d at [] c h = h
   units_kept d at (v ∷ vs) c h = units_kept d at vs (unit_passes d at v c) (k.passes d at v c h)
 
@@ -55,6 +57,19 @@ module _ (P : Course → Type 0) (k : IsClaim P) where
   after_kept [] s h = h
   after_kept (of d o ∷ capture) s h =
       after_kept capture (octet_passes (of d o) s) (octet_by (stream_of d s).spent d (o ∷ []) s h)
+
+  -- the steps of an end and of the tap
+  pub step_kept : (d : Direction) (step : Step) (old new : Joint) → Steps d step old new → P old.course → P new.course
+  step_kept d (turns turn) old new t h = subst P (sym t.course) h
+  step_kept d begins_own old new steps h = subst (λ (j : Joint). P j.course) (sym steps.2) (k.begins d old.course h)
+  step_kept d (passes_own at v) old new steps h = subst (λ (j : Joint). P j.course) (sym steps.4) (k.passes d at v old.course h)
+  step_kept d begins_other old new is h = subst (λ (j : Joint). P j.course) (sym is) (k.begins (other d) old.course h)
+  step_kept d (passes_other at packet units) old new steps h =
+      subst (λ (j : Joint). P j.course) (sym steps.2) (units_kept (other d) at units old.course h)
+
+  pub along_kept : (d : Direction) (steps : List Step) (old new : Joint) → StepsAlong d old steps new → P old.course → P new.course
+  along_kept d [] old new is h = subst (λ (j : Joint). P j.course) (sym is) h
+  along_kept d (step ∷ steps) old new (mid, one, more) h = along_kept d steps mid new more (step_kept d step old mid one h)
 
 -- one capture after the other
 pub after_join : (front back : Capture) (s : State) → after (front ++ back) s ≡ after back (after front s)

@@ -26,7 +26,6 @@ ghost use Rattle.osi_tpdu.specs.Value.{Value, destination_of};
 ghost use Rattle.osi_watched.specs.Shown.{IsShownNow, IsShownOf, calls_from};
 ghost use Rattle.osi_watched.specs.ShownPlaces.{HaveSamePlaces, IsJoinedAt, IsOneOf};
 
-use osi_honest::laws::what_a_session_hands_to_its_link;
 use osi_judge::laws::an_honest_session_is_explained;
 use osi_session::laws::what_closes_sends_nothing;
 use osi_spdu::laws::{few_octets_fit, serial_digits};
@@ -47,7 +46,6 @@ pub fn a_capture_of_an_end_is_steps()
     few_octets_fit();
     serial_digits();
     what_closes_sends_nothing();
-    what_a_session_hands_to_its_link();
 }
 
 /// The transport of an end is never blamed first. Take any run of an end of this library from its beginning: any pieces of whatever

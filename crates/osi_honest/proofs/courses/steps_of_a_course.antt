@@ -9,13 +9,13 @@ use Rattle.osi_class.specs.Runs.{Move}
 use Rattle.osi_carrier.specs.State.{State as Carrier, packets}
 use Rattle.osi_stack.specs.State.{End}
 use Rattle.osi_honest.specs.Courses.{Deeds, all_did, no_deeds, then_did, units_given, units_taken}
-use Rattle.osi_honest.specs.Marked.{AreByLinks, Marked, all_units, units_at}
+use Rattle.osi_honest.specs.Marked.{Marked, all_units, units_at}
 use Rattle.osi_honest.proofs.class_0.what_class_0_writes_of_a_tsdu.{packets_joined}
 use Rattle.osi_honest.proofs.courses.how_long_a_connection_is_open.{Life, Rests, Stage, life_rests, life_then, life_then_rests}
 use Rattle.osi_honest.proofs.courses.how_long_a_connection_is_open.{life_to_past, rests_over, stage_at, stage_over}
 use Rattle.osi_honest.proofs.courses.how_long_a_connection_is_open.Stage.{past}
-use Rattle.osi_honest.proofs.courses.units_of_each_connection.{all_units_more, by_links_more, marked, marked_all, none_marked, nowhere}
-use Rattle.osi_honest.proofs.courses.units_of_each_connection.{units_more}
+use Rattle.osi_honest.proofs.courses.units_of_each_connection.{AreAccounted, accounted_more, all_units_more, marked, marked_all}
+use Rattle.osi_honest.proofs.courses.units_of_each_connection.{none_marked, nowhere, units_more}
 use Rattle.osi_honest.proofs.courses.what_calls_of_a_link_say.{taken_more, then_joined, then_none}
 
 -- ---- one connection
@@ -68,7 +68,7 @@ pub record StepsBy (is_caller : Bool) (used : List Value) (T : States) (deeds : 
   pub there : HoldEach T (all_did deeds more) e
   pub put : List Marked
   pub written : e.carrier.outgoing ≡ before.outgoing ++ packets (all_units put)
-  pub by_links : AreByLinks put
+  pub accounted : AreAccounted put
   pub own : (r : ℕ) → 0 < r → (more r).put ≡ units_at r put
   pub took : List Marked
   pub all : all_units took ≡ used
@@ -91,15 +91,15 @@ Steps is_caller T deeds before e = StepsBy is_caller [] T deeds before e
 
 pub step_each : (is_caller : Bool) (used : List Value) (T : States) (deeds : ℕ → Deeds) (before : Carrier) (e : End)
     (put took : List Marked) →
-    e.carrier.outgoing ≡ before.outgoing ++ packets (all_units put) → AreByLinks put → all_units took ≡ used →
+    e.carrier.outgoing ≡ before.outgoing ++ packets (all_units put) → AreAccounted put → all_units took ≡ used →
     ((r : ℕ) → 0 < r → Life is_caller r (stage_at r before) took put (stage_at r e.carrier)) →
     ((r : ℕ) → StepAt r put took (T r) (deeds r) e) → StepsBy is_caller used T deeds before e
-step_each is_caller used T deeds before e put took written by_links all life each = record {
+step_each is_caller used T deeds before e put took written accounted all life each = record {
   more = λ r. (each r).more;
   there = λ r. (each r).there;
   put = put;
   written = written;
-  by_links = by_links;
+  accounted = accounted;
   own = λ r. (each r).own;
   took = took;
   all = all;
@@ -129,7 +129,7 @@ step_then is_caller used others S T deeds before mid new a next =
           ∙ append_assoc before.outgoing (packets (all_units a.put)) (packets (all_units b.put))
           ∙ ap (λ (l : List ℕ). before.outgoing ++ l) (sym (packets_joined (all_units a.put) (all_units b.put)))
           ∙ ap (λ (l : List Value). before.outgoing ++ packets l) (sym (all_units_more a.put b.put));
-      by_links = by_links_more a.put b.put a.by_links b.by_links;
+      accounted = accounted_more a.put b.put a.accounted b.accounted;
       own = λ r some. ap (λ (l : List Value). l ++ (b.more r).put) (a.own r some)
           ∙ ap (λ (l : List Value). units_at r a.put ++ l) (b.own r some) ∙ sym (units_more r a.put b.put);
       took = a.took ++ b.took;
@@ -158,7 +158,7 @@ step_more is_caller used others T deeds before e ended a = record {
   there = a.there;
   put = a.put;
   written = a.written;
-  by_links = a.by_links;
+  accounted = a.accounted;
   own = a.own;
   took = a.took ++ marked 0 others;
   all = all_units_more a.took (marked 0 others) ∙ ap (λ (l : List Value). l ++ all_units (marked 0 others)) a.all
@@ -182,7 +182,7 @@ step_as is_caller used S T deeds before e new a same rest next = record {
   there = λ r. next r (then_did (deeds r) (a.more r)) (a.there r);
   put = a.put;
   written = same ∙ a.written;
-  by_links = a.by_links;
+  accounted = a.accounted;
   own = a.own;
   took = a.took;
   all = a.all;
@@ -200,7 +200,7 @@ step_since is_caller used T deeds before other e same as_open a = record {
   there = a.there;
   put = a.put;
   written = a.written ∙ ap (λ (l : List ℕ). l ++ packets (all_units a.put)) same;
-  by_links = a.by_links;
+  accounted = a.accounted;
   own = a.own;
   took = a.took;
   all = a.all;

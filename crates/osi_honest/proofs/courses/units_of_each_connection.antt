@@ -10,6 +10,7 @@ use Rattle.std.proofs.lemmas.List.{map-append}
 use Rattle.osi_tpdu.specs.Value.{Value}
 use Rattle.osi_class.specs.Link.{Given, ack, part0, part2, unit_of}
 use Rattle.osi_honest.specs.Marked.{AreByLinks, Marked, all_units, if_of, is_of_link, units_at}
+use Rattle.osi_honest.specs.Writable.{CanBeWritten}
 
 -- ---- one list after another
 
@@ -23,8 +24,19 @@ pub all_of_both : {X : Type 0} (P : X → Type 0) (xs ys : List X) → AllByRecu
 all_of_both P [] ys a b = b
 all_of_both P (x ∷ xs) ys a b = (a.0, all_of_both P xs ys a.1 b)
 
-pub by_links_more : (xs ys : List Marked) → AreByLinks xs → AreByLinks ys → AreByLinks (xs ++ ys)
-by_links_more xs ys a b = all_of_both (λ (m : Marked). is_of_link m.1 ≡ nat_lt 0 m.0) xs ys a b
+-- A DT or an AK is of a connection, and another unit is of none and can be written.
+abbrev pub IsAccounted : Marked → Type 0
+IsAccounted m = (is_of_link m.1 ≡ nat_lt 0 m.0) × (is_of_link m.1 ≡ false → CanBeWritten m.1)
+
+abbrev pub AreAccounted : List Marked → Type 0
+AreAccounted units = AllByRecursion IsAccounted units
+
+pub accounted_more : (xs ys : List Marked) → AreAccounted xs → AreAccounted ys → AreAccounted (xs ++ ys)
+accounted_more xs ys a b = all_of_both IsAccounted xs ys a b
+
+pub by_links : (units : List Marked) → AreAccounted units → AreByLinks units
+by_links [] all = tt
+by_links (m ∷ units) all = (all.0.0, by_links units all.1)
 
 -- ---- units of one connection, or of none
 
@@ -82,13 +94,13 @@ other_marked q r (unit ∷ units) ne = (other_mark q r ne, other_marked q r unit
 
 -- ---- DTs and AKs, and others
 
--- no DT and no AK
+-- no DT and no AK, and it can be written
 abbrev pub ArePlain : List Value → Type 0
-ArePlain units = AllByRecursion (λ unit. is_of_link unit ≡ false) units
+ArePlain units = AllByRecursion (λ unit. (is_of_link unit ≡ false) × CanBeWritten unit) units
 
-pub plain_by_links : (units : List Value) → ArePlain units → AreByLinks (marked 0 units)
-plain_by_links [] all = tt
-plain_by_links (unit ∷ units) all = (all.0, plain_by_links units all.1)
+pub plain_accounted : (units : List Value) → ArePlain units → AreAccounted (marked 0 units)
+plain_accounted [] all = tt
+plain_accounted (unit ∷ units) all = ((all.0.0, λ plain. all.0.1), plain_accounted units all.1)
 
 given_by_link : (peer : ℕ) (given : Given) → is_of_link (unit_of peer given) ≡ true
 given_by_link peer (part0 last octets) = refl
@@ -98,7 +110,13 @@ given_by_link peer (ack number credit) = refl
 is_above : (q : ℕ) → 0 < q → nat_lt 0 q ≡ true
 is_above q some = grind (arith, nat_tests)
 
-pub given_by_links : (q peer : ℕ) (units : List Given) → 0 < q → AreByLinks (marked q (map (unit_of peer) units))
-given_by_links q peer [] some = tt
-given_by_links q peer (given ∷ units) some =
-    (given_by_link peer given ∙ sym (is_above q some), given_by_links q peer units some)
+-- a unit of a link is no other
+of_link : {A : Type 0} (unit : Value) → is_of_link unit ≡ true → is_of_link unit ≡ false → A
+of_link unit is plain = absurd (let both : true ≡ false = sym is ∙ plain in cc)
+
+pub given_accounted : (q peer : ℕ) (units : List Given) → 0 < q → AreAccounted (marked q (map (unit_of peer) units))
+given_accounted q peer [] some = tt
+given_accounted q peer (given ∷ units) some = (
+  (given_by_link peer given ∙ sym (is_above q some), λ plain. of_link (unit_of peer given) (given_by_link peer given) plain),
+  given_accounted q peer units some,
+)

@@ -8,7 +8,7 @@ use Rattle.osi_tpdu.specs.Value.{Value, request}
 use Rattle.osi_class.specs.Link.{Standing}
 use Rattle.osi_class.specs.Runs.{tsdus_out}
 use Rattle.osi_carrier.specs.Calls.{closed_on, closed_with, link_of, may_connect, open_link}
-use Rattle.osi_carrier.specs.Negotiation.{proposal}
+use Rattle.osi_carrier.specs.Negotiation.{proposal, proposes_two}
 use Rattle.osi_carrier.specs.Orderly.{IsOrderly}
 use Rattle.osi_carrier.specs.Rows.{value_at}
 use Rattle.osi_carrier.specs.State.{Connection, State as Carrier, asked}
@@ -39,7 +39,7 @@ use Rattle.osi_stack.proofs.sound.the_invariant_is_kept.{closed_given, open_none
 use Rattle.osi_honest.specs.Courses.{Course, Deeds, Gone, IsOpen, IsShut, said_in}
 use Rattle.osi_honest.specs.Courses.Course.{awaited, is_gone, is_open, unknown}
 use Rattle.osi_honest.specs.Courses.Gone.{closed, never, over}
-use Rattle.osi_honest.specs.Marked.{AreByLinks, Marked}
+use Rattle.osi_honest.specs.Marked.{Marked}
 use Rattle.osi_honest.specs.Talking.{History, said_after}
 use Rattle.osi_honest.specs.Talking as history
 use Rattle.osi_honest.specs.Turns.{HasSerialIn}
@@ -48,9 +48,9 @@ use Rattle.osi_honest.proofs.class_0.what_a_call_does_in_class_0.{granted_proper
 use Rattle.osi_honest.proofs.class_0.what_packets_do_in_class_0.{never_lasts}
 use Rattle.osi_honest.proofs.courses.a_connection_without_a_unit.{connect_rests, given_up_rests, session_life}
 use Rattle.osi_honest.proofs.courses.steps_of_a_course.{HasNone, HoldEach, StepAt, Steps, step_each, step_idle}
-use Rattle.osi_honest.proofs.courses.units_of_each_connection.{marked, none_marked, nowhere, unequal}
-use Rattle.osi_honest.proofs.courses.what_a_session_puts.{Puts, closing_by_links, closing_puts, put_closing, puts_none}
-use Rattle.osi_honest.proofs.courses.what_a_session_puts.{session_by_links, session_others, session_puts, session_written}
+use Rattle.osi_honest.proofs.courses.units_of_each_connection.{AreAccounted, marked, none_marked, nowhere, unequal}
+use Rattle.osi_honest.proofs.courses.what_a_session_puts.{Puts, closing_accounted, closing_puts, put_closing, puts_none, session_accounted}
+use Rattle.osi_honest.proofs.courses.what_a_session_puts.{session_others, session_puts, session_written}
 use Rattle.osi_honest.proofs.courses.what_sessions_hear_of_it.{CourseAll, course_given}
 use Rattle.osi_honest.proofs.courses.what_a_link_takes_and_is_handed.{Leaves, closed_leaves, closed_shut, link_shut}
 use Rattle.osi_honest.proofs.courses.what_a_unit_does_to_a_connection.{given_before, given_next, next_ungiven}
@@ -58,6 +58,7 @@ use Rattle.osi_honest.proofs.courses.what_another_connection_leaves.{Beside, cou
 use Rattle.osi_honest.proofs.courses.what_another_connection_leaves.{used_none}
 use Rattle.osi_honest.proofs.courses.how_long_a_connection_is_open.{Life, life_rests, rests_over, stage_at}
 use Rattle.osi_honest.proofs.courses.what_its_own_session_does.{CanSpeak, session_speaks}
+use Rattle.osi_honest.proofs.reading.a_cr_and_a_cc_can_be_written.{cr_by}
 
 -- no connection has two states
 two_states : {A : Type 0} (o x y : Option Connection) → o ≡ x → o ≡ y → (x ≡ y → A) → A
@@ -294,27 +295,34 @@ module _ (is_caller : Bool) (moves : ℕ → Deeds) (e : End) (lasts : e.carrier
   abbrev AllThen : End → Type 0
   AllThen new = Steps is_caller (CourseAll is_caller) moves e.carrier new
 
-  each_then : (new : End) (put : List Marked) → Puts e.carrier put new.carrier → AreByLinks put →
+  each_then : (new : End) (put : List Marked) → Puts e.carrier put new.carrier → AreAccounted put →
       ((r : ℕ) → 0 < r → Life is_caller r (stage_at r e.carrier) [] put (stage_at r new.carrier)) →
       ((r : ℕ) → StepAt r put [] (Course is_caller r) (moves r) new) → AllThen new
-  each_then new put written by_links life each =
-      step_each is_caller [] (CourseAll is_caller) moves e.carrier new put [] written by_links refl life each
+  each_then new put written accounted life each =
+      step_each is_caller [] (CourseAll is_caller) moves e.carrier new put [] written accounted refl life each
 
   pub user_steps : (call : UserCall) → IsAccepted call e → HasSerialIn call → AllThen (user_does call e)
   user_steps (connecting c) allowed serial =
-      each_then (connects c e) (marked 0 (request_put c e)) refl (refl, tt)
+      each_then (connects c e) (marked 0 (request_put c e)) refl (
+        (
+          refl,
+          λ plain. cr_by (proposes_two e.carrier.local) e.carrier.local e.carrier.class c.calling_tsap c.called_tsap
+              (e.carrier.given + 1),
+        ),
+        tt,
+      )
       (λ r some. life_rests is_caller r (stage_at r e.carrier) (stage_at r (connects c e).carrier) (marked 0 (request_put c e))
       (none_marked r (request_put c e) some) (connect_rests r c e orderly lasts))
       (λ r. connect_steps is_caller r (moves r) e lasts c (r == e.carrier.given + 1) refl allowed (course r))
   user_steps (calling q call) allowed serial =
       each_then (to_session q (called call) e) (session_puts q (called call) e) (session_written q (called call) e)
-      (session_by_links q (called call) e (course_given is_caller q (moves q) e (course q)))
+      (session_accounted q (called call) e (course_given is_caller q (moves q) e (course q)))
       (λ r some. session_life is_caller q r some (called call) e)
       (λ r. call_steps is_caller r (moves r) e lasts q call (r == q) refl allowed serial (course r))
   user_steps (disconnecting q) allowed serial =
       let put : List Marked = marked 0 (put_closing q (open_link q e.carrier) e.carrier) in
       each_then (disconnects q e) put
-      (subst (Puts e.carrier put) (sym (disconnect_carrier q e)) (closing_puts q e.carrier)) (closing_by_links q e.carrier)
+      (subst (Puts e.carrier put) (sym (disconnect_carrier q e)) (closing_puts q e.carrier)) (closing_accounted q e.carrier)
       (λ r some. subst (λ (c : Carrier). Life is_caller r (stage_at r e.carrier) [] put (stage_at r c)) (sym (disconnect_carrier q e))
       (life_rests is_caller r (stage_at r e.carrier) (stage_at r (closed_with q 128 e.carrier)) put
       (none_marked r (put_closing q (open_link q e.carrier) e.carrier) some) (given_up_rests q r e.carrier)))

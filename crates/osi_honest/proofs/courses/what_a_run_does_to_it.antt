@@ -30,6 +30,7 @@ use Rattle.osi_stack.proofs.sound.the_invariant_between_calls.{connect_orderly}
 use Rattle.osi_honest.specs.Courses.{Continues, ContinuesAlong, Course, Deeds, SoFar, all_did, no_deeds, units_taken}
 use Rattle.osi_honest.specs.Courses.Course.{unknown}
 use Rattle.osi_honest.specs.Marked.{Marked, all_units, units_at}
+use Rattle.osi_honest.specs.Seeing.{IsFresh}
 use Rattle.osi_honest.specs.Turns.{Act, Acts, Run, Takes, Turn, carried_by, used_by}
 use Rattle.osi_honest.specs.Turns.Act.{serving, using}
 use Rattle.osi_honest.proofs.courses.steps_of_a_course.{AllRest, HoldEach, Steps}
@@ -40,8 +41,9 @@ use Rattle.osi_honest.proofs.courses.what_a_packet_does_to_it.{Between, FeedStep
 use Rattle.osi_honest.proofs.courses.what_a_unit_does_to_a_connection.{none_given}
 use Rattle.osi_honest.proofs.courses.what_another_connection_leaves.{Beside, course_beside, none_before, none_behind}
 use Rattle.osi_honest.proofs.courses.how_long_a_connection_is_open.{Life, life_rests, life_then, lives, stage_at}
-use Rattle.osi_honest.proofs.courses.units_of_each_connection.{units_more}
+use Rattle.osi_honest.proofs.courses.units_of_each_connection.{by_links, units_more}
 use Rattle.osi_honest.proofs.courses.what_calls_of_a_link_say.{taken_more, then_none}
+use Rattle.osi_honest.proofs.courses.what_is_put_in_a_turn_can_be_written.{turn_written}
 use Rattle.osi_honest.proofs.courses.what_sessions_hear_of_it.{CourseAll, Known}
 use Rattle.osi_honest.proofs.keeping.what_a_unit_keeps_a_turn_keeps.{kept_feeds}
 
@@ -121,26 +123,27 @@ carried_beside r octets e =
 
 -- ---- a turn
 
+-- a turn, and what it is for each connection
+pub record TurnOf (is_caller : Bool) (moves : ℕ → Deeds) (turn : Turn) (old new : Holding) : Type 0 where
+  pub on : Continues is_caller moves old turn new
+  pub life : (r : ℕ) → 0 < r → Life is_caller r (stage_at r old.end.carrier) on.took on.put (stage_at r new.end.carrier)
+
 module _ (known : Known) (is_caller : Bool) (moves : ℕ → Deeds) where
   abbrev Courses : (ℕ → Deeds) → End → Type 0
   Courses moves e = HoldEach (CourseAll is_caller) moves e
 
-  -- a turn, and what it is for each connection
-  pub record TurnOf (turn : Turn) (old new : Holding) : Type 0 where
-    pub on : Continues is_caller moves old turn new
-    pub life : (r : ℕ) → 0 < r → Life is_caller r (stage_at r old.end.carrier) on.took on.put (stage_at r new.end.carrier)
-
   -- nothing was used
   as_turn : (turn : Turn) (old new : Holding) → turn.used ≡ [] → new.held.octets ≡ old.held.octets →
       Steps is_caller (CourseAll is_caller) moves old.end.carrier new.end →
-      new.end.carrier.outgoing ≡ old.end.carrier.outgoing ++ turn.put → TurnOf turn old new
+      new.end.carrier.outgoing ≡ old.end.carrier.outgoing ++ turn.put → TurnOf is_caller moves turn old new
   as_turn turn old new none same s is = record {
     on = record {
       more = s.more;
       course = s.there;
       put = s.put;
       written = append_cancel_left old.end.carrier.outgoing turn.put (packets (all_units s.put)) (sym is ∙ s.written);
-      by_links = s.by_links;
+      can = turn_written is_caller moves s.more new.end s.put s.there s.own s.accounted;
+      by_links = by_links s.put s.accounted;
       own = s.own;
       used = [];
       rest = old.held.octets ++ turn.used;
@@ -156,14 +159,15 @@ module _ (known : Known) (is_caller : Bool) (moves : ℕ → Deeds) where
 
   -- a piece was fed
   fed_turn : (turn : Turn) (octets : List ℕ) (old new : Holding) → turn.used ≡ octets → FeedSteps known is_caller moves octets old new →
-      new.end.carrier.outgoing ≡ old.end.carrier.outgoing ++ turn.put → TurnOf turn old new
+      new.end.carrier.outgoing ≡ old.end.carrier.outgoing ++ turn.put → TurnOf is_caller moves turn old new
   fed_turn turn octets old new used f is = record {
     on = record {
       more = f.steps.more;
       course = f.steps.there;
       put = f.steps.put;
       written = append_cancel_left old.end.carrier.outgoing turn.put (packets (all_units f.steps.put)) (sym is ∙ f.steps.written);
-      by_links = f.steps.by_links;
+      can = turn_written is_caller moves f.steps.more new.end f.steps.put f.steps.there f.steps.own f.steps.accounted;
+      by_links = by_links f.steps.put f.steps.accounted;
       own = f.steps.own;
       used = f.used;
       rest = f.rest;
@@ -179,13 +183,14 @@ module _ (known : Known) (is_caller : Bool) (moves : ℕ → Deeds) where
 
   -- nothing was used or put
   quiet_turn : (turn : Turn) (old new : Holding) → turn.used ≡ [] → turn.put ≡ [] → new.held.octets ≡ old.held.octets →
-      Courses moves new.end → AllRest old.end.carrier new.end.carrier → TurnOf turn old new
+      Courses moves new.end → AllRest old.end.carrier new.end.carrier → TurnOf is_caller moves turn old new
   quiet_turn turn old new none nothing same course rest = record {
     on = record {
       more = λ r. no_deeds;
       course = λ r. subst (λ (d : Deeds). Course is_caller r d new.end) (sym (then_none (moves r))) (course r);
       put = [];
       written = nothing;
+      can = tt;
       by_links = tt;
       own = λ r some. refl;
       used = [];
@@ -206,7 +211,7 @@ module _ (known : Known) (is_caller : Bool) (moves : ℕ → Deeds) where
 
   serving_turn : (turn : Turn) (call : Call) (old new : Holding) → turn.used ≡ used_in call → Between old.end →
       Courses moves old.end → Calls old call new →
-      carried_in call ++ new.end.carrier.outgoing ≡ old.end.carrier.outgoing ++ turn.put → TurnOf turn old new
+      carried_in call ++ new.end.carrier.outgoing ≡ old.end.carrier.outgoing ++ turn.put → TurnOf is_caller moves turn old new
   serving_turn turn (feeding piece fed) old new used b course c is =
       fed_turn turn (take fed.used piece) old new used (feeds_steps known is_caller moves piece fed old new b course c) is
   serving_turn turn (telling shown) old new used b course c is =
@@ -228,7 +233,7 @@ module _ (known : Known) (is_caller : Bool) (moves : ℕ → Deeds) where
 
   act_turn : (turn : Turn) (act : Act) (old new : Holding) → turn.used ≡ used_by act → Between old.end → Courses moves old.end →
       Acts old act new → carried_by act ++ new.end.carrier.outgoing ≡ old.end.carrier.outgoing ++ turn.put →
-      TurnOf turn old new
+      TurnOf is_caller moves turn old new
   act_turn turn (serving call) old new used b course acts is = serving_turn turn call old new used b course acts is
   act_turn turn (using call) old new used b course acts is =
       as_turn turn old new used (ap (λ (x : Holding). x.held.octets) acts.3)
@@ -236,7 +241,7 @@ module _ (known : Known) (is_caller : Bool) (moves : ℕ → Deeds) where
       (user_steps is_caller moves old.end acts.0 b.sound.orderly course call acts.1 acts.2)) is
 
   pub turn_continues : (turn : Turn) (old new : Holding) → Between old.end → Courses moves old.end → Takes old turn new →
-      TurnOf turn old new
+      TurnOf is_caller moves turn old new
   turn_continues turn old new b course takes = act_turn turn takes.act old new takes.used b course takes.acts takes.put
 
 -- ---- a run
@@ -247,10 +252,10 @@ pub record Since (is_caller : Bool) (first : Carrier) (moves : ℕ → Deeds) (t
   pub taken : (r : ℕ) → 0 < r → units_taken (moves r).calls ≡ units_at r took
   pub life : (r : ℕ) → 0 < r → Life is_caller r (stage_at r first) took put (stage_at r e.carrier)
 
-since_then : (known : Known) (is_caller : Bool) (first : Carrier) (moves : ℕ → Deeds) (took put : List Marked) (turn : Turn)
-    (old mid : Holding) → Since is_caller first moves took put old.end → (at : TurnOf known is_caller moves turn old mid) →
+since_then : (is_caller : Bool) (first : Carrier) (moves : ℕ → Deeds) (took put : List Marked) (turn : Turn)
+    (old mid : Holding) → Since is_caller first moves took put old.end → (at : TurnOf is_caller moves turn old mid) →
     Since is_caller first (all_did moves at.on.more) (took ++ at.on.took) (put ++ at.on.put) mid.end
-since_then known is_caller first moves took put turn old mid s at =
+since_then is_caller first moves took put turn old mid s at =
     let on = at.on in
     record {
       own = λ r some. ap (λ (l : List Value). l ++ (on.more r).put) (s.own r some)
@@ -270,21 +275,47 @@ so_far is_caller first moves took put new s = record {
   lives = λ r some. lives is_caller r some first new.end.carrier took put (s.life r some);
 }
 
-pub run_continues : Known → (is_caller : Bool) (first : Carrier) (moves : ℕ → Deeds) (took put : List Marked) (turns : List Turn)
-    (old new : Holding) → Between old.end → HoldEach (CourseAll is_caller) moves old.end →
-    Since is_caller first moves took put old.end → Run old turns new → ContinuesAlong is_caller first moves took put old turns new
-run_continues known is_caller first moves took put [] old new b course s run = run
-run_continues known is_caller first moves took put (turn ∷ turns) old new b course s run =
+-- turns one after the other, and what each is for each connection of an end at which this was done before
+abbrev pub TurnsOf : Bool → (ℕ → Deeds) → Holding → List Turn → Holding → Type 0
+TurnsOf is_caller moves old [] new = new ≡ old
+TurnsOf is_caller moves old (turn ∷ turns) new = (mid : Holding) × Takes old turn mid × (at : TurnOf is_caller moves turn old mid)
+    × TurnsOf is_caller (all_did moves at.on.more) mid turns new
+
+run_turns : Known → (is_caller : Bool) (moves : ℕ → Deeds) (turns : List Turn) (old new : Holding) → Between old.end →
+    HoldEach (CourseAll is_caller) moves old.end → Run old turns new → TurnsOf is_caller moves old turns new
+run_turns known is_caller moves [] old new b course run = run
+run_turns known is_caller moves (turn ∷ turns) old new b course run =
     let mid = run.0 in
-    let at = turn_continues known is_caller moves turn old mid b course run.1 in
-    let on = at.on in
-    let then_since = since_then known is_caller first moves took put turn old mid s at in (
+    let at = turn_continues known is_caller moves turn old mid b course run.1 in (
       mid,
       run.1,
+      at,
+      run_turns known is_caller (all_did moves at.on.more) turns mid new (act_between run.1.act old mid b run.1.acts) at.on.course run.2,
+    )
+
+pub fresh_course : (is_caller : Bool) (local : Local) (r : ℕ) → Course is_caller r no_deeds (fresh_end is_caller local)
+fresh_course is_caller local r = unknown refl refl (none_given r) refl refl
+
+-- all turns of an end
+pub fresh_turns : Known → (is_caller : Bool) (local : Local) (begin end : Holding) (turns : List Turn) → IsFresh is_caller local begin →
+    Run begin turns end → TurnsOf is_caller (λ r. no_deeds) begin turns end
+fresh_turns known is_caller local begin end turns fresh run =
+    run_turns known is_caller (λ r. no_deeds) turns begin end
+    (subst Between (sym fresh.end) (fresh_between is_caller local))
+    (λ r. subst (λ (e : End). Course is_caller r no_deeds e) (sym fresh.end) (fresh_course is_caller local r)) run
+
+pub turns_continue : (is_caller : Bool) (first : Carrier) (moves : ℕ → Deeds) (took put : List Marked) (turns : List Turn)
+    (old new : Holding) → Since is_caller first moves took put old.end → TurnsOf is_caller moves old turns new →
+    ContinuesAlong is_caller first moves took put old turns new
+turns_continue is_caller first moves took put [] old new s run = run
+turns_continue is_caller first moves took put (turn ∷ turns) old new s (mid, takes, at, more) =
+    let on = at.on in
+    let then_since = since_then is_caller first moves took put turn old mid s at in (
+      mid,
+      takes,
       on,
       so_far is_caller first (all_did moves on.more) (took ++ on.took) (put ++ on.put) mid then_since,
-      run_continues known is_caller first (all_did moves on.more) (took ++ on.took) (put ++ on.put) turns mid new
-          (act_between run.1.act old mid b run.1.acts) on.course then_since run.2,
+      turns_continue is_caller first (all_did moves on.more) (took ++ on.took) (put ++ on.put) turns mid new then_since more,
     )
 
 pub nothing_since : (is_caller : Bool) (e : End) → Since is_caller e.carrier (λ r. no_deeds) [] [] e
@@ -293,6 +324,3 @@ nothing_since is_caller e = record {
   taken = λ r some. refl;
   life = λ r some. life_rests is_caller r (stage_at r e.carrier) (stage_at r e.carrier) [] tt (inl refl);
 }
-
-pub fresh_course : (is_caller : Bool) (local : Local) (r : ℕ) → Course is_caller r no_deeds (fresh_end is_caller local)
-fresh_course is_caller local r = unknown refl refl (none_given r) refl refl

@@ -25,11 +25,11 @@ use Rattle.osi_stack.specs.Hearing.{hears, opens}
 use Rattle.osi_stack.specs.Moving.{by_line, carrier_by, limit_for, to_session}
 use Rattle.osi_stack.specs.State.{End, Line}
 use Rattle.osi_stack.specs.Transport.{answers_by, sent_unless}
-use Rattle.osi_honest.specs.Marked.{AreByLinks, Marked, all_units}
+use Rattle.osi_honest.specs.Marked.{Marked, all_units}
 use Rattle.osi_honest.proofs.class_0.what_class_0_writes_of_a_tsdu.{packets_joined}
 use Rattle.osi_honest.proofs.courses.steps_of_a_course.{HasNone}
-use Rattle.osi_honest.proofs.courses.units_of_each_connection.{ArePlain, by_links_more, elsewhere, given_by_links}
-use Rattle.osi_honest.proofs.courses.units_of_each_connection.{marked, marked_all, nowhere, plain_by_links}
+use Rattle.osi_honest.proofs.courses.units_of_each_connection.{AreAccounted, ArePlain, accounted_more, elsewhere, given_accounted, marked}
+use Rattle.osi_honest.proofs.courses.units_of_each_connection.{marked_all, nowhere, plain_accounted}
 
 -- ---- the carrier
 
@@ -240,68 +240,68 @@ event_unlinked (told.faulted q fault) e none = session_unlinked q broken e none
 given_some : (q n : ℕ) → (nat_lt 0 q && nat_le q n) ≡ true → 0 < q
 given_some q n h = grind (arith, nat_tests)
 
-one_by_links : (q : ℕ) (tsdu : List ℕ) (o : Option (ℕ × Standing)) → 0 < q → AreByLinks (marked q (one_puts tsdu o))
-one_by_links q tsdu None some = tt
-one_by_links q tsdu (Some (peer, link)) some = given_by_links q peer (all_given (with_tsdu link tsdu)) some
+one_accounted : (q : ℕ) (tsdu : List ℕ) (o : Option (ℕ × Standing)) → 0 < q → AreAccounted (marked q (one_puts tsdu o))
+one_accounted q tsdu None some = tt
+one_accounted q tsdu (Some (peer, link)) some = given_accounted q peer (all_given (with_tsdu link tsdu)) some
 
-all_by_links : (q : ℕ) (tsdus : List (List ℕ)) (c : Carrier) → 0 < q → AreByLinks (marked q (all_put q tsdus c))
-all_by_links q [] c some = tt
-all_by_links q (tsdu ∷ tsdus) c some =
+all_accounted : (q : ℕ) (tsdus : List (List ℕ)) (c : Carrier) → 0 < q → AreAccounted (marked q (all_put q tsdus c))
+all_accounted q [] c some = tt
+all_accounted q (tsdu ∷ tsdus) c some =
     let one = one_puts tsdu (open_link q c) in
     let others = all_put q tsdus (sent q tsdu c) in
-    subst AreByLinks (sym (map-append (λ (unit : Value). (q, unit)) one others))
-    (by_links_more (marked q one) (marked q others) (one_by_links q tsdu (open_link q c) some)
-    (all_by_links q tsdus (sent q tsdu c) some))
+    subst AreAccounted (sym (map-append (λ (unit : Value). (q, unit)) one others))
+    (accounted_more (marked q one) (marked q others) (one_accounted q tsdu (open_link q c) some)
+    (all_accounted q tsdus (sent q tsdu c) some))
 
-unless_by_links : (o : Option SendError) (q : ℕ) (tsdus : List (List ℕ)) (c : Carrier) → 0 < q →
-    AreByLinks (marked q (put_unless o q tsdus c))
-unless_by_links None q tsdus c some = all_by_links q tsdus c some
-unless_by_links (Some e) q tsdus c some = tt
+unless_accounted : (o : Option SendError) (q : ℕ) (tsdus : List (List ℕ)) (c : Carrier) → 0 < q →
+    AreAccounted (marked q (put_unless o q tsdus c))
+unless_accounted None q tsdus c some = all_accounted q tsdus c some
+unless_accounted (Some e) q tsdus c some = tt
 
 class_plain : (q peer : ℕ) (class : Option Class) → ArePlain (put_by_class q peer class)
 class_plain q peer (Some Zero) = tt
-class_plain q peer (Some Two) = (refl, tt)
-class_plain q peer None = (refl, tt)
+class_plain q peer (Some Two) = ((refl, tt), tt)
+class_plain q peer None = ((refl, tt), tt)
 
 closing_plain : (q : ℕ) (o : Option (ℕ × Standing)) (c : Carrier) → ArePlain (put_closing q o c)
 closing_plain q None c = tt
 closing_plain q (Some (peer, link)) c = class_plain q peer c.class
 
-pub closing_by_links : (q : ℕ) (c : Carrier) → AreByLinks (marked 0 (put_closing q (open_link q c) c))
-closing_by_links q c = plain_by_links (put_closing q (open_link q c) c) (closing_plain q (open_link q c) c)
+pub closing_accounted : (q : ℕ) (c : Carrier) → AreAccounted (marked 0 (put_closing q (open_link q c) c))
+closing_accounted q c = plain_accounted (put_closing q (open_link q c) c) (closing_plain q (open_link q c) c)
 
-answer_by_links : (b : Bool) (q : ℕ) (tsdus : List (List ℕ)) (c : Carrier) → 0 < q → AreByLinks (answer_puts b q tsdus c)
-answer_by_links true q tsdus c some = closing_by_links q c
-answer_by_links false q tsdus c some = unless_by_links (send_all_error tsdus (open_link q c)) q tsdus c some
+answer_accounted : (b : Bool) (q : ℕ) (tsdus : List (List ℕ)) (c : Carrier) → 0 < q → AreAccounted (answer_puts b q tsdus c)
+answer_accounted true q tsdus c some = closing_accounted q c
+answer_accounted false q tsdus c some = unless_accounted (send_all_error tsdus (open_link q c)) q tsdus c some
 
-move_by_links : (q : ℕ) (o : Option Listener) (input : Input) (c : Carrier) → 0 < q → AreByLinks (move_puts q o input c)
-move_by_links q None input c some = tt
-move_by_links q (Some session) input c some =
-    answer_by_links (react session input).closes q (tsdus_sent (limit_for session input) (react session input).reply) c some
+move_accounted : (q : ℕ) (o : Option Listener) (input : Input) (c : Carrier) → 0 < q → AreAccounted (move_puts q o input c)
+move_accounted q None input c some = tt
+move_accounted q (Some session) input c some =
+    answer_accounted (react session input).closes q (tsdus_sent (limit_for session input) (react session input).reply) c some
 
-line_by_links : (q : ℕ) (o : Option Line) (input : Input) (e : End) → 0 < q → AreByLinks (line_puts q o input e)
-line_by_links q None input e some = tt
-line_by_links q (Some line) input e some = move_by_links q line.session input e.carrier some
+line_accounted : (q : ℕ) (o : Option Line) (input : Input) (e : End) → 0 < q → AreAccounted (line_puts q o input e)
+line_accounted q None input e some = tt
+line_accounted q (Some line) input e some = move_accounted q line.session input e.carrier some
 
-opening_by_links : (q : ℕ) (o : Option Line) (e : End) → 0 < q → AreByLinks (opening_puts q o e)
-opening_by_links q None e some = tt
-opening_by_links q (Some line) e some = line_by_links q (value_at q e.lines) opened e some
+opening_accounted : (q : ℕ) (o : Option Line) (e : End) → 0 < q → AreAccounted (opening_puts q o e)
+opening_accounted q None e some = tt
+opening_accounted q (Some line) e some = line_accounted q (value_at q e.lines) opened e some
 
-given_event : (x : Happening) (e : End) → 0 < told_of x → AreByLinks (event_puts x e)
-given_event (told.opened q) e some = opening_by_links q (value_at q e.lines) e some
-given_event (told.refused q reason) e some = line_by_links q (value_at q e.lines) (refused reason) e some
-given_event (told.tsdu q octets) e some = line_by_links q (value_at q e.lines) (came octets) e some
-given_event (told.closed q reason) e some = line_by_links q (value_at q e.lines) broken e some
-given_event (told.faulted q fault) e some = line_by_links q (value_at q e.lines) broken e some
+given_event : (x : Happening) (e : End) → 0 < told_of x → AreAccounted (event_puts x e)
+given_event (told.opened q) e some = opening_accounted q (value_at q e.lines) e some
+given_event (told.refused q reason) e some = line_accounted q (value_at q e.lines) (refused reason) e some
+given_event (told.tsdu q octets) e some = line_accounted q (value_at q e.lines) (came octets) e some
+given_event (told.closed q reason) e some = line_accounted q (value_at q e.lines) broken e some
+given_event (told.faulted q fault) e some = line_accounted q (value_at q e.lines) broken e some
 
 -- a reference that is not open, or was given
 abbrev pub IsGivenIfOpen : ℕ → Carrier → Type 0
 IsGivenIfOpen q c = (open_link q c ≡ None) ⊎ (has_given q c ≡ true)
 
-pub session_by_links : (q : ℕ) (input : Input) (e : End) → IsGivenIfOpen q e.carrier → AreByLinks (session_puts q input e)
-session_by_links q input e (inl none) = subst AreByLinks (sym (session_unlinked q input e none)) tt
-session_by_links q input e (inr given) = line_by_links q (value_at q e.lines) input e (given_some q e.carrier.given given)
+pub session_accounted : (q : ℕ) (input : Input) (e : End) → IsGivenIfOpen q e.carrier → AreAccounted (session_puts q input e)
+session_accounted q input e (inl none) = subst AreAccounted (sym (session_unlinked q input e none)) tt
+session_accounted q input e (inr given) = line_accounted q (value_at q e.lines) input e (given_some q e.carrier.given given)
 
-pub event_by_links : (x : Happening) (e : End) → IsGivenIfOpen (told_of x) e.carrier → AreByLinks (event_puts x e)
-event_by_links x e (inl none) = subst AreByLinks (sym (event_unlinked x e none)) tt
-event_by_links x e (inr given) = given_event x e (given_some (told_of x) e.carrier.given given)
+pub event_accounted : (x : Happening) (e : End) → IsGivenIfOpen (told_of x) e.carrier → AreAccounted (event_puts x e)
+event_accounted x e (inl none) = subst AreAccounted (sym (event_unlinked x e none)) tt
+event_accounted x e (inr given) = given_event x e (given_some (told_of x) e.carrier.given given)

@@ -7,8 +7,8 @@ use Rattle.std.specs.List.{AllByRecursion}
 use Rattle.std.proofs.lemmas.Bool.{eq-eqb}
 use Rattle.std.proofs.lemmas.Bool.Decides.{nat_tests}
 use Rattle.std.proofs.lemmas.List.{append-nil}
-use Rattle.osi_tpdu.specs.Value.{Connect, Value, acknowledge, confirm, data0, data2, disconnect, disconnected, error, may_be_followed}
-use Rattle.osi_tpdu.specs.Value.{request}
+use Rattle.osi_tpdu.specs.Value.{Connect, HasFieldsInRange, IsConnect, Value, acknowledge, confirm, data0, data2, disconnect, disconnected}
+use Rattle.osi_tpdu.specs.Value.{error, may_be_followed, request}
 use Rattle.osi_class.specs.Link.{Standing, taken}
 use Rattle.osi_class.specs.Negotiation.{Selection, accept, refuse, selected_by}
 use Rattle.osi_class.specs.declared.faults.LinkFault.{LinkFault}
@@ -31,8 +31,10 @@ use Rattle.osi_honest.specs.Courses.{IsFreshLink}
 use Rattle.osi_honest.specs.Courses.{IsShut}
 use Rattle.osi_honest.specs.Arriving.{Answers, Opens, is_for}
 use Rattle.osi_honest.specs.Marked.{is_of_link}
+use Rattle.osi_honest.specs.Writable.{CanBeWritten}
 use Rattle.osi_honest.proofs.courses.the_connections_of_each_class.{IsSound, zero_asks_none}
 use Rattle.osi_honest.proofs.courses.units_of_each_connection.{ArePlain, marked}
+use Rattle.osi_honest.proofs.reading.a_cr_and_a_cc_can_be_written.{HasSizeInRange, cc_plain, selected_in_range}
 
 -- ---- events
 
@@ -92,7 +94,7 @@ pub data Acts (r : ℕ) (v : Value) (put : List Value) (old new : Carrier) : Typ
   leaves_it : (x : Connection) → value_at r old.live ≡ Some x → has_given r new ≡ has_given r old → IsShut (value_at r new.live) →
       Acts r v put old new
 
--- the link takes the unit; or it doesn't, and what is put is no DT and no AK
+-- the link takes the unit; or it doesn't, and what is put is no DT and no AK, and can be written
 pub data Does (r : ℕ) (v : Value) (old new : Carrier) : Type 0 where
   takes : (peer : ℕ) (link after : Standing) → value_at r old.live ≡ Some (linked peer link) → taken link v ≡ Ok after →
       new ≡ settles r peer after old → Does r v old new
@@ -133,24 +135,26 @@ module _ (s : Carrier) (rise : RiseFrom 0 s.live) where
   nothing : (r : ℕ) (v : Value) (t : Carrier) → t.outgoing ≡ s.outgoing → Acts r v [] s t → Does r v s t
   nothing r v t same act = passes [] (same ∙ sym (append-nil s.outgoing)) tt act
 
-  puts : (r : ℕ) (v u : Value) (t : Carrier) → t.outgoing ≡ s.outgoing ++ packets (u ∷ []) → is_of_link u ≡ false →
+  puts : (r : ℕ) (v u : Value) (t : Carrier) → t.outgoing ≡ s.outgoing ++ packets (u ∷ []) → is_of_link u ≡ false → CanBeWritten u →
       Acts r v (u ∷ []) s t → Does r v s t
-  puts r v u t is plain act = passes (u ∷ []) is (plain, tt) act
+  puts r v u t is plain can act = passes (u ∷ []) is ((plain, can), tt) act
 
   ends_it : (r : ℕ) (v : Value) (t : Carrier) → t.outgoing ≡ s.outgoing → IsSome t.ended → Does r v s t
   ends_it r v t same ended = nothing r v t same (over ended)
 
   -- a CR
-  acts_accepts : (class : Class) (size : Option ℕ) (c : Connect) → s.is_caller ≡ false →
+  acts_accepts : (class : Class) (size : Option ℕ) (c : Connect) → s.is_caller ≡ false → IsConnect c → HasSizeInRange (accept class size) →
       Does (s.given + 1) (request c) s (answers c (accept class size) None s)
-  acts_accepts Zero size c called =
+  acts_accepts Zero size c called fits range =
       puts (s.given + 1) (request c) (confirm c.source (acceptance Zero size c s.local (s.given + 1))) _ refl refl
+      (cc_plain Zero size c s.local (s.given + 1) fits range)
       (joins called refl (next_ungiven s.given) (given_next s.given) c.source (opened_link Zero size s.local c.credit)
       (fresh_link Zero size s.local c.credit)
       (λ none. push_here (s.given + 1) (linked c.source (opened_link Zero size s.local c.credit)) s.live none) refl (refl, refl)
       (acceptance Zero size c s.local (s.given + 1), refl, refl))
-  acts_accepts Two size c called =
+  acts_accepts Two size c called fits range =
       puts (s.given + 1) (request c) (confirm c.source (acceptance Two size c s.local (s.given + 1))) _ refl refl
+      (cc_plain Two size c s.local (s.given + 1) fits range)
       (joins called refl (next_ungiven s.given) (given_next s.given) c.source (opened_link Two size s.local c.credit)
       (fresh_link Two size s.local c.credit)
       (λ none. push_here (s.given + 1) (linked c.source (opened_link Two size s.local c.credit)) s.live none) refl (refl, refl)
@@ -158,30 +162,31 @@ module _ (s : Carrier) (rise : RiseFrom 0 s.live) where
 
   acts_denies : (c : Connect) (reason : ℕ) → Does (s.given + 1) (request c) s (denies reason c.source s)
   acts_denies c reason =
-      puts (s.given + 1) (request c) (disconnect c.source 0 reason []) _ refl refl
+      puts (s.given + 1) (request c) (disconnect c.source 0 reason []) _ refl refl tt
       (acts_none (s.given + 1) (request c) _ (denies reason c.source s) refl refl refl (λ peer link here. refl))
 
-  acts_selected : (c : Connect) (selection : Selection) (held : Option Class) → s.is_caller ≡ false →
-      Does (s.given + 1) (request c) s (answers c selection held s)
-  acts_selected c (refuse reason) held called = acts_denies c reason
-  acts_selected c (accept Two size) held called = acts_accepts Two size c called
-  acts_selected c (accept Zero size) None called = acts_accepts Zero size c called
-  acts_selected c (accept Zero size) (Some class) called = acts_denies c 136
+  acts_selected : (c : Connect) (selection : Selection) (held : Option Class) → s.is_caller ≡ false → IsConnect c →
+      HasSizeInRange selection → Does (s.given + 1) (request c) s (answers c selection held s)
+  acts_selected c (refuse reason) held called fits range = acts_denies c reason
+  acts_selected c (accept Two size) held called fits range = acts_accepts Two size c called fits range
+  acts_selected c (accept Zero size) None called fits range = acts_accepts Zero size c called fits range
+  acts_selected c (accept Zero size) (Some class) called fits range = acts_denies c 136
 
-  request_by : (c : Connect) (in_use full : Bool) → s.is_caller ≡ false →
+  request_by : (c : Connect) (in_use full : Bool) → s.is_caller ≡ false → IsConnect c →
       Does (s.given + 1) (request c) s
       (if in_use then denies 131 c.source s else (if full then denies 1 c.source s else answers c (selected_by c s.local) s.class s))
-  request_by c true full called = acts_denies c 131
-  request_by c false true called = acts_denies c 1
-  request_by c false false called = acts_selected c (selected_by c s.local) s.class called
+  request_by c true full called fits = acts_denies c 131
+  request_by c false true called fits = acts_denies c 1
+  request_by c false false called fits =
+      acts_selected c (selected_by c s.local) s.class called fits (selected_in_range c s.local fits)
 
-  acts_request : (c : Connect) → s.is_caller ≡ false → Does (s.given + 1) (request c) s (answers_request c s)
-  acts_request c called = request_by c (has_peer c.source s.live) (is_full s) called
+  acts_request : (c : Connect) → s.is_caller ≡ false → IsConnect c → Does (s.given + 1) (request c) s (answers_request c s)
+  acts_request c called fits = request_by c (has_peer c.source s.live) (is_full s) called fits
 
   -- a reference that is not live
   acts_unknown : (r : ℕ) (v : Value) → Does r v s (to_unknown v s)
   acts_unknown r (disconnect destination source reason user) =
-      puts r (disconnect destination source reason user) (disconnected source destination) _ refl refl
+      puts r (disconnect destination source reason user) (disconnected source destination) _ refl refl tt
       (acts_none r (disconnect destination source reason user) _ (to_unknown (disconnect destination source reason user) s) refl refl refl
       (λ peer link here. refl))
   acts_unknown r (disconnected destination source) =
@@ -239,7 +244,7 @@ module _ (s : Carrier) (rise : RiseFrom 0 s.live) where
   acts_breaks : (r peer : ℕ) (link : Standing) (v : Value) (fault : LinkFault) (held : Option Class) →
       value_at r s.live ≡ Some (linked peer link) → Does r v s (breaks r peer fault held s)
   acts_breaks r peer link v fault (Some Two) here =
-      puts r v (disconnect peer r 133 []) (breaks r peer fault (Some Two) s) refl refl
+      puts r v (disconnect peer r 133 []) (breaks r peer fault (Some Two) s) refl refl tt
       (closes_to r peer v _ (linked peer link) _ here refl refl)
   acts_breaks r peer link v fault (Some Zero) here = ends_it r v _ refl refl
   acts_breaks r peer link v fault None here = ends_it r v _ refl refl
@@ -252,7 +257,7 @@ module _ (s : Carrier) (rise : RiseFrom 0 s.live) where
   acts_leaves : (r peer reason : ℕ) (link : Standing) (v : Value) (held : Option Class) → value_at r s.live ≡ Some (linked peer link) →
       Does r v s (leaves r peer reason held s)
   acts_leaves r peer reason link v (Some Two) here =
-      puts r v (disconnected peer r) (leaves r peer reason (Some Two) s) refl refl (dropped r v _ (linked peer link) _ here refl refl)
+      puts r v (disconnected peer r) (leaves r peer reason (Some Two) s) refl refl tt (dropped r v _ (linked peer link) _ here refl refl)
   acts_leaves r peer reason link v (Some Zero) here = ends_it r v _ refl refl
   acts_leaves r peer reason link v None here = ends_it r v _ refl refl
 
@@ -311,24 +316,24 @@ module _ (s : Carrier) (rise : RiseFrom 0 s.live) where
 
   -- ---- by class
 
-  acts_before : (b : Bool) (v : Value) → s.is_caller ≡ b → Does (connection_by None v s) v s (before_class b v s)
-  acts_before true (confirm destination c) is = acts_reference destination (confirm destination c) refl
-  acts_before true (disconnect destination source reason user) is =
+  acts_before : (b : Bool) (v : Value) → s.is_caller ≡ b → HasFieldsInRange v → Does (connection_by None v s) v s (before_class b v s)
+  acts_before true (confirm destination c) is fits = acts_reference destination (confirm destination c) refl
+  acts_before true (disconnect destination source reason user) is fits =
       acts_reference destination (disconnect destination source reason user) tt
-  acts_before true (error destination cause) is = acts_reference destination (error destination cause) tt
-  acts_before true (request c) is = ends_it _ (request c) _ refl refl
-  acts_before true (disconnected destination source) is = ends_it _ (disconnected destination source) _ refl refl
-  acts_before true (data0 end user) is = ends_it _ (data0 end user) _ refl refl
-  acts_before true (data2 destination number end user) is = ends_it _ (data2 destination number end user) _ refl refl
-  acts_before true (acknowledge credit destination number) is = ends_it _ (acknowledge credit destination number) _ refl refl
-  acts_before false (request c) is = acts_request c is
-  acts_before false (confirm destination c) is = ends_it _ (confirm destination c) _ refl refl
-  acts_before false (disconnect destination source reason user) is = ends_it _ (disconnect destination source reason user) _ refl refl
-  acts_before false (disconnected destination source) is = ends_it _ (disconnected destination source) _ refl refl
-  acts_before false (data0 end user) is = ends_it _ (data0 end user) _ refl refl
-  acts_before false (data2 destination number end user) is = ends_it _ (data2 destination number end user) _ refl refl
-  acts_before false (acknowledge credit destination number) is = ends_it _ (acknowledge credit destination number) _ refl refl
-  acts_before false (error destination cause) is = ends_it _ (error destination cause) _ refl refl
+  acts_before true (error destination cause) is fits = acts_reference destination (error destination cause) tt
+  acts_before true (request c) is fits = ends_it _ (request c) _ refl refl
+  acts_before true (disconnected destination source) is fits = ends_it _ (disconnected destination source) _ refl refl
+  acts_before true (data0 end user) is fits = ends_it _ (data0 end user) _ refl refl
+  acts_before true (data2 destination number end user) is fits = ends_it _ (data2 destination number end user) _ refl refl
+  acts_before true (acknowledge credit destination number) is fits = ends_it _ (acknowledge credit destination number) _ refl refl
+  acts_before false (request c) is fits = acts_request c is fits
+  acts_before false (confirm destination c) is fits = ends_it _ (confirm destination c) _ refl refl
+  acts_before false (disconnect destination source reason user) is fits = ends_it _ (disconnect destination source reason user) _ refl refl
+  acts_before false (disconnected destination source) is fits = ends_it _ (disconnected destination source) _ refl refl
+  acts_before false (data0 end user) is fits = ends_it _ (data0 end user) _ refl refl
+  acts_before false (data2 destination number end user) is fits = ends_it _ (data2 destination number end user) _ refl refl
+  acts_before false (acknowledge credit destination number) is fits = ends_it _ (acknowledge credit destination number) _ refl refl
+  acts_before false (error destination cause) is fits = ends_it _ (error destination cause) _ refl refl
 
   first_here : (r : ℕ) (x : Connection) (rows : Rows Connection) → value_at r ((r, x) ∷ rows) ≡ Some x
   first_here r x rows = ap (λ (b : Bool). if b then Some x else value_at r rows) (eq-eqb r r refl)
@@ -353,31 +358,33 @@ module _ (s : Carrier) (rise : RiseFrom 0 s.live) where
     acts_zero true (error destination cause) = acts_only s.live (error destination cause) refl
     acts_zero false v = acts_only s.live v refl
 
-  acts_two : (b : Bool) (v : Value) → s.is_caller ≡ b → Does (connection_by (Some Two) v s) v s (in_two b v s)
-  acts_two true (request c) is = ends_it _ (request c) _ refl refl
-  acts_two false (request c) is = acts_request c is
-  acts_two true (data0 end user) is = ends_it _ (data0 end user) _ refl refl
-  acts_two false (data0 end user) is = ends_it _ (data0 end user) _ refl refl
-  acts_two true (confirm destination c) is = acts_reference destination (confirm destination c) refl
-  acts_two false (confirm destination c) is = acts_reference destination (confirm destination c) refl
-  acts_two true (disconnect destination source reason user) is = acts_reference destination (disconnect destination source reason user) tt
-  acts_two false (disconnect destination source reason user) is = acts_reference destination (disconnect destination source reason user) tt
-  acts_two true (disconnected destination source) is = acts_reference destination (disconnected destination source) tt
-  acts_two false (disconnected destination source) is = acts_reference destination (disconnected destination source) tt
-  acts_two true (data2 destination number end user) is = acts_reference destination (data2 destination number end user) tt
-  acts_two false (data2 destination number end user) is = acts_reference destination (data2 destination number end user) tt
-  acts_two true (acknowledge credit destination number) is = acts_reference destination (acknowledge credit destination number) tt
-  acts_two false (acknowledge credit destination number) is = acts_reference destination (acknowledge credit destination number) tt
-  acts_two true (error destination cause) is = acts_reference destination (error destination cause) tt
-  acts_two false (error destination cause) is = acts_reference destination (error destination cause) tt
+  acts_two : (b : Bool) (v : Value) → s.is_caller ≡ b → HasFieldsInRange v → Does (connection_by (Some Two) v s) v s (in_two b v s)
+  acts_two true (request c) is fits = ends_it _ (request c) _ refl refl
+  acts_two false (request c) is fits = acts_request c is fits
+  acts_two true (data0 end user) is fits = ends_it _ (data0 end user) _ refl refl
+  acts_two false (data0 end user) is fits = ends_it _ (data0 end user) _ refl refl
+  acts_two true (confirm destination c) is fits = acts_reference destination (confirm destination c) refl
+  acts_two false (confirm destination c) is fits = acts_reference destination (confirm destination c) refl
+  acts_two true (disconnect destination source reason user) is fits =
+      acts_reference destination (disconnect destination source reason user) tt
+  acts_two false (disconnect destination source reason user) is fits =
+      acts_reference destination (disconnect destination source reason user) tt
+  acts_two true (disconnected destination source) is fits = acts_reference destination (disconnected destination source) tt
+  acts_two false (disconnected destination source) is fits = acts_reference destination (disconnected destination source) tt
+  acts_two true (data2 destination number end user) is fits = acts_reference destination (data2 destination number end user) tt
+  acts_two false (data2 destination number end user) is fits = acts_reference destination (data2 destination number end user) tt
+  acts_two true (acknowledge credit destination number) is fits = acts_reference destination (acknowledge credit destination number) tt
+  acts_two false (acknowledge credit destination number) is fits = acts_reference destination (acknowledge credit destination number) tt
+  acts_two true (error destination cause) is fits = acts_reference destination (error destination cause) tt
+  acts_two false (error destination cause) is fits = acts_reference destination (error destination cause) tt
 
-  acts_class : (held : Option Class) (v : Value) → (held ≡ Some Zero → (r : ℕ) → value_at r s.live ≡ Some asked → ⊥) →
+  acts_class : (held : Option Class) (v : Value) → HasFieldsInRange v → (held ≡ Some Zero → (r : ℕ) → value_at r s.live ≡ Some asked → ⊥) →
       Does (connection_by held v s) v s (in_class held v s)
-  acts_class None v never = acts_before s.is_caller v refl
-  acts_class (Some Zero) v never = acts_zero (never refl) s.is_caller v
-  acts_class (Some Two) v never = acts_two s.is_caller v refl
+  acts_class None v fits never = acts_before s.is_caller v refl fits
+  acts_class (Some Zero) v fits never = acts_zero (never refl) s.is_caller v
+  acts_class (Some Two) v fits never = acts_two s.is_caller v refl fits
 
-pub unit_does : (v : Value) (s : Carrier) → IsSound s → s.ended ≡ None → Does (connection_of v s) v s (react v s)
-unit_does v s h lasts =
+pub unit_does : (v : Value) (s : Carrier) → IsSound s → s.ended ≡ None → HasFieldsInRange v → Does (connection_of v s) v s (react v s)
+unit_does v s h lasts fits =
     subst (Does (connection_of v s) v s) (sym (react_quiet v s lasts))
-    (acts_class s h.orderly.rise s.class v (λ is r was. zero_asks_none s r h.by_class is was))
+    (acts_class s h.orderly.rise s.class v fits (λ is r was. zero_asks_none s r h.by_class is was))

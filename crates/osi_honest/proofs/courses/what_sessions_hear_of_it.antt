@@ -44,7 +44,7 @@ use Rattle.osi_honest.proofs.courses.steps_of_a_course.{HasNone, HoldEach, StepA
 use Rattle.osi_honest.proofs.courses.steps_of_a_course.{step_none, step_on, step_since, step_then}
 use Rattle.osi_honest.proofs.courses.units_of_each_connection.{unequal}
 use Rattle.osi_honest.proofs.courses.what_a_link_takes_and_is_handed.{link_shut, over_unlinked}
-use Rattle.osi_honest.proofs.courses.what_a_session_puts.{IsGivenIfOpen, event_by_links, event_others, event_puts, event_unlinked}
+use Rattle.osi_honest.proofs.courses.what_a_session_puts.{IsGivenIfOpen, event_accounted, event_others, event_puts, event_unlinked}
 use Rattle.osi_honest.proofs.courses.what_a_session_puts.{event_written, opening_puts, session_puts}
 use Rattle.osi_honest.proofs.courses.what_a_unit_does_to_a_connection.{NoneOf}
 use Rattle.osi_honest.proofs.courses.what_another_connection_leaves.{Beside, course_over, gone_beside, gone_over, gone_same}
@@ -348,7 +348,7 @@ module _ (known : Known) (is_caller : Bool) where
       Steps is_caller (WaitAll rest) moves e.carrier (hears x e)
   event_heard x rest moves e w =
       step_each is_caller [] (WaitAll rest) moves e.carrier (hears x e) (event_puts x e) [] (event_written x e)
-      (event_by_links x e (waits_given is_caller (told_of x) (x ∷ rest) (moves (told_of x)) e (w (told_of x)))) refl
+      (event_accounted x e (waits_given is_caller (told_of x) (x ∷ rest) (moves (told_of x)) e (w (told_of x)))) refl
       (λ r some. event_life is_caller r some x e)
       (λ r. one_heard known is_caller r x rest (moves r) e (w r))
 

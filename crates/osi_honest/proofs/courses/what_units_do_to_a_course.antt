@@ -6,6 +6,8 @@ use Rattle.std.proofs.lemmas.Bool.{eqb-true}
 use Rattle.std.proofs.lemmas.List.{append-nil}
 use Rattle.osi_tpdu.specs.Packet.{AreUnits}
 use Rattle.osi_tpdu.specs.Value.{Value, may_be_followed}
+use Rattle.osi_tpdu.specs.Writing.{Fits}
+use Rattle.osi_tpdu.proofs.the_units_of_a_packet.{units_fit}
 use Rattle.osi_class.specs.Giving.{all_given}
 use Rattle.osi_class.specs.Link.{Standing, taken, unit_of}
 use Rattle.osi_class.specs.Runs.{Move, tsdus_in, tsdus_out}
@@ -40,8 +42,8 @@ use Rattle.osi_honest.proofs.courses.how_long_a_connection_is_open.{Life, life_t
 use Rattle.osi_honest.proofs.courses.steps_of_a_course.{HoldEach, StepAt, States, StepsBy, done_by, same_rest, step_as, step_each}
 use Rattle.osi_honest.proofs.courses.steps_of_a_course.{step_idle, step_none, step_then}
 use Rattle.osi_honest.proofs.courses.the_connections_of_each_class.{IsSound, sound_unit}
-use Rattle.osi_honest.proofs.courses.units_of_each_connection.{elsewhere, given_by_links, marked, marked_all, marked_own, none_marked}
-use Rattle.osi_honest.proofs.courses.units_of_each_connection.{nowhere, plain_by_links, unequal}
+use Rattle.osi_honest.proofs.courses.units_of_each_connection.{elsewhere, given_accounted, marked, marked_all, marked_own, none_marked}
+use Rattle.osi_honest.proofs.courses.units_of_each_connection.{nowhere, plain_accounted, unequal}
 use Rattle.osi_honest.proofs.courses.what_a_link_takes_and_is_handed.{HasFew, has_few, takes_in}
 use Rattle.osi_honest.proofs.courses.what_a_unit_does_to_a_connection.{Acts, Does, NoneOf, acts_elsewhere, none_more, unit_does}
 use Rattle.osi_honest.proofs.courses.what_a_unit_does_to_a_connection.Acts.{answers_it, joins, leaves_it, rests}
@@ -409,7 +411,7 @@ module _ (is_caller : Bool) where
   abbrev AfterAll : Value → States
   AfterAll v r moves e = After is_caller r v moves e
 
-  module _ (moves : ℕ → Deeds) (v : Value) (e : End) (h : IsSound e.carrier) (calm : HoldEach CalmAll moves e) where
+  module _ (moves : ℕ → Deeds) (v : Value) (fits : Fits v) (e : End) (h : IsSound e.carrier) (calm : HoldEach CalmAll moves e) where
     abbrev changed : End
     changed = with_carrier (react v e.carrier) e
 
@@ -446,7 +448,7 @@ module _ (is_caller : Bool) where
         let units = written_by peer (handed_out after) in
         step_each is_caller (v ∷ []) (AfterAll v) moves e.carrier changed (marked q units) (marked q (v ∷ []))
         (ap (λ (c : Carrier). c.outgoing) then_is ∙ ap (λ (l : List Value). e.carrier.outgoing ++ packets l) (sym (marked_all q units)))
-        (given_by_links q peer (all_given (handed_out after)) (above_zero q (linked peer link) e.carrier.live h.orderly.rise here))
+        (given_accounted q peer (all_given (handed_out after)) (above_zero q (linked peer link) e.carrier.live h.orderly.rise here))
         (marked_all q (v ∷ []))
         (λ r some. taken_life is_caller r some v e.carrier h lasted (side_of r lasted) q refl peer link after here is then_is)
         (λ r. taken_at is_caller r (moves r) v e h q (r == q) refl refl lasted (calm r) peer link after here is then_is)
@@ -454,12 +456,12 @@ module _ (is_caller : Bool) where
         let q = connection_of v e.carrier in
         step_each is_caller (v ∷ []) (AfterAll v) moves e.carrier changed (marked 0 units) (marked 0 (v ∷ []))
         (written ∙ ap (λ (l : List Value). e.carrier.outgoing ++ packets l) (sym (marked_all 0 units)))
-        (plain_by_links units plain) (marked_all 0 (v ∷ []))
+        (plain_accounted units plain) (marked_all 0 (v ∷ []))
         (λ r some. passed_life is_caller r some v e.carrier h lasted (side_of r lasted) units q refl act)
         (λ r. passed is_caller r (moves r) v e h units (idle_at is_caller r (moves r) v e h units q (r == q) refl refl lasted (calm r) act))
 
     unit_by : (o : Option EndReason) → e.carrier.ended ≡ o → StepsBy is_caller (v ∷ []) (AfterAll v) moves e.carrier changed
-    unit_by None lasted = does_steps lasted (unit_does v e.carrier h lasted)
+    unit_by None lasted = does_steps lasted (unit_does v e.carrier h lasted fits.in_range)
     unit_by (Some reason) ended =
         let same = react_over v e.carrier (ap is_some ended) in
         step_each is_caller (v ∷ []) (AfterAll v) moves e.carrier changed [] (marked 0 (v ∷ []))
@@ -483,11 +485,12 @@ module _ (is_caller : Bool) where
   units_step [] u us moves e h calm = absurd us
   units_step (v ∷ []) u us moves e h calm =
       step_as is_caller (v ∷ []) (AfterAll is_caller v) (NowAll is_caller) moves e.carrier (with_carrier (react v e.carrier) e)
-      (with_carrier (react v e.carrier) e) (unit_steps is_caller moves v e h calm) refl (same_rest (react v e.carrier)) (λ r after t. t.0)
+      (with_carrier (react v e.carrier) e) (unit_steps is_caller moves v (units_fit (v ∷ []) u us).0 e h calm) refl
+      (same_rest (react v e.carrier)) (λ r after t. t.0)
   units_step (v ∷ w ∷ vs) u us moves e h calm =
       let mid = with_carrier (react v e.carrier) e in
       step_then is_caller (v ∷ []) (w ∷ vs) (AfterAll is_caller v) (NowAll is_caller) moves e.carrier mid
-      (with_carrier (reacts (v ∷ w ∷ vs) e.carrier) e) (unit_steps is_caller moves v e h calm)
+      (with_carrier (reacts (v ∷ w ∷ vs) e.carrier) e) (unit_steps is_caller moves v (units_fit (v ∷ w ∷ vs) u us).0 e h calm)
       (λ after t. units_step (w ∷ vs) us.2 us.5 after mid (sound_unit v e.carrier h)
       (λ r. (t r).1 (followed_is (may_be_followed v) us.0)))
 
@@ -499,11 +502,12 @@ module _ (is_caller : Bool) where
   leads_step (v ∷ []) next more u us moves e h calm =
       let mid = with_carrier (react v e.carrier) e in
       step_as is_caller (v ∷ []) (AfterAll is_caller v) (CalmAll is_caller) moves e.carrier mid mid
-      (unit_steps is_caller moves v e h calm) refl (same_rest (react v e.carrier))
+      (unit_steps is_caller moves v (units_fit (v ∷ next ∷ more) u us).0 e h calm) refl (same_rest (react v e.carrier))
       (λ r after t. t.1 (followed_is (may_be_followed v) us.0))
   leads_step (v ∷ w ∷ done) next more u us moves e h calm =
       let mid = with_carrier (react v e.carrier) e in
       step_then is_caller (v ∷ []) (w ∷ done) (AfterAll is_caller v) (CalmAll is_caller) moves e.carrier mid
-      (with_carrier (reacts (v ∷ w ∷ done) e.carrier) e) (unit_steps is_caller moves v e h calm)
+      (with_carrier (reacts (v ∷ w ∷ done) e.carrier) e)
+      (unit_steps is_caller moves v (units_fit (v ∷ w ∷ (done ++ (next ∷ more))) u us).0 e h calm)
       (λ after t. leads_step (w ∷ done) next more us.2 us.5 after mid (sound_unit v e.carrier h)
       (λ r. (t r).1 (followed_is (may_be_followed v) us.0)))

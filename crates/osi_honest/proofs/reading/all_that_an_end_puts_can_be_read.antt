@@ -1,15 +1,15 @@
 -- Whatever arrives, whatever its user calls and however much memory there is, each unit that an end puts can be written, so that
 -- it is read again.
 -- For what the transport of an end puts.
-use Rattle.std.proofs.Common.{◌≡◌, ◌∙◌, refl, sym, ap, subst, ℕ, ◌+◌, ◌&&◌, ◌≤◌, min, Bool, true, false, if◌then◌else◌}
-use Rattle.std.proofs.Common.{map, List, [], ◌∷◌, ◌++◌, length, take, Option, Some, None, is_some, option_map, Result, Ok, Err}
-use Rattle.std.proofs.Common.{append_assoc, arith}
+use Rattle.std.proofs.Common.{◌≡◌, ◌∙◌, refl, sym, ap, subst, ℕ, ◌+◌, ◌&&◌, ◌≤◌, Bool, true, false, if◌then◌else◌}
+use Rattle.std.proofs.Common.{map, List, [], ◌∷◌, ◌++◌, Option, Some, None, is_some, option_map, Result, Ok, Err}
+use Rattle.std.proofs.Common.{append_assoc}
 use Rattle.std.specs.Prelude.{IfSome}
 use Rattle.std.specs.List.{AllByRecursion}
-use Rattle.std.proofs.lemmas.List.{append-nil, append_cancel_left, length-take}
+use Rattle.std.proofs.lemmas.List.{append-nil, append_cancel_left}
 use Rattle.osi_tpkt.specs.Octets.{IsOctets}
 use Rattle.osi_tpkt.specs.Stream.{Cuts, Ending}
-use Rattle.osi_tpdu.specs.Limits.{size_code, tsap_octets}
+use Rattle.osi_tpdu.specs.Limits.{tsap_octets}
 use Rattle.osi_tpdu.specs.Packet.{units_of}
 use Rattle.osi_tpdu.specs.Value.{Connect, HasFieldsInRange, IsConnect, Value, acknowledge, confirm, data0, data2, disconnect, disconnected}
 use Rattle.osi_tpdu.specs.Value.{error, request}
@@ -25,8 +25,8 @@ use Rattle.osi_class.specs.declared.terms.Class.{Class}
 use Rattle.osi_class.specs.declared.terms.Class.TheVariants.{Two, Zero}
 use Rattle.osi_class.specs.declared.terms.Local.{Local}
 use Rattle.osi_carrier.specs.Calls.{asks, closed_on, closes, link_of, sent_on}
-use Rattle.osi_carrier.specs.Negotiation.{acceptance, agreed_size, alternatives, confirmed, opened_link, proposal, proposal_by}
-use Rattle.osi_carrier.specs.Negotiation.{proposes_two, proposes_zero}
+use Rattle.osi_carrier.specs.Negotiation.{acceptance, agreed_size, confirmed, opened_link, proposal}
+use Rattle.osi_carrier.specs.Negotiation.{proposes_two}
 use Rattle.osi_carrier.specs.Orderly.{connection_by}
 use Rattle.osi_carrier.specs.Packets as carriers
 use Rattle.osi_carrier.specs.Pump.{pumped, written_by}
@@ -45,12 +45,14 @@ use Rattle.osi_judge.specs.declared.directions.Direction.{Direction}
 use Rattle.osi_judge.specs.Captures.{Capture, stream}
 use Rattle.osi_honest.specs.Seeing.{HasOneUnit, IsFresh, IsSeen, put_along}
 use Rattle.osi_honest.specs.Turns.{Run, Turn}
-use Rattle.osi_honest.proofs.reading.what_a_link_gives_can_be_written.{IsNumbered, gives_written, taken_numbered}
+use Rattle.osi_honest.specs.Writable.{CanBeWritten}
+use Rattle.osi_honest.proofs.reading.a_cr_and_a_cc_can_be_written.{cc_plain, cr_by, size_in_range}
+use Rattle.osi_honest.proofs.reading.what_a_link_gives_can_be_written.{IsNumbered, gives_written, link_opens, taken_numbered}
 use Rattle.osi_honest.proofs.class_0.what_a_packet_does_in_class_0.{AllProper}
 use Rattle.osi_honest.proofs.class_0.what_class_0_writes_of_a_tsdu.{packets_joined}
 use Rattle.osi_honest.proofs.keeping.what_each_packet_keeps_a_turn_keeps.{IsTracked, turn_tracked}
 use Rattle.osi_honest.proofs.keeping.what_holds_of_each_connection_stays.{AllRows, row_at, row_more, row_put, row_without}
-use Rattle.osi_honest.proofs.reading.what_is_written_is_read_again.{CanBeWritten, IsPlain, read_again}
+use Rattle.osi_honest.proofs.reading.what_is_written_is_read_again.{read_again}
 use Rattle.osi_honest.proofs.class_0.what_a_turn_does_in_class_0.{all_octets}
 use Rattle.osi_honest.proofs.reading.two_readings_of_a_stream_agree.{shown_packets}
 
@@ -63,89 +65,6 @@ IsNumberedRow (closing peer) = Unit {0}
 
 abbrev pub AreNumbered : Rows Connection → Type 0
 AreNumbered rows = AllRows IsNumberedRow rows
-
-link_opens : (class : Class) (size : Option ℕ) (local : Local) (credit : ℕ) → IsNumbered (opened_link class size local credit).flow
-link_opens Zero size local credit = tt
-link_opens Two size local credit = let most = local.window.at_most in (omega arith, omega arith)
-
--- ---- CR and CC
-
-size_in_range : (o : Option ℕ) (local : Local) → IfSome o (λ code. (7 ≤ code) × (code ≤ 13)) →
-    IfSome (option_map (λ code. min code (size_code local.size)) o) (λ code. (7 ≤ code) × (code ≤ 13))
-size_in_range None local h = tt
-size_in_range (Some code) local h =
-    let least = local.size.at_least in
-    let most : code ≤ 13 = h.1 in
-    let some : 7 ≤ code = h.0 in
-    (omega arith, omega arith)
-
-selector_fits : (o : Option (List ℕ)) → IfSome o (λ s. (length s ≤ 32) × IsOctets s) → IfSome o (λ s. length s ≤ 32)
-selector_fits None h = tt
-selector_fits (Some s) h = h.0
-
-cc_plain : (class : Class) (size : Option ℕ) (c : Connect) (local : Local) (r : ℕ) → IsConnect c →
-    IfSome size (λ code. (7 ≤ code) × (code ≤ 13)) → IsPlain (acceptance class size c local r)
-cc_plain Zero size c local r h range = record {
-  credit = omega arith;
-  class = omega arith;
-  options = omega arith;
-  size = range;
-  calling = selector_fits c.parameters.calling h.parameters.calling;
-  called = selector_fits c.parameters.called h.parameters.called;
-  additional = tt;
-  alternative = tt;
-  user = refl;
-}
-cc_plain Two size c local r h range = record {
-  credit = let most = local.window.at_most in omega arith;
-  class = omega arith;
-  options = omega arith;
-  size = range;
-  calling = selector_fits c.parameters.calling h.parameters.calling;
-  called = selector_fits c.parameters.called h.parameters.called;
-  additional = omega arith;
-  alternative = tt;
-  user = refl;
-}
-
-tsap_short : (t : Tsap) → length (take t.len t.octets) ≤ 32
-tsap_short t =
-    let few = t.at_most in
-    let size = length-take t.len t.octets in
-    omega arith
-
-tsap_fits : (o : Option Tsap) → IfSome (option_map tsap_octets o) (λ s. length s ≤ 32)
-tsap_fits None = tt
-tsap_fits (Some t) = tsap_short t
-
-pub cr_by : (two : Bool) (local : Local) (held : Option Class) (calling called : Option Tsap) (r : ℕ) →
-    IsPlain (proposal_by two local held (option_map tsap_octets calling) (option_map tsap_octets called) r)
-cr_by true local held calling called r = record {
-  credit = let most = local.window.at_most in omega arith;
-  class = omega arith;
-  options = omega arith;
-  size = (local.size.at_least, local.size.at_most);
-  calling = tsap_fits calling;
-  called = tsap_fits called;
-  additional = omega arith;
-  alternative = by (proposes_zero local held);
-  user = refl;
-}
-  where
-    by : (b : Bool) → IfSome (alternatives b) (λ (s : List ℕ). length s ≤ 1)
-    by true = omega arith
-    by false = tt
-cr_by false local held calling called r = record {
-  credit = omega arith;
-  class = omega arith;
-  options = omega arith;
-  size = (local.size.at_least, local.size.at_most);
-  calling = tsap_fits calling;
-  called = tsap_fits called;
-  additional = tt;
-  alternative = tt;
-  user = refl;
-}
 
 -- ---- what was put since
 

@@ -1,10 +1,11 @@
 -- The numbers of the units that a link gives are in the range of their fields, whatever it takes.
 -- For what the transport of an end puts.
 use Rattle.std.proofs.Common.{◌≡◌, refl, sym, subst, ℕ, zero, suc, ◌+◌, ◌-◌, ◌%◌, ◌<◌, Bool, true, false, if◌then◌else◌, nat_lt, List, []}
-use Rattle.std.proofs.Common.{◌∷◌, map, Option, Some, None, Result, Ok, Err, arith}
+use Rattle.std.proofs.Common.{◌∷◌, ◌++◌, map, Option, Some, None, Result, Ok, Err, arith}
 use Rattle.std.specs.Prelude.{IfOk, IfSome}
-use Rattle.std.specs.List.{AllByRecursion}
+use Rattle.std.specs.List.{AllByRecursion, flat_map}
 use Rattle.osi_tpdu.specs.Value.{Value, acknowledge, confirm, data0, data2, disconnect, disconnected, error, request}
+use Rattle.osi_class.specs.Between.{given_by}
 use Rattle.osi_class.specs.Ends.{Ends}
 use Rattle.osi_class.specs.Flow.{Flow, Sender, ack_number, acknowledged, after_acked, is_awaited, steps_before}
 use Rattle.osi_class.specs.Giving.{Drained, drained_by, drained_within, left_to_give}
@@ -12,11 +13,16 @@ unfoldable use Rattle.osi_class.specs.Giving.{drained}
 use Rattle.osi_class.specs.Joining.{Joining, joined}
 use Rattle.osi_class.specs.Link.{Given, Standing, ack, given_part, next, next_by, part0, part2, sent_flow, taken, taken_by, taken_flow}
 use Rattle.osi_class.specs.Link.{two_standing, unit_of, with_joined, with_sender}
+use Rattle.osi_class.specs.Runs.{Move, Moves, MovesAlong, give_out, hand_in, hand_out, take_in}
 use Rattle.osi_class.specs.Tsdus.{Part, give}
 use Rattle.osi_class.specs.declared.faults.LinkFault.{LinkFault}
 use Rattle.osi_class.specs.declared.faults.LinkFault.TheVariants.{CreditReduced, OutOfSequence}
+use Rattle.osi_class.specs.declared.terms.Class.{Class}
+use Rattle.osi_class.specs.declared.terms.Class.TheVariants.{Two, Zero}
+use Rattle.osi_class.specs.declared.terms.Local.{Local}
 use Rattle.osi_class.proofs.between.parts_stay_in_order.{at_ok, choose_ok, choose_some}
-use Rattle.osi_honest.proofs.reading.what_is_written_is_read_again.{CanBeWritten}
+use Rattle.osi_carrier.specs.Negotiation.{opened_link}
+use Rattle.osi_honest.specs.Writable.{CanBeWritten}
 
 -- the next number and the credit are in range
 abbrev pub IsNumbered : Option Flow → Type 0
@@ -27,6 +33,11 @@ abbrev CanBeGiven : Given → Type 0
 CanBeGiven (part0 end octets) = Unit {0}
 CanBeGiven (part2 number end octets) = number < 128
 CanBeGiven (ack number credit) = (number < 128) × (credit < 16)
+
+pub link_opens : (class : Class) (size : Option ℕ) (local : Local) (credit : ℕ) →
+    IsNumbered (opened_link class size local credit).flow
+link_opens Zero size local credit = tt
+link_opens Two size local credit = let most = local.window.at_most in (omega arith, omega arith)
 
 -- ---- what is given
 
@@ -134,6 +145,37 @@ takes_so e None _ numbered = tt
 
 pub taken_numbered : (s t : Standing) (v : Value) → IsNumbered s.flow → taken s v ≡ Ok t → IsNumbered t.flow
 taken_numbered s t v numbered e = at_ok FlowOf (taken s v) t (takes_so s.ends s.flow v numbered) e
+
+-- ---- one call after the other
+
+move_numbered : (move : Move) (s t : Standing) → IsNumbered s.flow → Moves move s t →
+    AllByRecursion CanBeGiven (given_by move) × IsNumbered t.flow
+move_numbered (hand_in tsdu) s t numbered is = (tt, subst (λ (x : Standing). IsNumbered x.flow) (sym is) numbered)
+move_numbered (hand_out tsdu) s t numbered is = (tt, subst (λ (x : Standing). IsNumbered x.flow) is numbered)
+move_numbered (take_in unit) s t numbered is = (tt, taken_numbered s t unit numbered is)
+move_numbered (give_out unit) s t numbered is =
+    let both = given_so (next s) (next_gives s.ends s.flow numbered) is in ((both.0, tt), both.1)
+  where
+    given_so : (o : Option (Given × Standing)) → IfSome o GivesSo → o ≡ Some (unit, t) → GivesSo (unit, t)
+    given_so None h e = absurd (cc)
+    given_so (Some given) h e = let same : given ≡ (unit, t) = cc in subst GivesSo same h
+
+moves_given : (moves : List Move) (s t : Standing) → IsNumbered s.flow → MovesAlong s moves t →
+    AllByRecursion CanBeGiven (flat_map given_by moves)
+moves_given [] s t numbered along = tt
+moves_given (move ∷ moves) s t numbered along =
+    let one = move_numbered move s along.0 numbered along.1 in
+    both (given_by move) (flat_map given_by moves) one.0 (moves_given moves along.0 t one.1 along.2)
+  where
+    both : (some others : List Given) → AllByRecursion CanBeGiven some → AllByRecursion CanBeGiven others →
+        AllByRecursion CanBeGiven (some ++ others)
+    both [] others a b = b
+    both (unit ∷ some) others a b = (a.0, both some others a.1 b)
+
+-- all that a link gives since its numbers were in range
+pub moves_written : (peer : ℕ) (moves : List Move) (s t : Standing) → IsNumbered s.flow → MovesAlong s moves t →
+    AllByRecursion CanBeWritten (map (unit_of peer) (flat_map given_by moves))
+moves_written peer moves s t numbered along = all_written peer (flat_map given_by moves) (moves_given moves s t numbered along)
 
 -- ---- a link of class 0
 

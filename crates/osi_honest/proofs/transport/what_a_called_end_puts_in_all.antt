@@ -28,6 +28,7 @@ use Rattle.osi_honest.specs.Parts.{dt}
 use Rattle.osi_honest.specs.Seeing.{IsPrefix, PassAfter, put_along, used_along}
 use Rattle.osi_honest.specs.Stretches.{octets_said}
 use Rattle.osi_honest.specs.Turns.{Run, Turn}
+use Rattle.osi_honest.specs.Writable.{CanBeWritten, IsPlain}
 use Rattle.osi_honest.proofs.reading.all_that_an_end_puts_can_be_read.{ArePutToRead, all_one_unit}
 use Rattle.osi_honest.proofs.transport.when_the_judge_blames_no_transport.{are_read}
 use Rattle.osi_honest.proofs.transport.an_open_end_puts_whole_tsdus.{AreWhole, run_speaks, speaks_then, whole_more}
@@ -49,7 +50,7 @@ use Rattle.osi_honest.proofs.transport.what_is_put_after_one_packet.{AfterOne, l
 use Rattle.osi_honest.proofs.transport.what_is_put_after_one_packet.{requests, silence}
 use Rattle.osi_honest.proofs.class_0.what_a_call_does_in_class_0.{over_run}
 use Rattle.osi_honest.proofs.reading.what_is_put_and_taken_is_read.{parts_read}
-use Rattle.osi_honest.proofs.reading.what_is_written_is_read_again.{CanBeWritten, IsPlain, read_again}
+use Rattle.osi_honest.proofs.reading.what_is_written_is_read_again.{read_again}
 use Rattle.osi_honest.proofs.transport.when_the_judge_blames_no_transport.{IsClear, KnownBefore, denies_clear}
 use Rattle.osi_honest.proofs.transport.when_the_judge_blames_no_transport.{none_clear, other_clear, speaks_clear}
 

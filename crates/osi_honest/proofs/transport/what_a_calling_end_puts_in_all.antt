@@ -30,6 +30,7 @@ use Rattle.osi_honest.specs.Parts.{dt}
 use Rattle.osi_honest.specs.Seeing.{IsPrefix, PassAfter, put_along, used_along}
 use Rattle.osi_honest.specs.Stretches.{octets_said}
 use Rattle.osi_honest.specs.Turns.{Run, Turn}
+use Rattle.osi_honest.specs.Writable.{IsPlain}
 use Rattle.osi_honest.proofs.transport.an_end_of_class_0_puts_data.{AreZero}
 use Rattle.osi_honest.proofs.transport.an_open_end_puts_whole_tsdus.{AreWhole, run_speaks, speaks_then, whole_more}
 use Rattle.osi_honest.proofs.opening.how_a_caller_opens.{CanBegin}
@@ -50,7 +51,7 @@ use Rattle.osi_honest.proofs.transport.what_is_put_after_one_packet.{AfterOne, l
 use Rattle.osi_honest.proofs.transport.what_is_put_after_one_packet.{requests, silence}
 use Rattle.osi_honest.proofs.class_0.what_a_call_does_in_class_0.{over_run}
 use Rattle.osi_honest.proofs.reading.what_is_put_and_taken_is_read.{parts_read}
-use Rattle.osi_honest.proofs.reading.what_is_written_is_read_again.{IsPlain, read_again}
+use Rattle.osi_honest.proofs.reading.what_is_written_is_read_again.{read_again}
 use Rattle.osi_honest.proofs.reading.what_the_judge_reads_of_a_side.{IsStrayed}
 use Rattle.osi_honest.proofs.transport.when_the_judge_blames_no_transport.{AreAllRead, FollowsCr, KnownBefore}
 use Rattle.osi_honest.proofs.transport.when_the_judge_blames_no_transport.{closes, asks_more, speaks, strays}

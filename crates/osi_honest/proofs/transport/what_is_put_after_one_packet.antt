@@ -28,14 +28,14 @@ use Rattle.osi_judge.specs.Transport.{handshake_from, met_before, silent}
 use Rattle.osi_stack.specs.State.{Holding}
 use Rattle.osi_honest.specs.Seeing.{IsPrefix, PassAfter, put_along, used_along}
 use Rattle.osi_honest.specs.Turns.{Run, Turn}
-use Rattle.osi_honest.proofs.reading.all_that_an_end_puts_can_be_read.{cr_by}
+use Rattle.osi_honest.specs.Writable.{IsPlain}
+use Rattle.osi_honest.proofs.reading.a_cr_and_a_cc_can_be_written.{cr_by}
 use Rattle.osi_honest.proofs.reading.two_readings_of_a_stream_agree.{packets_then}
 use Rattle.osi_honest.proofs.class_0.what_a_call_does_in_class_0.{over_run}
 use Rattle.osi_honest.proofs.class_0.what_a_packet_does_in_class_0.{AllProper, Over, over_carries}
 use Rattle.osi_honest.proofs.opening.what_an_end_without_class_0_puts.{put_first}
 use Rattle.osi_honest.proofs.keeping.what_each_packet_keeps_a_turn_keeps.{AsksToo, IsTracked, Tracks, turn_tracked}
 use Rattle.osi_honest.proofs.transport.what_had_passed_goes_on.{IsBeyond, IsLost, handshake_then, lost_beyond, met_after, passed_by}
-use Rattle.osi_honest.proofs.reading.what_is_written_is_read_again.{IsPlain}
 use Rattle.osi_honest.proofs.keeping.what_was_put_stays_in_front.{Ahead, ahead_kept, ahead_reacts}
 
 -- ---- what stays at a carrier

@@ -35,14 +35,14 @@ early_not : {A : Type 0} (s : Stage) → s ≡ early → s ≡ past → A
 early_not s e h = absurd (cc (sym e ∙ h))
 
 -- an end at which a connection may still open lasts
-early_lasts : (r : ℕ) (c : Carrier) → stage_at r c ≡ early → c.ended ≡ None
+pub early_lasts : (r : ℕ) (c : Carrier) → stage_at r c ≡ early → c.ended ≡ None
 early_lasts r c may = by c.ended refl
   where
     by : (o : Option EndReason) → c.ended ≡ o → c.ended ≡ None
     by None e = e
     by (Some reason) e = early_not (stage_at r c) may (stage_over r c (ap is_some e))
 
-given_so : (r : ℕ) (c : Carrier) → 0 < r → r ≤ c.given → has_given r c ≡ true
+pub given_so : (r : ℕ) (c : Carrier) → 0 < r → r ≤ c.given → has_given r c ≡ true
 given_so r c some up = ap (λ (b : Bool). b && nat_le r c.given) (lt-ltb 0 r some) ∙ le-leb r c.given up
 
 module _ (local : Local) (two : local.class2 ≡ true) where

@@ -409,7 +409,7 @@ reached_leaves m reach.Connection c = refl
 reached_leaves m reach.Side c = changes_leaves m.direction (halts m) c
 reached_leaves m reach.Everything c = refl
 
-marked_leaves : (m : Mark) (r : Reach) (c : Course) → (marked m r c).sessions ≡ c.sessions
+pub marked_leaves : (m : Mark) (r : Reach) (c : Course) → (marked m r c).sessions ≡ c.sessions
 marked_leaves m r c =
     reached_leaves m r (changes m.direction (breaks m) (first_marked m c))
     ∙ changes_leaves m.direction (breaks m) (first_marked m c)

@@ -45,7 +45,7 @@ IsUpTo Left b (request x) = IsWithin b x.source
 IsUpTo Right b (confirm n x) = IsWithin b x.source
 IsUpTo d b v = Unit {0}
 
-up_higher : (d : Direction) (b n : ℕ) (t : Sessions) → b ≤ n → AreUpTo d b t → AreUpTo d n t
+pub up_higher : (d : Direction) (b n : ℕ) (t : Sessions) → b ≤ n → AreUpTo d b t → AreUpTo d n t
 up_higher d b n t h u = record {
   live = λ i j r here named. let (some, low) = u.live i j r here named in (some, omega (arith, low, h));
   done = λ i j r here named. let (some, low) = u.done i j r here named in (some, omega (arith, low, h));

@@ -53,7 +53,7 @@ use Rattle.osi_watched.proofs.sessions.what_a_turn_puts_goes_to_its_peer.{none_s
 not_none : {A : Type 0} (o : Option ℕ) (n : ℕ) → o ≡ Some n → o ≡ None → A
 not_none o n h k = let no : Some n ≡ None = sym h ∙ k in absurd (cc)
 
-same_number : (o : Option ℕ) (m n : ℕ) → o ≡ Some m → o ≡ Some n → m ≡ n
+pub same_number : (o : Option ℕ) (m n : ℕ) → o ≡ Some m → o ≡ Some n → m ≡ n
 same_number o m n h k = let both : Some m ≡ Some n = sym h ∙ k in cc
 
 over_not : {A : Type 0} (o : Option EndReason) → is_some o ≡ true → o ≡ None → A
@@ -72,7 +72,7 @@ named_is Refused n q h = absurd (cc)
 named_is Closing n q h = cc
 named_is Closed n q h = cc
 
-named_open : (p : Phase) (n : ℕ) → is_open p ≡ true → named_by p n ≡ Some n
+pub named_open : (p : Phase) (n : ℕ) → is_open p ≡ true → named_by p n ≡ Some n
 named_open Silent n h = absurd (cc)
 named_open Open n h = refl
 named_open Refused n h = absurd (cc)
@@ -97,7 +97,7 @@ used_now : (b : Bool) (n credit : ℕ) → (not (b && is_over_by (opened_half n 
 used_now true n credit = eq-eqb n n refl
 used_now false n credit = eq-eqb n n refl
 
-used_asked : (x : Connect) (c : Connection) → Asked x c → uses way.Left x.source c ≡ true
+pub used_asked : (x : Connect) (c : Connection) → Asked x c → uses way.Left x.source c ≡ true
 used_asked x c a =
     ap (λ (l : Half). not (c.is_judged && is_over_by l c.seen_by_left) && (not (is_silent l.phase) && (l.reference == x.source))) a.left
     ∙ ap (λ (k : Half). not (c.is_judged && is_over_by (opened_half x.source x.credit) k)
@@ -106,12 +106,12 @@ used_asked x c a =
 
 -- ---- what came
 
-only_one : (xs ys : List Value) (u v : Value) → xs ++ v ∷ ys ≡ u ∷ [] → v ≡ u
+pub only_one : (xs ys : List Value) (u v : Value) → xs ++ v ∷ ys ≡ u ∷ [] → v ≡ u
 only_one [] ys u v e = cc
 only_one (x ∷ []) ys u v e = absurd (cc)
 only_one (x ∷ (y ∷ xs)) ys u v e = absurd (cc)
 
-not_empty : {A : Type 0} (xs ys : List Value) (v : Value) → xs ++ v ∷ ys ≡ [] → A
+pub not_empty : {A : Type 0} (xs ys : List Value) (v : Value) → xs ++ v ∷ ys ≡ [] → A
 not_empty [] ys v e = absurd (cc)
 not_empty (x ∷ xs) ys v e = absurd (cc)
 
@@ -165,7 +165,7 @@ module _ (local : Local) (w : Whole) (t : Sessions) (f : Called local w) (apart 
 
   -- ---- the end has the connection open
 
-  row_peer : (r peer : ℕ) (link : Option Standing) (come : List Value) (m : ℕ) (l : Standing) → Row w.end w.coming r peer link come →
+  pub row_peer : (r peer : ℕ) (link : Option Standing) (come : List Value) (m : ℕ) (l : Standing) → Row w.end w.coming r peer link come →
       value_at r w.end.live ≡ Some (linked m l) → m ≡ peer
   row_peer r peer link come m l (talks k there is among) e = same_peer m peer l k (sym e ∙ there)
   row_peer r peer link come m l (closes gone is among) e = absurd (gone lasts m l e)

@@ -82,7 +82,7 @@ ack_routed (Some Two) way.Left b credit n number s h e =
 ack_routed (Some Two) way.Right b credit n number s h e =
     ack_any way.Right credit n number s (position (is_named way.Right n) s.connections) h e
 
-ack_placed : {A : Type 0} (d : Way) (credit n number : ℕ) (s : State) → (takes d (acknowledge credit n number) s).told.finding ≡ Kept →
+pub ack_placed : {A : Type 0} (d : Way) (credit n number : ℕ) (s : State) → (takes d (acknowledge credit n number) s).told.finding ≡ Kept →
     (takes d (acknowledge credit n number) s).told.place ≡ None → A
 ack_placed d credit n number s h e =
     ack_goes d credit n number s (is_stopped d s.course) (route d s.course (acknowledge credit n number))

@@ -17,7 +17,7 @@ use Rattle.osi_watched.proofs.sessions.what_is_in_flight_to_an_end.{in_flight, i
 use Rattle.osi_watched.proofs.sessions.what_stands_of_a_connection.{Takes, is_for, waiting_for}
 
 -- the end and the tap say alike for which connection a unit is
-same_for : (r : ℕ) (v : Value) → arriving.is_for r v ≡ is_for (Some r) v
+pub same_for : (r : ℕ) (v : Value) → arriving.is_for r v ≡ is_for (Some r) v
 same_for r (data0 end user) = refl
 same_for r (data2 n number end user) = refl
 same_for r (acknowledge credit n number) = refl

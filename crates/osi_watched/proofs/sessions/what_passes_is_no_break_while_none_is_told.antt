@@ -76,7 +76,7 @@ not_zero : (e : Direction) (c : Course) → IsKnownOnce c.traffic → IsClear c.
 not_zero Left c once clear = λ seen. clear.two (once seen)
 not_zero Right c once clear = clear.two
 
-fine_so : (e : Direction) (v : Value) (c : Course) → IsKnownOnce c.traffic → IsClear c.traffic.course →
+pub fine_so : (e : Direction) (v : Value) (c : Course) → IsKnownOnce c.traffic → IsClear c.traffic.course →
     IsNoBreak (takes (way_of e) v c.traffic).told.finding → IsFine e v c
 fine_so e v c once clear none = record {
   firm = clear.sure.firm;

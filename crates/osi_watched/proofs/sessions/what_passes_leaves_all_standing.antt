@@ -38,7 +38,7 @@ use Rattle.osi_watched.proofs.sessions.what_stands_of_a_connection.{Known, waiti
 
 -- ---- what is no break
 
-kept_of : (f : Finding) → IsClear f → IsNoBreak f → f ≡ Kept
+pub kept_of : (f : Finding) → IsClear f → IsNoBreak f → f ≡ Kept
 kept_of f (inl is) none = is
 kept_of f (inr (r, is)) none = absurd (subst IsNoBreak is none)
 
@@ -69,14 +69,14 @@ routed_ack (Some Two) way.Right b credit n number s firm judged =
     clear_any way.Right (acknowledge credit n number) s firm judged (nowhere_ack s.course.strays credit n number)
     (found_ack way.Right credit n number s) (position (is_named way.Right n) s.connections)
 
-ack_clear : (d : Way) (credit n number : ℕ) (s : State) → is_stopped d s.course ≡ false → s.course.loose ≡ false → AreJudged s →
+pub ack_clear : (d : Way) (credit n number : ℕ) (s : State) → is_stopped d s.course ≡ false → s.course.loose ≡ false → AreJudged s →
     IsClear (takes d (acknowledge credit n number) s).told.finding
 ack_clear d credit n number s goes firm judged =
     goes_clear (is_stopped d s.course) d s (routed d (acknowledge credit n number) s (route d s.course (acknowledge credit n number))) goes
     (routed_ack (class_for d s.course) d (is_stopped (sides.other d) s.course) credit n number s firm judged)
 
 -- a DT of class 0 is a break in class 2, and before a class is known
-zero_broke : {A : Type 0} (k : Option Class) (d : Way) (b : Bool) (end : Bool) (user : List ℕ) (s : State) → (k ≡ Some Zero → ⊥) →
+pub zero_broke : {A : Type 0} (k : Option Class) (d : Way) (b : Bool) (end : Bool) (user : List ℕ) (s : State) → (k ≡ Some Zero → ⊥) →
     IsNoBreak (routed d (data0 end user) s (route_in k d b (data0 end user))).told.finding → A
 zero_broke None way.Left b end user s two none = absurd none
 zero_broke None way.Right b end user s two none = absurd none
@@ -116,13 +116,14 @@ cc_any n x s None firm judged none = by s.course.loose s.course.strays firm none
     by false false h none = absurd none
 cc_any n x s (Some i) firm judged none = cc_here n x s i (slice_get s.connections i) refl firm judged none
 
-cc_broke : {A : Type 0} (k : Option Class) (b : Bool) (n : ℕ) (x : Connect) (s : State) → s.course.loose ≡ false → AreJudged s →
+pub cc_broke : {A : Type 0} (k : Option Class) (b : Bool) (n : ℕ) (x : Connect) (s : State) → s.course.loose ≡ false → AreJudged s →
     IsNoBreak (routed way.Left (confirm n x) s (route_in k way.Left b (confirm n x))).told.finding → A
 cc_broke None b n x s firm judged none = absurd none
 cc_broke (Some Zero) b n x s firm judged none = absurd none
 cc_broke (Some Two) b n x s firm judged none = cc_any n x s (position (is_named way.Left n) s.connections) firm judged none
 
-goes_on : (b : Bool) (d : Way) (s : State) (o : Outcome) → b ≡ false → IsNoBreak (if b then none_told d NotJudged s else o).told.finding →
+pub goes_on : (b : Bool) (d : Way) (s : State) (o : Outcome) → b ≡ false →
+    IsNoBreak (if b then none_told d NotJudged s else o).told.finding →
     IsNoBreak o.told.finding
 goes_on true d s o h none = absurd (cc)
 goes_on false d s o h none = none

@@ -1,10 +1,8 @@
-use Rattle.std.proofs.Common.{[], subst, sym}
-use Rattle.osi_stack.specs.State.{End}
+use Rattle.std.proofs.Common.{[]}
 use Rattle.osi_stack.proofs.called.what_is_sent_is_short.{SpduLaws}
-use Rattle.osi_honest.specs.Courses.{Course, no_deeds}
+use Rattle.osi_honest.specs.Courses.{no_deeds}
 use Rattle.osi_honest.proofs.class_0.what_a_session_answers_fits.{all_proper}
-use Rattle.osi_honest.proofs.courses.what_a_packet_does_to_it.{Between}
-use Rattle.osi_honest.proofs.courses.what_a_run_does_to_it.{fresh_between, fresh_course, nothing_since, run_continues}
+use Rattle.osi_honest.proofs.courses.what_a_run_does_to_it.{fresh_course, fresh_turns, nothing_since, turns_continue}
 use Rattle.osi_honest.proofs.courses.what_sessions_hear_of_it.{Known}
 use Rattle.osi_honest.proofs.opening.what_an_asking_end_does.{can_begin}
 use Rattle.osi_honest.proofs.laws.what_a_session_hands_to_its_link.Goals as goal
@@ -16,7 +14,5 @@ pub returns-clause-run : goal.returns-clause-run
 returns-clause-run c = λ is_caller local begin end turns fresh run.
     let law : SpduLaws = record { room = c.few_octets_fit.ensures; digits = c.serial_digits.ensures } in
     let known : Known = record { proper = all_proper law c.what_closes_sends_nothing.ensures.octets; can = can_begin law } in
-    run_continues known is_caller begin.end.carrier (λ r. no_deeds) [] [] turns begin end
-    (subst Between (sym fresh.end) (fresh_between is_caller local))
-    (λ r. subst (λ (e : End). Course is_caller r no_deeds e) (sym fresh.end) (fresh_course is_caller local r))
-    (nothing_since is_caller begin.end) run
+    turns_continue is_caller begin.end.carrier (λ r. no_deeds) [] [] turns begin end (nothing_since is_caller begin.end)
+    (fresh_turns known is_caller local begin end turns fresh run)

@@ -1,0 +1,77 @@
+-- All units that an end puts in a turn can be written: those of a link since its numbers stay in range from the time when its connection
+-- opened, and the others, CRs, CCs, DRs and DCs, as they are.
+-- For the law of what a session hands to its link.
+use Rattle.std.proofs.Common.{◌≡◌, refl, sym, subst, ℕ, zero, suc, ◌<◌, ◌==◌, Bool, true, false, if◌then◌else◌, nat_lt}
+use Rattle.std.proofs.Common.{List, [], ◌∷◌, ◌++◌, arith}
+use Rattle.std.specs.List.{AllByRecursion}
+use Rattle.std.proofs.lemmas.Bool.{eq-eqb}
+use Rattle.osi_tpdu.specs.Value.{Value}
+use Rattle.osi_class.specs.Link.{Standing}
+use Rattle.osi_stack.specs.State.{End}
+use Rattle.osi_honest.specs.Courses.{AreCalls, Course, Deeds, IsFreshLink, no_deeds, then_did}
+use Rattle.osi_honest.specs.Courses.Course.{awaited, is_gone, is_open, unknown}
+use Rattle.osi_honest.specs.Courses.Gone.{closed, never, over}
+use Rattle.osi_honest.specs.Marked.{Marked, all_units, if_of, is_of_link, units_at}
+use Rattle.osi_honest.specs.Writable.{CanBeWritten}
+use Rattle.osi_honest.proofs.courses.units_of_each_connection.{AreAccounted}
+use Rattle.osi_honest.proofs.reading.what_a_link_gives_can_be_written.{IsNumbered, link_opens, moves_written}
+
+-- ---- what was put for one connection
+
+fresh_numbered : (link : Standing) → IsFreshLink link → IsNumbered link.flow
+fresh_numbered link fresh =
+    subst (λ (s : Standing). IsNumbered s.flow) (sym fresh.is) (link_opens fresh.class fresh.size fresh.local fresh.credit)
+
+calls_written : (peer : ℕ) (deeds : Deeds) → AreCalls peer deeds → AllByRecursion CanBeWritten deeds.put
+calls_written peer deeds c =
+    subst (AllByRecursion CanBeWritten) (sym c.put)
+    (moves_written peer deeds.calls c.first c.link (fresh_numbered c.first c.fresh) c.along)
+
+none_put : (deeds : Deeds) → deeds ≡ no_deeds → AllByRecursion CanBeWritten deeds.put
+none_put deeds none = subst (λ (d : Deeds). AllByRecursion CanBeWritten d.put) (sym none) tt
+
+course_written : (is_caller : Bool) (r : ℕ) (deeds : Deeds) (e : End) → Course is_caller r deeds e → AllByRecursion CanBeWritten deeds.put
+course_written is_caller r deeds e (unknown none side given live lines) = none_put deeds none
+course_written is_caller r deeds e (awaited none c terms side lasts given here kept) = none_put deeds none
+course_written is_caller r deeds e (is_open given o) = calls_written o.peer deeds o.calls
+course_written is_caller r deeds e (is_gone (closed peer calls is session speaks given shut)) = calls_written peer deeds calls
+course_written is_caller r deeds e (is_gone (over peer calls heard unheard is session speaks parts none ended)) =
+    calls_written peer deeds calls
+course_written is_caller r deeds e (is_gone (never none ended)) = none_put deeds none
+
+later_part : (some others : List Value) → AllByRecursion CanBeWritten (some ++ others) → AllByRecursion CanBeWritten others
+later_part [] others all = all
+later_part (unit ∷ some) others all = later_part some others all.1
+
+-- ---- what was put for all of them
+
+-- of each connection
+abbrev CanEach : List Marked → Type 0
+CanEach units = (r : ℕ) → 0 < r → AllByRecursion CanBeWritten (units_at r units)
+
+each_more : (m : Marked) (units : List Marked) → CanEach (m ∷ units) → CanEach units
+each_more m units each = λ r some. later_part (if_of r m) (units_at r units) (each r some)
+
+own_unit : (b : Bool) (unit : Value) (others : List Value) → b ≡ true →
+    AllByRecursion CanBeWritten ((if b then unit ∷ [] else []) ++ others) → CanBeWritten unit
+own_unit true unit others e all = all.0
+own_unit false unit others e all = absurd (cc)
+
+one_written : (r : ℕ) (unit : Value) (units : List Marked) → is_of_link unit ≡ nat_lt 0 r → (is_of_link unit ≡ false → CanBeWritten unit) →
+    CanEach ((r, unit) ∷ units) → CanBeWritten unit
+one_written zero unit units mark plain each = plain mark
+one_written (suc n) unit units mark plain each =
+    own_unit (suc n == suc n) unit (units_at (suc n) units) (eq-eqb (suc n) (suc n) refl) (each (suc n) (omega arith))
+
+all_written : (units : List Marked) → AreAccounted units → CanEach units → AllByRecursion CanBeWritten (all_units units)
+all_written [] all each = tt
+all_written (m ∷ units) all each =
+    (one_written m.0 m.1 units all.0.0 all.0.1 each, all_written units all.1 (each_more m units each))
+
+pub turn_written : (is_caller : Bool) (deeds more : ℕ → Deeds) (e : End) (put : List Marked) →
+    ((r : ℕ) → Course is_caller r (then_did (deeds r) (more r)) e) → ((r : ℕ) → 0 < r → (more r).put ≡ units_at r put) →
+    AreAccounted put → AllByRecursion CanBeWritten (all_units put)
+turn_written is_caller deeds more e put course own accounted =
+    all_written put accounted (λ r some.
+    subst (AllByRecursion CanBeWritten) (own r some)
+    (later_part (deeds r).put (more r).put (course_written is_caller r (then_did (deeds r) (more r)) e (course r))))

@@ -1,0 +1,430 @@
+-- A called end of class 2 is ready for each CC that passes: what waits after it is all that was put at its connection, nothing was taken
+-- there, nothing in flight is for it, and its reference is new. Each step keeps it so, as long as nobody breaks a rule.
+-- For all connections of an end and a tap.
+use Rattle.std.proofs.Common.{◌≡◌, ◌∙◌, ◌⊎◌, inl, inr, refl, sym, ap, subst, ℕ, ◌<◌, ◌≤◌, Bool, true, false, List, [], ◌∷◌, ◌++◌, Some}
+use Rattle.std.proofs.Common.{None, Option, IsSome, arith, is_some}
+use Rattle.std.specs.List.{AllByRecursion}
+use Rattle.std.proofs.lemmas.List.{append-nil}
+use Rattle.osi_tpdu.specs.Packet.{units_of}
+use Rattle.osi_tpdu.specs.Value.{Value, acknowledge, confirm, data0, data2, disconnect, disconnected, error, request}
+use Rattle.osi_class.specs.declared.terms.Class.{Class}
+use Rattle.osi_class.specs.declared.terms.Class.TheVariants.{Two, Zero}
+use Rattle.osi_class.specs.declared.terms.Local.{Local}
+use Rattle.osi_carrier.specs.State.{State as Carrier}
+use Rattle.osi_carrier.specs.declared.ends.EndReason.{EndReason}
+use Rattle.osi_judge.specs.declared.directions.Direction.TheVariants.{Right}
+use Rattle.osi_rules.specs.Traffic.{State}
+use Rattle.osi_stack.specs.State.{Holding}
+use Rattle.osi_fair.specs.Wholes.{Whole}
+use Rattle.osi_fair.specs.Wholes as wholes
+use Rattle.osi_fair.proofs.all_are_judged_unless_one_broke.{AreJudged}
+use Rattle.osi_fair.proofs.what_the_other_side_closes.{IsClear}
+use Rattle.osi_fair.proofs.which_units_are_for_a_connection.{picked_join, picked_rest}
+use Rattle.osi_honest.specs.Arriving.{AreApart}
+use Rattle.osi_honest.specs.Courses.{Continues, Deeds, no_deeds, then_did, units_in, units_read, units_taken}
+use Rattle.osi_honest.specs.Marked.{Marked, all_units, units_at}
+use Rattle.osi_honest.specs.Seeing.{IsFresh}
+use Rattle.osi_honest.specs.Turns.{Turn}
+use Rattle.osi_honest.proofs.class_0.what_a_call_does_in_class_0.{over_acts}
+use Rattle.osi_honest.proofs.class_0.what_a_packet_does_in_class_0.{AllProper}
+use Rattle.osi_honest.proofs.courses.how_long_a_connection_is_open.{Life, Stage, WhenPast, past, stage_at, stage_over}
+use Rattle.osi_honest.proofs.courses.units_of_each_connection.{all_units_more}
+use Rattle.osi_honest.proofs.courses.what_calls_of_a_link_say.{taken_more}
+use Rattle.osi_honest.proofs.reading.what_is_written_is_read_again.{CanBeWritten}
+use Rattle.osi_tap.specs.Connections.{Sessions}
+use Rattle.osi_tap.specs.Courses.{Course}
+use Rattle.osi_watched.specs.Joint.{Joint, Steps, TakesTurn, begin, begins_other, begins_own, passes_other, passes_own}
+use Rattle.osi_watched.specs.Shown.{parts_of}
+use Rattle.osi_watched.specs.ShownPlaces.{HaveSamePlaces}
+use Rattle.osi_watched.proofs.a_carrier_does_events.{none_of}
+use Rattle.osi_watched.proofs.steps_are_events.{IsFollowed, begin_followed}
+use Rattle.osi_watched.proofs.sessions.a_called_end_of_class_2_has_its_lines.{HasLines, calm_of, has_lines}
+use Rattle.osi_watched.proofs.sessions.a_called_end_of_class_2_puts_no_dt_of_class_0.{called_turn_two}
+use Rattle.osi_watched.proofs.sessions.a_turn_does_what_its_deeds_say.{turn_leaves, turn_uses, units_join}
+use Rattle.osi_watched.proofs.sessions.a_unit_is_joined_where_it_is_named.{joined_named}
+use Rattle.osi_watched.proofs.sessions.all_connections_stand.{there_too}
+use Rattle.osi_watched.proofs.sessions.ccs_that_wait_are_above_those_that_passed.{AreAboveAt, above_along}
+use Rattle.osi_watched.proofs.sessions.each_cc_of_a_called_end_opens_another_connection.{put_ordered}
+use Rattle.osi_watched.proofs.sessions.each_cc_that_passes_gives_a_new_reference.{GoesOn, IsAhead, above_unused, begins_other_ahead}
+use Rattle.osi_watched.proofs.sessions.each_cc_that_passes_gives_a_new_reference.{begins_own_ahead, passes_above, passes_other_ahead}
+use Rattle.osi_watched.proofs.sessions.each_cc_that_passes_gives_a_new_reference.{passes_own_ahead, turns_ahead, waits_above}
+use Rattle.osi_watched.proofs.sessions.each_cr_that_passes_gives_a_new_reference.{IsUpTo}
+use Rattle.osi_watched.proofs.sessions.each_unit_of_a_called_end_has_a_home.{called_marked}
+use Rattle.osi_watched.proofs.sessions.each_unit_of_a_turn_has_one_connection.{HasHome, IsMarked}
+use Rattle.osi_watched.proofs.sessions.nothing_comes_before_a_cc_passes.{IsBelow, below_higher, none_waits}
+use Rattle.osi_watched.proofs.sessions.nothing_is_done_before_a_cr_passes.{known_from, may_take}
+use Rattle.osi_watched.proofs.sessions.references_of_an_end_are_distinct.{GivesNew, IsUnused}
+use Rattle.osi_watched.proofs.sessions.units_written_alike_have_the_same_ccs.{AnswersTwo, AreAlike, AreOrdered, HasCc, IsCc, has_either}
+use Rattle.osi_watched.proofs.sessions.units_written_alike_have_the_same_ccs.{has_back, has_front, none_before, not_twice_alike, ordered_alike}
+use Rattle.osi_watched.proofs.sessions.what_a_turn_puts_goes_to_its_peer.{all_back, all_of_both}
+use Rattle.osi_watched.proofs.sessions.what_an_end_takes_at_a_connection.{apart_none, during_taken}
+use Rattle.osi_watched.proofs.sessions.what_is_in_flight_to_an_end.{parts_taken}
+use Rattle.osi_watched.proofs.sessions.what_passes_leaves_all_standing.{IsReady}
+use Rattle.osi_watched.proofs.sessions.what_stands_of_a_connection.{is_for, waiting_for}
+use Rattle.osi_watched.proofs.sessions.what_waits_after_the_ccs_of_a_called_end.{named, none_put, puts_for}
+
+-- ---- small facts
+
+not_so : (b : Bool) → (b ≡ true → ⊥) → b ≡ false
+not_so true h = absurd (h refl)
+not_so false h = refl
+
+none_both : (xs ys : List Value) → xs ++ ys ≡ [] → (xs ≡ []) × (ys ≡ [])
+none_both [] ys e = (refl, e)
+none_both (x ∷ xs) ys e = absurd (cc)
+
+-- a CC gives such a reference
+gives_so : (n r b : ℕ) (v : Value) → IsCc n r v → IsUpTo Right b v → r ≤ b
+gives_so n r b (confirm m x) h up = let same = h.1 in let low = up.1 in omega (arith, same, low)
+gives_so n r b (request x) h up = absurd h
+gives_so n r b (disconnect m source reason user) h up = absurd h
+gives_so n r b (disconnected m source) h up = absurd h
+gives_so n r b (data0 end user) h up = absurd h
+gives_so n r b (data2 m number end user) h up = absurd h
+gives_so n r b (acknowledge credit m number) h up = absurd h
+gives_so n r b (error m cause) h up = absurd h
+
+-- a CC gives a new reference
+one_new : (t : Sessions) (v : Value) → ((n r : ℕ) → IsCc n r v → IsUnused Right r t) → GivesNew Right v t
+one_new t (confirm m x) unused = unused m x.source (refl, refl)
+one_new t (request x) unused = tt
+one_new t (disconnect m source reason user) unused = tt
+one_new t (disconnected m source) unused = tt
+one_new t (data0 end user) unused = tt
+one_new t (data2 m number end user) unused = tt
+one_new t (acknowledge credit m number) unused = tt
+one_new t (error m cause) unused = tt
+
+no_zero : (o : Option Class) → (o ≡ None) ⊎ (o ≡ Some Two) → o ≡ Some Zero → ⊥
+no_zero o (inl none) e = cc (sym none ∙ e)
+no_zero o (inr two) e = cc (sym two ∙ e)
+
+past_none : (r : ℕ) (s t : Stage) (took put : List Marked) → s ≡ past → Life false r s took put t → units_at r took ≡ []
+past_none r s t took put e life =
+    apart_none r took (let w : WhenPast r took put t = subst (λ (x : Stage). Life false r x took put t) e life in w.none_took)
+
+-- ---- a called end and a tap
+
+module _ (local : Local) where
+  abbrev pub first : Whole
+  first = wholes.begin false local
+
+  -- What was put at a connection whose CC has not passed waits after it. At a connection without a CC nothing was put, and at either
+  -- nothing was taken.
+  pub record IsCalled (deeds : ℕ → Deeds) (j : Joint) : Type 0 where
+    pub ahead : IsAhead first j
+    pub below : AllByRecursion (IsBelow ahead.bound) (units_in j.coming)
+    pub unheard : (r : ℕ) → ahead.bound < r → units_taken (deeds r).calls ≡ []
+    pub waits : (n r : ℕ) → HasCc n r j.put → (deeds r).put ≡ waiting_for (Some n) j.put
+    pub spent : (r : ℕ) → ahead.bound < r → ((deeds r).put ≡ []) ⊎ ((n : ℕ) × HasCc n r j.put)
+    pub ordered : AreOrdered j.put
+    pub two : AllByRecursion AnswersTwo j.put
+
+  -- ---- at the beginning
+
+  pub begin_called : (holding : Holding) → IsFresh false local holding → IsCalled (λ r. no_deeds) (begin holding)
+  begin_called holding fresh =
+      let f = begin_followed Right false local holding fresh in
+      let above : AreAboveAt 0 first = omega arith in
+      record {
+        ahead = record {
+          followed = f;
+          bound = 0;
+          above = above_along 0 f.events first f.whole f.along above;
+          below = record { live = λ i j r here named. absurd (cc here); done = λ i j r here named. absurd (cc here) };
+        };
+        below = tt;
+        unheard = λ r less. refl;
+        waits = λ n r has. absurd has;
+        spent = λ r less. inl refl;
+        ordered = tt;
+        two = tt;
+      }
+
+  -- ---- a unit that passes
+
+  pub is_ready : (deeds : ℕ → Deeds) (at : ℕ) (unit : Value) (old new : Joint) → Steps Right (passes_own at unit) old new →
+      IsClear old.course.traffic.course → AreJudged old.course.traffic →
+      HaveSamePlaces old.course.traffic.connections old.course.sessions.live → IsCalled deeds old →
+      IsReady Right deeds (known_from (may_take old.holding.end.carrier) (units_in old.coming)) unit new.put old.course.traffic
+      old.course.sessions
+  is_ready deeds at (confirm m x) old new (read, octets, put, begun, is) clear judged places h =
+      let less = passes_above first at m x old new (read, octets, put, begun, is) h.ahead in
+      let has : HasCc m x.source old.put = subst (HasCc m x.source) (sym put) (inl (refl, refl)) in
+      let all : (deeds x.source).put ≡ waiting_for (Some m) new.put =
+      h.waits m x.source has ∙ ap (waiting_for (Some m)) put in
+      let none = h.unheard x.source less in (
+        λ p j place here.
+            let (c, there) = there_too old.course.traffic.connections old.course.sessions.live p j places here in
+            let named_so = joined_named Right (confirm m x) old.course m p c j places refl place there
+            (judged clear.sure.firm p c there) here in
+            all ∙ ap (λ (o : Option ℕ). waiting_for o new.put) (sym named_so),
+        parts_taken (deeds x.source).calls ∙ ap parts_of none,
+        (
+          omega (arith, less),
+          λ live. sym (ap parts_of (none_waits h.ahead.bound x.source (units_in old.coming) less h.below)),
+        ),
+      )
+  is_ready deeds at (request x) old new step clear judged places h = tt
+  is_ready deeds at (disconnect n source reason user) old new step clear judged places h = tt
+  is_ready deeds at (disconnected n source) old new step clear judged places h = tt
+  is_ready deeds at (data0 end user) old new step clear judged places h = tt
+  is_ready deeds at (data2 n number end user) old new step clear judged places h = tt
+  is_ready deeds at (acknowledge credit n number) old new step clear judged places h = tt
+  is_ready deeds at (error n cause) old new step clear judged places h = tt
+
+  -- ---- each step of the tap
+
+  -- nothing is put or passes of what the end has put
+  still : (deeds : ℕ → Deeds) (old new : Joint) (h : IsCalled deeds old) (g : GoesOn first h.ahead.bound new) → new.put ≡ old.put →
+      AllByRecursion (IsBelow h.ahead.bound) (units_in new.coming) → IsCalled deeds new
+  still deeds old new h g same below =
+      let rises = g.rises in
+      record {
+        ahead = g.ahead;
+        below = below_higher h.ahead.bound g.ahead.bound (units_in new.coming) g.rises below;
+        unheard = λ r less. h.unheard r (omega (arith, less, rises));
+        waits = λ n r has.
+            h.waits n r (subst (HasCc n r) same has) ∙ ap (waiting_for (Some n)) (sym same);
+        spent = λ r less.
+            subst (λ (l : List Value). ((deeds r).put ≡ []) ⊎ ((n : ℕ) × HasCc n r l)) (sym same)
+            (h.spent r (omega (arith, less, rises)));
+        ordered = subst AreOrdered (sym same) h.ordered;
+        two = subst (AllByRecursion AnswersTwo) (sym same) h.two;
+      }
+
+  pub begins_own_called : AllProper → (deeds : ℕ → Deeds) (old new : Joint) → Steps Right begins_own old new → IsCalled deeds old →
+      IsCalled deeds new
+  begins_own_called proper deeds old new step h =
+      still deeds old new h (begins_own_ahead first proper old new step h.ahead) (ap (λ (j : Joint). j.put) step.2)
+      (subst (λ (j : Joint). AllByRecursion (IsBelow h.ahead.bound) (units_in j.coming)) (sym step.2) h.below)
+
+  pub begins_other_called : AllProper → (deeds : ℕ → Deeds) (old new : Joint) → Steps Right begins_other old new → IsCalled deeds old →
+      IsCalled deeds new
+  begins_other_called proper deeds old new step h =
+      still deeds old new h (begins_other_ahead first proper old new step h.ahead) (ap (λ (j : Joint). j.put) step)
+      (subst (λ (j : Joint). AllByRecursion (IsBelow h.ahead.bound) (units_in j.coming)) (sym step) h.below)
+
+  -- the units of a packet of the other side are no CCs, and those of connections are for references of the tap
+  pub passes_other_called : AllProper → (deeds : ℕ → Deeds) (at : ℕ) (packet : List ℕ) (units : List Value) (old new : Joint) →
+      Steps Right (passes_other at packet units) old new → HaveSamePlaces old.course.traffic.connections old.course.sessions.live →
+      (h : IsCalled deeds old) → AllByRecursion (IsBelow h.ahead.bound) units → AllByRecursion (IsUpTo Right h.ahead.bound) units →
+      IsCalled deeds new
+  passes_other_called proper deeds at packet units old new step places h below given =
+      let one : units_in (packet ∷ []) ≡ units = append-nil (units_read (units_of packet)) ∙ ap units_read step.1 in
+      still deeds old new h (passes_other_ahead first proper at packet units old new step places h.ahead given)
+      (ap (λ (j : Joint). j.put) step.2)
+      (subst (λ (j : Joint). AllByRecursion (IsBelow h.ahead.bound) (units_in j.coming)) (sym step.2)
+      (subst (AllByRecursion (IsBelow h.ahead.bound))
+      (sym (units_join old.coming (packet ∷ []) ∙ ap (λ (l : List Value). units_in old.coming ++ l) one))
+      (all_of_both (IsBelow h.ahead.bound) (units_in old.coming) units h.below below)))
+
+  spent_next : (deeds : Deeds) (b r : ℕ) (unit : Value) (rest : List Value) → IsUpTo Right b unit → b < r →
+      (deeds.put ≡ []) ⊎ ((n : ℕ) × HasCc n r (unit ∷ rest)) → (deeds.put ≡ []) ⊎ ((n : ℕ) × HasCc n r rest)
+  spent_next deeds b r unit rest up less (inl none) = inl none
+  spent_next deeds b r unit rest up less (inr (n, inl mine)) =
+      let low = gives_so n r b unit mine up in absurd (omega (arith, low, less))
+  spent_next deeds b r unit rest up less (inr (n, inr more)) = inr (n, more)
+
+  pub passes_own_called : AllProper → (deeds : ℕ → Deeds) (at : ℕ) (unit : Value) (old new : Joint) →
+      Steps Right (passes_own at unit) old new → HaveSamePlaces old.course.traffic.connections old.course.sessions.live →
+      IsCalled deeds old → IsCalled deeds new
+  passes_own_called proper deeds at unit old new step places h =
+      let g = passes_own_ahead first proper at unit old new step places h.ahead in
+      let rises = g.rises in
+      let put = step.2 in
+      let ordered : AreOrdered (unit ∷ new.put) = subst AreOrdered put h.ordered in
+      record {
+        ahead = g.ahead;
+        below = below_higher h.ahead.bound g.ahead.bound (units_in new.coming) g.rises
+            (subst (λ (j : Joint). AllByRecursion (IsBelow h.ahead.bound) (units_in j.coming)) (sym step.4) h.below);
+        unheard = λ r less. h.unheard r (omega (arith, less, rises));
+        waits = λ n r has.
+            h.waits n r (subst (HasCc n r) (sym put) (inr has)) ∙ ap (waiting_for (Some n)) put
+            ∙ picked_rest (is_for (Some n)) unit new.put (not_so (is_for (Some n) unit) (λ e. ordered.0 n r e has));
+        spent = λ r less.
+            spent_next (deeds r) g.ahead.bound r unit new.put g.gives less
+            (subst (λ (l : List Value). ((deeds r).put ≡ []) ⊎ ((n : ℕ) × HasCc n r l)) put
+            (h.spent r (omega (arith, less, rises))));
+        ordered = ordered.1;
+        two = (subst (AllByRecursion AnswersTwo) put h.two).1;
+      }
+
+  -- ---- a turn, with what was done at each connection
+
+  module _ (proper : AllProper) (turn : Turn) (old new : Joint) (t : TakesTurn turn old new) (deeds : ℕ → Deeds)
+      (on : Continues false deeds old.holding turn new.holding)
+      (life : (r : ℕ) → 0 < r → Life false r (stage_at r old.holding.end.carrier) on.took on.put (stage_at r new.holding.end.carrier))
+      (units : t.units ≡ all_units on.put) (can : AllByRecursion CanBeWritten old.put) (can_new : AllByRecursion CanBeWritten new.put)
+      (places : HaveSamePlaces old.course.traffic.connections old.course.sessions.live) (clear : IsClear old.course.traffic.course)
+      (h : IsCalled deeds old) (turn_two : AllByRecursion AnswersTwo new.put) where
+    abbrev carrier : Carrier
+    carrier = old.holding.end.carrier
+
+    abbrev f : IsFollowed Right first old
+    f = h.ahead.followed
+
+    g : GoesOn first h.ahead.bound new
+    g = turns_ahead first proper turn old new t h.ahead
+
+    turn_put : new.put ≡ old.put ++ all_units on.put
+    turn_put = t.put ∙ ap (λ (l : List Value). old.put ++ l) units
+
+    new_clear : IsClear new.course.traffic.course
+    new_clear = subst (λ (c : Course). IsClear c.traffic.course) (sym t.course) clear
+
+    before : HasLines local f.whole
+    before = has_lines local old f can h.two clear
+
+    after : HasLines local g.ahead.followed.whole
+    after = has_lines local new g.ahead.followed can_new turn_two new_clear
+
+    alike_old : AreAlike f.whole.put old.put
+    alike_old = record { same = f.put; can = f.can; can_too = can }
+
+    alike_new : AreAlike g.ahead.followed.whole.put new.put
+    alike_new = record { same = g.ahead.followed.put; can = g.ahead.followed.can; can_too = can_new }
+
+    -- the reference of a CC that waits now
+    above_old : (n r : ℕ) → HasCc n r new.put → h.ahead.bound < r
+    above_old n r has =
+        let less = waits_above first new g.ahead can_new n r has in
+        let rises = g.rises in omega (arith, less, rises)
+
+    home_low : (i j : ℕ) → HasHome Right i j old.course.traffic old.course.sessions → i ≤ h.ahead.bound
+    home_low i j home = (h.ahead.below.live home.place home.joined i home.here home.mine).1
+
+    turn_ordered : AreOrdered new.put
+    turn_ordered =
+        ordered_alike g.ahead.followed.whole.put new.put alike_new
+        (put_ordered local g.ahead.followed.whole new.course.sessions after.called after.apart after.judged
+        (subst (λ (s : State). HaveSamePlaces s.connections new.course.sessions.live) (sym g.ahead.followed.tap)
+        (subst (λ (c : Course). HaveSamePlaces c.traffic.connections c.sessions.live) (sym t.course) places)))
+
+    put_more : (n r : ℕ) → HasCc n r new.put → (on.more r).put ≡ waiting_for (Some n) (all_units on.put)
+    put_more n r has =
+        puts_for local deeds turn old new t on f g.ahead.followed before after clear places units alike_old alike_new h.ahead.bound
+        home_low n r has (above_old n r has)
+
+    -- nothing was put there before the CC
+    none_put_before : (n r : ℕ) → HasCc n r (all_units on.put) → h.ahead.bound < r →
+        ((deeds r).put ≡ []) ⊎ ((m : ℕ) × HasCc m r old.put) → (deeds r).put ≡ []
+    none_put_before n r has less (inl none) = none
+    none_put_before n r has less (inr (m, waited)) =
+        not_twice_alike g.ahead.followed.whole.end.given g.ahead.bound m n r g.ahead.followed.whole.put old.put (all_units on.put)
+        (subst (AreAlike g.ahead.followed.whole.put) turn_put alike_new) g.ahead.above waited has
+
+    waits_by : (n r : ℕ) → HasCc n r new.put → HasCc n r old.put ⊎ HasCc n r (all_units on.put) →
+        (deeds r).put ++ (on.more r).put ≡ waiting_for (Some n) (old.put ++ all_units on.put)
+    waits_by n r has (inl waited) =
+        (λ i. h.waits n r waited i ++ put_more n r has i) ∙ sym (picked_join (is_for (Some n)) old.put (all_units on.put))
+    waits_by n r has (inr put) =
+        let less = above_old n r has in
+        (λ i. none_put_before n r put less (h.spent r less) i ++ put_more n r has i)
+        ∙ ap (λ (l : List Value). l ++ waiting_for (Some n) (all_units on.put))
+        (sym (none_before n r old.put (all_units on.put) (subst AreOrdered turn_put turn_ordered) put))
+        ∙ sym (picked_join (is_for (Some n)) old.put (all_units on.put))
+
+    turn_waits : (n r : ℕ) → HasCc n r new.put → (then_did (deeds r) (on.more r)).put ≡ waiting_for (Some n) new.put
+    turn_waits n r has =
+        waits_by n r has (has_either n r old.put (all_units on.put) (subst (HasCc n r) turn_put has))
+        ∙ ap (waiting_for (Some n)) (sym turn_put)
+
+    -- ---- a connection whose CC has not passed
+
+    module _ (r : ℕ) (less : h.ahead.bound < r) where
+      some : 0 < r
+      some = omega (arith, less)
+
+      taken_by : (o : Option EndReason) → carrier.ended ≡ o → units_at r on.took ≡ []
+      taken_by None lasts =
+          let s = turn_uses turn old new t false deeds on lasts in
+          let l = on.lives r some in
+          let none : waiting_for (Some r) (all_units on.took ++ (s.left ++ units_in new.coming)) ≡ [] =
+          ap (waiting_for (Some r)) (sym s.coming) ∙ none_waits h.ahead.bound r (units_in old.coming) less h.below in
+          let took : waiting_for (Some r) (all_units on.took) ≡ [] =
+          (none_both (waiting_for (Some r) (all_units on.took)) (waiting_for (Some r) (s.left ++ units_in new.coming))
+          (sym (picked_join (is_for (Some r)) (all_units on.took) (s.left ++ units_in new.coming)) ∙ none)).0 in
+          let later = l.arrived.during ++ l.arrived.after in
+          let parts : all_units on.took ≡ all_units l.arrived.before ++ (all_units l.arrived.during ++ all_units l.arrived.after) =
+          ap all_units l.arrived.is ∙ all_units_more l.arrived.before later
+          ∙ ap (λ (x : List Value). all_units l.arrived.before ++ x) (all_units_more l.arrived.during l.arrived.after) in
+          let back = (none_both (waiting_for (Some r) (all_units l.arrived.before))
+          (waiting_for (Some r) (all_units l.arrived.during ++ all_units l.arrived.after))
+          (sym (picked_join (is_for (Some r)) (all_units l.arrived.before) (all_units l.arrived.during ++ all_units l.arrived.after))
+          ∙ ap (waiting_for (Some r)) (sym parts) ∙ took)).1 in
+          during_taken r on.took l.arrived.before l.arrived.during l.arrived.after l.arrived.is l.arrived.none_before l.takes
+          l.arrived.none_after
+          ∙ (none_both (waiting_for (Some r) (all_units l.arrived.during)) (waiting_for (Some r) (all_units l.arrived.after))
+          (sym (picked_join (is_for (Some r)) (all_units l.arrived.during) (all_units l.arrived.after)) ∙ back)).0
+      taken_by (Some reason) over =
+          past_none r (stage_at r carrier) (stage_at r new.holding.end.carrier) on.took on.put (stage_over r carrier (ap is_some over))
+          (life r some)
+
+      turn_unheard : units_taken (then_did (deeds r) (on.more r)).calls ≡ []
+      turn_unheard =
+          taken_more (deeds r).calls (on.more r).calls
+          ∙ (λ i. h.unheard r less i ++ (on.taken r some ∙ taken_by carrier.ended refl) i)
+
+      spent_by : ((deeds r).put ≡ []) ⊎ ((n : ℕ) × HasCc n r old.put) →
+          AreApart r on.put ⊎ (HasCc (on.lives r some).peer r new.put
+          ⊎ HasHome Right r (on.lives r some).peer old.course.traffic old.course.sessions) →
+          ((then_did (deeds r) (on.more r)).put ≡ []) ⊎ ((n : ℕ) × HasCc n r new.put)
+      spent_by (inr (n, waited)) k =
+          inr (n, subst (HasCc n r) (sym turn_put) (has_front n r old.put (all_units on.put) waited))
+      spent_by (inl none) (inl apart) = inl (λ i. none i ++ (on.own r some ∙ apart_none r on.put apart) i)
+      spent_by (inl none) (inr (inl has)) = inr ((on.lives r some).peer, has)
+      spent_by (inl none) (inr (inr home)) =
+          let low = home_low r (on.lives r some).peer home in absurd (omega (arith, low, less))
+
+      turn_spent : ((then_did (deeds r) (on.more r)).put ≡ []) ⊎ ((n : ℕ) × HasCc n r new.put)
+      turn_spent =
+          spent_by (h.spent r less)
+          (named local deeds turn old new t on f g.ahead.followed before after clear places units alike_old alike_new r (on.lives r some))
+
+    -- ---- each unit of the turn has a home
+
+    all_new : (vs : List Value) → ((n r : ℕ) → HasCc n r vs → IsUnused Right r old.course.sessions) →
+        AllByRecursion (λ (v : Value). GivesNew Right v old.course.sessions) vs
+    all_new [] unused = tt
+    all_new (v ∷ vs) unused = (one_new old.course.sessions v (λ n r mine. unused n r (inl mine)), all_new vs (λ n r has. unused n r (inr has)))
+
+    news : AllByRecursion (λ (v : Value). GivesNew Right v old.course.sessions) (all_units on.put)
+    news =
+        all_new (all_units on.put)
+        (λ n r has. above_unused h.ahead.bound r old.course.sessions h.ahead.below
+        (above_old n r (subst (HasCc n r) (sym turn_put) (has_back n r old.put (all_units on.put) has))))
+
+    two_so : carrier.ended ≡ None → carrier.class ≡ Some Zero → ⊥
+    two_so lasts zero_is =
+        let still = none_of f.whole.end.ended (sym f.like.over ∙ ap is_some lasts) in
+        no_zero f.whole.end.class before.end.class (ap (λ (c : Carrier). c.class) (f.like.lasts still) ∙ zero_is)
+
+    pub turn_homed : AllByRecursion (IsMarked Right old.course.traffic old.course.sessions) on.put
+    turn_homed = by carrier.ended refl
+      where
+        by : (o : Option EndReason) → carrier.ended ≡ o → AllByRecursion (IsMarked Right old.course.traffic old.course.sessions) on.put
+        by None lasts =
+            called_marked local deeds turn old new t on f (calm_of old.course.traffic.course clear) (two_so lasts) places news
+            (called_turn_two local deeds turn old new t on g.ahead.followed after.called)
+        by (Some reason) gone =
+            let done = over_acts turn old.holding new.holding (subst IsSome (sym gone) refl) t.takes in
+            subst (AllByRecursion (IsMarked Right old.course.traffic old.course.sessions)) (sym (none_put on.put (sym on.written ∙ done.1)))
+            tt
+
+    -- ---- all of it
+
+    pub turns_called : IsCalled (λ r. then_did (deeds r) (on.more r)) new
+    turns_called =
+        let rises = g.rises in
+        record {
+          ahead = g.ahead;
+          below = below_higher h.ahead.bound g.ahead.bound (units_in new.coming) g.rises
+              (all_back (IsBelow h.ahead.bound) (units_in t.used) (units_in new.coming)
+              (subst (AllByRecursion (IsBelow h.ahead.bound)) (turn_leaves turn old new t) h.below));
+          unheard = λ r less. turn_unheard r (omega (arith, less, rises));
+          waits = turn_waits;
+          spent = λ r less. turn_spent r (omega (arith, less, rises));
+          ordered = turn_ordered;
+          two = turn_two;
+        }

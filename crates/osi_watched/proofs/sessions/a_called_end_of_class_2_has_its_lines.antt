@@ -1,0 +1,55 @@
+-- A called end of which no CC that waits selects class 0 has its lines as long as nobody has broken a rule, also when it is over.
+-- For the units that a called end puts.
+use Rattle.std.proofs.Common.{refl, sym, subst, false}
+use Rattle.std.specs.List.{AllByRecursion}
+use Rattle.osi_class.specs.declared.terms.Class.TheVariants.{Zero}
+use Rattle.osi_class.specs.declared.terms.Local.{Local}
+use Rattle.osi_carrier.specs.Negotiation.{acceptance}
+use Rattle.osi_judge.specs.declared.directions.Direction.TheVariants as side
+use Rattle.osi_rules.specs.declared.courses.Course.{Course}
+use Rattle.osi_rules.specs.Traffic.{State as Traffic}
+use Rattle.osi_fair.specs.Wholes.{Whole, begin}
+use Rattle.osi_fair.proofs.a_called_end_is_fair.{Stage, lines, selected, selecting}
+use Rattle.osi_fair.proofs.all_are_judged_unless_one_broke.{IsJudged}
+use Rattle.osi_fair.proofs.each_connection_of_a_called_end.{Called}
+use Rattle.osi_fair.proofs.what_becomes_of_a_called_end.{IsCalled}
+use Rattle.osi_fair.proofs.what_holds_of_one_item.{HoldsOfEach}
+use Rattle.osi_fair.proofs.what_keeps_names_apart.{AreApart}
+use Rattle.osi_fair.proofs.what_the_other_side_closes.{IsClear}
+use Rattle.osi_fair.proofs.which_unit_comes_to_a_called_end.{IsCalm}
+use Rattle.osi_honest.proofs.reading.what_is_written_is_read_again.{CanBeWritten}
+use Rattle.osi_watched.specs.Joint.{Joint}
+use Rattle.osi_watched.proofs.steps_are_events.{IsFollowed}
+use Rattle.osi_watched.proofs.sessions.a_called_end_has_its_lines.{called_joined}
+use Rattle.osi_watched.proofs.sessions.units_written_alike_have_the_same_ccs.{AnswersTwo, AreAlike, first_not_zero}
+
+pub calm_of : (c : Course) → IsClear c → IsCalm c
+calm_of c h = record { firm = h.sure.firm; left = h.sure.left; right = h.sure.right }
+
+-- with what keeps references apart at the tap
+pub record HasLines (local : Local) (w : Whole) : Type 0 where
+  pub called : Called local w
+  pub end : IsCalled local w.end
+  pub apart : AreApart w.tap.connections
+  pub judged : HoldsOfEach IsJudged w.tap.connections
+
+module _ (local : Local) (j : Joint) (f : IsFollowed side.Right (begin false local) j) (can : AllByRecursion CanBeWritten j.put)
+    (two : AllByRecursion AnswersTwo j.put) (clear : IsClear j.course.traffic.course) where
+  abbrev tap_clear : IsClear f.whole.tap.course
+  tap_clear = subst (λ (s : Traffic). IsClear s.course) (sym f.tap) clear
+
+  by_stage : Stage local f.whole → HasLines local f.whole
+  by_stage (lines h c) = record {
+    called = h;
+    end = c;
+    apart = (called_joined local j f).apart;
+    judged = (called_joined local j f).judged tap_clear.sure.firm;
+  }
+  by_stage (selecting z) =
+      let alike : AreAlike f.whole.put j.put = record { same = f.put; can = f.can; can_too = can } in
+      first_not_zero z.x.source (acceptance Zero z.size z.x local z.r) z.more j.put
+      (subst (λ l. AreAlike l j.put) z.put alike) refl two
+  by_stage (selected z) = absurd (tap_clear.two z.class)
+
+  pub has_lines : HasLines local f.whole
+  has_lines = by_stage ((called_joined local j f).stage (calm_of f.whole.tap.course tap_clear))

@@ -1,0 +1,164 @@
+-- A called end of class 2 and a tap: what passes and breaks no rule leaves all connections of the end standing, and so does a turn. After
+-- one connection too many nobody is to blame.
+-- For the session of each connection of an end.
+use Rattle.std.proofs.Common.{◌≡◌, ◌∙◌, refl, sym, ap, subst, ℕ, ◌^◌, ◌<◌, false, true, List, [], ◌∷◌, ◌++◌, Some, length}
+use Rattle.std.specs.Prelude.{slice_get}
+use Rattle.std.specs.List.{AllByRecursion}
+use Rattle.std.proofs.lemmas.List.{append-nil}
+use Rattle.osi_tpdu.specs.Packet.{units_of}
+use Rattle.osi_tpdu.specs.Value.{Value}
+use Rattle.osi_class.specs.declared.terms.Local.{Local}
+use Rattle.osi_judge.specs.declared.directions.Direction.TheVariants.{Left, Right}
+use Rattle.osi_judge.proofs.honest.a_call_is_explained.{AsSent}
+use Rattle.osi_judge.proofs.honest.an_honest_run_stays_in_the_profile.{AsParts}
+use Rattle.osi_judge.proofs.honest.an_honest_side_is_kept.{CalledLaw, CallerLaw}
+use Rattle.osi_fair.proofs.what_the_other_side_closes.{IsClear}
+use Rattle.osi_honest.specs.Courses.{Continues, Course, Deeds, then_did, units_in, units_read}
+use Rattle.osi_honest.specs.Marked.{all_units}
+use Rattle.osi_honest.specs.Turns.{Turn}
+use Rattle.osi_honest.proofs.class_0.what_a_packet_does_in_class_0.{AllProper}
+use Rattle.osi_honest.proofs.courses.how_long_a_connection_is_open.{Life, stage_at}
+use Rattle.osi_honest.proofs.reading.what_is_written_is_read_again.{CanBeWritten}
+use Rattle.osi_tap.specs.Connections.{Joined, reference_of, spoken}
+use Rattle.osi_tap.specs.Courses.{Course as Passed, packet_begins, units_pass}
+use Rattle.osi_tap.specs.Lines.{heard}
+use Rattle.osi_watched.specs.Joint.{Joint, Steps, TakesTurn, begins_other, begins_own, passes_other, passes_own}
+use Rattle.osi_watched.proofs.what_a_carrier_puts_can_be_written.{all_more}
+use Rattle.osi_watched.proofs.what_is_put_is_what_is_written.{none_written}
+use Rattle.osi_watched.proofs.sessions.a_called_end_hears_what_breaks_no_rule.{AreFine, AreHeard, AreTooMany, room_of}
+use Rattle.osi_watched.proofs.sessions.a_called_end_hears_what_breaks_no_rule.{units_heard, units_too_many}
+use Rattle.osi_watched.proofs.sessions.a_called_end_is_ready.{IsCalled, begins_other_called, begins_own_called, first}
+use Rattle.osi_watched.proofs.sessions.a_called_end_is_ready.{is_ready, passes_other_called, passes_own_called, turn_homed, turns_called}
+use Rattle.osi_watched.proofs.sessions.a_called_end_of_class_2_has_its_lines.{has_lines}
+use Rattle.osi_watched.proofs.sessions.a_called_end_takes_what_is_in_flight.{called_takes}
+use Rattle.osi_watched.proofs.sessions.a_calling_end_stands_as_units_pass.{known_at}
+use Rattle.osi_watched.proofs.sessions.a_turn_does_what_its_deeds_say.{units_join}
+use Rattle.osi_watched.proofs.sessions.a_turn_leaves_all_standing.{Turns}
+use Rattle.osi_watched.proofs.sessions.after_too_many_nobody_is_to_blame.{IsSilenced}
+use Rattle.osi_watched.proofs.sessions.all_connections_stand.{AllStand, there_too}
+use Rattle.osi_watched.proofs.sessions.connections_have_the_same_places.{unit_joins}
+use Rattle.osi_watched.proofs.sessions.each_cc_that_passes_gives_a_new_reference.{gives_new}
+use Rattle.osi_watched.proofs.sessions.each_unit_of_a_turn_has_one_connection.{puts_wait}
+use Rattle.osi_watched.proofs.sessions.nothing_is_done_before_a_cr_passes.{known_from, may_take}
+use Rattle.osi_watched.proofs.sessions.references_of_an_end_are_distinct.{AreDistinct, begins_distinct, unit_distinct}
+use Rattle.osi_watched.proofs.sessions.steps_leave_all_standing.{IsFine, Standing, step_begins_other, step_begins_own, step_passes_own}
+use Rattle.osi_watched.proofs.sessions.steps_leave_all_standing.{step_turns}
+use Rattle.osi_watched.proofs.sessions.units_written_alike_have_the_same_ccs.{AnswersTwo}
+use Rattle.osi_watched.proofs.sessions.what_stands_of_a_connection.{waiting_for}
+
+module _ (local : Local) (proper : AllProper) where
+  -- with what it has put can be written
+  pub record StandsCalled (deeds : ℕ → Deeds) (j : Joint) : Type 0 where
+    pub called : IsCalled local deeds j
+    pub standing : Standing Right deeds (known_at j) j
+    pub distinct : AreDistinct Right j.course.sessions
+    pub can : AllByRecursion CanBeWritten j.put
+
+  pub begins_own_stands : (deeds : ℕ → Deeds) (old new : Joint) → Steps Right begins_own old new →
+      ((r : ℕ) → Course false r (deeds r) old.holding.end) →
+      ((i : ℕ) (j : Joined) → slice_get old.course.sessions.live i ≡ Some j → length (heard (spoken Left j)) < 2 ^ 64) →
+      StandsCalled deeds old → StandsCalled deeds new
+  begins_own_stands deeds old new (some, none, is) courses few h =
+      let mid : Joint = record old { begun = true; course = packet_begins Right old.course } in
+      subst (StandsCalled deeds) (sym is) (record {
+        called = begins_own_called local proper deeds old mid (some, none, refl) h.called;
+        standing = step_begins_own Right deeds (known_at old) old mid (some, none, refl) courses few h.standing;
+        distinct = begins_distinct Right Right old.course.sessions h.distinct;
+        can = h.can;
+      })
+
+  pub begins_other_stands : (deeds : ℕ → Deeds) (old new : Joint) → Steps Right begins_other old new → StandsCalled deeds old →
+      StandsCalled deeds new
+  begins_other_stands deeds old new is h =
+      let mid : Joint = record old { course = packet_begins Left old.course } in
+      subst (StandsCalled deeds) (sym is) (record {
+        called = begins_other_called local proper deeds old mid refl h.called;
+        standing = step_begins_other Right deeds (known_at old) old mid refl h.standing;
+        distinct = begins_distinct Right Left old.course.sessions h.distinct;
+        can = h.can;
+      })
+
+  pub passes_own_stands : (deeds : ℕ → Deeds) (at : ℕ) (unit : Value) (old new : Joint) → Steps Right (passes_own at unit) old new →
+      IsFine Right unit old.course → IsClear old.course.traffic.course → StandsCalled deeds old → StandsCalled deeds new
+  passes_own_stands deeds at unit old new (read, octets, put, begun, is) fine clear h =
+      let mid : Joint = record old { put = new.put; begun = false; course = units_pass Right at (unit ∷ []) old.course } in
+      let step : Steps Right (passes_own at unit) old mid = (read, octets, put, begun, refl) in
+      let a = h.standing.all in
+      subst (StandsCalled deeds) (sym is) (record {
+        called = passes_own_called local proper deeds at unit old mid step a.places h.called;
+        standing = step_passes_own Right deeds (known_at old) at unit old mid step fine
+            (is_ready local deeds at unit old mid step clear a.judged a.places h.called) h.standing;
+        distinct = subst (AreDistinct Right) (sym (unit_joins Right at unit old.course))
+            (unit_distinct Right Right at unit old.course.traffic old.course.sessions a.places h.distinct
+            (gives_new (first local) at unit old mid step h.called.ahead)
+            (λ i j here. let (k, there) = there_too old.course.traffic.connections old.course.sessions.live i j a.places here in
+            room_of deeds (known_at old) old.put old.begun k j (a.live i k j there here)));
+        can = (subst (AllByRecursion CanBeWritten) put h.can).1;
+      })
+
+  heard_now : (deeds : ℕ → Deeds) (at : ℕ) (j : Joint) (h : StandsCalled deeds j) →
+      AreHeard deeds (may_take j.holding.end.carrier) j.put j.begun h.called.ahead.bound at (units_in j.coming) j.course
+  heard_now deeds at j h = record { stand = h.standing.all; distinct = h.distinct; up = h.called.ahead.below }
+
+  pub passes_other_stands : (deeds : ℕ → Deeds) (at : ℕ) (packet : List ℕ) (units : List Value) (old new : Joint) →
+      Steps Right (passes_other at packet units) old new → AreFine at units old.course → StandsCalled deeds old → StandsCalled deeds new
+  passes_other_stands deeds at packet units old new (octets, read, is) fine h =
+      let mid : Joint = record old { course = units_pass Left at units old.course; coming = old.coming ++ packet ∷ [] } in
+      let one : units_in (packet ∷ []) ≡ units = append-nil (units_read (units_of packet)) ∙ ap units_read read in
+      let all : units_in old.coming ++ units ≡ units_in (old.coming ++ packet ∷ []) =
+      sym (units_join old.coming (packet ∷ []) ∙ ap (λ (l : List Value). units_in old.coming ++ l) one) in
+      let k = units_heard deeds (may_take old.holding.end.carrier) old.put old.begun h.called.ahead.bound at units (units_in old.coming)
+      old.course fine (heard_now deeds at old h) in
+      subst (StandsCalled deeds) (sym is) (record {
+        called = passes_other_called local proper deeds at packet units old mid (octets, read, refl) h.standing.all.places h.called
+            k.below k.given;
+        standing = record {
+          all = subst (λ (l : List Value). AllStand Right deeds (known_from (may_take old.holding.end.carrier) l) old.put old.begun
+              (units_pass Left at units old.course).traffic (units_pass Left at units old.course).sessions) all k.all.stand;
+        };
+        distinct = k.all.distinct;
+        can = h.can;
+      })
+
+  -- one of its units is one connection too many
+  pub passes_other_silenced : (known_so : AsSent) → (parts : AsParts) → (caller : CallerLaw) → (called : CalledLaw) →
+      (deeds : ℕ → Deeds) (at : ℕ) (packet : List ℕ) (units : List Value) (old new : Joint) →
+      Steps Right (passes_other at packet units) old new → ((r : ℕ) → Course false r (deeds r) old.holding.end) →
+      AreTooMany at units old.course → StandsCalled deeds old → IsSilenced Right new.course
+  passes_other_silenced known_so parts caller called deeds at packet units old new (octets, read, is) courses many h =
+      subst (λ (j : Joint). IsSilenced Right j.course) (sym is)
+      (units_too_many deeds (may_take old.holding.end.carrier) old.put old.begun h.called.ahead.bound at known_so parts caller called
+      old.holding.end courses units (units_in old.coming) old.course many (heard_now deeds at old h))
+
+  -- A turn that puts the units of its deeds, if none of the CCs that wait then selects class 0.
+  pub turns_stand : (turn : Turn) (old new : Joint) (t : TakesTurn turn old new) (deeds : ℕ → Deeds)
+      (on : Continues false deeds old.holding turn new.holding) →
+      ((r : ℕ) → 0 < r → Life false r (stage_at r old.holding.end.carrier) on.took on.put (stage_at r new.holding.end.carrier)) →
+      t.units ≡ all_units on.put → AllByRecursion CanBeWritten (all_units on.put) → AllByRecursion AnswersTwo new.put →
+      IsClear old.course.traffic.course → StandsCalled deeds old → StandsCalled (λ r. then_did (deeds r) (on.more r)) new
+  turns_stand turn old new t deeds on life units can two clear h =
+      let a = h.standing.all in
+      let f = h.called.ahead.followed in
+      let lines = has_lines local old f h.can h.called.two clear in
+      let then_can : AllByRecursion CanBeWritten new.put =
+      subst (AllByRecursion CanBeWritten) (sym (t.put ∙ ap (λ (l : List Value). old.put ++ l) units))
+      (all_more old.put (all_units on.put) h.can can) in
+      let marked = turn_homed local proper turn old new t deeds on life units h.can then_can a.places clear h.called two in
+      let turns : Turns Right on.more (known_at old) (known_at new) t.units old.course.traffic old.course.sessions = record {
+        puts = λ i c j r there here mine live.
+            puts_wait Right deeds (known_at old) old.put old.begun old.course.traffic old.course.sessions a clear.sure.firm h.distinct i c j
+            r there here mine live (h.called.ahead.below.live i j r here mine).0 on.put marked (on.more r).put
+            (on.own r (h.called.ahead.below.live i j r here mine).0)
+            ∙ ap (waiting_for (reference_of Left j)) (sym units);
+        takes = λ r later sure.
+            let x = called_takes local turn old new t deeds on h.called h.can clear r sure.0 (life r sure.0) later sure.1 in
+            record { rest = x.rest; first = x.first; sure = (sure.0, x.sure) };
+      } in
+      record {
+        called = turns_called local proper turn old new t deeds on life units h.can then_can a.places clear h.called two;
+        standing = step_turns Right deeds (known_at old) turn on.more (known_at new) old new t
+            (λ begun. none_written old.put f.whole.put (sym f.put)
+            (λ none. lines.called.some (f.begun ∙ begun) (sym lines.called.put ∙ none))) turns h.standing;
+        distinct = subst (λ (c : Passed). AreDistinct Right c.sessions) (sym t.course) h.distinct;
+        can = then_can;
+      }

@@ -1,0 +1,313 @@
+-- Each CC that a called end has put and that has not passed gives a reference above those of all connections that a tap has seen. So the
+-- CC that passes gives a new one.
+-- For all connections of an end and a tap.
+use Rattle.std.proofs.Common.{◌≡◌, refl, sym, subst, ℕ, ◌+◌, ◌<◌, ◌≤◌, Bool, true, false, if◌then◌else◌, List, [], ◌∷◌, ◌++◌}
+use Rattle.std.proofs.Common.{Option, Some, None, Result, Ok, Err, arith, is_some}
+use Rattle.std.specs.List.{AllByRecursion}
+use Rattle.osi_tpdu.specs.Value.{Connect, Value, acknowledge, confirm, data0, data2, disconnect, disconnected, error, request}
+use Rattle.osi_class.specs.Giving.{all_given}
+use Rattle.osi_class.specs.Link.{Standing, taken, with_tsdu}
+use Rattle.osi_class.specs.Negotiation.{Selection, accept, refuse, selected_by}
+use Rattle.osi_class.specs.declared.faults.LinkFault.{LinkFault}
+use Rattle.osi_class.specs.declared.terms.Class.{Class}
+use Rattle.osi_class.specs.declared.terms.Class.TheVariants.{Two, Zero}
+use Rattle.osi_carrier.specs.Calls.{open_link, sent}
+use Rattle.osi_carrier.specs.React.{answers, answers_request, before_class, denies, handed_out, has_peer, in_class, in_two, is_full}
+use Rattle.osi_carrier.specs.React.{react_by}
+unfoldable use Rattle.osi_carrier.specs.React.{react}
+use Rattle.osi_carrier.specs.Rows.{Rows, value_at}
+use Rattle.osi_carrier.specs.Runs.{UserCall, breaks, closes, connects, sends, sends_all, user_does}
+use Rattle.osi_carrier.specs.State.{Connection as Live, State as Carrier, asked, closing, linked}
+use Rattle.osi_rules.specs.declared.directions.Direction.TheVariants as way
+use Rattle.osi_fair.specs.Putting.{put_at, put_before, put_by, put_closed, put_closing, put_for, put_for_request, put_for_selection}
+use Rattle.osi_fair.specs.Putting.{put_in, put_in_two, put_in_zero, put_leaving, put_linked, put_only, put_sent, put_taking}
+use Rattle.osi_fair.specs.Putting.{put_together, put_unknown, refusal}
+use Rattle.osi_fair.specs.Wholes.{Event, HappenAlong, Happens, Whole}
+use Rattle.osi_fair.specs.Wholes as wholes
+use Rattle.osi_fair.proofs.a_request_of_a_whole_end_is_new.{unit_gives}
+use Rattle.osi_fair.proofs.each_connection_of_a_called_end.{AreAbove}
+use Rattle.osi_fair.proofs.references_of_requests_rise.{all_gives, closed_gives, ended_gives, not_less, sent_gives}
+use Rattle.osi_fair.proofs.what_a_called_end_does_to_its_lines.{above_more}
+use Rattle.osi_fair.proofs.what_becomes_of_a_called_end.{IsNoCc, units_no_cc}
+
+-- ---- which CCs are put
+
+abbrev NoCcs : List Value → Type 0
+NoCcs units = AllByRecursion IsNoCc units
+
+no_ccs_join : (xs ys : List Value) → NoCcs xs → NoCcs ys → NoCcs (xs ++ ys)
+no_ccs_join [] ys a b = b
+no_ccs_join (x ∷ xs) ys a b = (a.0, no_ccs_join xs ys a.1 b)
+
+for_unknown : (unit : Value) → NoCcs (put_unknown unit)
+for_unknown (request c) = tt
+for_unknown (confirm destination c) = tt
+for_unknown (disconnect destination source reason user) = (λ m x e. cc e, tt)
+for_unknown (disconnected destination source) = tt
+for_unknown (data0 end user) = tt
+for_unknown (data2 destination number end user) = tt
+for_unknown (acknowledge credit destination number) = tt
+for_unknown (error destination cause) = tt
+
+for_taking : (r peer : ℕ) (result : Result Standing LinkFault) (held : Option Class) → NoCcs (put_taking r peer result held)
+for_taking r peer (Ok link) held = units_no_cc peer (all_given (handed_out link))
+for_taking r peer (Err fault) None = tt
+for_taking r peer (Err fault) (Some Zero) = tt
+for_taking r peer (Err fault) (Some Two) = (λ m x e. cc e, tt)
+
+for_leaving : (r peer : ℕ) (held : Option Class) → NoCcs (put_leaving r peer held)
+for_leaving r peer None = tt
+for_leaving r peer (Some Zero) = tt
+for_leaving r peer (Some Two) = (λ m x e. cc e, tt)
+
+for_linked : (r peer : ℕ) (link : Standing) (unit : Value) (held : Option Class) → NoCcs (put_linked r peer link unit held)
+for_linked r peer link (request c) held = for_taking r peer (taken link (request c)) held
+for_linked r peer link (confirm destination c) held = for_taking r peer (taken link (confirm destination c)) held
+for_linked r peer link (disconnect destination source reason user) held = for_leaving r peer held
+for_linked r peer link (disconnected destination source) held = for_taking r peer (taken link (disconnected destination source)) held
+for_linked r peer link (data0 end user) held = for_taking r peer (taken link (data0 end user)) held
+for_linked r peer link (data2 destination number end user) held = for_taking r peer (taken link (data2 destination number end user)) held
+for_linked r peer link (acknowledge credit destination number) held =
+    for_taking r peer (taken link (acknowledge credit destination number)) held
+for_linked r peer link (error destination cause) held = for_taking r peer (taken link (error destination cause)) held
+
+for_connection : (r : ℕ) (o : Option Live) (unit : Value) (held : Option Class) → NoCcs (put_at r o unit held)
+for_connection r None unit held = for_unknown unit
+for_connection r (Some asked) unit held = tt
+for_connection r (Some (linked peer link)) unit held = for_linked r peer link unit held
+for_connection r (Some (closing peer)) unit held = tt
+
+-- none, or one with the next reference
+data Puts (s new : Carrier) (units : List Value) : Type 0 where
+  puts_none : NoCcs units → Puts s new units
+  puts_one : (m : ℕ) (x : Connect) → x.source ≡ s.given + 1 → new.given ≡ s.given + 1 → units ≡ confirm m x ∷ [] → Puts s new units
+
+denied : (s new : Carrier) (reason peer : ℕ) → Puts s new (refusal reason peer)
+denied s new reason peer = puts_none (λ m x e. cc e, tt)
+
+by_selection : (c : Connect) (selection : Selection) (held : Option Class) (s : Carrier) →
+    Puts s (answers c selection held s) (put_for_selection c selection held s)
+by_selection c (refuse reason) held s = denied s (denies reason c.source s) reason c.source
+by_selection c (accept Two size) held s = puts_one c.source _ refl refl refl
+by_selection c (accept Zero size) None s = puts_one c.source _ refl refl refl
+by_selection c (accept Zero size) (Some class) s = denied s (denies 136 c.source s) 136 c.source
+
+by_room : (c : Connect) (in_use full : Bool) (s : Carrier) →
+    Puts s
+    (if in_use then denies 131 c.source s else (if full then denies 1 c.source s else answers c (selected_by c s.local) s.class s))
+    (if in_use then refusal 131 c.source else (if full then refusal 1 c.source else put_for_selection c (selected_by c s.local) s.class s))
+by_room c true full s = denied s (denies 131 c.source s) 131 c.source
+by_room c false true s = denied s (denies 1 c.source s) 1 c.source
+by_room c false false s = by_selection c (selected_by c s.local) s.class s
+
+for_request : (c : Connect) (s : Carrier) → Puts s (answers_request c s) (put_for_request c s)
+for_request c s = by_room c (has_peer c.source s.live) (is_full s) s
+
+before : (is_caller : Bool) (unit : Value) (s : Carrier) → Puts s (before_class is_caller unit s) (put_before is_caller unit s)
+before true (request c) s = puts_none tt
+before true (confirm destination c) s =
+    puts_none (for_connection destination (value_at destination s.live) (confirm destination c) s.class)
+before true (disconnect destination source reason user) s =
+    puts_none (for_connection destination (value_at destination s.live) (disconnect destination source reason user) s.class)
+before true (disconnected destination source) s = puts_none tt
+before true (data0 end user) s = puts_none tt
+before true (data2 destination number end user) s = puts_none tt
+before true (acknowledge credit destination number) s = puts_none tt
+before true (error destination cause) s =
+    puts_none (for_connection destination (value_at destination s.live) (error destination cause) s.class)
+before false (request c) s = for_request c s
+before false (confirm destination c) s = puts_none tt
+before false (disconnect destination source reason user) s = puts_none tt
+before false (disconnected destination source) s = puts_none tt
+before false (data0 end user) s = puts_none tt
+before false (data2 destination number end user) s = puts_none tt
+before false (acknowledge credit destination number) s = puts_none tt
+before false (error destination cause) s = puts_none tt
+
+only : (live : Rows Live) (unit : Value) (s : Carrier) → NoCcs (put_only live unit s)
+only [] unit s = tt
+only ((r, connection) ∷ rows) unit s = for_connection r (Some connection) unit s.class
+
+in_class_zero : (is_caller : Bool) (unit : Value) (s : Carrier) → NoCcs (put_in_zero is_caller unit s)
+in_class_zero false unit s = only s.live unit s
+in_class_zero true (request c) s = tt
+in_class_zero true (confirm destination c) s = only s.live (confirm destination c) s
+in_class_zero true (disconnect destination source reason user) s = only s.live (disconnect destination source reason user) s
+in_class_zero true (disconnected destination source) s = only s.live (disconnected destination source) s
+in_class_zero true (data0 end user) s = only s.live (data0 end user) s
+in_class_zero true (data2 destination number end user) s = only s.live (data2 destination number end user) s
+in_class_zero true (acknowledge credit destination number) s = only s.live (acknowledge credit destination number) s
+in_class_zero true (error destination cause) s = only s.live (error destination cause) s
+
+-- a unit that is no CR
+in_class_two : (is_caller : Bool) (unit : Value) (s : Carrier) → ((c : Connect) → unit ≡ request c → ⊥) →
+    NoCcs (put_in_two is_caller unit s)
+in_class_two b (request c) s none = absurd (none c refl)
+in_class_two true (confirm destination c) s none =
+    for_connection destination (value_at destination s.live) (confirm destination c) s.class
+in_class_two true (disconnect destination source reason user) s none =
+    for_connection destination (value_at destination s.live) (disconnect destination source reason user) s.class
+in_class_two true (disconnected destination source) s none =
+    for_connection destination (value_at destination s.live) (disconnected destination source) s.class
+in_class_two true (data0 end user) s none = tt
+in_class_two true (data2 destination number end user) s none =
+    for_connection destination (value_at destination s.live) (data2 destination number end user) s.class
+in_class_two true (acknowledge credit destination number) s none =
+    for_connection destination (value_at destination s.live) (acknowledge credit destination number) s.class
+in_class_two true (error destination cause) s none =
+    for_connection destination (value_at destination s.live) (error destination cause) s.class
+in_class_two false (confirm destination c) s none =
+    for_connection destination (value_at destination s.live) (confirm destination c) s.class
+in_class_two false (disconnect destination source reason user) s none =
+    for_connection destination (value_at destination s.live) (disconnect destination source reason user) s.class
+in_class_two false (disconnected destination source) s none =
+    for_connection destination (value_at destination s.live) (disconnected destination source) s.class
+in_class_two false (data0 end user) s none = tt
+in_class_two false (data2 destination number end user) s none =
+    for_connection destination (value_at destination s.live) (data2 destination number end user) s.class
+in_class_two false (acknowledge credit destination number) s none =
+    for_connection destination (value_at destination s.live) (acknowledge credit destination number) s.class
+in_class_two false (error destination cause) s none =
+    for_connection destination (value_at destination s.live) (error destination cause) s.class
+
+two_by : (is_caller : Bool) (unit : Value) (s : Carrier) → Puts s (in_two is_caller unit s) (put_in_two is_caller unit s)
+two_by true (request c) s = puts_none tt
+two_by false (request c) s = for_request c s
+two_by b (confirm destination c) s = puts_none (in_class_two b (confirm destination c) s (λ x e. cc e))
+two_by b (disconnect destination source reason user) s =
+    puts_none (in_class_two b (disconnect destination source reason user) s (λ x e. cc e))
+two_by b (disconnected destination source) s = puts_none (in_class_two b (disconnected destination source) s (λ x e. cc e))
+two_by b (data0 end user) s = puts_none (in_class_two b (data0 end user) s (λ x e. cc e))
+two_by b (data2 destination number end user) s = puts_none (in_class_two b (data2 destination number end user) s (λ x e. cc e))
+two_by b (acknowledge credit destination number) s = puts_none (in_class_two b (acknowledge credit destination number) s (λ x e. cc e))
+two_by b (error destination cause) s = puts_none (in_class_two b (error destination cause) s (λ x e. cc e))
+
+by_class : (held : Option Class) (unit : Value) (s : Carrier) → Puts s (in_class held unit s) (put_in held unit s)
+by_class None unit s = before s.is_caller unit s
+by_class (Some Zero) unit s = puts_none (in_class_zero s.is_caller unit s)
+by_class (Some Two) unit s = two_by s.is_caller unit s
+
+by_end : (over : Bool) (unit : Value) (s : Carrier) → Puts s (react_by over unit s) (if over then [] else put_in s.class unit s)
+by_end true unit s = puts_none tt
+by_end false unit s = by_class s.class unit s
+
+unit_puts : (unit : Value) (s : Carrier) → Puts s (react unit s) (put_for unit s)
+unfolding react
+unit_puts unit s = by_end (is_some s.ended) unit s
+
+-- a call puts none
+for_sent : (tsdu : List ℕ) (o : Option (ℕ × Standing)) → NoCcs (put_sent tsdu o)
+for_sent tsdu None = tt
+for_sent tsdu (Some (peer, link)) = units_no_cc peer (all_given (with_tsdu link tsdu))
+
+for_together : (r : ℕ) (tsdus : List (List ℕ)) (s : Carrier) → NoCcs (put_together r tsdus s)
+for_together r [] s = tt
+for_together r (tsdu ∷ tsdus) s =
+    no_ccs_join (put_sent tsdu (open_link r s)) (put_together r tsdus (sent r tsdu s)) (for_sent tsdu (open_link r s))
+    (for_together r tsdus (sent r tsdu s))
+
+for_closed : (r reason peer : ℕ) (held : Option Class) → NoCcs (put_closed r reason peer held)
+for_closed r reason peer None = (λ m x e. cc e, tt)
+for_closed r reason peer (Some Zero) = tt
+for_closed r reason peer (Some Two) = (λ m x e. cc e, tt)
+
+for_closing : (r reason : ℕ) (o : Option (ℕ × Standing)) (held : Option Class) → NoCcs (put_closing r reason o held)
+for_closing r reason None held = tt
+for_closing r reason (Some (peer, link)) held = for_closed r reason peer held
+
+call_puts : (call : UserCall) (s : Carrier) → NoCcs (put_by call s)
+call_puts (connects calling called) s = (λ m x e. cc e, tt)
+call_puts (sends r tsdu) s = for_sent tsdu (open_link r s)
+call_puts (sends_all r tsdus) s = for_together r tsdus s
+call_puts (closes r reason) s = for_closing r reason (open_link r s) s.class
+call_puts (breaks reason) s = tt
+
+call_gives : (call : UserCall) (s : Carrier) → s.given ≤ (user_does call s).given
+call_gives (connects calling called) s = omega arith
+call_gives (sends r tsdu) s = not_less s.given (user_does (sends r tsdu) s).given (sent_gives r tsdu (open_link r s) s)
+call_gives (sends_all r tsdus) s = not_less s.given (user_does (sends_all r tsdus) s).given (all_gives r tsdus s)
+call_gives (closes r reason) s = not_less s.given (user_does (closes r reason) s).given (closed_gives r reason (open_link r s) s)
+call_gives (breaks reason) s = not_less s.given (user_does (breaks reason) s).given (ended_gives (is_some s.ended) reason s)
+
+-- ---- those that wait
+
+pub above_higher : (given more n : ℕ) (vs : List Value) → given ≤ more → AreAbove given n vs → AreAbove more n vs
+above_higher given more n [] up h = omega arith
+above_higher given more n (request x ∷ vs) up h = above_higher given more n vs up h
+above_higher given more n (confirm destination x ∷ vs) up (above, h) = (above, above_higher given more x.source vs up h)
+above_higher given more n (disconnect destination source reason user ∷ vs) up h = above_higher given more n vs up h
+above_higher given more n (disconnected destination source ∷ vs) up h = above_higher given more n vs up h
+above_higher given more n (data0 end user ∷ vs) up h = above_higher given more n vs up h
+above_higher given more n (data2 destination number end user ∷ vs) up h = above_higher given more n vs up h
+above_higher given more n (acknowledge credit destination number ∷ vs) up h = above_higher given more n vs up h
+above_higher given more n (error destination cause ∷ vs) up h = above_higher given more n vs up h
+
+above_lower : (given low n : ℕ) (vs : List Value) → low ≤ n → AreAbove given n vs → AreAbove given low vs
+above_lower given low n [] up h = omega arith
+above_lower given low n (request x ∷ vs) up h = above_lower given low n vs up h
+above_lower given low n (confirm destination x ∷ vs) up (above, h) = (omega arith, h)
+above_lower given low n (disconnect destination source reason user ∷ vs) up h = above_lower given low n vs up h
+above_lower given low n (disconnected destination source ∷ vs) up h = above_lower given low n vs up h
+above_lower given low n (data0 end user ∷ vs) up h = above_lower given low n vs up h
+above_lower given low n (data2 destination number end user ∷ vs) up h = above_lower given low n vs up h
+above_lower given low n (acknowledge credit destination number ∷ vs) up h = above_lower given low n vs up h
+above_lower given low n (error destination cause ∷ vs) up h = above_lower given low n vs up h
+
+above_cc : (given n : ℕ) (vs : List Value) (m : ℕ) (x : Connect) → x.source ≡ given + 1 → AreAbove given n vs →
+    AreAbove (given + 1) n (vs ++ confirm m x ∷ [])
+above_cc given n [] m x e h = (omega arith, omega arith)
+above_cc given n (request y ∷ vs) m x e h = above_cc given n vs m x e h
+above_cc given n (confirm destination y ∷ vs) m x e (above, h) = (above, above_cc given y.source vs m x e h)
+above_cc given n (disconnect destination source reason user ∷ vs) m x e h = above_cc given n vs m x e h
+above_cc given n (disconnected destination source ∷ vs) m x e h = above_cc given n vs m x e h
+above_cc given n (data0 end user ∷ vs) m x e h = above_cc given n vs m x e h
+above_cc given n (data2 destination number end user ∷ vs) m x e h = above_cc given n vs m x e h
+above_cc given n (acknowledge credit destination number ∷ vs) m x e h = above_cc given n vs m x e h
+above_cc given n (error destination cause ∷ vs) m x e h = above_cc given n vs m x e h
+
+-- the CCs that have not passed give references above this one, which rise
+abbrev pub AreAboveAt : ℕ → Whole → Type 0
+AreAboveAt b w = AreAbove w.end.given b w.put
+
+-- the reference of a CC that passes is above, and below those of the others
+pub passes_confirmed : (b m : ℕ) (x : Connect) (put : List Value) (w : Whole) → w.put ≡ confirm m x ∷ put → AreAboveAt b w →
+    (b < x.source) × AreAbove w.end.given x.source put
+passes_confirmed b m x put w e a = subst (AreAbove w.end.given b) e a
+
+module _ (b : ℕ) where
+  arrived : (unit : Value) (w : Whole) → Puts w.end (react unit w.end) (put_for unit w.end) → AreAboveAt b w →
+      AreAbove (react unit w.end).given b (w.put ++ put_for unit w.end)
+  arrived unit w (puts_none none) a =
+      above_higher w.end.given (react unit w.end).given b (w.put ++ put_for unit w.end) (unit_gives unit w.end)
+      (above_more w.end.given b w.put (put_for unit w.end) none a)
+  arrived unit w (puts_one m x source given is) a =
+      subst (λ (n : ℕ). AreAbove n b (w.put ++ put_for unit w.end)) (sym given)
+      (subst (λ (l : List Value). AreAbove (w.end.given + 1) b (w.put ++ l)) (sym is) (above_cc w.end.given b w.put m x source a))
+
+  passes_one : (given : ℕ) (v : Value) (put : List Value) → AreAbove given b (v ∷ put) → AreAbove given b put
+  passes_one given (request x) put h = h
+  passes_one given (confirm destination x) put (above, h) = above_lower given b x.source put (omega arith) h
+  passes_one given (disconnect destination source reason user) put h = h
+  passes_one given (disconnected destination source) put h = h
+  passes_one given (data0 end user) put h = h
+  passes_one given (data2 destination number end user) put h = h
+  passes_one given (acknowledge credit destination number) put h = h
+  passes_one given (error destination cause) put h = h
+
+  above_happens : (event : Event) (old new : Whole) → Happens way.Right event old new → AreAboveAt b old → AreAboveAt b new
+  above_happens wholes.arrives old new (unit, coming, is) a =
+      subst (AreAboveAt b) (sym is) (arrived unit old (unit_puts unit old.end) a)
+  above_happens (wholes.calls call) old new (may, is) a =
+      subst (AreAboveAt b) (sym is)
+      (above_higher old.end.given (user_does call old.end).given b (old.put ++ put_by call old.end) (call_gives call old.end)
+      (above_more old.end.given b old.put (put_by call old.end) (call_puts call old.end) a))
+  above_happens wholes.begins_own old new (some, none, is) a = subst (AreAboveAt b) (sym is) a
+  above_happens wholes.passes_own old new (v, put, begun, is) a =
+      subst (AreAboveAt b) (sym is) (passes_one old.end.given v new.put (subst (AreAbove old.end.given b) put a))
+  above_happens wholes.begins_other old new is a = subst (AreAboveAt b) (sym is) a
+  above_happens (wholes.passes_other v) old new (ranges, is) a = subst (AreAboveAt b) (sym is) a
+  above_happens wholes.passes_rubbish old new is a = subst (AreAboveAt b) (sym is) a
+
+  pub above_along : (events : List Event) (old new : Whole) → HappenAlong way.Right old events new → AreAboveAt b old → AreAboveAt b new
+  above_along [] old new e a = subst (AreAboveAt b) (sym e) a
+  above_along (event ∷ events) old new (mid, first, more) a = above_along events mid new more (above_happens event old mid first a)

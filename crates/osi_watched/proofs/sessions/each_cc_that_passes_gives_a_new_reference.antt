@@ -1,0 +1,217 @@
+-- At a tap each CC of a called end that passes gives a new reference; and this stays so with each step.
+-- For all connections of a called end and a tap.
+use Rattle.std.proofs.Common.{◌∙◌, refl, sym, ap, subst, ℕ, ◌<◌, ◌≤◌, false, List, [], ◌∷◌, ◌++◌, arith}
+use Rattle.std.specs.List.{AllByRecursion}
+use Rattle.osi_tpdu.specs.Value.{Connect, Value, acknowledge, confirm, data0, data2, disconnect, disconnected, error, request}
+use Rattle.osi_judge.specs.declared.directions.Direction.TheVariants.{Left, Right}
+use Rattle.osi_rules.specs.Traffic.{State, takes}
+use Rattle.osi_fair.specs.Wholes.{Whole}
+use Rattle.osi_fair.specs.Wholes as wholes
+use Rattle.osi_honest.specs.Turns.{Turn}
+use Rattle.osi_honest.proofs.class_0.what_a_packet_does_in_class_0.{AllProper}
+use Rattle.osi_honest.proofs.reading.what_is_written_is_read_again.{CanBeWritten}
+use Rattle.osi_tap.specs.Connections.{Sessions}
+use Rattle.osi_tap.specs.Courses.{Course, units_pass, way_of}
+use Rattle.osi_watched.specs.Joint.{Joint, Step, Steps, TakesTurn, begins_other, begins_own, passes_other, passes_own, turns}
+use Rattle.osi_watched.specs.ShownPlaces.{HaveSamePlaces}
+use Rattle.osi_watched.proofs.a_carrier_does_events.{happen_join}
+use Rattle.osi_watched.proofs.steps_are_events.{IsFollowed, own_first, step_followed}
+use Rattle.osi_watched.proofs.sessions.ccs_that_wait_are_above_those_that_passed.{AreAboveAt, above_along, passes_confirmed}
+use Rattle.osi_watched.proofs.sessions.connections_have_the_same_places.{unit_knows}
+use Rattle.osi_watched.proofs.sessions.each_cr_that_passes_gives_a_new_reference.{AreUpTo, IsUpTo, begins_up, unit_up, units_up, up_higher}
+use Rattle.osi_watched.proofs.sessions.references_of_an_end_are_distinct.{GivesNew, IsUnused}
+use Rattle.osi_watched.proofs.sessions.units_written_alike_have_the_same_ccs.{AreAlike, HasCc, has_above, has_alike, turned}
+
+-- All references at the tap are up to this one, and those of the CCs that have not passed are above it.
+pub record IsAhead (first : Whole) (j : Joint) : Type 0 where
+  pub followed : IsFollowed Right first j
+  pub bound : ℕ
+  pub above : AreAboveAt bound followed.whole
+  pub below : AreUpTo Right bound j.course.sessions
+
+-- so after a step, with a reference that is as high
+pub record GoesOn (first : Whole) (b : ℕ) (j : Joint) : Type 0 where
+  pub ahead : IsAhead first j
+  pub rises : b ≤ ahead.bound
+
+-- and when a unit of the end has passed, its reference is among those of the tap
+pub record PassesOn (first : Whole) (b : ℕ) (unit : Value) (j : Joint) : Type 0 where
+  pub ahead : IsAhead first j
+  pub rises : b ≤ ahead.bound
+  pub gives : IsUpTo Right ahead.bound unit
+
+up_to : (v : Value) (b n : ℕ) → b ≤ n → IsUpTo Right b v → IsUpTo Right n v
+up_to (confirm m x) b n up h = (h.0, omega (arith, up, h.1))
+up_to (request x) b n up h = tt
+up_to (disconnect m source reason user) b n up h = tt
+up_to (disconnected m source) b n up h = tt
+up_to (data0 end user) b n up h = tt
+up_to (data2 m number end user) b n up h = tt
+up_to (acknowledge credit m number) b n up h = tt
+up_to (error m cause) b n up h = tt
+
+-- no connection has a reference above all of the tap
+pub above_unused : (b r : ℕ) (t : Sessions) → AreUpTo Right b t → b < r → IsUnused Right r t
+above_unused b r t up less = record {
+  live = λ i j here named. (let (some, low) = up.live i j r here named in absurd (omega (arith, low, less)));
+  done = λ i j here named. (let (some, low) = up.done i j r here named in absurd (omega (arith, low, less)));
+}
+
+module _ (first : Whole) where
+  -- what the whole end has put, and what the end has put
+  pub puts_alike : (j : Joint) (f : IsFollowed Right first j) → AllByRecursion CanBeWritten j.put → AreAlike f.whole.put j.put
+  puts_alike j f can = record { same = f.put; can = f.can; can_too = can }
+
+  -- a CC that waits is above all references at the tap
+  pub waits_above : (j : Joint) (h : IsAhead first j) → AllByRecursion CanBeWritten j.put → (n r : ℕ) → HasCc n r j.put → h.bound < r
+  waits_above j h can n r has =
+      let f = h.followed in
+      has_above f.whole.end.given h.bound n r f.whole.put h.above
+      (has_alike n r j.put f.whole.put (turned f.whole.put j.put (puts_alike j f can)) has)
+
+  -- the reference of the CC that passes is above
+  pub passes_above : (at m : ℕ) (x : Connect) (old new : Joint) → Steps Right (passes_own at (confirm m x)) old new →
+      (h : IsAhead first old) → h.bound < x.source
+  passes_above at m x old new (read, octets, put, begun, is) h =
+      let s = own_first Right first old new (confirm m x) (read, octets, put) h.followed in
+      (passes_confirmed h.bound m x s.rest h.followed.whole s.is h.above).0
+
+  pub gives_new : (at : ℕ) (unit : Value) (old new : Joint) → Steps Right (passes_own at unit) old new → IsAhead first old →
+      GivesNew Right unit old.course.sessions
+  gives_new at (confirm m x) old new step h =
+      above_unused h.bound x.source old.course.sessions h.below (passes_above at m x old new step h)
+  gives_new at (request x) old new step h = tt
+  gives_new at (disconnect n source reason user) old new step h = tt
+  gives_new at (disconnected n source) old new step h = tt
+  gives_new at (data0 end user) old new step h = tt
+  gives_new at (data2 n number end user) old new step h = tt
+  gives_new at (acknowledge credit n number) old new step h = tt
+  gives_new at (error n cause) old new step h = tt
+
+  -- ---- each step
+
+  -- a whole end from here on
+  from_here : (j : Joint) (f : IsFollowed Right first j) → IsFollowed Right f.whole j
+  from_here j f = record {
+    whole = f.whole;
+    events = [];
+    along = refl;
+    put = f.put;
+    begun = f.begun;
+    tap = f.tap;
+    coming = f.coming;
+    like = f.like;
+    can = f.can;
+    links = f.links;
+  }
+
+  goes_on : AllProper → (step : Step) (old new : Joint) → Steps Right step old new → (h : IsAhead first old) →
+      AreUpTo Right h.bound new.course.sessions → GoesOn first h.bound new
+  goes_on proper step old new does h up =
+      let f = h.followed in
+      let g : IsFollowed Right f.whole new = step_followed Right f.whole proper step old new does (from_here old f) in
+      let ahead : IsAhead first new = record {
+        followed = record {
+          whole = g.whole;
+          events = f.events ++ g.events;
+          along = happen_join (way_of Right) f.events g.events first f.whole g.whole f.along g.along;
+          put = g.put;
+          begun = g.begun;
+          tap = g.tap;
+          coming = g.coming;
+          like = g.like;
+          can = g.can;
+          links = g.links;
+        };
+        bound = h.bound;
+        above = above_along h.bound g.events f.whole g.whole g.along h.above;
+        below = up;
+      } in
+      record { ahead = ahead; rises = omega arith }
+
+  -- a turn leaves all references at the tap
+  pub turns_ahead : AllProper → (turn : Turn) (old new : Joint) → (t : TakesTurn turn old new) → (h : IsAhead first old) →
+      GoesOn first h.bound new
+  turns_ahead proper turn old new t h =
+      goes_on proper (turns turn) old new t h (subst (λ (c : Course). AreUpTo Right h.bound c.sessions) (sym t.course) h.below)
+
+  pub begins_own_ahead : AllProper → (old new : Joint) → Steps Right begins_own old new → (h : IsAhead first old) →
+      GoesOn first h.bound new
+  begins_own_ahead proper old new step h =
+      goes_on proper begins_own old new step h
+      (subst (λ (j : Joint). AreUpTo Right h.bound j.course.sessions) (sym step.2)
+      (begins_up Right Right h.bound old.course.sessions h.below))
+
+  pub begins_other_ahead : AllProper → (old new : Joint) → Steps Right begins_other old new → (h : IsAhead first old) →
+      GoesOn first h.bound new
+  begins_other_ahead proper old new step h =
+      goes_on proper begins_other old new step h
+      (subst (λ (j : Joint). AreUpTo Right h.bound j.course.sessions) (sym step)
+      (begins_up Right Left h.bound old.course.sessions h.below))
+
+  -- no CC is among the units of the other side
+  pub passes_other_ahead : AllProper → (at : ℕ) (packet : List ℕ) (units : List Value) (old new : Joint) →
+      Steps Right (passes_other at packet units) old new → HaveSamePlaces old.course.traffic.connections old.course.sessions.live →
+      (h : IsAhead first old) → AllByRecursion (IsUpTo Right h.bound) units → GoesOn first h.bound new
+  passes_other_ahead proper at packet units old new step places h none =
+      goes_on proper (passes_other at packet units) old new step h
+      (subst (λ (j : Joint). AreUpTo Right h.bound j.course.sessions) (sym step.2)
+      (units_up Right Left h.bound at units old.course places none h.below))
+
+  passes_another : AllProper → (at : ℕ) (unit : Value) (old new : Joint) → Steps Right (passes_own at unit) old new →
+      HaveSamePlaces old.course.traffic.connections old.course.sessions.live → (h : IsAhead first old) → IsUpTo Right h.bound unit →
+      PassesOn first h.bound unit new
+  passes_another proper at unit old new step places h none =
+      let g = goes_on proper (passes_own at unit) old new step h
+      (subst (λ (j : Joint). AreUpTo Right h.bound j.course.sessions) (sym step.4)
+      (unit_up Right Right h.bound at unit old.course places none h.below)) in
+      record { ahead = g.ahead; rises = g.rises; gives = up_to unit h.bound g.ahead.bound g.rises none }
+
+  passes_cc : (at m : ℕ) (x : Connect) (old new : Joint) → Steps Right (passes_own at (confirm m x)) old new →
+      HaveSamePlaces old.course.traffic.connections old.course.sessions.live → (h : IsAhead first old) →
+      PassesOn first h.bound (confirm m x) new
+  passes_cc at m x old new (read, octets, put, begun, is) places h =
+      let f = h.followed in
+      let s = own_first Right first old new (confirm m x) (read, octets, put) f in
+      let next : Whole = record f.whole { put = s.rest; begun = false; tap = (takes (way_of Right) (confirm m x) f.whole.tap).state } in
+      let (less, above) = passes_confirmed h.bound m x s.rest f.whole s.is h.above in
+      let mid : Joint = record old { put = new.put; begun = false; course = units_pass Right at (confirm m x ∷ []) old.course } in
+      let ahead : IsAhead first mid = record {
+        followed = record {
+          whole = next;
+          events = f.events ++ wholes.passes_own ∷ [];
+          along = happen_join (way_of Right) f.events (wholes.passes_own ∷ []) first f.whole next f.along
+              (next, (confirm m x, s.is, f.begun ∙ begun, refl), refl);
+          put = s.same;
+          begun = refl;
+          tap = ap (λ (t : State). (takes (way_of Right) (confirm m x) t).state) f.tap
+              ∙ sym (unit_knows Right at (confirm m x) old.course);
+          coming = f.coming;
+          like = f.like;
+          can = s.can;
+          links = f.links;
+        };
+        bound = x.source;
+        above = above;
+        below = unit_up Right Right x.source at (confirm m x) old.course places (omega (arith, less), omega arith)
+            (up_higher Right h.bound x.source old.course.sessions (omega (arith, less)) h.below);
+      } in
+      subst (PassesOn first h.bound (confirm m x)) (sym is)
+      (record { ahead = ahead; rises = omega (arith, less); gives = (omega (arith, less), omega arith) })
+
+  -- the reference of a CC that passes is the highest of the tap then
+  pub passes_own_ahead : AllProper → (at : ℕ) (unit : Value) (old new : Joint) → Steps Right (passes_own at unit) old new →
+      HaveSamePlaces old.course.traffic.connections old.course.sessions.live → (h : IsAhead first old) →
+      PassesOn first h.bound unit new
+  passes_own_ahead proper at (confirm m x) old new step places h = passes_cc at m x old new step places h
+  passes_own_ahead proper at (request x) old new step places h = passes_another proper at (request x) old new step places h tt
+  passes_own_ahead proper at (disconnect n source reason user) old new step places h =
+      passes_another proper at (disconnect n source reason user) old new step places h tt
+  passes_own_ahead proper at (disconnected n source) old new step places h =
+      passes_another proper at (disconnected n source) old new step places h tt
+  passes_own_ahead proper at (data0 end user) old new step places h = passes_another proper at (data0 end user) old new step places h tt
+  passes_own_ahead proper at (data2 n number end user) old new step places h =
+      passes_another proper at (data2 n number end user) old new step places h tt
+  passes_own_ahead proper at (acknowledge credit n number) old new step places h =
+      passes_another proper at (acknowledge credit n number) old new step places h tt
+  passes_own_ahead proper at (error n cause) old new step places h = passes_another proper at (error n cause) old new step places h tt

@@ -1,0 +1,250 @@
+-- If in each moment before a break of the other side's transport nobody of this side is to blame, the first break of all, of transport
+-- and of sessions, is of the other side.
+-- For the law that no session of an end is blamed first.
+use Rattle.std.proofs.Common.{◌≡◌, ◌∙◌, ◌⊎◌, inl, inr, refl, sym, ap, subst, ℕ, Bool, true, false, if◌then◌else◌, List, [], ◌∷◌, ◌++◌}
+use Rattle.std.proofs.Common.{Option, Some, None, is_some}
+use Rattle.std.specs.List.{AllByRecursion}
+use Rattle.osi_tpdu.specs.Value.{Value}
+use Rattle.osi_judge.specs.Captures.{other}
+use Rattle.osi_judge.specs.declared.directions.Direction.{Direction}
+use Rattle.osi_judge.specs.declared.directions.Direction.TheVariants.{Left, Right}
+use Rattle.osi_rules.specs.declared.findings.Finding.{Finding}
+use Rattle.osi_rules.specs.declared.findings.Finding.TheVariants.{Broke, Kept, NotJudged, Outside, TooMany}
+use Rattle.osi_rules.specs.declared.findings.Told.{Told}
+use Rattle.osi_rules.specs.Traffic.{Outcome, takes}
+use Rattle.osi_rules.specs.Traffic as traffic
+use Rattle.osi_rules.proofs.a_stop_is_said.{stops_last}
+use Rattle.osi_tap.specs.declared.marks.Cause.{Cause}
+use Rattle.osi_tap.specs.declared.marks.Cause.TheVariants as cause
+use Rattle.osi_tap.specs.declared.marks.First.{First}
+use Rattle.osi_tap.specs.declared.marks.Mark.{Mark}
+use Rattle.osi_tap.specs.Blaming.{AreSpotless, BreaksFirst, IsBreakOf, IsQuiet, IsToBlame, of_session, of_transport}
+use Rattle.osi_tap.specs.Connections.{Sessions, taken}
+use Rattle.osi_tap.specs.Courses.{Course, Moment, cause_of, is_break, kind_of, mark_by, marked, marks_of, moment_of, moved, number_at}
+use Rattle.osi_tap.specs.Courses.{packet_begins, unit_passes, unread, unread_mark, unread_moment, way_of}
+use Rattle.osi_tap.proofs.no_break_was_before_the_first.{marked_past, noted_past}
+use Rattle.osi_watched.proofs.the_first_break_is_not_of_an_end.{IsNoBreak}
+use Rattle.osi_watched.proofs.what_a_unit_leaves_at_a_tap.{IsJudged, IsOver, unread_over}
+use Rattle.osi_watched.proofs.what_passes_keeps_a_claim.{IsClaim}
+use Rattle.osi_watched.proofs.sessions.after_too_many_nobody_is_to_blame.{IsSilenced, NoneIsToBlame, begins_silenced, unit_silenced}
+use Rattle.osi_watched.proofs.sessions.connections_have_the_same_places.{unit_joins}
+
+-- ---- moments
+
+-- nobody broke a rule of transport, and no session of this side is to blame
+pub record IsClean (d : Direction) (m : Moment) : Type 0 where
+  pub transport : IsQuiet m.mark
+  pub sessions : NoneIsToBlame d m.sessions
+
+-- this side broke a rule of transport
+pub record BreaksTransport (e : Direction) (m : Moment) : Type 0 where
+  pub mark : Mark
+  pub is : m.mark ≡ Some mark
+  pub bad : is_break mark.cause ≡ true
+  pub of : mark.direction ≡ e
+
+abbrev pub AreClean : Direction → List Moment → Type 0
+AreClean d past = AllByRecursion (IsClean d) past
+
+-- The first moments are clean, and in the next the other side breaks a rule of transport.
+abbrev pub HasBroken : Direction → List Moment → Type 0
+HasBroken d [] = ⊥
+HasBroken d (m ∷ past) = BreaksTransport (other d) m ⊎ (IsClean d m × HasBroken d past)
+
+pub clean_then : (d : Direction) (past : List Moment) (m : Moment) → AreClean d past → IsClean d m → AreClean d (past ++ m ∷ [])
+clean_then d [] m h k = (k, tt)
+clean_then d (x ∷ past) m h k = (h.0, clean_then d past m h.1 k)
+
+pub broken_then : (d : Direction) (past : List Moment) (m : Moment) → AreClean d past → BreaksTransport (other d) m →
+    HasBroken d (past ++ m ∷ [])
+broken_then d [] m h b = inl b
+broken_then d (x ∷ past) m h b = inr (h.0, broken_then d past m h.1 b)
+
+pub broken_more : (d : Direction) (past more : List Moment) → HasBroken d past → HasBroken d (past ++ more)
+broken_more d [] more h = absurd h
+broken_more d (x ∷ past) more (inl b) = inl b
+broken_more d (x ∷ past) more (inr (c, h)) = inr (c, broken_more d past more h)
+
+-- ---- the first break
+
+other_of : (d e : Direction) → (e ≡ d → ⊥) → e ≡ other d
+other_of Left Left h = absurd (h refl)
+other_of Left Right h = refl
+other_of Right Left h = refl
+other_of Right Right h = absurd (h refl)
+
+same_mark : (a b : Mark) → Some a ≡ Some b → a ≡ b
+same_mark a b e = cc
+
+differ : {A : Type 0} (b : Bool) → b ≡ true → b ≡ false → A
+differ b h k = absurd (cc)
+
+quiet_not : {A : Type 0} (o : Option Mark) (k : Mark) → IsQuiet o → o ≡ Some k → is_break k.cause ≡ true → A
+quiet_not None k quiet is bad = let no : None ≡ Some k = is in absurd (cc)
+quiet_not (Some m) k quiet is bad =
+    differ (is_break m.cause) (ap (λ (x : Mark). is_break x.cause) (same_mark m k is) ∙ bad) quiet
+
+of_clean : (d : Direction) (f : First) (m : Moment) → IsClean d m → IsBreakOf f m → f.direction ≡ other d
+of_clean d f m c (of_transport k is bad told) = quiet_not m.mark k c.transport is bad
+of_clean d f m c (of_session place quiet layer side blame) =
+    other_of d f.direction (λ same. c.sessions.live place blame.connection blame.there
+    (subst (λ (e : Direction). IsToBlame e blame.connection) same blame.broke))
+
+of_break : (e : Direction) (f : First) (m : Moment) → BreaksTransport e m → IsBreakOf f m → f.direction ≡ e
+of_break e f m b (of_transport k is bad told) =
+    ap (λ (x : First). x.direction) told ∙ ap (λ (x : Mark). x.direction) (same_mark k b.mark (sym is ∙ b.is)) ∙ b.of
+of_break e f m b (of_session place quiet layer side blame) = quiet_not m.mark b.mark quiet b.is b.bad
+
+no_list : {A : Type 0} (front back : List Moment) (m : Moment) → [] ≡ front ++ m ∷ back → A
+no_list [] back m e = absurd (cc)
+no_list (y ∷ front) back m e = absurd (cc)
+
+head_same : (x y : Moment) (xs ys : List Moment) → x ∷ xs ≡ y ∷ ys → y ≡ x
+head_same x y xs ys e = cc
+
+tail_same : (x y : Moment) (xs ys : List Moment) → x ∷ xs ≡ y ∷ ys → xs ≡ ys
+tail_same x y xs ys e = cc
+
+module _ (d : Direction) (f : First) (m : Moment) (back : List Moment) (breaks : IsBreakOf f m) where
+  among_clean : (past front : List Moment) → AreClean d past → past ≡ front ++ m ∷ back → f.direction ≡ other d
+  among_clean [] front h is = no_list front back m is
+  among_clean (x ∷ past) [] h is = of_clean d f m (subst (IsClean d) (sym (head_same x m past back is)) h.0) breaks
+  among_clean (x ∷ past) (y ∷ front) h is = among_clean past front h.1 (tail_same x y past (front ++ m ∷ back) is)
+
+  among_broken : (past front : List Moment) → HasBroken d past → past ≡ front ++ m ∷ back → AreSpotless front → f.direction ≡ other d
+  among_broken [] front h is before = absurd h
+  among_broken (x ∷ past) [] (inl b) is before =
+      of_break (other d) f m (subst (BreaksTransport (other d)) (sym (head_same x m past back is)) b) breaks
+  among_broken (x ∷ past) (y ∷ front) (inl b) is before =
+      let there = subst (BreaksTransport (other d)) (sym (head_same x y past (front ++ m ∷ back) is)) b in
+      quiet_not y.mark there.mark before.0.transport there.is there.bad
+  among_broken (x ∷ past) [] (inr (c, h)) is before =
+      of_clean d f m (subst (IsClean d) (sym (head_same x m past back is)) c) breaks
+  among_broken (x ∷ past) (y ∷ front) (inr (c, h)) is before =
+      among_broken past front h (tail_same x y past (front ++ m ∷ back) is) before.1
+
+pub first_of_other : (d : Direction) (f : First) (past : List Moment) → AreClean d past ⊎ HasBroken d past → BreaksFirst f past →
+    f.direction ≡ other d
+first_of_other d f past (inl clean) b = among_clean d f b.moment b.back b.breaks past b.front clean b.parts
+first_of_other d f past (inr broken) b = among_broken d f b.moment b.back b.breaks past b.front broken b.parts b.before
+
+-- ---- the moment of a unit
+
+module _ (e : Direction) (at : ℕ) (v : Value) (c : Course) where
+  abbrev pub o : Outcome
+  o = takes (way_of e) v c.traffic
+
+  abbrev pub then_joined : Sessions
+  then_joined = taken e at v o.told.meaning o.told.place c.sessions
+
+  abbrev pub moment : Moment
+  moment = moment_of e at v o.told then_joined
+
+  pub unit_past : (unit_passes e at v c).past ≡ c.past ++ moment ∷ []
+  unit_past = noted_past e at v o.told (cause_of o.told.finding) _
+
+  quiet_by : (f : Finding) → IsNoBreak f → IsQuiet (mark_by e at v (number_at o.told.place then_joined) (cause_of f))
+  quiet_by Kept none = tt
+  quiet_by NotJudged none = tt
+  quiet_by TooMany none = refl
+  quiet_by (Broke rule) none = absurd none
+  quiet_by Outside none = absurd none
+
+  -- it is no break
+  pub unit_clean : (d : Direction) → IsNoBreak o.told.finding → NoneIsToBlame d (unit_passes e at v c).sessions → AreClean d c.past →
+      AreClean d (unit_passes e at v c).past
+  unit_clean d none blameless h =
+      subst (AreClean d) (sym unit_past)
+      (clean_then d c.past moment h
+      (record { transport = quiet_by o.told.finding none; sessions = subst (NoneIsToBlame d) (unit_joins e at v c) blameless }))
+
+module _ (d : Direction) (at : ℕ) (v : Value) (c : Course) where
+  abbrev told : Told
+  told = (takes (way_of (other d)) v c.traffic).told
+
+  abbrev mark_for : Cause → Mark
+  mark_for k = record {
+    direction = other d;
+    offset = at;
+    unit = Some (kind_of v);
+    connection = number_at told.place (then_joined (other d) at v c);
+    cause = k;
+  }
+
+  marked_so : (f : Finding) (k : Cause) → told.finding ≡ f → cause_of f ≡ Some k → is_break k ≡ true →
+      BreaksTransport (other d) (moment (other d) at v c)
+  marked_so f k is named bad = record {
+    mark = mark_for k;
+    is = ap (λ (x : Option Cause). mark_by (other d) at v (number_at told.place (then_joined (other d) at v c)) x) (ap cause_of is ∙ named);
+    bad = bad;
+    of = refl;
+  }
+
+  breaks_by : (f : Finding) → told.finding ≡ f → (IsNoBreak f → ⊥) → BreaksTransport (other d) (moment (other d) at v c)
+  breaks_by Kept is broke = absurd (broke tt)
+  breaks_by NotJudged is broke = absurd (broke tt)
+  breaks_by TooMany is broke = absurd (broke tt)
+  breaks_by (Broke rule) is broke = marked_so (Broke rule) (cause.Broke rule) is refl refl
+  breaks_by Outside is broke = marked_so Outside cause.Outside is refl refl
+
+  -- it is a break of the other side
+  pub unit_breaks : (IsNoBreak told.finding → ⊥) → AreClean d c.past → HasBroken d (unit_passes (other d) at v c).past
+  unit_breaks broke h =
+      subst (HasBroken d) (sym (unit_past (other d) at v c))
+      (broken_then d c.past (moment (other d) at v c) h (breaks_by told.finding refl broke))
+
+-- ---- what can't be read
+
+abbrev unread_if : Bool → Direction → (at : ℕ) → Cause → Course → Course
+unread_if b e at k c = if b then c else marked (unread_mark e at k) (traffic.refused_reach (way_of e) c.traffic)
+    (moved (unread_moment e at k c.sessions) (record c { traffic = traffic.refused (way_of e) c.traffic }))
+
+-- as long as the other side is judged, it breaks a rule
+goes_so : (e : Direction) (c : Course) → IsJudged c → is_some (marks_of e c).halted ≡ false
+goes_so Left c j = ap is_some j.left_goes
+goes_so Right c j = ap is_some j.right_goes
+
+pub unread_breaks_so : (d : Direction) (at : ℕ) (k : Cause) (c : Course) → is_break k ≡ true → IsJudged c → AreClean d c.past →
+    HasBroken d (unread (other d) at k c).past
+unread_breaks_so d at k c bad j h =
+    subst (λ (b : Bool). HasBroken d (unread_if b (other d) at k c).past) (sym (goes_so (other d) c j))
+    (subst (HasBroken d) (sym (marked_past (unread_mark (other d) at k) (traffic.refused_reach (way_of (other d)) c.traffic) _))
+    (broken_then d c.past (unread_moment (other d) at k c.sessions) h
+    (record { mark = unread_mark (other d) at k; is = refl; bad = bad; of = refl })))
+
+-- ---- what stays so, whatever passes
+
+unread_broken : (b : Bool) (d e : Direction) (at : ℕ) (k : Cause) (c : Course) → HasBroken d c.past →
+    HasBroken d (unread_if b e at k c).past
+unread_broken true d e at k c h = h
+unread_broken false d e at k c h =
+    subst (HasBroken d) (sym (marked_past (unread_mark e at k) (traffic.refused_reach (way_of e) c.traffic) _))
+    (broken_more d c.past (unread_moment e at k c.sessions ∷ []) h)
+
+pub broken_claim : (d : Direction) → IsClaim (λ c. HasBroken d c.past)
+broken_claim d = record {
+  begins = λ e c h. h;
+  passes = λ e at v c h. subst (HasBroken d) (sym (unit_past e at v c)) (broken_more d c.past (moment e at v c ∷ []) h);
+  bad = λ e at k c h. unread_broken (is_some (marks_of e c).halted) d e at k c h;
+}
+
+-- nothing more is judged, nobody of this side is to blame, and nobody ever was
+pub record IsSilent (d : Direction) (c : Course) : Type 0 where
+  pub silenced : IsSilenced d c
+  pub clean : AreClean d c.past
+
+stopped_so : (e : Direction) (c : Course) → IsOver c → traffic.is_stopped (way_of e) c.traffic.course ≡ true
+stopped_so Left c over = over.left
+stopped_so Right c over = over.right
+
+pub silent_claim : (d : Direction) → IsClaim (IsSilent d)
+silent_claim d = record {
+  begins = λ e c h. record { silenced = begins_silenced d e c h.silenced; clean = h.clean };
+  passes = λ e at v c h. record {
+    silenced = unit_silenced d e at v c h.silenced;
+    clean = unit_clean e at v c d
+        (subst (λ (x : Outcome). IsNoBreak x.told.finding) (sym (stops_last (way_of e) v c.traffic (stopped_so e c h.silenced.over))) tt)
+        (unit_silenced d e at v c h.silenced).none h.clean;
+  };
+  bad = λ e at k c h. subst (IsSilent d) (sym (unread_over e at k c h.silenced.over)) h;
+}

@@ -1,0 +1,355 @@
+-- Among units that are written alike, and can be written, are the same CCs: for the same references of both sides, and of the same class.
+-- So what is known of the CCs that a whole end has put holds of those of its joint.
+-- For all connections of a called end and a tap.
+use Rattle.std.proofs.Common.{◌≡◌, ◌∙◌, ◌⊎◌, inl, inr, refl, sym, ap, subst, ℕ, ◌+◌, ◌*◌, ◌/◌, ◌%◌, ◌<◌, Bool, true, false, List, [], ◌∷◌}
+use Rattle.std.proofs.Common.{◌++◌, map, Option, Some, None, arith, if◌then◌else◌}
+use Rattle.std.specs.Prelude.{◌==◌}
+use Rattle.std.specs.List.{AllByRecursion}
+use Rattle.osi_tpdu.specs.Value.{Connect, Value, acknowledge, confirm, data0, data2, disconnect, disconnected, error, request}
+use Rattle.osi_tpdu.specs.Writing.{written}
+use Rattle.osi_fair.proofs.each_connection_of_a_called_end.{AreAbove}
+use Rattle.osi_fair.proofs.which_units_are_for_a_connection.{picked_rest}
+use Rattle.osi_honest.proofs.reading.what_is_written_is_read_again.{CanBeWritten}
+use Rattle.osi_watched.proofs.sessions.units_written_alike_are_for_the_same.{for_octets, for_written}
+use Rattle.osi_watched.proofs.sessions.what_stands_of_a_connection.{is_for, waiting_for}
+
+-- ---- CCs among units
+
+-- a CC for this reference of the other side, with this one of the end
+abbrev pub IsCc : (n r : ℕ) → Value → Type 0
+IsCc n r (confirm m x) = (m ≡ n) × (x.source ≡ r)
+IsCc n r (request x) = ⊥
+IsCc n r (disconnect m source reason user) = ⊥
+IsCc n r (disconnected m source) = ⊥
+IsCc n r (data0 end user) = ⊥
+IsCc n r (data2 m number end user) = ⊥
+IsCc n r (acknowledge credit m number) = ⊥
+IsCc n r (error m cause) = ⊥
+
+abbrev pub HasCc : (n r : ℕ) → List Value → Type 0
+HasCc n r [] = ⊥
+HasCc n r (v ∷ vs) = IsCc n r v ⊎ HasCc n r vs
+
+pub has_front : (n r : ℕ) (xs ys : List Value) → HasCc n r xs → HasCc n r (xs ++ ys)
+has_front n r [] ys h = absurd h
+has_front n r (x ∷ xs) ys (inl h) = inl h
+has_front n r (x ∷ xs) ys (inr h) = inr (has_front n r xs ys h)
+
+pub has_back : (n r : ℕ) (xs ys : List Value) → HasCc n r ys → HasCc n r (xs ++ ys)
+has_back n r [] ys h = h
+has_back n r (x ∷ xs) ys h = inr (has_back n r xs ys h)
+
+pub has_either : (n r : ℕ) (xs ys : List Value) → HasCc n r (xs ++ ys) → HasCc n r xs ⊎ HasCc n r ys
+has_either n r [] ys h = inr h
+has_either n r (x ∷ xs) ys (inl h) = inl (inl h)
+has_either n r (x ∷ xs) ys (inr h) = by (has_either n r xs ys h)
+  where
+    by : HasCc n r xs ⊎ HasCc n r ys → HasCc n r (x ∷ xs) ⊎ HasCc n r ys
+    by (inl k) = inl (inr k)
+    by (inr k) = inr k
+
+-- a CC selects class 2
+abbrev pub AnswersTwo : Value → Type 0
+AnswersTwo (confirm m x) = x.class ≡ 2
+AnswersTwo (request x) = Unit {0}
+AnswersTwo (disconnect m source reason user) = Unit {0}
+AnswersTwo (disconnected m source) = Unit {0}
+AnswersTwo (data0 end user) = Unit {0}
+AnswersTwo (data2 m number end user) = Unit {0}
+AnswersTwo (acknowledge credit m number) = Unit {0}
+AnswersTwo (error m cause) = Unit {0}
+
+-- each CC comes before all units for its reference of the other side
+abbrev pub AreOrdered : List Value → Type 0
+AreOrdered [] = Unit {0}
+AreOrdered (v ∷ vs) = ((n r : ℕ) → is_for (Some n) v ≡ true → HasCc n r vs → ⊥) × AreOrdered vs
+
+not_so : (b : Bool) → (b ≡ true → ⊥) → b ≡ false
+not_so true h = absurd (h refl)
+not_so false h = refl
+
+-- so nothing waits for that reference before it
+pub none_before : (n r : ℕ) (xs ys : List Value) → AreOrdered (xs ++ ys) → HasCc n r ys → waiting_for (Some n) xs ≡ []
+none_before n r [] ys h has = refl
+none_before n r (x ∷ xs) ys h has =
+    picked_rest (is_for (Some n)) x xs (not_so (is_for (Some n) x) (λ e. h.0 n r e (has_back n r xs ys has)))
+    ∙ none_before n r xs ys h.1 has
+
+-- ---- CCs and their octets
+
+record Fields : Type 0 where
+  destination : ℕ
+  source : ℕ
+  class : ℕ
+
+abbrev with_fields : (destination source class : ℕ) → Option Fields
+with_fields m r k = Some (record { destination = m; source = r; class = k })
+
+abbrev fields_of : Value → Option Fields
+fields_of (confirm m x) = with_fields m x.source x.class
+fields_of (request x) = None
+fields_of (disconnect m source reason user) = None
+fields_of (disconnected m source) = None
+fields_of (data0 end user) = None
+fields_of (data2 m number end user) = None
+fields_of (acknowledge credit m number) = None
+fields_of (error m cause) = None
+
+abbrev fields_there : List ℕ → Option Fields
+fields_there [] = None
+fields_there (a ∷ []) = None
+fields_there (a ∷ b ∷ []) = None
+fields_there (a ∷ b ∷ c ∷ []) = None
+fields_there (a ∷ b ∷ c ∷ d ∷ []) = None
+fields_there (a ∷ b ∷ c ∷ d ∷ k ∷ rest) = with_fields (a * 256 + b) (c * 256 + d) (k / 16)
+
+abbrev of_kind : (kind : ℕ) → List ℕ → Option Fields
+of_kind kind rest = if kind == 13 then fields_there rest else None
+
+abbrev fields_in : List ℕ → Option Fields
+fields_in [] = None
+fields_in (size ∷ []) = None
+fields_in (size ∷ code ∷ rest) = of_kind (code / 16) rest
+
+same_fields : (m source class options : ℕ) → options < 16 →
+    with_fields m source class ≡ with_fields (m / 256 * 256 + m % 256) (source / 256 * 256 + source % 256) ((16 * class + options) / 16)
+same_fields m source class options few =
+    let a : m ≡ m / 256 * 256 + m % 256 = omega arith in
+    let b : source ≡ source / 256 * 256 + source % 256 = omega arith in
+    let c : class ≡ (16 * class + options) / 16 = omega (arith, few) in
+    λ i. with_fields (a i) (b i) (c i)
+
+kind_of : (octets : List ℕ) (size code n : ℕ) (rest : List ℕ) → octets ≡ size ∷ code ∷ rest → code / 16 ≡ n →
+    of_kind n rest ≡ fields_in octets
+kind_of octets size code n rest e k = ap (λ (m : ℕ). of_kind m rest) (sym k) ∙ ap fields_in (sym e)
+
+fields_written : (v : Value) → CanBeWritten v → fields_of v ≡ fields_in (written v)
+fields_written (request x) can =
+    let few = can.credit in
+    let kind : (0xE0 + x.credit) / 16 ≡ 14 = omega (arith, few) in
+    kind_of (written (request x)) _ (0xE0 + x.credit) 14 _ refl kind
+fields_written (confirm m x) can =
+    let few = can.credit in
+    let kind : (0xD0 + x.credit) / 16 ≡ 13 = omega (arith, few) in
+    same_fields m x.source x.class x.options can.options
+    ∙ kind_of (written (confirm m x)) _ (0xD0 + x.credit) 13 _ refl kind
+fields_written (disconnect m source reason user) can = refl
+fields_written (disconnected m source) can = refl
+fields_written (data0 end user) can = refl
+fields_written (data2 m number end user) can = refl
+fields_written (acknowledge credit m number) can =
+    let few = can.0 in
+    let kind : (0x60 + credit) / 16 ≡ 6 = omega (arith, few) in
+    kind_of (written (acknowledge credit m number)) _ (0x60 + credit) 6 _ refl kind
+fields_written (error m cause) can = absurd can
+
+alike : (u v : Value) → written u ≡ written v → CanBeWritten u → CanBeWritten v → fields_of u ≡ fields_of v
+alike u v same a b = fields_written u a ∙ ap fields_in same ∙ sym (fields_written v b)
+
+cc_fields : (n r : ℕ) (v : Value) → IsCc n r v → (k : ℕ) × (fields_of v ≡ with_fields n r k)
+cc_fields n r (confirm m x) (mine, source) =
+    (x.class, λ i. with_fields (mine i) (source i) x.class)
+cc_fields n r (request x) h = absurd h
+cc_fields n r (disconnect m source reason user) h = absurd h
+cc_fields n r (disconnected m source) h = absurd h
+cc_fields n r (data0 end user) h = absurd h
+cc_fields n r (data2 m number end user) h = absurd h
+cc_fields n r (acknowledge credit m number) h = absurd h
+cc_fields n r (error m cause) h = absurd h
+
+some_fields : (a b : Fields) → Some a ≡ Some b → a ≡ b
+some_fields a b e = cc
+
+fields_cc : (n r k : ℕ) (v : Value) → fields_of v ≡ with_fields n r k → IsCc n r v
+fields_cc n r k (confirm m x) e =
+    let same = some_fields _ _ e in (ap (λ (f : Fields). f.destination) same, ap (λ (f : Fields). f.source) same)
+fields_cc n r k (request x) e = absurd (cc)
+fields_cc n r k (disconnect m source reason user) e = absurd (cc)
+fields_cc n r k (disconnected m source) e = absurd (cc)
+fields_cc n r k (data0 end user) e = absurd (cc)
+fields_cc n r k (data2 m number end user) e = absurd (cc)
+fields_cc n r k (acknowledge credit m number) e = absurd (cc)
+fields_cc n r k (error m cause) e = absurd (cc)
+
+cc_alike : (n r : ℕ) (u v : Value) → written u ≡ written v → CanBeWritten u → CanBeWritten v → IsCc n r u → IsCc n r v
+cc_alike n r u v same a b h =
+    let (k, is) = cc_fields n r u h in fields_cc n r k v (sym (alike u v same a b) ∙ is)
+
+-- if one is a CC of another class, the other doesn't select class 2
+zero_alike : {A : Type 0} (m : ℕ) (x : Connect) (v : Value) → x.class ≡ 0 → fields_of (confirm m x) ≡ fields_of v → AnswersTwo v → A
+zero_alike m x (confirm n y) zero_is e two =
+    let same : x.class ≡ y.class = ap (λ (f : Fields). f.class) (some_fields _ _ e) in
+    absurd (omega (arith, same, zero_is, two))
+zero_alike m x (request y) zero_is e two = absurd (cc)
+zero_alike m x (disconnect n source reason user) zero_is e two = absurd (cc)
+zero_alike m x (disconnected n source) zero_is e two = absurd (cc)
+zero_alike m x (data0 end user) zero_is e two = absurd (cc)
+zero_alike m x (data2 n number end user) zero_is e two = absurd (cc)
+zero_alike m x (acknowledge credit n number) zero_is e two = absurd (cc)
+zero_alike m x (error n cause) zero_is e two = absurd (cc)
+
+-- ---- lists of units
+
+-- two lists of units that are written alike, and can be written
+pub record AreAlike (us vs : List Value) : Type 0 where
+  pub same : map written us ≡ map written vs
+  pub can : AllByRecursion CanBeWritten us
+  pub can_too : AllByRecursion CanBeWritten vs
+
+pub turned : (us vs : List Value) → AreAlike us vs → AreAlike vs us
+turned us vs h = record { same = sym h.same; can = h.can_too; can_too = h.can }
+
+has_by : (n r : ℕ) (us vs : List Value) → map written us ≡ map written vs → AllByRecursion CanBeWritten us →
+    AllByRecursion CanBeWritten vs → HasCc n r us → HasCc n r vs
+has_by n r [] vs e a b h = absurd h
+has_by n r (u ∷ us) [] e a b h = absurd (cc)
+has_by n r (u ∷ us) (v ∷ vs) e a b (inl h) =
+    let one : written u ≡ written v = cc in inl (cc_alike n r u v one a.0 b.0 h)
+has_by n r (u ∷ us) (v ∷ vs) e a b (inr h) =
+    let more : map written us ≡ map written vs = cc in inr (has_by n r us vs more a.1 b.1 h)
+
+pub has_alike : (n r : ℕ) (us vs : List Value) → AreAlike us vs → HasCc n r us → HasCc n r vs
+has_alike n r us vs h has = has_by n r us vs h.same h.can h.can_too has
+
+-- no CC of class 0 comes first
+pub first_not_zero : {A : Type 0} (m : ℕ) (x : Connect) (us vs : List Value) → AreAlike (confirm m x ∷ us) vs → x.class ≡ 0 →
+    AllByRecursion AnswersTwo vs → A
+first_not_zero m x us [] h zero_is two = absurd (let no = h.same in cc)
+first_not_zero m x us (v ∷ vs) h zero_is two =
+    let same = h.same in
+    let one : written (confirm m x) ≡ written v = cc in
+    zero_alike m x v zero_is (alike (confirm m x) v one h.can.0 h.can_too.0) two.0
+
+-- a CC that is written as one of class 2 selects class 2
+two_fields : (u v : Value) → fields_of u ≡ fields_of v → AnswersTwo u → AnswersTwo v
+two_fields (confirm m x) (confirm n y) e two = sym (ap (λ (f : Fields). f.class) (some_fields _ _ e)) ∙ two
+two_fields (request x) (confirm n y) e two = absurd (cc)
+two_fields (disconnect m source reason user) (confirm n y) e two = absurd (cc)
+two_fields (disconnected m source) (confirm n y) e two = absurd (cc)
+two_fields (data0 end user) (confirm n y) e two = absurd (cc)
+two_fields (data2 m number end user) (confirm n y) e two = absurd (cc)
+two_fields (acknowledge credit m number) (confirm n y) e two = absurd (cc)
+two_fields (error m cause) (confirm n y) e two = absurd (cc)
+two_fields u (request y) e two = tt
+two_fields u (disconnect n source reason user) e two = tt
+two_fields u (disconnected n source) e two = tt
+two_fields u (data0 end user) e two = tt
+two_fields u (data2 n number end user) e two = tt
+two_fields u (acknowledge credit n number) e two = tt
+two_fields u (error n cause) e two = tt
+
+two_by : (us vs : List Value) → map written us ≡ map written vs → AllByRecursion CanBeWritten us → AllByRecursion CanBeWritten vs →
+    AllByRecursion AnswersTwo us → AllByRecursion AnswersTwo vs
+two_by [] [] e a b h = tt
+two_by [] (v ∷ vs) e a b h = absurd (cc)
+two_by (u ∷ us) [] e a b h = absurd (cc)
+two_by (u ∷ us) (v ∷ vs) e a b h =
+    let one : written u ≡ written v = cc in
+    let more : map written us ≡ map written vs = cc in
+    (two_fields u v (alike u v one a.0 b.0) h.0, two_by us vs more a.1 b.1 h.1)
+
+pub two_alike : (us vs : List Value) → AreAlike us vs → AllByRecursion AnswersTwo us → AllByRecursion AnswersTwo vs
+two_alike us vs h two = two_by us vs h.same h.can h.can_too two
+
+-- the units that are for a connection are in the same order
+ordered_by : (us vs : List Value) → map written us ≡ map written vs → AllByRecursion CanBeWritten us → AllByRecursion CanBeWritten vs →
+    AreOrdered us → AreOrdered vs
+ordered_by [] [] e a b h = tt
+ordered_by [] (v ∷ vs) e a b h = absurd (cc)
+ordered_by (u ∷ us) [] e a b h = absurd (cc)
+ordered_by (u ∷ us) (v ∷ vs) e a b h =
+    let one : written u ≡ written v = cc in
+    let more : map written us ≡ map written vs = cc in (
+      λ n r mine has.
+          h.0 n r (for_written (Some n) u a.0 ∙ ap (for_octets (Some n)) one ∙ sym (for_written (Some n) v b.0) ∙ mine)
+          (has_by n r vs us (sym more) b.1 a.1 has),
+      ordered_by us vs more a.1 b.1 h.1,
+    )
+
+pub ordered_alike : (us vs : List Value) → AreAlike us vs → AreOrdered us → AreOrdered vs
+ordered_alike us vs h ordered = ordered_by us vs h.same h.can h.can_too ordered
+
+-- units that are written alike as these and those
+record AreSplit (us xs ys : List Value) : Type 0 where
+  front : List Value
+  back : List Value
+  is : us ≡ front ++ back
+  like_front : AreAlike front xs
+  like_back : AreAlike back ys
+
+split_by : (us xs ys : List Value) → map written us ≡ map written (xs ++ ys) → AllByRecursion CanBeWritten us →
+    AllByRecursion CanBeWritten (xs ++ ys) → AreSplit us xs ys
+split_by us [] ys e a b = record {
+  front = [];
+  back = us;
+  is = refl;
+  like_front = record { same = refl; can = tt; can_too = tt };
+  like_back = record { same = e; can = a; can_too = b };
+}
+split_by [] (x ∷ xs) ys e a b = absurd (cc)
+split_by (u ∷ us) (x ∷ xs) ys e a b =
+    let one : written u ≡ written x = cc in
+    let more : map written us ≡ map written (xs ++ ys) = cc in
+    let s = split_by us xs ys more a.1 b.1 in
+    record {
+      front = u ∷ s.front;
+      back = s.back;
+      is = λ i. u ∷ s.is i;
+      like_front = record {
+        same = λ i. one i ∷ s.like_front.same i;
+        can = (a.0, s.like_front.can);
+        can_too = (b.0, s.like_front.can_too);
+      };
+      like_back = s.like_back;
+    }
+
+-- ---- references of those that wait
+
+pub has_above : (given b n r : ℕ) (vs : List Value) → AreAbove given b vs → HasCc n r vs → b < r
+has_above given b n r [] a h = absurd h
+has_above given b n r (confirm m x ∷ vs) (above, a) (inl (mine, source)) = omega (arith, above, source)
+has_above given b n r (confirm m x ∷ vs) (above, a) (inr h) =
+    let more = has_above given x.source n r vs a h in omega (arith, above, more)
+has_above given b n r (request x ∷ vs) a (inl h) = absurd h
+has_above given b n r (request x ∷ vs) a (inr h) = has_above given b n r vs a h
+has_above given b n r (disconnect m source reason user ∷ vs) a (inl h) = absurd h
+has_above given b n r (disconnect m source reason user ∷ vs) a (inr h) = has_above given b n r vs a h
+has_above given b n r (disconnected m source ∷ vs) a (inl h) = absurd h
+has_above given b n r (disconnected m source ∷ vs) a (inr h) = has_above given b n r vs a h
+has_above given b n r (data0 end user ∷ vs) a (inl h) = absurd h
+has_above given b n r (data0 end user ∷ vs) a (inr h) = has_above given b n r vs a h
+has_above given b n r (data2 m number end user ∷ vs) a (inl h) = absurd h
+has_above given b n r (data2 m number end user ∷ vs) a (inr h) = has_above given b n r vs a h
+has_above given b n r (acknowledge credit m number ∷ vs) a (inl h) = absurd h
+has_above given b n r (acknowledge credit m number ∷ vs) a (inr h) = has_above given b n r vs a h
+has_above given b n r (error m cause ∷ vs) a (inl h) = absurd h
+has_above given b n r (error m cause ∷ vs) a (inr h) = has_above given b n r vs a h
+
+-- no two give the same one
+pub not_twice : {A : Type 0} (given b m n r : ℕ) (xs ys : List Value) → AreAbove given b (xs ++ ys) → HasCc m r xs → HasCc n r ys → A
+not_twice given b m n r [] ys a h k = absurd h
+not_twice given b m n r (confirm i x ∷ xs) ys (above, a) (inl (mine, source)) k =
+    let more = has_above given x.source n r (xs ++ ys) a (has_back n r xs ys k) in absurd (omega (arith, more, source))
+not_twice given b m n r (confirm i x ∷ xs) ys (above, a) (inr h) k = not_twice given x.source m n r xs ys a h k
+not_twice given b m n r (request x ∷ xs) ys a (inl h) k = absurd h
+not_twice given b m n r (request x ∷ xs) ys a (inr h) k = not_twice given b m n r xs ys a h k
+not_twice given b m n r (disconnect i source reason user ∷ xs) ys a (inl h) k = absurd h
+not_twice given b m n r (disconnect i source reason user ∷ xs) ys a (inr h) k = not_twice given b m n r xs ys a h k
+not_twice given b m n r (disconnected i source ∷ xs) ys a (inl h) k = absurd h
+not_twice given b m n r (disconnected i source ∷ xs) ys a (inr h) k = not_twice given b m n r xs ys a h k
+not_twice given b m n r (data0 end user ∷ xs) ys a (inl h) k = absurd h
+not_twice given b m n r (data0 end user ∷ xs) ys a (inr h) k = not_twice given b m n r xs ys a h k
+not_twice given b m n r (data2 i number end user ∷ xs) ys a (inl h) k = absurd h
+not_twice given b m n r (data2 i number end user ∷ xs) ys a (inr h) k = not_twice given b m n r xs ys a h k
+not_twice given b m n r (acknowledge credit i number ∷ xs) ys a (inl h) k = absurd h
+not_twice given b m n r (acknowledge credit i number ∷ xs) ys a (inr h) k = not_twice given b m n r xs ys a h k
+not_twice given b m n r (error i cause ∷ xs) ys a (inl h) k = absurd h
+not_twice given b m n r (error i cause ∷ xs) ys a (inr h) k = not_twice given b m n r xs ys a h k
+
+-- so among units that are written alike
+pub not_twice_alike : {A : Type 0} (given b m n r : ℕ) (us xs ys : List Value) → AreAlike us (xs ++ ys) → AreAbove given b us →
+    HasCc m r xs → HasCc n r ys → A
+not_twice_alike given b m n r us xs ys like above h k =
+    let s = split_by us xs ys like.same like.can like.can_too in
+    not_twice given b m n r s.front s.back (subst (AreAbove given b) s.is above)
+    (has_alike m r xs s.front (turned s.front xs s.like_front) h) (has_alike n r ys s.back (turned s.back ys s.like_back) k)

@@ -1,0 +1,564 @@
+-- What has come for a connection of a calling end that has not opened: its CC has passed the tap, or no DT and no AK for it has. So it is
+-- at the beginning, and each step keeps it so, as long as nobody breaks a rule.
+-- For the session of each connection of a calling end.
+use Rattle.std.proofs.Common.{◌≡◌, ◌∙◌, ◌⊎◌, inl, inr, refl, sym, ap, subst, ℕ, ◌<◌, Bool, true, false, List, [], ◌∷◌, ◌++◌}
+use Rattle.std.proofs.Common.{Option, Some, None, is_some, drop, length, map, append_assoc, arith}
+use Rattle.std.specs.Prelude.{◌&&◌, ◌||◌, not, option_map, slice_get}
+use Rattle.std.specs.List.{AllByRecursion}
+use Rattle.std.proofs.lemmas.Bool.{eqb-true}
+use Rattle.std.proofs.lemmas.List.{append-nil}
+use Rattle.std.proofs.lemmas.Option.{slice_get-map}
+use Rattle.osi_tpdu.specs.Packet.{units_of}
+use Rattle.osi_tpdu.specs.Value.{Connect, HasFieldsInRange, Value, acknowledge, confirm, data0, data2, destination_of, disconnect}
+use Rattle.osi_tpdu.specs.Value.{disconnected, error, request}
+use Rattle.osi_tpdu.specs.Writing.{Fits}
+use Rattle.osi_tpdu.proofs.the_units_of_a_packet.{units_fit, units_found}
+use Rattle.osi_class.specs.declared.terms.Local.{Local}
+use Rattle.osi_carrier.specs.State.{State as Carrier}
+use Rattle.osi_judge.specs.declared.directions.Direction.TheVariants.{Left, Right}
+use Rattle.osi_rules.specs.declared.connections.Connection.{Connection}
+use Rattle.osi_rules.specs.declared.directions.Direction.{Direction as Way}
+use Rattle.osi_rules.specs.declared.directions.Direction.TheVariants as way
+use Rattle.osi_rules.specs.declared.findings.Finding.TheVariants.{Broke}
+use Rattle.osi_rules.specs.declared.findings.Reach.{Reach}
+use Rattle.osi_rules.specs.declared.findings.Reach.TheVariants as reach
+use Rattle.osi_rules.specs.declared.findings.Rule.TheVariants as rule
+use Rattle.osi_rules.specs.declared.halves.Half.{Half}
+use Rattle.osi_rules.specs.declared.halves.Phase.{Phase}
+use Rattle.osi_rules.specs.declared.halves.Phase.TheVariants.{Closed, Closing, Open, Refused, Silent}
+use Rattle.osi_rules.specs.Reaches.{is_applied}
+use Rattle.osi_rules.specs.Rows.{Test, acknowledge_tests, data2_tests, first_failed}
+use Rattle.osi_rules.specs.Sides.{begins, is_closed, is_closing, is_open, is_silent}
+use Rattle.osi_rules.specs.Traffic.{Outcome, State, asked_by, connection_after, found, found_on, judged_on, takes, uses_source}
+use Rattle.osi_rules.specs.Traffic as traffic
+use Rattle.osi_fair.specs.Naming.{packet}
+use Rattle.osi_fair.specs.Naming.{unit as passing}
+use Rattle.osi_fair.specs.Wholes.{Whole}
+use Rattle.osi_fair.specs.Wholes as wholes
+use Rattle.osi_fair.proofs.a_calling_end_is_fair_in_class_2.{Joined as Follows, next_joined}
+use Rattle.osi_fair.proofs.a_dr_for_what_is_gone.{before_clear}
+use Rattle.osi_fair.proofs.each_connection_has_its_line.{Followed, IsAnswer, Tracked, all_so, is_tracked}
+use Rattle.osi_fair.proofs.no_two_open_connections_have_one_peer.{both, differ, left_open}
+use Rattle.osi_fair.proofs.what_becomes_of_a_connection.{IsIdle, Told, comes_for}
+use Rattle.osi_fair.proofs.what_holds_of_one_item.{HoldsOfEach, after_add, after_map, after_set}
+use Rattle.osi_fair.proofs.what_keeps_names_apart.{Sound}
+use Rattle.osi_fair.proofs.what_stays_of_each_connection.{left_then, own_stays, right_passes}
+use Rattle.osi_fair.proofs.what_the_other_side_closes.{IsClear, is_name, judged_same}
+use Rattle.osi_fair.proofs.which_units_are_for_a_connection.{each_picked, names, picked_join, picked_other, those, those_join}
+use Rattle.osi_honest.specs.Courses.{Continues, Deeds, units_in, units_read}
+use Rattle.osi_honest.specs.Marked.{Marked}
+use Rattle.osi_honest.specs.Turns.{Turn}
+use Rattle.osi_honest.proofs.courses.how_long_a_connection_is_open.{Life, Stage, amid, early, past, stage_at, stays}
+use Rattle.osi_stack.specs.Calls.{has_given}
+use Rattle.osi_stack.specs.State.{Holding}
+use Rattle.osi_tap.specs.Connections.{Joined, Sessions}
+use Rattle.osi_tap.specs.Courses.{Course, packet_begins, unit_passes, units_pass}
+use Rattle.osi_watched.specs.Joint.{Joint, Steps, TakesTurn, begin, begins_other, begins_own, passes_other, passes_own}
+use Rattle.osi_watched.specs.ShownPlaces.{HaveSamePlaces, IsOneOf, named_by}
+use Rattle.osi_watched.proofs.a_carrier_does_events.{none_of}
+use Rattle.osi_watched.proofs.steps_are_events.{IsFollowed, own_first}
+use Rattle.osi_watched.proofs.the_first_break_is_not_of_an_end.{IsNoBreak}
+use Rattle.osi_watched.proofs.sessions.a_calling_end_hears_what_breaks_no_rule.{AreFine}
+use Rattle.osi_watched.proofs.sessions.a_calling_end_is_ready.{IsCalling, first, right_plain, whole_joined}
+use Rattle.osi_watched.proofs.sessions.a_calling_end_takes_nothing_before_its_cc.{AwaitsCc, awaits_cc}
+use Rattle.osi_watched.proofs.sessions.a_calling_end_takes_what_is_in_flight.{early_lasts, given_so}
+use Rattle.osi_watched.proofs.sessions.a_turn_does_what_its_deeds_say.{turn_leaves, units_join}
+use Rattle.osi_watched.proofs.sessions.a_unit_is_joined_where_it_is_named.{named_there, names_there}
+use Rattle.osi_watched.proofs.sessions.connections_have_the_same_places.{unit_knows}
+use Rattle.osi_watched.proofs.sessions.nothing_is_done_before_a_cr_passes.{IsNoZero, same_units}
+use Rattle.osi_watched.proofs.sessions.steps_leave_all_standing.{IsFine}
+use Rattle.osi_watched.proofs.sessions.what_a_turn_puts_goes_to_its_peer.{all_front, one_of}
+use Rattle.osi_watched.proofs.sessions.what_a_unit_does_at_its_place.{Does, asks_again, asks_more, nowhere, somewhere, unit_does}
+use Rattle.osi_watched.proofs.sessions.what_stands_of_a_connection.{is_for, waiting_for}
+
+-- ---- what is so
+
+-- the end may open the connection with this reference
+abbrev pub MayOpen : Carrier → ℕ → Type 0
+MayOpen end r = (0 < r) × (stage_at r end ≡ early)
+
+-- if the end has closed this connection at the tap, it can't open there any more
+abbrev pub IsPast : Carrier → Half → Type 0
+IsPast end half = is_open half.phase ≡ false → MayOpen end half.reference → ⊥
+
+pub record IsQuiet (end : Carrier) (coming : List Value) (s : State) : Type 0 where
+  -- of a connection that may open the CC has passed, or nothing that has come is for it
+  pub before : (r : ℕ) → MayOpen end r → Tracked s.connections r ⊎ (waiting_for (Some r) coming ≡ [])
+  pub closed : HoldsOfEach (λ (c : Connection). IsPast end c.left) s.connections
+
+-- with another end and other units, as long as the connection may open
+quiet_as : (a b : Carrier) (xs ys : List Value) (s t : State) → t ≡ s → ((r : ℕ) → MayOpen b r → MayOpen a r × (ys ≡ xs)) →
+    IsQuiet a xs s → IsQuiet b ys t
+quiet_as a b xs ys s t same alike q =
+    subst (IsQuiet b ys) (sym same) (record {
+      before = λ r may. by r (q.before r (alike r may).0) (alike r may).1;
+      closed = λ p c at shut may. q.closed p c at shut (alike c.left.reference may).0;
+    })
+  where
+    by : (r : ℕ) → Tracked s.connections r ⊎ (waiting_for (Some r) xs ≡ []) → ys ≡ xs →
+        Tracked s.connections r ⊎ (waiting_for (Some r) ys ≡ [])
+    by r (inl tracked) e = inl tracked
+    by r (inr none) e = inr (ap (waiting_for (Some r)) e ∙ none)
+
+-- ---- a connection whose CC has come stays open at the tap
+
+abbrev is_answered : Whole → Value → Type 0
+is_answered w v = IsAnswer w.tap.connections w.end v
+
+answer_of : (local : Local) (w next : Whole) (more : List Value) → Followed local next → next.coming ≡ w.coming ++ more → (r : ℕ) →
+    next.end.ended ≡ None → AwaitsCc r w.coming → Tracked next.tap.connections r
+answer_of local w next more f is r lasts a =
+    let all : AllByRecursion (is_answered next) (those r (w.coming ++ more)) =
+    each_picked (is_answered next) (names r) (w.coming ++ more)
+    (all_so (is_answered next) (λ v. names r v ≡ true → is_answered next v) (w.coming ++ more) (λ v h named. h)
+    (subst (AllByRecursion (is_answered next)) is f.answers)) in
+    let some = all_front (is_answered next) (those r w.coming) (those r more)
+    (subst (AllByRecursion (is_answered next)) (those_join r w.coming more) all) in
+    let one = one_of (is_answered next) a.before a.after (confirm r a.confirmed)
+    (subst (AllByRecursion (is_answered next)) a.is some) in
+    (one r a.confirmed refl lasts).0
+
+given_there : (local : Local) (w : Whole) (r : ℕ) → Follows local w → 0 < r → Tracked w.tap.connections r → has_given r w.end ≡ true
+given_there local w r j some (p, c, at, tracked, same) =
+    let newer = j.kept.newer in
+    let low = newer.below p c at in
+    let most = newer.given in
+    given_so r w.end some (omega (arith, low, most, same))
+
+-- as the tap knows more of the same end
+still_tracked : (local : Local) (w next : Whole) (more : List Value) → Follows local w → Follows local next → IsClear w.tap.course →
+    IsClear next.tap.course → next.end ≡ w.end → next.coming ≡ w.coming ++ more → (r : ℕ) → MayOpen w.end r →
+    Tracked w.tap.connections r → Tracked next.tap.connections r
+still_tracked local w next more j then_j clear then_clear same is r may tracked =
+    let lasts = early_lasts r w.end may.1 in
+    answer_of local w next more (then_j.followed then_clear) is r (ap (λ (c : Carrier). c.ended) same ∙ lasts)
+    (awaits_cc local w r (j.followed clear) tracked (given_there local w r j may.0 tracked) may.1 lasts)
+
+-- ---- a unit of the end passes
+
+not_open : {A : Type 0} (p : Phase) → is_open p ≡ true → is_closing p ≡ true → A
+not_open Silent h k = absurd (cc h)
+not_open Open h k = absurd (cc k)
+not_open Refused h k = absurd (cc h)
+not_open Closing h k = absurd (cc h)
+not_open Closed h k = absurd (cc h)
+
+own_judged : (r : Reach) (c : Connection) → (judged_on r c).left ≡ c.left
+own_judged reach.Nothing c = refl
+own_judged reach.Connection c = refl
+own_judged reach.Side c = refl
+own_judged reach.Everything c = refl
+
+-- right has sent a CC, and has not answered a DR of left
+there_by : (c : Connection) (n : ℕ) (p : Phase) → Sound c → is_open c.left.phase ≡ true → c.right.phase ≡ p →
+    named_by p c.right.reference ≡ Some n → (is_open p || is_closing p) ≡ true
+there_by c n Silent sound opened e named = absurd (cc named)
+there_by c n Refused sound opened e named = absurd (cc named)
+there_by c n Open sound opened e named = refl
+there_by c n Closing sound opened e named = refl
+there_by c n Closed sound opened e named = not_open c.left.phase opened (sound.right_closed (ap is_closed e))
+
+-- a unit by which left closes a connection names it
+module _ (c : Connection) (sound : Sound c) (opened : is_open c.left.phase ≡ true) (v : Value)
+    (named : (n : ℕ) → destination_of v ≡ Some n → named_by c.right.phase c.right.reference ≡ Some n) where
+  abbrev IsThere : Type 0
+  IsThere = is_tracked c ≡ true
+
+  named_so : (n : ℕ) → destination_of v ≡ Some n → IsThere
+  named_so n e = both (is_open c.left.phase) (is_open c.right.phase || is_closing c.right.phase) opened
+      (there_by c n c.right.phase sound opened refl (named n e))
+
+still_open : {A : Type 0} (c e : Connection) → e.left ≡ c.left → is_open c.left.phase ≡ true → is_open e.left.phase ≡ false → A
+still_open c e same opened shut = differ (is_open c.left.phase) opened (ap (λ (h : Half). is_open h.phase) (sym same) ∙ shut)
+
+closed_there : (b : Bool) (r : Reach) (c : Connection) → Sound c → is_open c.left.phase ≡ true → (v : Value) →
+    ((n : ℕ) → destination_of v ≡ Some n → named_by c.right.phase c.right.reference ≡ Some n) →
+    is_open (connection_after way.Left v b r c).left.phase ≡ false → is_tracked c ≡ true
+closed_there false r c sound opened v named shut = still_open c (judged_on r c) (own_judged r c) opened shut
+closed_there true r c sound opened (request x) named shut =
+    still_open c (connection_after way.Left (request x) true r c) (own_judged r c) opened shut
+closed_there true r c sound opened (confirm n x) named shut = named_so c sound opened (confirm n x) named n refl
+closed_there true r c sound opened (disconnect n source reason user) named shut =
+    named_so c sound opened (disconnect n source reason user) named n refl
+closed_there true r c sound opened (disconnected n source) named shut = named_so c sound opened (disconnected n source) named n refl
+closed_there true r c sound opened (data0 end user) named shut =
+    differ (is_open c.left.phase) opened
+    (sym (ap (λ (h : Half). is_open h.phase) (own_judged r _)) ∙ shut)
+closed_there true r c sound opened (data2 n number end user) named shut = named_so c sound opened (data2 n number end user) named n refl
+closed_there true r c sound opened (acknowledge credit n number) named shut =
+    named_so c sound opened (acknowledge credit n number) named n refl
+closed_there true r c sound opened (error n cause) named shut = named_so c sound opened (error n cause) named n refl
+
+some_one : (c e : Connection) → Some c ≡ Some e → c ≡ e
+some_one c e h = cc
+
+module _ (local : Local) (v : Value) (w : Whole) (rest : List Value) (put : w.put ≡ v ∷ rest) (begun : w.begun ≡ true) (t : Sessions)
+    (places : HaveSamePlaces w.tap.connections t.live) (j : Follows local w)
+    (then_clear : IsClear (takes way.Left v w.tap).state.course) (q : IsQuiet w.end w.coming w.tap) where
+  abbrev own_after : Whole
+  own_after = record w { put = rest; begun = false; tap = (takes way.Left v w.tap).state }
+
+  own_joined : Follows local own_after
+  own_joined = next_joined local wholes.passes_own w own_after (v, put, begun, refl) j
+
+  own_clear : IsClear w.tap.course
+  own_clear = before_clear (passing way.Left v) w.tap then_clear
+
+  own_still : (r : ℕ) → MayOpen w.end r → Tracked w.tap.connections r → Tracked own_after.tap.connections r
+  own_still = still_tracked local w own_after [] j own_joined own_clear then_clear refl (sym (append-nil w.coming))
+
+  -- one that was open, and that this unit closes
+  own_shut : (i : ℕ) (c e : Connection) → slice_get w.tap.connections i ≡ Some c → slice_get own_after.tap.connections i ≡ Some e →
+      e.left.reference ≡ c.left.reference → is_tracked c ≡ true → is_open e.left.phase ≡ false → MayOpen w.end c.left.reference → ⊥
+  own_shut i c e at there same tracked shut may =
+      let (p, x, here, then_tracked, is) = own_still c.left.reference may (i, c, at, tracked, refl) in
+      let one : i ≡ p = own_joined.kept.sane.distinct i p e x there here (same ∙ sym is) in
+      let both_there : Some e ≡ Some x = sym there ∙ ap (slice_get own_after.tap.connections) one ∙ here in
+      differ (is_open e.left.phase)
+      (ap (λ (y : Connection). is_open y.left.phase) (some_one e x both_there) ∙ left_open x then_tracked) shut
+
+  own_by : (i : ℕ) (c : Connection) (k : Joined) (b opened : Bool) (r : Reach) → is_open c.left.phase ≡ opened →
+      slice_get w.tap.connections i ≡ Some c → IsOneOf c k → (takes way.Left v w.tap).told.place ≡ Some i →
+      is_applied (found_on way.Left w.tap c v) ≡ b →
+      slice_get own_after.tap.connections i ≡ Some (connection_after way.Left v b r c) →
+      IsPast w.end (connection_after way.Left v b r c).left
+  own_by i c k b false r e at one place is there shut may =
+      let same = (own_stays b w.tap v r c is).reference in
+      q.closed i c at e (subst (MayOpen w.end) same may)
+  own_by i c k b true r e at one place is there shut may =
+      let same = (own_stays b w.tap v r c is).reference in
+      let judged = j.kept.sane.judged own_clear.sure.firm i c at in
+      let tracked = closed_there b r c (j.kept.sane.apart.sound i c at judged) e v
+      (λ n named. sym one.called ∙ named_there Left n c k one judged (names_there way.Left v w.tap n i c at named place)) shut in
+      own_shut i c (connection_after way.Left v b r c) at there same tracked shut (subst (MayOpen w.end) same may)
+
+  asked_open : {A : Type 0} (x : Connection) (y : Connect) → x ≡ asked_by y → is_open x.left.phase ≡ false → A
+  asked_open x y is shut = differ true refl (ap (λ (c : Connection). is_open c.left.phase) (sym is) ∙ shut)
+
+  own_closed : (d : Does Left 0 v w.tap t (takes way.Left v w.tap)) → HoldsOfEach (λ (c : Connection). IsPast w.end c.left)
+      own_after.tap.connections
+  own_closed (nowhere place cs ts) p x at = q.closed p x (ap (λ (l : List Connection). slice_get l p) (sym cs) ∙ at)
+  own_closed (somewhere i c k b r place there here one finding is cs ts) p x at =
+      by (after_set w.tap.connections i p (connection_after way.Left v b r c) x (ap (λ (l : List Connection). slice_get l p) (sym cs) ∙ at))
+    where
+      by : ((p ≡ i) × (x ≡ connection_after way.Left v b r c)) ⊎ (slice_get w.tap.connections p ≡ Some x) → IsPast w.end x.left
+      by (inr was) = q.closed p x was
+      by (inl (same, new)) =
+          subst (λ (e : Connection). IsPast w.end e.left) (sym new)
+          (own_by i c k b (is_open c.left.phase) r refl there one place is
+          (ap (slice_get own_after.tap.connections) (sym same) ∙ at ∙ ap (λ (e : Connection). Some e) new))
+  own_closed (asks_more y is number cs ts) p x at =
+      by (after_add w.tap.connections p (asked_by y) x (ap (λ (l : List Connection). slice_get l p) (sym cs) ∙ at))
+    where
+      by : ((p ≡ length w.tap.connections) × (x ≡ asked_by y)) ⊎ (slice_get w.tap.connections p ≡ Some x) → IsPast w.end x.left
+      by (inr was) = q.closed p x was
+      by (inl (same, new)) = λ shut may. asked_open x y new shut
+  own_closed (asks_again y is number i k here cs ts) p x at =
+      by (after_set w.tap.connections i p (asked_by y) x (ap (λ (l : List Connection). slice_get l p) (sym cs) ∙ at))
+    where
+      by : ((p ≡ i) × (x ≡ asked_by y)) ⊎ (slice_get w.tap.connections p ≡ Some x) → IsPast w.end x.left
+      by (inr was) = q.closed p x was
+      by (inl (same, new)) = λ shut may. asked_open x y new shut
+
+  own_before : (r : ℕ) → MayOpen w.end r → Tracked w.tap.connections r ⊎ (waiting_for (Some r) w.coming ≡ []) →
+      Tracked own_after.tap.connections r ⊎ (waiting_for (Some r) w.coming ≡ [])
+  own_before r may (inl tracked) = inl (own_still r may tracked)
+  own_before r may (inr none) = inr none
+
+  own_quiet : IsQuiet w.end w.coming (takes way.Left v w.tap).state
+  own_quiet = record {
+    before = λ r may. own_before r may (q.before r may);
+    closed = own_closed (unit_does Left 0 v w.tap t places);
+  }
+
+-- ---- a unit of the other side passes
+
+-- a DT or an AK for this reference
+pub data IsForOne (r : ℕ) (v : Value) : Type 0 where
+  a_dt : (number : ℕ) (end : Bool) (user : List ℕ) → v ≡ data2 r number end user → IsForOne r v
+  an_ak : (credit number : ℕ) → v ≡ acknowledge credit r number → IsForOne r v
+
+for_one : (r : ℕ) (v : Value) → IsNoZero v → is_for (Some r) v ≡ true → IsForOne r v
+for_one r (data2 n number end user) zero h = a_dt number end user (ap (λ (m : ℕ). data2 m number end user) (eqb-true n r h))
+for_one r (acknowledge credit n number) zero h = an_ak credit number (ap (λ (m : ℕ). acknowledge credit m number) (eqb-true n r h))
+for_one r (data0 end user) zero h = absurd zero
+for_one r (request x) zero h = absurd (cc h)
+for_one r (confirm n x) zero h = absurd (cc h)
+for_one r (disconnect n source reason user) zero h = absurd (cc h)
+for_one r (disconnected n source) zero h = absurd (cc h)
+for_one r (error n cause) zero h = absurd (cc h)
+
+-- its sender has sent a CC, and has not closed the connection
+open_by : (silent opened : Bool) (tests : List Test) →
+    IsNoBreak (first_failed ((not silent, Broke rule.UnknownReference) ∷ (opened, Broke rule.Closed) ∷ tests)) → opened ≡ true
+open_by true opened tests none = absurd none
+open_by false true tests none = refl
+open_by false false tests none = absurd none
+
+right_open : (s : State) (c : Connection) → c.is_judged ≡ true → (r : ℕ) (v : Value) → IsForOne r v →
+    IsNoBreak (found_on way.Right s c v) → is_open c.right.phase ≡ true
+right_open s c judged r v (a_dt number end user is) none =
+    let dt : Value = data2 r number end user in
+    let found_so : IsNoBreak (found way.Right s.course (uses_source way.Right s.connections dt) c dt) =
+    subst IsNoBreak (judged_same c.is_judged (found way.Right s.course (uses_source way.Right s.connections dt) c dt) judged)
+    (subst (λ (u : Value). IsNoBreak (found_on way.Right s c u)) is none) in
+    open_by (is_silent c.right.phase) (is_open c.right.phase) (drop 2 (data2_tests way.Right c number (length user))) found_so
+right_open s c judged r v (an_ak credit number is) none =
+    let ak : Value = acknowledge credit r number in
+    let found_so : IsNoBreak (found way.Right s.course (uses_source way.Right s.connections ak) c ak) =
+    subst IsNoBreak (judged_same c.is_judged (found way.Right s.course (uses_source way.Right s.connections ak) c ak) judged)
+    (subst (λ (u : Value). IsNoBreak (found_on way.Right s c u)) is none) in
+    open_by (is_silent c.right.phase) (is_open c.right.phase) (drop 2 (acknowledge_tests way.Right c number credit)) found_so
+
+destination_is : (r : ℕ) (v : Value) → IsForOne r v → destination_of v ≡ Some r
+destination_is r v (a_dt number end user is) = ap destination_of is
+destination_is r v (an_ak credit number is) = ap destination_of is
+
+same_name : (o : Option ℕ) (n m : ℕ) → o ≡ Some n → o ≡ Some m → n ≡ m
+same_name o n m e h = let same : Some n ≡ Some m = sym e ∙ h in cc
+
+no_dc : {A : Type 0} (r m source : ℕ) (v : Value) → IsForOne r v → v ≡ disconnected m source → A
+no_dc r m source v (a_dt number end user is) e = absurd (cc (sym is ∙ e))
+no_dc r m source v (an_ak credit number is) e = absurd (cc (sym is ∙ e))
+
+module _ (local : Local) (v : Value) (ranges : HasFieldsInRange v) (w : Whole) (j : Follows local w)
+    (none : IsNoBreak (takes way.Right v w.tap).told.finding) (zero : IsNoZero v) (clear : IsClear w.tap.course)
+    (then_clear : IsClear (takes way.Right v w.tap).state.course) (q : IsQuiet w.end w.coming w.tap) where
+  abbrev other_after : Whole
+  other_after = record w { tap = (takes way.Right v w.tap).state; coming = w.coming ++ v ∷ [] }
+
+  other_joined : Follows local other_after
+  other_joined = next_joined local (wholes.passes_other v) w other_after (ranges, refl) j
+
+  other_still : (r : ℕ) → MayOpen w.end r → Tracked w.tap.connections r → Tracked other_after.tap.connections r
+  other_still = still_tracked local w other_after (v ∷ []) j other_joined clear then_clear refl refl
+
+  -- the connection that a DT or an AK names has its CC
+  named_there_by : (r : ℕ) → MayOpen w.end r → IsForOne r v → (t : Told v w.tap (takes way.Right v w.tap)) → (opened : Bool) →
+      is_open t.c.left.phase ≡ opened → t.c.left.reference ≡ r → is_open t.c.right.phase ≡ true → Tracked w.tap.connections r
+  named_there_by r may one t true e same right = (
+    t.q,
+    t.c,
+    t.at,
+    both (is_open t.c.left.phase) (is_open t.c.right.phase || is_closing t.c.right.phase) e
+        (ap (λ (b : Bool). b || is_closing t.c.right.phase) right),
+    same,
+  )
+  named_there_by r may one t false e same right = absurd (q.closed t.q t.c t.at e (subst (MayOpen w.end) (sym same) may))
+
+  tracked_of : (r : ℕ) → MayOpen w.end r → IsForOne r v →
+      Told v w.tap (takes way.Right v w.tap) ⊎ IsIdle v w.tap (takes way.Right v w.tap) → Tracked w.tap.connections r
+  tracked_of r may one (inr idle) = no_dc r idle.m idle.source v one idle.dc
+  tracked_of r may one (inl t) =
+      let judged = j.kept.sane.judged clear.sure.firm t.q t.c t.at in
+      let sound = j.kept.sane.apart.sound t.q t.c t.at judged in
+      let same : t.c.left.reference ≡ r =
+      is_name t.c t.n sound t.named ∙ same_name (destination_of v) t.n r t.dest (destination_is r v one) in
+      let found_none = subst IsNoBreak (ap (λ (o : Outcome). o.told.finding) t.is) none in
+      named_there_by r may one t (is_open t.c.left.phase) refl same (right_open w.tap t.c judged r v one found_none)
+
+  tracked_now : (r : ℕ) → MayOpen w.end r → IsForOne r v → Tracked w.tap.connections r
+  tracked_now r may one =
+      tracked_of r may one (comes_for w.tap clear.sure.firm v clear.sure.left clear.sure.right (j.followed clear).zero then_clear.sure)
+
+  other_before : (r : ℕ) → MayOpen w.end r → Tracked w.tap.connections r ⊎ (waiting_for (Some r) w.coming ≡ []) →
+      Tracked other_after.tap.connections r ⊎ (waiting_for (Some r) (w.coming ++ v ∷ []) ≡ [])
+  other_before r may (inl tracked) = inl (other_still r may tracked)
+  other_before r may (inr waits) = by (is_for (Some r) v) refl
+    where
+      by : (b : Bool) → is_for (Some r) v ≡ b →
+          Tracked other_after.tap.connections r ⊎ (waiting_for (Some r) (w.coming ++ v ∷ []) ≡ [])
+      by false e = inr (picked_other (is_for (Some r)) w.coming v e ∙ waits)
+      by true e = inl (other_still r may (tracked_now r may (for_one r v zero e)))
+
+  other_quiet : IsQuiet w.end (w.coming ++ v ∷ []) (takes way.Right v w.tap).state
+  other_quiet = record {
+    before = λ r may. other_before r may (q.before r may);
+    closed = (right_passes (λ (c : Connection). IsPast w.end c.left) v w.tap
+        (λ c h r. subst (IsPast w.end) (sym (left_then v (is_applied (found_on way.Right w.tap c v)) r c)) h) q.closed
+        j.kept.sane.distinct).0;
+  }
+
+-- ---- the units of a packet of the other side
+
+clear_first : (at : ℕ) (vs : List Value) (c : Course) → AreFine at vs c → IsClear (units_pass Right at vs c).traffic.course →
+    IsClear c.traffic.course
+clear_first at [] c fine clear = clear
+clear_first at (v ∷ vs) c (one, clear, more) then_clear = clear
+
+zero_of : (v : Value) (c : Course) → IsFine Right v c → IsNoZero v
+zero_of v c fine = (right_plain 0 v c.traffic fine.goes fine.two fine.none).0
+
+units_quiet : (local : Local) (at : ℕ) (vs : List Value) (w : Whole) (c : Course) → AreFine at vs c →
+    IsClear (units_pass Right at vs c).traffic.course → AllByRecursion HasFieldsInRange vs → Follows local w → w.tap ≡ c.traffic →
+    IsQuiet w.end w.coming w.tap → IsQuiet w.end (w.coming ++ vs) (units_pass Right at vs c).traffic
+units_quiet local at [] w c fine clear ranges j same q =
+    subst (IsQuiet w.end (w.coming ++ [])) same (subst (λ (l : List Value). IsQuiet w.end l w.tap) (sym (append-nil w.coming)) q)
+units_quiet local at (v ∷ vs) w c (one, clear, more) then_clear ranges j same q =
+    let next : Whole = record w { tap = (takes way.Right v w.tap).state; coming = w.coming ++ v ∷ [] } in
+    let knows : next.tap ≡ (unit_passes Right at v c).traffic =
+    ap (λ (s : State). (takes way.Right v s).state) same ∙ sym (unit_knows Right at v c) in
+    let next_clear = subst (λ (s : State). IsClear s.course) (sym knows) (clear_first at vs (unit_passes Right at v c) more then_clear) in
+    let now_clear = subst (λ (s : State). IsClear s.course) (sym same) clear in
+    let none = subst (λ (s : State). IsNoBreak (takes way.Right v s).told.finding) (sym same) one.none in
+    let then_quiet = other_quiet local v ranges.0 w j none (zero_of v c one) now_clear next_clear q in
+    subst (λ (l : List Value). IsQuiet w.end l (units_pass Right at (v ∷ vs) c).traffic) (append_assoc w.coming (v ∷ []) vs)
+    (units_quiet local at vs next (unit_passes Right at v c) more then_clear ranges.1
+    (next_joined local (wholes.passes_other v) w next (ranges.0, refl) j) knows then_quiet)
+
+-- ---- a turn of the end
+
+early_before : (is_caller : Bool) (r : ℕ) (s : Stage) (took put : List Marked) (t : Stage) → Life is_caller r s took put t → t ≡ early →
+    s ≡ early
+early_before is_caller r early took put t life is = refl
+early_before is_caller r past took put t life is = absurd (cc (sym life.is ∙ is))
+early_before is_caller r (amid peer) took put t life is = by life.ends
+  where
+    by : ((t ≡ amid peer) × (life.after ≡ []) × (life.put_after ≡ [])) ⊎ (t ≡ past) → amid peer ≡ early
+    by (inl (there, none, no_more)) = absurd (cc (sym there ∙ is))
+    by (inr gone) = absurd (cc (sym gone ∙ is))
+
+none_later : (r : ℕ) (xs ys : List Value) → waiting_for (Some r) (xs ++ ys) ≡ [] → waiting_for (Some r) ys ≡ []
+none_later r xs ys none = last (waiting_for (Some r) xs) (waiting_for (Some r) ys) (sym (picked_join (is_for (Some r)) xs ys) ∙ none)
+  where
+    last : (us vs : List Value) → us ++ vs ≡ [] → vs ≡ []
+    last [] vs e = e
+    last (u ∷ us) vs e = absurd (cc e)
+
+-- ---- an end and a tap
+
+abbrev pub AreQuietNow : Joint → Type 0
+AreQuietNow j = IsQuiet j.holding.end.carrier (units_in j.coming) j.course.traffic
+
+-- as long as nobody has broken a rule, and class 0 is not selected
+abbrev pub AreQuiet : Joint → Type 0
+AreQuiet j = IsClear j.course.traffic.course → AreQuietNow j
+
+pub begin_quiet : (holding : Holding) → AreQuiet (begin holding)
+begin_quiet holding = λ clear. record { before = λ r may. inr refl; closed = λ p c at. absurd (cc at) }
+
+-- a packet begins
+begun_left : (d : Way) (c : Connection) → (begins d c).left ≡ c.left
+begun_left way.Left c = refl
+begun_left way.Right c = refl
+
+begun_right : (d : Way) (c : Connection) → (begins d c).right ≡ c.right
+begun_right way.Left c = refl
+begun_right way.Right c = refl
+
+begun_tracked : (d : Way) (cs : List Connection) (r : ℕ) → Tracked cs r → Tracked (map (begins d) cs) r
+begun_tracked d cs r (p, c, at, tracked, same) = (
+  p,
+  begins d c,
+  slice_get-map (begins d) cs p ∙ ap (λ (o : Option Connection). option_map (begins d) o) at,
+  (λ i. is_open (begun_left d c i).phase && (is_open (begun_right d c i).phase || is_closing (begun_right d c i).phase)) ∙ tracked,
+  ap (λ (h : Half). h.reference) (begun_left d c) ∙ same,
+)
+
+begun_before : (end : Carrier) (coming : List Value) (d : Way) (s : State) → IsQuiet end coming s →
+    IsQuiet end coming (traffic.packet_begins d s)
+begun_before end coming d s q = record {
+  before = λ r may. by r (q.before r may);
+  closed = λ p c at shut may.
+      let (x, was, is) = after_map (begins d) s.connections p c at in
+      let same : c.left ≡ x.left = ap (λ (e : Connection). e.left) is ∙ begun_left d x in
+      subst (IsPast end) (sym same) (q.closed p x was) shut may;
+}
+  where
+    by : (r : ℕ) → Tracked s.connections r ⊎ (waiting_for (Some r) coming ≡ []) →
+        Tracked (traffic.packet_begins d s).connections r ⊎ (waiting_for (Some r) coming ≡ [])
+    by r (inl tracked) = inl (begun_tracked d s.connections r tracked)
+    by r (inr none) = inr none
+
+pub begins_own_quiet : (old new : Joint) → Steps Left begins_own old new → AreQuiet old → AreQuiet new
+begins_own_quiet old new (some, none, is) q =
+    subst AreQuiet (sym is) (λ clear.
+    begun_before old.holding.end.carrier (units_in old.coming) way.Left old.course.traffic
+    (q (before_clear (packet way.Left) old.course.traffic clear)))
+
+pub begins_other_quiet : (old new : Joint) → Steps Left begins_other old new → AreQuiet old → AreQuiet new
+begins_other_quiet old new is q =
+    subst AreQuiet (sym is) (λ clear.
+    begun_before old.holding.end.carrier (units_in old.coming) way.Right old.course.traffic
+    (q (before_clear (packet way.Right) old.course.traffic clear)))
+
+module _ (local : Local) (two : local.class2 ≡ true) where
+  -- an end at which a connection may open, and the whole end that follows it, are alike
+  whole_alike : (j : Joint) (f : IsFollowed Left (first local two) j) (r : ℕ) → MayOpen f.whole.end r →
+      MayOpen j.holding.end.carrier r × (f.whole.coming ≡ units_in j.coming)
+  whole_alike j f r may =
+      let lasts = early_lasts r f.whole.end may.1 in
+      let same = ap (stage_at r) (f.like.lasts lasts) in (
+        (may.0, sym same ∙ may.1),
+        f.coming (none_of j.holding.end.carrier.ended (f.like.over ∙ ap is_some lasts)) ∙ same_units j.coming,
+      )
+
+  joint_alike : (j : Joint) (f : IsFollowed Left (first local two) j) (r : ℕ) → MayOpen j.holding.end.carrier r →
+      MayOpen f.whole.end r × (f.whole.coming ≡ units_in j.coming)
+  joint_alike j f r may =
+      let lasts = early_lasts r j.holding.end.carrier may.1 in
+      let same = ap (stage_at r) (f.like.lasts (none_of f.whole.end.ended (sym f.like.over ∙ ap is_some lasts))) in
+      ((may.0, same ∙ may.1), f.coming lasts ∙ same_units j.coming)
+
+  to_whole : (j : Joint) (f : IsFollowed Left (first local two) j) → AreQuietNow j → IsQuiet f.whole.end f.whole.coming f.whole.tap
+  to_whole j f q =
+      quiet_as j.holding.end.carrier f.whole.end (units_in j.coming) f.whole.coming j.course.traffic f.whole.tap f.tap (whole_alike j f) q
+
+  pub passes_own_quiet : (deeds : ℕ → Deeds) (at : ℕ) (unit : Value) (old new : Joint) → Steps Left (passes_own at unit) old new →
+      IsCalling local two deeds old → HaveSamePlaces old.course.traffic.connections old.course.sessions.live → AreQuiet old →
+      AreQuiet new
+  passes_own_quiet deeds at unit old new (read, octets, put, begun, is) h places q =
+      let f = h.ahead.followed in
+      let s = own_first Left (first local two) old new unit (read, octets, put) f in
+      let knows : (takes way.Left unit old.course.traffic).state ≡ (unit_passes Left at unit old.course).traffic =
+      sym (unit_knows Left at unit old.course) in
+      let tap : (takes way.Left unit f.whole.tap).state ≡ (unit_passes Left at unit old.course).traffic =
+      ap (λ (t : State). (takes way.Left unit t).state) f.tap ∙ knows in
+      subst AreQuiet (sym is) (λ clear.
+      quiet_as f.whole.end old.holding.end.carrier f.whole.coming (units_in old.coming) (takes way.Left unit f.whole.tap).state
+      (unit_passes Left at unit old.course).traffic (sym tap) (λ r may. let (m, same) = joint_alike old f r may in (m, sym same))
+      (own_quiet local unit f.whole s.rest s.is (f.begun ∙ begun) old.course.sessions
+      (subst (λ (t : State). HaveSamePlaces t.connections old.course.sessions.live) (sym f.tap) places) (whole_joined local two old f)
+      (subst (λ (t : State). IsClear t.course) (sym tap) clear)
+      (to_whole old f (q (before_clear (passing way.Left unit) old.course.traffic
+      (subst (λ (t : State). IsClear t.course) (sym knows) clear))))))
+
+  pub passes_other_quiet : (deeds : ℕ → Deeds) (at : ℕ) (bytes : List ℕ) (units : List Value) (old new : Joint) →
+      Steps Left (passes_other at bytes units) old new → IsCalling local two deeds old → AreFine at units old.course → AreQuiet old →
+      AreQuiet new
+  passes_other_quiet deeds at bytes units old new (octets, read, is) h fine q =
+      let f = h.ahead.followed in
+      let one : units_in (bytes ∷ []) ≡ units = append-nil (units_read (units_of bytes)) ∙ ap units_read read in
+      let all : units_in (old.coming ++ bytes ∷ []) ≡ units_in old.coming ++ units =
+      units_join old.coming (bytes ∷ []) ∙ ap (λ (l : List Value). units_in old.coming ++ l) one in
+      let ranges = all_so Fits HasFieldsInRange units (λ v h. h.in_range)
+      (units_fit units bytes (units_found bytes units octets read)) in
+      let after = (units_pass Right at units old.course).traffic in
+      subst AreQuiet (sym is) (λ clear.
+      quiet_as f.whole.end old.holding.end.carrier (f.whole.coming ++ units) (units_in (old.coming ++ bytes ∷ [])) after after refl
+      (λ r may. let (m, same) = joint_alike old f r may in (m, all ∙ ap (λ (l : List Value). l ++ units) (sym same)))
+      (units_quiet local at units f.whole old.course fine clear ranges (whole_joined local two old f) f.tap
+      (to_whole old f (q (clear_first at units old.course fine clear)))))
+
+pub turns_quiet : (turn : Turn) (old new : Joint) (t : TakesTurn turn old new) (deeds : ℕ → Deeds)
+    (on : Continues true deeds old.holding turn new.holding) →
+    ((r : ℕ) → 0 < r → Life true r (stage_at r old.holding.end.carrier) on.took on.put (stage_at r new.holding.end.carrier)) →
+    AreQuiet old → AreQuiet new
+turns_quiet turn old new t deeds on life q clear =
+    let now = q (subst (λ (c : Course). IsClear c.traffic.course) t.course clear) in
+    subst (λ (c : Course). IsQuiet new.holding.end.carrier (units_in new.coming) c.traffic) (sym t.course) (record {
+      before = λ r may. by r (now.before r (was r may));
+      closed = λ p c at shut may. now.closed p c at shut (was c.left.reference may);
+    })
+  where
+    was : (r : ℕ) → MayOpen new.holding.end.carrier r → MayOpen old.holding.end.carrier r
+    was r may = (
+      may.0,
+      early_before true r (stage_at r old.holding.end.carrier) on.took on.put (stage_at r new.holding.end.carrier) (life r may.0) may.1,
+    )
+
+    by : (r : ℕ) → Tracked old.course.traffic.connections r ⊎ (waiting_for (Some r) (units_in old.coming) ≡ []) →
+        Tracked old.course.traffic.connections r ⊎ (waiting_for (Some r) (units_in new.coming) ≡ [])
+    by r (inl tracked) = inl tracked
+    by r (inr none) =
+        inr (none_later r (units_in t.used) (units_in new.coming) (ap (waiting_for (Some r)) (sym (turn_leaves turn old new t)) ∙ none))

@@ -1,0 +1,58 @@
+-- Steps of an end and a tap, with what each turn among them does at each connection of the end: it puts the units that are put for
+-- them, and no others.
+-- For the sessions of an end, and for the law that a capture of an end is steps.
+use Rattle.std.specs.Prelude.{◌≡◌, ◌⊎◌, ℕ, Bool, List, [], ◌∷◌}
+use Rattle.osi_judge.specs.Captures.{Capture}
+use Rattle.osi_judge.specs.declared.directions.Direction.{Direction}
+use Rattle.osi_stack.specs.State.{Holding}
+use Rattle.osi_honest.specs.Courses.{Deeds, all_did, no_deeds}
+use Rattle.osi_honest.specs.Marked.{all_units}
+use Rattle.osi_honest.specs.Turns.{Turn}
+use Rattle.osi_honest.proofs.courses.what_a_run_does_to_it.{TurnOf}
+use Rattle.osi_tap.specs.Tapping.{comes_to}
+use Rattle.osi_watched.specs.Joint.{Joint, Step, Steps, StepsAlong, TakesTurn, begin, begins_other, begins_own, passes_other, passes_own}
+use Rattle.osi_watched.specs.Joint.{turns}
+use Rattle.osi_watched.specs.Passing.{ComesBySteps, TurnsBad}
+
+-- what a turn does at each connection, at which this was done before
+pub record TurnDoes (is_caller : Bool) (deeds : ℕ → Deeds) (turn : Turn) (old new : Joint) (t : TakesTurn turn old new) : Type 0 where
+  pub of : TurnOf is_caller deeds turn old.holding new.holding
+  pub units : t.units ≡ all_units of.on.put
+
+-- and what each turn among these steps does
+abbrev pub StepsDo : (d : Direction) (is_caller : Bool) → (ℕ → Deeds) → (old : Joint) (steps : List Step) (new : Joint) →
+    StepsAlong d old steps new → Type 0
+StepsDo d is_caller deeds old [] new along = Unit {0}
+StepsDo d is_caller deeds old (turns turn ∷ steps) new along = (does : TurnDoes is_caller deeds turn old along.0 along.1)
+    × StepsDo d is_caller (all_did deeds does.of.on.more) along.0 steps new along.2
+StepsDo d is_caller deeds old (begins_own ∷ steps) new along = StepsDo d is_caller deeds along.0 steps new along.2
+StepsDo d is_caller deeds old (passes_own at unit ∷ steps) new along = StepsDo d is_caller deeds along.0 steps new along.2
+StepsDo d is_caller deeds old (begins_other ∷ steps) new along = StepsDo d is_caller deeds along.0 steps new along.2
+StepsDo d is_caller deeds old (passes_other at packet units ∷ steps) new along = StepsDo d is_caller deeds along.0 steps new along.2
+
+-- a step that is no turn
+abbrev pub IsOfTap : Step → Type 0
+IsOfTap (turns turn) = ⊥
+IsOfTap step = Unit {0}
+
+pub tap_first : (d : Direction) (is_caller : Bool) (deeds : ℕ → Deeds) (step : Step) → IsOfTap step → (steps : List Step)
+    (old mid new : Joint) (one : Steps d step old mid) (along : StepsAlong d mid steps new) →
+    StepsDo d is_caller deeds mid steps new along → StepsDo d is_caller deeds old (step ∷ steps) new (mid, one, along)
+tap_first d is_caller deeds (turns turn) tap steps old mid new one along does = absurd tap
+tap_first d is_caller deeds begins_own tap steps old mid new one along does = does
+tap_first d is_caller deeds (passes_own at unit) tap steps old mid new one along does = does
+tap_first d is_caller deeds begins_other tap steps old mid new one along does = does
+tap_first d is_caller deeds (passes_other at packet units) tap steps old mid new one along does = does
+
+-- What a capture comes to is what some steps come to, or these are all until the other side sends what can't be read; and this is what
+-- the turns among them do, from the beginning.
+pub record ComesByDoing (d : Direction) (is_caller : Bool) (capture : Capture) (first : Holding) : Type 0 where
+  pub steps : List Step
+  pub last : Joint
+  pub along : StepsAlong d (begin first) steps last
+  pub does : StepsDo d is_caller (λ r. no_deeds) (begin first) steps last along
+  pub all : ((comes_to capture).course ≡ last.course) ⊎ TurnsBad d capture last.course
+
+pub comes_by_steps : (d : Direction) (is_caller : Bool) (capture : Capture) (first : Holding) → ComesByDoing d is_caller capture first →
+    ComesBySteps d capture first
+comes_by_steps d is_caller capture first c = record { steps = c.steps; last = c.last; along = c.along; all = c.all }
