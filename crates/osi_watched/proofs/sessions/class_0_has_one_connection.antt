@@ -197,7 +197,7 @@ unnamed_narrow d v s n =
 
 -- ---- one connection changes
 
-set_other : (cs : List Connection) (p q : ℕ) (x : Connection) → (q ≡ p → ⊥) → slice_get (set cs p x) q ≡ slice_get cs q
+pub set_other : (cs : List Connection) (p q : ℕ) (x : Connection) → (q ≡ p → ⊥) → slice_get (set cs p x) q ≡ slice_get cs q
 set_other [] p q x h = refl
 set_other (z ∷ cs) zero zero x h = absurd (h refl)
 set_other (z ∷ cs) zero (suc q) x h = refl
