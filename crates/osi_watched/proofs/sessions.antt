@@ -67,10 +67,6 @@ pub mod no_session_of_an_end_breaks_first
 pub mod an_end_that_has_said_nothing_is_not_to_blame
 pub mod a_calling_end_without_class_2_puts_no_dt
 pub mod no_session_of_a_calling_end_breaks_first
-pub mod no_calling_end_is_blamed_first
-pub mod no_connection_is_opened_before_a_class_is_selected
-pub mod no_session_of_a_called_end_breaks_first
-pub mod no_called_end_is_blamed_first
 pub mod units_of_class_0_come_after_its_cc
 pub mod what_the_stage_of_a_calling_end_says
 pub mod class_0_keeps_its_one_place
@@ -79,3 +75,8 @@ pub mod a_calling_end_hears_what_comes_until_class_2
 pub mod a_calling_end_stands_until_class_2
 pub mod a_turn_of_a_calling_end_until_class_2
 pub mod nobody_of_a_calling_end_is_to_blame_until_class_2
+pub mod no_calling_end_is_blamed_first_in_class_0
+pub mod no_calling_end_is_blamed_first
+pub mod no_connection_is_opened_before_a_class_is_selected
+pub mod no_session_of_a_called_end_breaks_first
+pub mod no_called_end_is_blamed_first

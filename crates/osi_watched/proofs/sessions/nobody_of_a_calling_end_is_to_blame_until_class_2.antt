@@ -1,7 +1,6 @@
 -- Until class 2 is selected, and nobody has broken a rule, no session of a calling end is to blame at a tap: at each step, and after each
 -- unit of a packet of the other side. For the law that no session of an end is blamed first, in class 0.
-use Rattle.std.proofs.Common.{◌≡◌, ℕ, true, List, ◌++◌}
-use Rattle.std.specs.List.{AllByRecursion}
+use Rattle.std.proofs.Common.{ℕ, true, List, ◌++◌}
 use Rattle.osi_tpdu.specs.Value.{HasFieldsInRange, Value}
 use Rattle.osi_tpdu.proofs.the_units_of_a_packet.{units_fit, units_found}
 use Rattle.osi_class.specs.declared.terms.Local.{Local}
