@@ -12,8 +12,8 @@ use Rattle.osi_judge.proofs.honest.an_honest_side_is_kept.{CalledLaw, CallerLaw}
 use Rattle.osi_honest.proofs.class_0.what_a_packet_does_in_class_0.{AllProper}
 use Rattle.osi_tap.specs.Courses.{Course, unit_passes}
 use Rattle.osi_watched.proofs.sessions.a_calling_end_hears_what_comes_until_class_2.{AreTaken}
-use Rattle.osi_watched.proofs.sessions.a_calling_end_stands_until_class_2.{StandsUntilTwo, begin_early, begins_other_early, begins_own_early}
-use Rattle.osi_watched.proofs.sessions.a_calling_end_stands_until_class_2.{passes_other_early, passes_own_early}
+use Rattle.osi_watched.proofs.sessions.a_calling_end_stands_until_class_2.{StandsUntilTwo, begin_early, begins_other_early}
+use Rattle.osi_watched.proofs.sessions.a_calling_end_stands_until_class_2.{begins_own_early, passes_other_early, passes_own_early}
 use Rattle.osi_watched.proofs.sessions.a_turn_of_a_calling_end_until_class_2.{turns_early}
 use Rattle.osi_watched.proofs.sessions.no_session_of_an_end_breaks_first.{ArePassed, KeepsUnless}
 use Rattle.osi_watched.proofs.sessions.nobody_of_a_calling_end_is_to_blame_until_class_2.{none_amid_early, none_early}

@@ -309,7 +309,8 @@ module _ (proper : AllProper) (barred : Class) (d : Direction) (local : Local)
     abbrev After : List Value → Passed
     After front = units_pass (other d) at front old.course
 
-    blameless : (front back : List Value) → units ≡ front ++ back → ArePassed barred d at front old.course → NoneIsToBlame d (After front).sessions
+    blameless : (front back : List Value) → units ≡ front ++ back → ArePassed barred d at front old.course →
+        NoneIsToBlame d (After front).sessions
     blameless front back is taken =
         k.none_amid deeds at octets front back old new (subst (λ (l : List Value). Steps d (passes_other at octets l) old new) is step)
         g.courses taken g.holds
@@ -546,7 +547,8 @@ module _ (proper : AllProper) (barred : Class) (d : Direction) (local : Local)
   tap_stays step tap deeds old new does within s =
       step_stays step deeds deeds old new does (λ g. tap_so step tap old new does within deeds g) s
 
-  along_within : (steps : List Step) (old new : Joint) → StepsAlong d old steps new → IsWithout barred new.course → IsWithout barred old.course
+  along_within : (steps : List Step) (old new : Joint) → StepsAlong d old steps new → IsWithout barred new.course →
+      IsWithout barred old.course
   along_within [] old new is h = subst (λ (j : Joint). IsWithout barred j.course) is h
   along_within (step ∷ steps) old new (mid, one, more) h = step_without barred d step old mid one (along_within steps mid new more h)
 
