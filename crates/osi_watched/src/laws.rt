@@ -176,8 +176,8 @@ pub fn no_session_of_an_end_is_blamed_first()
         IsFirstOf (Some f) (comes_to capture).course.past → f.direction ≡ Direction.Right }
     ensures both { (mine theirs : Local) (begin end called_begin called_end : Holding) (turns called_turns : List Turn)
         (capture : Capture) (first : Option First) → AreOctets capture →
-        IsFresh true mine begin → Run begin turns end → IsSeen Direction.Left turns capture →
-        IsFresh false theirs called_begin → Run called_begin called_turns called_end → IsSeen Direction.Right called_turns capture →
+        IsFresh true mine begin → Run begin turns end → IsSeen Direction.Left turns capture → IsFresh false theirs called_begin →
+        Run called_begin called_turns called_end → IsSeen Direction.Right called_turns capture →
         (comes_to capture).course.traffic.course.class ≢ Some Class.Zero → length (comes_to capture).course.past < 2 ^ 64 →
         IsFirstOf first (comes_to capture).course.past → first ≡ None }
     ensures called_at_a_tap { (local : Local) (begin end : Holding) (turns : List Turn) (capture : Capture) (t : Tap) (f : First) →
@@ -190,8 +190,8 @@ pub fn no_session_of_an_end_is_blamed_first()
         IsFed capture t → IsJudged t → first_in t ≡ Some f → f.direction ≡ Direction.Right }
     ensures both_at_a_tap { (mine theirs : Local) (begin end called_begin called_end : Holding) (turns called_turns : List Turn)
         (capture : Capture) (t : Tap) → AreOctets capture →
-        IsFresh true mine begin → Run begin turns end → IsSeen Direction.Left turns capture →
-        IsFresh false theirs called_begin → Run called_begin called_turns called_end → IsSeen Direction.Right called_turns capture →
+        IsFresh true mine begin → Run begin turns end → IsSeen Direction.Left turns capture → IsFresh false theirs called_begin →
+        Run called_begin called_turns called_end → IsSeen Direction.Right called_turns capture →
         (comes_to capture).course.traffic.course.class ≢ Some Class.Zero → length (comes_to capture).course.past < 2 ^ 64 →
         IsFed capture t → IsJudged t → first_in t ≡ None }
 {
