@@ -81,3 +81,4 @@ pub mod no_connection_is_opened_before_a_class_is_selected
 pub mod no_session_of_a_called_end_breaks_first
 pub mod no_called_end_is_blamed_first
 pub mod a_called_end_hears_what_comes_until_class_2
+pub mod a_called_end_stands_in_class_0

@@ -2,7 +2,7 @@
 -- DTs for its one connection. For the session of the connection of a called end in class 0.
 use Rattle.std.proofs.Common.{◌≡◌, ◌∙◌, refl, sym, ap, subst, ℕ, ◌<◌, Bool, true, false, if◌then◌else◌, List, [], ◌∷◌, ◌++◌}
 use Rattle.std.proofs.Common.{Option, Some, None, is_some, append_assoc, drop}
-use Rattle.std.specs.Prelude.{◌||◌, not, slice_get}
+use Rattle.std.specs.Prelude.{◌||◌, not}
 use Rattle.std.specs.List.{AllByRecursion, list_all}
 use Rattle.std.proofs.lemmas.List.{append-nil}
 use Rattle.osi_tpdu.specs.Value.{Connect, Value, acknowledge, confirm, data0, data2, disconnect, disconnected, error, request}
@@ -12,21 +12,20 @@ use Rattle.osi_class.specs.declared.terms.Class.{Class}
 use Rattle.osi_class.specs.declared.terms.Class.TheVariants.{Two, Zero}
 use Rattle.osi_carrier.specs.State.{State as Carrier}
 use Rattle.osi_judge.specs.declared.directions.Direction.TheVariants.{Left, Right}
-use Rattle.osi_rules.specs.declared.connections.Connection.{Connection}
 use Rattle.osi_rules.specs.declared.directions.Direction.TheVariants as way
 use Rattle.osi_rules.specs.declared.findings.Finding.{Finding}
 use Rattle.osi_rules.specs.declared.findings.Finding.TheVariants.{Broke, Kept, NotJudged, Outside, TooMany}
 use Rattle.osi_rules.specs.declared.findings.Rule.TheVariants as rule
 use Rattle.osi_rules.specs.Rows.{Test, first_failed}
 use Rattle.osi_rules.specs.Sides.{is_over, is_refused}
-use Rattle.osi_rules.specs.Traffic.{Outcome, State, asks_by, class_for, is_stopped, none_told, request_tests, route, route_in, routed, takes}
+use Rattle.osi_rules.specs.Traffic.{Outcome, State, asks_by, is_stopped, none_told, request_tests, route, route_in, routed, takes}
 use Rattle.osi_fair.proofs.left_selects_no_class.{left_class}
 use Rattle.osi_honest.specs.Courses.{Deeds}
 use Rattle.osi_tap.specs.Connections.{Sessions, taken}
 use Rattle.osi_tap.specs.Courses.{Course, unit_passes, units_pass}
 use Rattle.osi_watched.proofs.the_first_break_is_not_of_an_end.{IsNoBreak}
 use Rattle.osi_watched.proofs.sessions.a_calling_end_hears_what_comes_until_class_2.{IsNotTwo}
-use Rattle.osi_watched.proofs.sessions.a_dt_of_class_0_has_one_place.{IsOnly, is_live_there}
+use Rattle.osi_watched.proofs.sessions.a_dt_of_class_0_has_one_place.{is_live_there}
 use Rattle.osi_watched.proofs.sessions.a_dt_of_class_0_leaves_all_standing as in_zero
 use Rattle.osi_watched.proofs.sessions.a_dt_of_class_0_leaves_all_standing.{GrowsThere, IsHeardZero, IsZero, told_there}
 use Rattle.osi_watched.proofs.sessions.all_connections_stand.{AllStand}
@@ -57,6 +56,17 @@ IsAsking (data2 n number end user) = ⊥
 IsAsking (acknowledge credit n number) = ⊥
 IsAsking (error n cause) = ⊥
 
+-- no CC
+abbrev pub IsNoCc : Value → Type 0
+IsNoCc (confirm n x) = ⊥
+IsNoCc (request x) = Unit {0}
+IsNoCc (disconnect n source reason user) = Unit {0}
+IsNoCc (disconnected n source) = Unit {0}
+IsNoCc (data0 end user) = Unit {0}
+IsNoCc (data2 n number end user) = Unit {0}
+IsNoCc (acknowledge credit n number) = Unit {0}
+IsNoCc (error n cause) = Unit {0}
+
 -- what is known of the parts in flight, at the connection with this reference alone
 abbrev pub known_one : ℕ → Carrier → List Value → Known
 known_one r end coming q later = (q ≡ r) × (0 < q) × known_of (may_take end) coming q later
@@ -73,6 +83,7 @@ pub record StandsCalledEarly (deeds : ℕ → Deeds) (r : ℕ) (end : Carrier) (
   pub all : AllStand Right deeds (known_one r end coming) put begun c.traffic c.sessions
   pub uncalled : UncalledUntil c
   pub asking : c.traffic.course.class ≡ None → AllByRecursion IsAsking coming
+  pub plain : AllByRecursion IsNoCc coming
   pub zero : c.traffic.course.class ≡ Some Zero → HasOne Right r IsNone c.traffic c.sessions
 
 -- a unit of the other side that breaks no rule, while class 2 is not selected
@@ -87,7 +98,7 @@ AreTaken at (v ∷ vs) c = IsTaken v c × AreTaken at vs (unit_passes Left at v 
 
 -- ---- small facts
 
-none_some : {A : Type 0} (k : Option Class) (a : Class) → k ≡ None → k ≡ Some a → A
+pub none_some : {A : Type 0} (k : Option Class) (a : Class) → k ≡ None → k ≡ Some a → A
 none_some k a h e = absurd (cc)
 
 differ : {A : Type 0} (b : Bool) → b ≡ true → b ≡ false → A
@@ -96,12 +107,29 @@ differ b h k = absurd (cc)
 same_place : (p q : ℕ) → Some p ≡ Some q → p ≡ q
 same_place p q e = cc
 
-two_not_zero : {A : Type 0} (k : Option Class) → k ≡ Some Zero → k ≡ Some Two → A
-two_not_zero k h e = absurd (let no : Some Zero ≡ Some Two = sym h ∙ e in cc)
-
 not_true : (b : Bool) → not b ≡ true → b ≡ false
 not_true true h = absurd (cc)
 not_true false h = refl
+
+asking_plain : (v : Value) → IsAsking v → IsNoCc v
+asking_plain (request x) h = tt
+asking_plain (disconnected n source) h = tt
+asking_plain (confirm n x) h = absurd h
+asking_plain (disconnect n source reason user) h = absurd h
+asking_plain (data0 end user) h = absurd h
+asking_plain (data2 n number end user) h = absurd h
+asking_plain (acknowledge credit n number) h = absurd h
+asking_plain (error n cause) h = absurd h
+
+still_plain : (v : Value) (s : State) → IsStill Left v s → IsNoCc v
+still_plain (data0 end user) s h = tt
+still_plain (disconnected n source) s h = tt
+still_plain (error n cause) s h = tt
+still_plain (request x) s h = absurd h
+still_plain (confirm n x) s h = absurd h
+still_plain (disconnect n source reason user) s h = absurd h
+still_plain (data2 n number end user) s h = absurd h
+still_plain (acknowledge credit n number) s h = absurd h
 
 -- ---- left knows no class yet
 
@@ -217,6 +245,7 @@ module _ (deeds : ℕ → Deeds) (r : ℕ) (end : Carrier) (put : List Value) (b
             (λ e. none_some c.traffic.course.class_seen Zero seen e) k.right.none (asked_heard v asks) h.all;
         uncalled = uncalled_claim.passes Left at v c h.uncalled;
         asking = λ none. all_of_both IsAsking coming (v ∷ []) (h.asking (sym (class_was v c) ∙ none)) (asks, tt);
+        plain = all_of_both IsNoCc coming (v ∷ []) h.plain (asking_plain v asks, tt);
         zero = λ e.
             let class = sym (class_was v c) ∙ e in still_one (still_so v refl asks class) (h.zero class);
       }
@@ -275,6 +304,7 @@ module _ (deeds : ℕ → Deeds) (r : ℕ) (end : Carrier) (put : List Value) (b
             (heard_zero v still) h.all;
         uncalled = uncalled_claim.passes Left at v c h.uncalled;
         asking = λ none. none_some c.traffic.course.class Zero (sym (class_was v c) ∙ none) class;
+        plain = all_of_both IsNoCc coming (v ∷ []) h.plain (still_plain v c.traffic still, tt);
         zero = λ e. still_one still one;
       }
 

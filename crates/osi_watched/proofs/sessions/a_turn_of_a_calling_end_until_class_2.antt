@@ -62,16 +62,16 @@ use Rattle.osi_watched.proofs.sessions.what_the_stage_of_a_calling_end_says.{IsD
 early_past : {A : Type 0} (s : Time) → s ≡ early → s ≡ past → A
 early_past s e h = absurd (cc (sym e ∙ h))
 
-early_amid : {A : Type 0} (s : Time) (peer : ℕ) → s ≡ early → s ≡ amid peer → A
+pub early_amid : {A : Type 0} (s : Time) (peer : ℕ) → s ≡ early → s ≡ amid peer → A
 early_amid s peer e h = absurd (cc (sym e ∙ h))
 
-past_amid : {A : Type 0} (s : Time) (peer : ℕ) → s ≡ past → s ≡ amid peer → A
+pub past_amid : {A : Type 0} (s : Time) (peer : ℕ) → s ≡ past → s ≡ amid peer → A
 past_amid s peer e h = absurd (cc (sym e ∙ h))
 
 differ : {A : Type 0} (b : Bool) → b ≡ true → b ≡ false → A
 differ b h k = absurd (cc)
 
-early_lasts : (r : ℕ) (c : Carrier) → stage_at r c ≡ early → c.ended ≡ None
+pub early_lasts : (r : ℕ) (c : Carrier) → stage_at r c ≡ early → c.ended ≡ None
 early_lasts r c may = by c.ended refl
   where
     by : (o : Option EndReason) → c.ended ≡ o → c.ended ≡ None
@@ -92,7 +92,7 @@ some_same : (m n : ℕ) → Some m ≡ Some n → m ≡ n
 some_same m n e = cc
 
 -- what holds of each, by its place
-each_of : {X : Type 0} (P : X → Type 0) (before xs : List X) →
+pub each_of : {X : Type 0} (P : X → Type 0) (before xs : List X) →
     ((front rest : List X) (x : X) → before ++ xs ≡ front ++ x ∷ rest → P x) → AllByRecursion P xs
 each_of P before [] f = tt
 each_of P before (x ∷ xs) f = (
@@ -165,7 +165,7 @@ written_dt end user (disconnect n source reason told) o link e = absurd (cc link
 written_dt end user (disconnected n source) o link e = absurd (cc link)
 written_dt end user (error n cause) o link e = absurd (cc link)
 
-dt_so : (v : Value) → is_of_link v ≡ true → IsWrittenAs IsDt0 v → (o : Option ℕ) → is_for o v ≡ is_some o
+pub dt_so : (v : Value) → is_of_link v ≡ true → IsWrittenAs IsDt0 v → (o : Option ℕ) → is_for o v ≡ is_some o
 dt_so v link w o = by w.u w.so w.same
   where
     by : (u : Value) → IsDt0 u → written u ≡ written v → is_for o v ≡ is_some o

@@ -62,7 +62,7 @@ IsDt0 (error n cause) = ⊥
 none_all : {units : List Value} → units ≡ [] → AllByRecursion IsDt0 units
 none_all e = subst (AllByRecursion IsDt0) (sym e) tt
 
-all_data : (limit begun : ℕ) (units : List Value) → PutsData limit anyhow begun units → AllByRecursion IsDt0 units
+pub all_data : (limit begun : ℕ) (units : List Value) → PutsData limit anyhow begun units → AllByRecursion IsDt0 units
 all_data limit begun [] h = tt
 all_data limit begun (data0 end user ∷ units) h = (tt, all_data limit (begun_by begun end (length user)) units h.2)
 all_data limit begun (request x ∷ units) h = absurd h
