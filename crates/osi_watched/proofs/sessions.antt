@@ -82,3 +82,4 @@ pub mod no_session_of_a_called_end_breaks_first
 pub mod no_called_end_is_blamed_first
 pub mod a_called_end_hears_what_comes_until_class_2
 pub mod a_called_end_stands_in_class_0
+pub mod a_turn_of_a_called_end_in_class_0

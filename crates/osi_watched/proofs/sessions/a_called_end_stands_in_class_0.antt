@@ -47,18 +47,8 @@ use Rattle.osi_watched.proofs.sessions.what_the_stage_of_a_calling_end_says.{IsD
 
 -- ---- small facts
 
-differ : {A : Type 0} (b : Bool) → b ≡ true → b ≡ false → A
-differ b h k = absurd (cc)
-
 zero_two : {A : Type 0} (k : Option Class) → k ≡ Some Zero → k ≡ Some Two → A
 zero_two k h e = absurd (let no : Some Zero ≡ Some Two = sym h ∙ e in cc)
-
-some_same : (m n : ℕ) → Some m ≡ Some n → m ≡ n
-some_same m n e = cc
-
-none_first : (xs ys : List Value) → xs ++ ys ≡ [] → xs ≡ []
-none_first [] ys e = refl
-none_first (x ∷ xs) ys e = absurd (cc)
 
 -- ---- what it has put
 
@@ -67,7 +57,7 @@ class_by k h (inl e) = none_some k Zero e h
 class_by k h (inr e) = zero_two k h e
 
 -- all DTs
-dts_of : (local : Local) (w : Whole) → Stage local w → w.tap.course.class ≡ Some Zero → AllByRecursion IsDt0 w.put
+pub dts_of : (local : Local) (w : Whole) → Stage local w → w.tap.course.class ≡ Some Zero → AllByRecursion IsDt0 w.put
 dts_of local w (lines h c) zero_is = class_by w.tap.course.class zero_is h.class
 dts_of local w (selecting z) zero_is = none_some w.tap.course.class Zero z.class zero_is
 dts_of local w (selected z) zero_is = all_data z.limit z.c.right.begun w.put (zero_puts z.limit w.end z.c.right.begun w.put z.end)
@@ -75,7 +65,7 @@ dts_of local w (selected z) zero_is = all_data z.limit z.c.right.begun w.put (ze
 -- ---- a connection that has put something, or is open then
 
 -- it was open, or takes a CR and puts its CC, or takes a CC
-data WasOpen (q : ℕ) (s : Time) (took put : List Marked) : Type 0 where
+pub data WasOpen (q : ℕ) (s : Time) (took put : List Marked) : Type 0 where
   open_before : (peer : ℕ) → s ≡ amid peer → WasOpen q s took put
   answers_now : (n : ℕ) (x : Connect) (front later : List Marked) → put ≡ front ++ (0, confirm n x) ∷ later → WasOpen q s took put
   opens_now : s ≡ early → (n : ℕ) (x : Connect) (front later : List Marked) → took ≡ front ++ (0, confirm n x) ∷ later →
@@ -94,14 +84,14 @@ opened_so q peer (data2 n number end user) took put some later others answer put
 opened_so q peer (acknowledge credit n number) took put some later others answer put_later o is a put_is = absurd o
 opened_so q peer (error n cause) took put some later others answer put_later o is a put_is = absurd o
 
-put_so : (q : ℕ) (s t : Time) (took put : List Marked) → Life false q s took put t → AreApart q put ⊎ WasOpen q s took put
+pub put_so : (q : ℕ) (s t : Time) (took put : List Marked) → Life false q s took put t → AreApart q put ⊎ WasOpen q s took put
 put_so q early t took put (stays a b k) = inl b
 put_so q early t took put (opens_by peer unit o some later none_some is others answer put_later apart none_answer ans put_is w) =
     inr (opened_so q peer unit took put some later others answer put_later o is ans put_is)
 put_so q (amid peer) t took put w = inr (open_before peer refl)
 put_so q past t took put w = inl w.none_put
 
-open_so : (q peer : ℕ) (s t : Time) (took put : List Marked) → Life false q s took put t → t ≡ amid peer → WasOpen q s took put
+pub open_so : (q peer : ℕ) (s t : Time) (took put : List Marked) → Life false q s took put t → t ≡ amid peer → WasOpen q s took put
 open_so q peer early t took put (stays a b (inl is)) e = early_amid t peer is e
 open_so q peer early t took put (stays a b (inr is)) e = past_amid t peer is e
 open_so q peer early t took put (opens_by m unit o some later none_some is others answer put_later apart none_answer ans put_is w) e =
@@ -113,7 +103,7 @@ early_past : {A : Type 0} (s : Time) → s ≡ early → s ≡ past → A
 early_past s e h = absurd (cc (sym e ∙ h))
 
 -- it doesn't become one that may open
-not_early : (q : ℕ) (s t : Time) (took put : List Marked) → (s ≡ early → ⊥) → Life false q s took put t → t ≡ early → ⊥
+pub not_early : (q : ℕ) (s t : Time) (took put : List Marked) → (s ≡ early → ⊥) → Life false q s took put t → t ≡ early → ⊥
 not_early q early t took put not w e = not refl
 not_early q (amid peer) t took put not w e = by w.ends
   where
@@ -123,7 +113,7 @@ not_early q (amid peer) t took put not w e = by w.ends
 not_early q past t took put not w e = early_past t e w.is
 
 -- a CC is not written as a DT
-cc_not_dt : {A : Type 0} (n : ℕ) (x : Connect) → IsWrittenAs IsDt0 (confirm n x) → A
+pub cc_not_dt : {A : Type 0} (n : ℕ) (x : Connect) → IsWrittenAs IsDt0 (confirm n x) → A
 cc_not_dt n x w = by w.u w.so w.same
   where
     by : {A : Type 0} (u : Value) → IsDt0 u → written u ≡ written (confirm n x) → A
@@ -151,7 +141,7 @@ module _ (local : Local) where
     pub opened : stage_at r j.holding.end.carrier ≡ early → ⊥
     pub some : j.begun ≡ true → j.put ≢ []
 
-  stage_of : (j : Joint) (f : IsFollowed Right first j) → IsFirm j.course.traffic.course → Stage local f.whole
+  pub stage_of : (j : Joint) (f : IsFollowed Right first j) → IsFirm j.course.traffic.course → Stage local f.whole
   stage_of j f sure =
       (called_joined local j f).stage (record {
         firm = ap (λ (s : State). s.course.loose) f.tap ∙ sure.firm;
