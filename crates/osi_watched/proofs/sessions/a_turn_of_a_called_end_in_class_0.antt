@@ -268,7 +268,8 @@ module _ (local : Local) (known_of : AsSent) (parts : AsParts) (caller : CallerL
       Steps Right (passes_other at octets (front ++ back)) old new → ((r : ℕ) → Course false r (deeds r) old.holding.end) →
       AreTaken at front old.course → StandsInZero local deeds old → NoneIsToBlame Right (units_pass Left at front old.course).sessions
   none_amid_zero at octets front back old new step courses taken h =
-      let after = units_early deeds h.r old.holding.end.carrier old.put old.begun at front (units_in old.coming) old.course taken h.early_is in
+      let after = units_early deeds h.r old.holding.end.carrier old.put old.begun at front (units_in old.coming) old.course taken
+      h.early_is in
       stand_none known_of parts caller called Right deeds old.put old.begun old.holding.end courses
       (known_one h.r old.holding.end.carrier (units_in old.coming ++ front)) (units_pass Left at front old.course).traffic
       (units_pass Left at front old.course).sessions after.all
