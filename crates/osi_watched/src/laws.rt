@@ -160,8 +160,8 @@ pub fn connections_have_the_same_places()
 /// capture before it has a break ([`IsFirstOf`]). If both ends are of this library, there is none (`both`). So a tap that was fed the
 /// capture, and has judged it, never tells such an end as the first (`called_at_a_tap`, `calling_at_a_tap`, `both_at_a_tap`).
 ///
-/// It is assumed that fewer than 2^64 units have passed: a tap counts no further. For a called end it is also assumed that class 0 is not
-/// selected on the byte connection.
+/// It is assumed that fewer than 2^64 units have passed: a tap counts no further. For a called end, and so if both ends are of this library,
+/// it is also assumed that class 0 is not selected on the byte connection.
 ///
 /// [`IsSeen`]: ../../osi_honest/specs/Seeing.antt
 /// [`IsFirstOf`]: ../../osi_tap/specs/Blaming.antt
