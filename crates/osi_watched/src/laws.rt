@@ -160,7 +160,8 @@ pub fn connections_have_the_same_places()
 /// capture before it has a break ([`IsFirstOf`]). If both ends are of this library, there is none (`both`). So a tap that was fed the
 /// capture, and has judged it, never tells such an end as the first (`called_at_a_tap`, `calling_at_a_tap`, `both_at_a_tap`).
 ///
-/// It is assumed that class 0 is not selected on the byte connection, and that fewer than 2^64 units have passed: a tap counts no further.
+/// It is assumed that fewer than 2^64 units have passed: a tap counts no further. For a called end, and so if both ends are of this library,
+/// it is also assumed that class 0 is not selected on the byte connection.
 ///
 /// [`IsSeen`]: ../../osi_honest/specs/Seeing.antt
 /// [`IsFirstOf`]: ../../osi_tap/specs/Blaming.antt
@@ -171,12 +172,12 @@ pub fn no_session_of_an_end_is_blamed_first()
         IsFirstOf (Some f) (comes_to capture).course.past → f.direction ≡ Direction.Left }
     ensures calling { (local : Local) (begin end : Holding) (turns : List Turn) (capture : Capture) (f : First) →
         IsFresh true local begin → Run begin turns end → AreOctets capture → IsSeen Direction.Left turns capture →
-        (comes_to capture).course.traffic.course.class ≢ Some Class.Zero → length (comes_to capture).course.past < 2 ^ 64 →
+        length (comes_to capture).course.past < 2 ^ 64 →
         IsFirstOf (Some f) (comes_to capture).course.past → f.direction ≡ Direction.Right }
     ensures both { (mine theirs : Local) (begin end called_begin called_end : Holding) (turns called_turns : List Turn)
         (capture : Capture) (first : Option First) → AreOctets capture →
-        IsFresh true mine begin → Run begin turns end → IsSeen Direction.Left turns capture →
-        IsFresh false theirs called_begin → Run called_begin called_turns called_end → IsSeen Direction.Right called_turns capture →
+        IsFresh true mine begin → Run begin turns end → IsSeen Direction.Left turns capture → IsFresh false theirs called_begin →
+        Run called_begin called_turns called_end → IsSeen Direction.Right called_turns capture →
         (comes_to capture).course.traffic.course.class ≢ Some Class.Zero → length (comes_to capture).course.past < 2 ^ 64 →
         IsFirstOf first (comes_to capture).course.past → first ≡ None }
     ensures called_at_a_tap { (local : Local) (begin end : Holding) (turns : List Turn) (capture : Capture) (t : Tap) (f : First) →
@@ -185,12 +186,12 @@ pub fn no_session_of_an_end_is_blamed_first()
         IsFed capture t → IsJudged t → first_in t ≡ Some f → f.direction ≡ Direction.Left }
     ensures calling_at_a_tap { (local : Local) (begin end : Holding) (turns : List Turn) (capture : Capture) (t : Tap) (f : First) →
         IsFresh true local begin → Run begin turns end → AreOctets capture → IsSeen Direction.Left turns capture →
-        (comes_to capture).course.traffic.course.class ≢ Some Class.Zero → length (comes_to capture).course.past < 2 ^ 64 →
+        length (comes_to capture).course.past < 2 ^ 64 →
         IsFed capture t → IsJudged t → first_in t ≡ Some f → f.direction ≡ Direction.Right }
     ensures both_at_a_tap { (mine theirs : Local) (begin end called_begin called_end : Holding) (turns called_turns : List Turn)
         (capture : Capture) (t : Tap) → AreOctets capture →
-        IsFresh true mine begin → Run begin turns end → IsSeen Direction.Left turns capture →
-        IsFresh false theirs called_begin → Run called_begin called_turns called_end → IsSeen Direction.Right called_turns capture →
+        IsFresh true mine begin → Run begin turns end → IsSeen Direction.Left turns capture → IsFresh false theirs called_begin →
+        Run called_begin called_turns called_end → IsSeen Direction.Right called_turns capture →
         (comes_to capture).course.traffic.course.class ≢ Some Class.Zero → length (comes_to capture).course.past < 2 ^ 64 →
         IsFed capture t → IsJudged t → first_in t ≡ None }
 {

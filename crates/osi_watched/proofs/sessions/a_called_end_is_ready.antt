@@ -55,7 +55,8 @@ use Rattle.osi_watched.proofs.sessions.nothing_comes_before_a_cc_passes.{IsBelow
 use Rattle.osi_watched.proofs.sessions.nothing_is_done_before_a_cr_passes.{known_from, may_take}
 use Rattle.osi_watched.proofs.sessions.references_of_an_end_are_distinct.{GivesNew, IsUnused}
 use Rattle.osi_watched.proofs.sessions.units_written_alike_have_the_same_ccs.{AnswersTwo, AreAlike, AreOrdered, HasCc, IsCc, has_either}
-use Rattle.osi_watched.proofs.sessions.units_written_alike_have_the_same_ccs.{has_back, has_front, none_before, not_twice_alike, ordered_alike}
+use Rattle.osi_watched.proofs.sessions.units_written_alike_have_the_same_ccs.{has_back, has_front, none_before, not_twice_alike}
+use Rattle.osi_watched.proofs.sessions.units_written_alike_have_the_same_ccs.{ordered_alike}
 use Rattle.osi_watched.proofs.sessions.what_a_turn_puts_goes_to_its_peer.{all_back, all_of_both}
 use Rattle.osi_watched.proofs.sessions.what_an_end_takes_at_a_connection.{apart_none, during_taken}
 use Rattle.osi_watched.proofs.sessions.what_is_in_flight_to_an_end.{parts_taken}
@@ -387,7 +388,8 @@ module _ (local : Local) where
     all_new : (vs : List Value) → ((n r : ℕ) → HasCc n r vs → IsUnused Right r old.course.sessions) →
         AllByRecursion (λ (v : Value). GivesNew Right v old.course.sessions) vs
     all_new [] unused = tt
-    all_new (v ∷ vs) unused = (one_new old.course.sessions v (λ n r mine. unused n r (inl mine)), all_new vs (λ n r has. unused n r (inr has)))
+    all_new (v ∷ vs) unused =
+        (one_new old.course.sessions v (λ n r mine. unused n r (inl mine)), all_new vs (λ n r has. unused n r (inr has)))
 
     news : AllByRecursion (λ (v : Value). GivesNew Right v old.course.sessions) (all_units on.put)
     news =

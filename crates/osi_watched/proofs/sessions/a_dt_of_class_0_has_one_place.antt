@@ -91,7 +91,7 @@ module _ (s : State) (judged : AreJudged s) (firm : s.course.loose ≡ false) (a
   sound = apart.sound o.place o.connection o.there (judged firm o.place o.connection o.there)
 
   -- it is over for no side
-  is_live_there : (d : Way) → is_live d o.connection ≡ true
+  pub is_live_there : (d : Way) → is_live d o.connection ≡ true
   is_live_there way.Left =
       and_not o.connection.is_judged (is_over_by o.connection.left o.connection.seen_by_left)
       (open_goes o.connection.left.phase o.connection.seen_by_left.phase o.left

@@ -67,7 +67,7 @@ pub record IsZero (d : Direction) (s : State) : Type 0 where
 
 module _ (d e : Direction) (deeds : ℕ → Deeds) (known : Known) (put : List Value) (b end : Bool) (user : List ℕ) (s : State) (t : Sessions)
     (a : AllStand d deeds known put b s t) (z : IsZero e s) where
-  told_there : (takes (way_of e) (data0 end user) s).told.place ≡ Some z.only.place
+  pub told_there : (takes (way_of e) (data0 end user) s).told.place ≡ Some z.only.place
   told_there =
       ap (λ (o : Outcome). o.told.place) (dt_takes (way_of e) end user s a.judged z.firm a.apart z.only z.goes z.zero)
 
@@ -162,7 +162,7 @@ other_dt d deeds known then_known at end user put b s t a z kept g = record {
 -- ---- what else may pass in class 0
 
 -- every other unit is a break
-abbrev Breaks : Value → Type 0
+abbrev pub Breaks : Value → Type 0
 Breaks (request x) = Unit {0}
 Breaks (confirm n x) = Unit {0}
 Breaks (disconnect n source reason user) = Unit {0}
@@ -172,7 +172,7 @@ Breaks (data0 end user) = ⊥
 Breaks (disconnected n source) = ⊥
 Breaks (error n cause) = ⊥
 
-routed_breaks : {A : Type 0} (d : Way) (b : Bool) (v : Value) (s : State) → Breaks v →
+pub routed_breaks : {A : Type 0} (d : Way) (b : Bool) (v : Value) (s : State) → Breaks v →
     IsNoBreak (routed d v s (route_zero d b v)).told.finding → A
 routed_breaks way.Left b (request x) s h none = absurd none
 routed_breaks way.Left b (confirm n x) s h none = absurd none

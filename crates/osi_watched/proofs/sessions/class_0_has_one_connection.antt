@@ -197,7 +197,7 @@ unnamed_narrow d v s n =
 
 -- ---- one connection changes
 
-set_other : (cs : List Connection) (p q : ℕ) (x : Connection) → (q ≡ p → ⊥) → slice_get (set cs p x) q ≡ slice_get cs q
+pub set_other : (cs : List Connection) (p q : ℕ) (x : Connection) → (q ≡ p → ⊥) → slice_get (set cs p x) q ≡ slice_get cs q
 set_other [] p q x h = refl
 set_other (z ∷ cs) zero zero x h = absurd (h refl)
 set_other (z ∷ cs) zero (suc q) x h = refl
@@ -487,7 +487,7 @@ module _ (d : Direction) (v : Value) (s : State) (apart : AreApart s.connections
 
 -- ---- a CR
 
-all_so : (f : Connection → Bool) (cs : List Connection) (i : ℕ) (c : Connection) → list_all f cs ≡ true → slice_get cs i ≡ Some c →
+pub all_so : (f : Connection → Bool) (cs : List Connection) (i : ℕ) (c : Connection) → list_all f cs ≡ true → slice_get cs i ≡ Some c →
     f c ≡ true
 all_so f [] i c h at = no_item i c at
 all_so f (x ∷ xs) zero c h at = ap f (sym (same_item x c at)) ∙ both_first (f x) (list_all f xs) h

@@ -60,7 +60,7 @@ named_if true room Right Right at end octets j = refl
 named_if false room Left e at end octets j = refl
 named_if false room Right e at end octets j = refl
 
-named_adds : (d e : Direction) (at : ℕ) (end : Bool) (octets : List ℕ) (j : Joined) →
+pub named_adds : (d e : Direction) (at : ℕ) (end : Bool) (octets : List ℕ) (j : Joined) →
     reference_of d (adds e at end octets j) ≡ reference_of d j
 named_adds d e at end octets j = named_if (fits j.room (length octets)) (spent j.room (length octets)) d e at end octets j
 

@@ -1,6 +1,8 @@
--- The first break of all at a tap is never of a calling end, whether it offers class 2 or not, as long as class 0 is not selected.
+-- The first break of all at a tap is never of a calling end, whatever classes it offers and whichever is selected.
 -- For the law that no session of an end is blamed first.
-use Rattle.std.proofs.Common.{◌≡◌, refl, Bool, true, false, List}
+use Rattle.std.proofs.Common.{◌≡◌, ◌∙◌, refl, sym, ◌^◌, ◌<◌, Bool, true, false, List, length, Option, Some, None}
+use Rattle.osi_class.specs.declared.terms.Class.{Class}
+use Rattle.osi_class.specs.declared.terms.Class.TheVariants.{Two, Zero}
 use Rattle.osi_class.specs.declared.terms.Local.{Local}
 use Rattle.osi_judge.specs.Captures.{Capture}
 use Rattle.osi_judge.specs.declared.directions.Direction.TheVariants.{Left, Right}
@@ -18,24 +20,48 @@ use Rattle.osi_watched.specs.Passing.{AreOctets}
 use Rattle.osi_watched.proofs.a_capture_is_steps.{capture_steps}
 use Rattle.osi_watched.proofs.no_unit_of_a_whole_end_is_a_break.{calling_is_fair}
 use Rattle.osi_watched.proofs.what_the_turns_among_steps_do.{ComesByDoing}
+use Rattle.osi_watched.proofs.sessions.a_calling_end_stands_until_class_2.{StandsUntilTwo}
 use Rattle.osi_watched.proofs.sessions.a_calling_end_without_class_2_puts_no_dt.{calling_puts_none}
 use Rattle.osi_watched.proofs.sessions.an_end_that_has_said_nothing_is_not_to_blame.{HasSaidNothing, mute_keeps}
+use Rattle.osi_watched.proofs.sessions.no_calling_end_is_blamed_first_in_class_0.{early_keeps}
 use Rattle.osi_watched.proofs.sessions.no_session_of_a_calling_end_breaks_first.{StandsQuiet, calling_keeps}
-use Rattle.osi_watched.proofs.sessions.no_session_of_an_end_breaks_first.{IsWithin, never_first}
+use Rattle.osi_watched.proofs.sessions.no_session_of_an_end_breaks_first.{never_first, never_first_without}
+
+zero_two : {A : Type 0} (k : Option Class) → k ≡ Some Zero → k ≡ Some Two → A
+zero_two k h e = absurd (let no : Some Zero ≡ Some Two = sym h ∙ e in cc)
 
 module _ (known : Known) (known_of : AsSent) (parts : AsParts) (caller : CallerLaw) (called : CalledLaw) (local : Local)
-    (capture : Capture) (within : IsWithin (comes_to capture).course) (f : First)
+    (capture : Capture) (few : length (comes_to capture).course.past < 2 ^ 64) (f : First)
     (earliest : BreaksFirst f (comes_to capture).course.past) where
   module _ (begin : Holding) (fresh : IsFresh true local begin) (comes : ComesByDoing Left true capture begin) where
-    by_class : (b : Bool) → local.class2 ≡ b → f.direction ≡ Right
-    by_class true two =
+    abbrev selected : Option Class
+    selected = (comes_to capture).course.traffic.course.class
+
+    -- class 0 is not selected
+    by_offer : (selected ≡ Some Zero → ⊥) → (b : Bool) → local.class2 ≡ b → f.direction ≡ Right
+    by_offer not true two =
         never_first known.proper Left local (calling_is_fair local) (StandsQuiet local two known.proper)
-        (calling_keeps local two known.proper known_of parts caller called) begin capture f fresh comes within earliest
-    by_class false without =
+        (calling_keeps local two known.proper known_of parts caller called) begin capture f fresh comes
+        (record { two = not; few = few }) earliest
+    by_offer not false without =
         never_first known.proper Left local (calling_is_fair local) (HasSaidNothing Left local)
-        (mute_keeps known.proper Left local (calling_puts_none local without)) begin capture f fresh comes within earliest
+        (mute_keeps known.proper Left local (calling_puts_none local without)) begin capture f fresh comes
+        (record { two = not; few = few }) earliest
+
+    -- it is
+    in_zero : selected ≡ Some Zero → f.direction ≡ Right
+    in_zero zero =
+        never_first_without known.proper Two Left local (calling_is_fair local) (StandsUntilTwo local)
+        (early_keeps local known.proper known_of parts caller called) begin capture f fresh comes
+        (record { not = λ two. zero_two selected zero two; few = few }) earliest
+
+    by_class : (k : Option Class) → selected ≡ k → f.direction ≡ Right
+    by_class None is = by_offer (λ zero. absurd (let no : None ≡ Some Zero = sym is ∙ zero in cc)) local.class2 refl
+    by_class (Some Zero) is = in_zero is
+    by_class (Some Two) is = by_offer (λ zero. zero_two selected zero is) local.class2 refl
 
   pub calling_never_first : (begin end : Holding) (turns : List Turn) → IsFresh true local begin → Run begin turns end →
       AreOctets capture → IsSeen Left turns capture → f.direction ≡ Right
   calling_never_first begin end turns fresh run octets seen =
-      by_class begin fresh (capture_steps known Left true local begin end turns capture fresh run octets seen) local.class2 refl
+      by_class begin fresh (capture_steps known Left true local begin end turns capture fresh run octets seen)
+      (comes_to capture).course.traffic.course.class refl

@@ -1,24 +1,27 @@
 -- The first break of all at a tap, of transport and of sessions, is never of the side of an end, if something holds at each step by
--- which nobody of the end is to blame, as long as nobody has broken a rule.
+-- which nobody of the end is to blame, as long as nobody has broken a rule and one class is not selected.
 -- For the law that no session of an end is blamed first.
 use Rattle.std.proofs.Common.{◌≡◌, ◌≢◌, ◌∙◌, ◌⊎◌, inl, inr, refl, sym, ap, subst, ℕ, ◌^◌, ◌<◌, ◌≤◌, Bool, true, false, if◌then◌else◌}
 use Rattle.std.proofs.Common.{List, [], ◌∷◌, ◌++◌, length, Some, None, is_some, append_assoc, arith}
 use Rattle.std.specs.Prelude.{slice_get}
 use Rattle.std.proofs.lemmas.List.{append-nil, length-append}
 use Rattle.osi_tpdu.specs.Value.{Value}
-use Rattle.osi_class.specs.declared.terms.Class.TheVariants.{Zero}
+use Rattle.osi_class.specs.declared.terms.Class.{Class}
+use Rattle.osi_class.specs.declared.terms.Class.TheVariants.{Two, Zero}
 use Rattle.osi_class.specs.declared.terms.Local.{Local}
 use Rattle.osi_judge.specs.Captures.{Capture, other}
 use Rattle.osi_judge.specs.declared.directions.Direction.{Direction}
 use Rattle.osi_judge.specs.declared.directions.Direction.TheVariants.{Left, Right}
 use Rattle.osi_rules.specs.declared.findings.Finding.{Finding}
 use Rattle.osi_rules.specs.declared.findings.Finding.TheVariants.{Broke, Kept, NotJudged, Outside, TooMany}
-use Rattle.osi_rules.specs.Traffic.{State as Traffic, takes}
+use Rattle.osi_rules.specs.Sides as sides
+use Rattle.osi_rules.specs.Traffic.{State as Traffic, is_stopped, takes}
 use Rattle.osi_rules.specs.Traffic as traffic
-use Rattle.osi_fair.specs.Naming.{packet, rubbish, unit}
+use Rattle.osi_fair.specs.Naming.{Passing as Any, packet, passes, rubbish, unit}
 use Rattle.osi_fair.specs.Wholes as wholes
 use Rattle.osi_fair.proofs.class_0_stays_selected.{zero_stays}
-use Rattle.osi_fair.proofs.what_the_other_side_closes.{IsClear}
+use Rattle.osi_fair.proofs.what_lasts_at_the_tap.{lasts_passing}
+use Rattle.osi_fair.proofs.what_the_other_side_closes.{IsClear, IsFirm}
 use Rattle.osi_stack.specs.State.{End, Holding}
 use Rattle.osi_honest.specs.Courses.{Course, Deeds, all_did, no_deeds, then_did}
 use Rattle.osi_honest.specs.Seeing.{IsFresh}
@@ -39,7 +42,7 @@ use Rattle.osi_watched.specs.Joint.{Joint, Step, Steps, StepsAlong, TakesTurn, b
 use Rattle.osi_watched.specs.Joint.{turns}
 use Rattle.osi_watched.specs.Passing.{TurnsBad}
 use Rattle.osi_watched.specs.Shown.{calls_from}
-use Rattle.osi_watched.proofs.steps_are_events.{IsFollowed, begin_followed, step_followed}
+use Rattle.osi_watched.proofs.steps_are_events.{IsFollowed, begin_followed, own_first, step_followed}
 use Rattle.osi_watched.proofs.the_first_break_is_not_of_an_end.{IsFairFrom, IsNoBreak}
 use Rattle.osi_watched.proofs.what_a_unit_leaves_at_a_tap.{IsCalm, IsJudged, IsOver, Leaves, unit_leaves}
 use Rattle.osi_watched.proofs.what_passes_keeps_a_claim.{IsClaim, after_join, after_kept, step_kept, units_kept}
@@ -49,10 +52,11 @@ use Rattle.osi_watched.proofs.sessions.connections_have_the_same_places.{marked_
 use Rattle.osi_watched.proofs.sessions.each_step_leaves_class_0_one_connection.{Sure, fresh_sure, sure_claim}
 use Rattle.osi_watched.proofs.sessions.no_more_tsdus_than_moments_have_passed.{AreFew, few_claim}
 use Rattle.osi_watched.proofs.sessions.steps_leave_all_standing.{IsFine}
+use Rattle.osi_watched.proofs.sessions.steps_of_either_class_leave_all_standing.{IsRight}
 use Rattle.osi_watched.proofs.sessions.the_first_break_of_all_is_of_the_other_side.{AreClean, HasBroken, IsSilent, broken_claim}
 use Rattle.osi_watched.proofs.sessions.the_first_break_of_all_is_of_the_other_side.{first_of_other, moment, silent_claim, unit_breaks}
 use Rattle.osi_watched.proofs.sessions.the_first_break_of_all_is_of_the_other_side.{unit_clean, unit_past, unread_breaks_so}
-use Rattle.osi_watched.proofs.sessions.what_passes_is_no_break_while_none_is_told.{fine_so, judged_clear, own_fine}
+use Rattle.osi_watched.proofs.sessions.what_passes_is_no_break_while_none_is_told.{fine_so}
 
 -- ---- what is asked of what holds at each step
 
@@ -93,24 +97,61 @@ pub record KeepsNoneToBlame (d : Direction) (local : Local) (Inv : (ℕ → Deed
       Steps d (passes_other at octets (front ++ back)) old new → HaveCourses d deeds old → AreTaken d at front old.course →
       Inv deeds old → NoneIsToBlame d (units_pass (other d) at front old.course).sessions
 
+-- The same of an end and a tap, as long as this class is not selected.
+pub record IsPassed (barred : Class) (d : Direction) (v : Value) (c : Passed) : Type 0 where
+  pub right : IsRight (other d) v c
+  pub firm : IsFirm c.traffic.course
+  pub not : c.traffic.course.class ≡ Some barred → ⊥
+  pub sure : Sure c
+  pub few : (takes (way_of (other d)) v c.traffic).told.finding ≢ TooMany
+
+abbrev pub ArePassed : (barred : Class) (d : Direction) (at : ℕ) → List Value → Passed → Type 0
+ArePassed barred d at [] c = Unit {0}
+ArePassed barred d at (v ∷ vs) c = IsPassed barred d v c × ArePassed barred d at vs (unit_passes (other d) at v c)
+
+pub record KeepsUnless (barred : Class) (d : Direction) (local : Local) (Inv : (ℕ → Deeds) → Joint → Type 0) : Type 0 where
+  pub begins : (h : Holding) → IsFresh (calls_from d) local h → Inv (λ r. no_deeds) (begin h)
+  pub own_begins : (deeds : ℕ → Deeds) (old new : Joint) → Steps d begins_own old new → HaveCourses d deeds old →
+      ((i : ℕ) (j : Joined) → slice_get old.course.sessions.live i ≡ Some j → length (heard (spoken (other d) j)) < 2 ^ 64) →
+      Inv deeds old → Inv deeds new
+  pub other_begins : (deeds : ℕ → Deeds) (old new : Joint) → Steps d begins_other old new → Inv deeds old → Inv deeds new
+  pub own_passes : (deeds : ℕ → Deeds) (at : ℕ) (v : Value) (old new : Joint) → Steps d (passes_own at v) old new →
+      IsRight d v old.course → IsFirm old.course.traffic.course → Sure old.course →
+      (old.course.traffic.course.class ≡ Some barred → ⊥) → (new.course.traffic.course.class ≡ Some barred → ⊥) → Inv deeds old →
+      Inv deeds new
+  pub other_passes : (deeds : ℕ → Deeds) (at : ℕ) (octets : List ℕ) (units : List Value) (old new : Joint) →
+      Steps d (passes_other at octets units) old new → ArePassed barred d at units old.course → Inv deeds old → Inv deeds new
+  pub turn : (turn : Turn) (old new : Joint) (t : TakesTurn turn old new) (deeds : ℕ → Deeds)
+      (does : TurnDoes (calls_from d) deeds turn old new t) → IsFollowed d (wholes.begin (calls_from d) local) old →
+      IsFollowed d (wholes.begin (calls_from d) local) new → IsFirm old.course.traffic.course →
+      (old.course.traffic.course.class ≡ Some barred → ⊥) → Inv deeds old → Inv (λ r. then_did (deeds r) (does.of.on.more r)) new
+  pub none : (deeds : ℕ → Deeds) (j : Joint) → HaveCourses d deeds j → Inv deeds j → NoneIsToBlame d j.course.sessions
+  pub none_amid : (deeds : ℕ → Deeds) (at : ℕ) (octets : List ℕ) (front back : List Value) (old new : Joint) →
+      Steps d (passes_other at octets (front ++ back)) old new → HaveCourses d deeds old → ArePassed barred d at front old.course →
+      Inv deeds old → NoneIsToBlame d (units_pass (other d) at front old.course).sessions
+
 -- ---- what stays, whatever passes
 
-zero_bad : (b : Bool) (d : Direction) (at : ℕ) (cause : Cause) (c : Passed) → c.traffic.course.class ≡ Some Zero →
+-- a class stays selected
+class_stays : (k : Class) (p : Any) (s : Traffic) → s.course.class ≡ Some k → (passes p s).course.class ≡ Some k
+class_stays Zero p s h = zero_stays p s h
+class_stays Two p s h = (lasts_passing p s).two h
+
+class_bad : (k : Class) (b : Bool) (d : Direction) (at : ℕ) (cause : Cause) (c : Passed) → c.traffic.course.class ≡ Some k →
     (if b then c else marked (unread_mark d at cause) (traffic.refused_reach (way_of d) c.traffic)
     (moved (unread_moment d at cause c.sessions) (record c { traffic = traffic.refused (way_of d) c.traffic }))).traffic.course.class
-    ≡ Some Zero
-zero_bad true d at cause c h = h
-zero_bad false d at cause c h =
+    ≡ Some k
+class_bad k true d at cause c h = h
+class_bad k false d at cause c h =
     ap (λ (s : Traffic). s.course.class) (marked_traffic (unread_mark d at cause) (traffic.refused_reach (way_of d) c.traffic) _)
-    ∙ zero_stays (rubbish (way_of d)) c.traffic h
+    ∙ class_stays k (rubbish (way_of d)) c.traffic h
 
--- class 0 stays selected
-zero_claim : IsClaim (λ c. c.traffic.course.class ≡ Some Zero)
-zero_claim = record {
-  begins = λ d c h. zero_stays (packet (way_of d)) c.traffic h;
+class_claim : (k : Class) → IsClaim (λ c. c.traffic.course.class ≡ Some k)
+class_claim k = record {
+  begins = λ d c h. class_stays k (packet (way_of d)) c.traffic h;
   passes = λ d at v c h.
-      ap (λ (s : Traffic). s.course.class) (unit_knows d at v c) ∙ zero_stays (unit (way_of d) v) c.traffic h;
-  bad = λ d at cause c h. zero_bad (is_some (marks_of d c).halted) d at cause c h;
+      ap (λ (s : Traffic). s.course.class) (unit_knows d at v c) ∙ class_stays k (unit (way_of d) v) c.traffic h;
+  bad = λ d at cause c h. class_bad k (is_some (marks_of d c).halted) d at cause c h;
 }
 
 long_bad : (n : ℕ) (b : Bool) (d : Direction) (at : ℕ) (cause : Cause) (c : Passed) → n ≤ length c.past →
@@ -138,27 +179,38 @@ pub record IsWithin (c : Passed) : Type 0 where
   pub two : c.traffic.course.class ≡ Some Zero → ⊥
   pub few : length c.past < 2 ^ 64
 
-within_before : (c new : Passed) → (c.traffic.course.class ≡ Some Zero → new.traffic.course.class ≡ Some Zero) →
-    length c.past ≤ length new.past → IsWithin new → IsWithin c
-within_before c new zero longer h = record { two = λ is. h.two (zero is); few = (let few = h.few in omega (arith, longer, few)) }
+-- the same of another class
+pub record IsWithout (barred : Class) (c : Passed) : Type 0 where
+  pub not : c.traffic.course.class ≡ Some barred → ⊥
+  pub few : length c.past < 2 ^ 64
 
-step_within : (d : Direction) (step : Step) (old new : Joint) → Steps d step old new → IsWithin new.course → IsWithin old.course
-step_within d step old new does h =
-    within_before old.course new.course (step_kept (λ c. c.traffic.course.class ≡ Some Zero) zero_claim d step old new does)
-    (step_kept (λ c. length old.course.past ≤ length c.past) (long_claim (length old.course.past)) d step old new does (omega arith)) h
+module _ (barred : Class) where
+  abbrev IsSelected : Passed → Type 0
+  IsSelected c = c.traffic.course.class ≡ Some barred
 
-after_within : (capture : Capture) (s : tapping.State) → IsWithin (after capture s).course → IsWithin s.course
-after_within capture s h =
-    within_before s.course (after capture s).course (after_kept (λ c. c.traffic.course.class ≡ Some Zero) zero_claim capture s)
-    (after_kept (λ c. length s.course.past ≤ length c.past) (long_claim (length s.course.past)) capture s (omega arith)) h
+  without_before : (c new : Passed) → (IsSelected c → IsSelected new) → length c.past ≤ length new.past → IsWithout barred new →
+      IsWithout barred c
+  without_before c new stays longer h =
+      record { not = λ is. h.not (stays is); few = (let few = h.few in omega (arith, longer, few)) }
 
-unread_within : (d : Direction) (at : ℕ) (cause : Cause) (c : Passed) → IsWithin (unread d at cause c) → IsWithin c
-unread_within d at cause c h =
-    within_before c (unread d at cause c) (zero_claim.bad d at cause c) ((long_claim (length c.past)).bad d at cause c (omega arith)) h
+  step_without : (d : Direction) (step : Step) (old new : Joint) → Steps d step old new → IsWithout barred new.course →
+      IsWithout barred old.course
+  step_without d step old new does h =
+      without_before old.course new.course (step_kept IsSelected (class_claim barred) d step old new does)
+      (step_kept (λ c. length old.course.past ≤ length c.past) (long_claim (length old.course.past)) d step old new does (omega arith)) h
 
-units_two : (d : Direction) (at : ℕ) (vs : List Value) (c : Passed) →
-    ((units_pass d at vs c).traffic.course.class ≡ Some Zero → ⊥) → c.traffic.course.class ≡ Some Zero → ⊥
-units_two d at vs c two zero = two (units_kept (λ c. c.traffic.course.class ≡ Some Zero) zero_claim d at vs c zero)
+  after_without : (capture : Capture) (s : tapping.State) → IsWithout barred (after capture s).course → IsWithout barred s.course
+  after_without capture s h =
+      without_before s.course (after capture s).course (after_kept IsSelected (class_claim barred) capture s)
+      (after_kept (λ c. length s.course.past ≤ length c.past) (long_claim (length s.course.past)) capture s (omega arith)) h
+
+  unread_without : (d : Direction) (at : ℕ) (cause : Cause) (c : Passed) → IsWithout barred (unread d at cause c) → IsWithout barred c
+  unread_without d at cause c h =
+      without_before c (unread d at cause c) ((class_claim barred).bad d at cause c)
+      ((long_claim (length c.past)).bad d at cause c (omega arith)) h
+
+  units_not : (d : Direction) (at : ℕ) (vs : List Value) (c : Passed) → (IsSelected (units_pass d at vs c) → ⊥) → IsSelected c → ⊥
+  units_not d at vs c not is = not (units_kept IsSelected (class_claim barred) d at vs c is)
 
 -- ---- units
 
@@ -167,10 +219,10 @@ units_join : (d : Direction) (at : ℕ) (xs ys : List Value) (c : Passed) →
 units_join d at [] ys c = refl
 units_join d at (x ∷ xs) ys c = units_join d at xs ys (unit_passes d at x c)
 
-taken_then : (d : Direction) (at : ℕ) (xs : List Value) (v : Value) (c : Passed) → AreTaken d at xs c →
-    IsTaken d v (units_pass (other d) at xs c) → AreTaken d at (xs ++ v ∷ []) c
-taken_then d at [] v c h k = (k, tt)
-taken_then d at (x ∷ xs) v c h k = (h.0, taken_then d at xs v (unit_passes (other d) at x c) h.1 k)
+passed_then : (barred : Class) (d : Direction) (at : ℕ) (xs : List Value) (v : Value) (c : Passed) → ArePassed barred d at xs c →
+    IsPassed barred d v (units_pass (other d) at xs c) → ArePassed barred d at (xs ++ v ∷ []) c
+passed_then barred d at [] v c h k = (k, tt)
+passed_then barred d at (x ∷ xs) v c h k = (h.0, passed_then barred d at xs v (unit_passes (other d) at x c) h.1 k)
 
 calm_by : (e : Direction) (at : ℕ) (v : Value) (c : Passed) (f : Finding) (new : Passed) → IsNoBreak f → Leaves e at v c f new → IsCalm new
 calm_by e at v c Kept new none leaves = leaves
@@ -195,10 +247,38 @@ not_many : (f : Finding) → f ≡ TooMany → IsNoBreak f → (f ≡ Kept) ⊎ 
 not_many f many none (inl is) = let no : Kept ≡ TooMany = sym is ∙ many in cc
 not_many f many none (inr is) = let no : NotJudged ≡ TooMany = sym is ∙ many in cc
 
+-- both sides are judged
+firm_so : (c : Passed) → IsJudged c → IsFirm c.traffic.course
+firm_so c j = record { firm = j.firm; left = j.left; right = j.right }
+
+goes_so : (e : Direction) (c : Passed) → IsJudged c → is_stopped (way_of e) c.traffic.course ≡ false
+goes_so Left c j = j.left
+goes_so Right c j = j.right
+
+other_goes : (e : Direction) (c : Passed) → IsJudged c → is_stopped (sides.other (way_of e)) c.traffic.course ≡ false
+other_goes Left c j = j.right
+other_goes Right c j = j.left
+
+-- a unit of the end is no break: it is fair
+own_right : (d : Direction) (local : Local) → IsFairFrom (way_of d) (wholes.begin (calls_from d) local) → (at : ℕ) (v : Value)
+    (old new : Joint) → Steps d (passes_own at v) old new → IsFollowed d (wholes.begin (calls_from d) local) old →
+    IsJudged old.course → IsRight d v old.course
+own_right d local fair at v old new (read, octets, put, begun, is) f j =
+    let s = own_first d (wholes.begin (calls_from d) local) old new v (read, octets, put) f in
+    let found = fair f.events f.whole v s.rest f.along (f.begun ∙ begun) s.is
+    (ap (λ (t : Traffic). is_stopped (sides.other (way_of d)) t.course) f.tap ∙ other_goes d old.course j)
+    (ap (λ (t : Traffic). t.course.loose) f.tap ∙ j.firm) in
+    record {
+      firm = j.firm;
+      goes = goes_so d old.course j;
+      none = subst (λ (t : Traffic). IsNoBreak (takes (way_of d) v t).told.finding) f.tap found;
+    }
+
 -- ---- the steps
 
-module _ (proper : AllProper) (d : Direction) (local : Local) (fair : IsFairFrom (way_of d) (wholes.begin (calls_from d) local))
-    (Inv : (ℕ → Deeds) → Joint → Type 0) (k : KeepsNoneToBlame d local Inv) where
+module _ (proper : AllProper) (barred : Class) (d : Direction) (local : Local)
+    (fair : IsFairFrom (way_of d) (wholes.begin (calls_from d) local)) (Inv : (ℕ → Deeds) → Joint → Type 0)
+    (k : KeepsUnless barred d local Inv) where
   -- nobody has broken a rule, and both sides are judged
   record Goes (deeds : ℕ → Deeds) (j : Joint) : Type 0 where
     judged : IsJudged j.course
@@ -218,24 +298,25 @@ module _ (proper : AllProper) (d : Direction) (local : Local) (fair : IsFairFrom
   -- ---- a packet of the other side
 
   data Passing (at : ℕ) (vs : List Value) (c : Passed) : Type 0 where
-    all_taken : AreTaken d at vs c → IsJudged (units_pass (other d) at vs c) → (units_pass (other d) at vs c).first ≡ None →
+    all_taken : ArePassed barred d at vs c → IsJudged (units_pass (other d) at vs c) → (units_pass (other d) at vs c).first ≡ None →
         AreClean d (units_pass (other d) at vs c).past → Passing at vs c
     then_silent : IsSilent d (units_pass (other d) at vs c) → Passing at vs c
     then_broken : HasBroken d (units_pass (other d) at vs c).past → Passing at vs c
 
   module _ (deeds : ℕ → Deeds) (at : ℕ) (octets : List ℕ) (units : List Value) (old new : Joint)
       (step : Steps d (passes_other at octets units) old new) (g : Goes deeds old)
-      (two : (units_pass (other d) at units old.course).traffic.course.class ≡ Some Zero → ⊥) where
+      (not : (units_pass (other d) at units old.course).traffic.course.class ≡ Some barred → ⊥) where
     abbrev After : List Value → Passed
     After front = units_pass (other d) at front old.course
 
-    blameless : (front back : List Value) → units ≡ front ++ back → AreTaken d at front old.course → NoneIsToBlame d (After front).sessions
+    blameless : (front back : List Value) → units ≡ front ++ back → ArePassed barred d at front old.course →
+        NoneIsToBlame d (After front).sessions
     blameless front back is taken =
         k.none_amid deeds at octets front back old new (subst (λ (l : List Value). Steps d (passes_other at octets l) old new) is step)
         g.courses taken g.holds
 
     record AllSoFar (front : List Value) : Type 0 where
-      taken : AreTaken d at front old.course
+      taken : ArePassed barred d at front old.course
       judged : IsJudged (After front)
       first : (After front).first ≡ None
       clean : AreClean d (After front).past
@@ -253,11 +334,11 @@ module _ (proper : AllProper) (d : Direction) (local : Local) (fair : IsFairFrom
       joined : After (front ++ v ∷ []) ≡ next
       joined = units_join (other d) at front (v ∷ []) old.course
 
-      is_clear : IsClear c.traffic.course
-      is_clear = judged_clear c so.judged
-          (units_two (other d) at (v ∷ back) c
-          (λ zero. two (subst (λ (l : List Value). (After l).traffic.course.class ≡ Some Zero) (sym is)
-          (ap (λ (x : Passed). x.traffic.course.class) (units_join (other d) at front (v ∷ back) old.course) ∙ zero))))
+      not_yet : c.traffic.course.class ≡ Some barred → ⊥
+      not_yet =
+          units_not barred (other d) at (v ∷ back) c
+          (λ is_so. not (subst (λ (l : List Value). (After l).traffic.course.class ≡ Some barred) (sym is)
+          (ap (λ (x : Passed). x.traffic.course.class) (units_join (other d) at front (v ∷ back) old.course) ∙ is_so)))
 
       is_sure : Sure c
       is_sure = units_kept Sure sure_claim (other d) at front old.course g.sure
@@ -271,10 +352,12 @@ module _ (proper : AllProper) (d : Direction) (local : Local) (fair : IsFairFrom
       mild : IsNoBreak found → (found ≡ Kept) ⊎ (found ≡ NotJudged) → One
       mild none how = by calm.how
         where
-          taken : AreTaken d at (front ++ v ∷ []) old.course
-          taken = taken_then d at front v old.course so.taken (record {
-            fine = fine_so (other d) v c is_sure.agrees is_clear none;
-            clear = is_clear;
+          taken : ArePassed barred d at (front ++ v ∷ []) old.course
+          taken = passed_then barred d at front v old.course so.taken (record {
+            right = record { firm = so.judged.firm; goes = goes_so (other d) c so.judged; none = none };
+            firm = firm_so c so.judged;
+            not = not_yet;
+            sure = is_sure;
             few = λ many. not_many found many none how;
           })
 
@@ -349,18 +432,18 @@ module _ (proper : AllProper) (d : Direction) (local : Local) (fair : IsFairFrom
   -- ---- a unit of the end
 
   module _ (deeds : ℕ → Deeds) (at : ℕ) (v : Value) (old new : Joint) (step : Steps d (passes_own at v) old new) (g : Goes deeds old)
-      (clear : IsClear old.course.traffic.course) (two : new.course.traffic.course.class ≡ Some Zero → ⊥) where
+      (was_not : old.course.traffic.course.class ≡ Some barred → ⊥) (not : new.course.traffic.course.class ≡ Some barred → ⊥) where
     abbrev now : new.course ≡ unit_passes d at v old.course
     now = ap (λ (j : Joint). j.course) step.4
 
     own_so : Stays deeds new
     own_so = by calm.how
       where
-        fine : IsFine d v old.course
-        fine = own_fine d (calls_from d) local fair at v old new step g.followed clear
+        right : IsRight d v old.course
+        right = own_right d local fair at v old new step g.followed g.judged
 
         holds : Inv deeds new
-        holds = k.own_passes deeds at v old new step fine clear two g.holds
+        holds = k.own_passes deeds at v old new step right (firm_so old.course g.judged) g.sure was_not not g.holds
 
         courses : HaveCourses d deeds new
         courses = subst (HaveCourses d deeds) (sym step.4) g.courses
@@ -369,11 +452,11 @@ module _ (proper : AllProper) (d : Direction) (local : Local) (fair : IsFairFrom
         nobody = k.none deeds new courses holds
 
         calm : IsCalm new.course
-        calm = subst IsCalm (sym now) (calm_after d at v old.course g.judged g.first fine.none)
+        calm = subst IsCalm (sym now) (calm_after d at v old.course g.judged g.first right.none)
 
         clean : AreClean d new.course.past
         clean = subst (λ (x : Passed). AreClean d x.past) (sym now)
-            (unit_clean d at v old.course d fine.none (subst (λ (x : Passed). NoneIsToBlame d x.sessions) now nobody) g.clean)
+            (unit_clean d at v old.course d right.none (subst (λ (x : Passed). NoneIsToBlame d x.sessions) now nobody) g.clean)
 
         by : IsJudged new.course ⊎ IsOver new.course → Stays deeds new
         by (inl j) = goes (record {
@@ -390,7 +473,7 @@ module _ (proper : AllProper) (d : Direction) (local : Local) (fair : IsFairFrom
 
   -- ---- each step
 
-  few_so : (deeds : ℕ → Deeds) (old : Joint) → Goes deeds old → IsWithin old.course → (i : ℕ) (j : Joined) →
+  few_so : (deeds : ℕ → Deeds) (old : Joint) → Goes deeds old → IsWithout barred old.course → (i : ℕ) (j : Joined) →
       slice_get old.course.sessions.live i ≡ Some j → length (heard (spoken (other d) j)) < 2 ^ 64
   few_so deeds old g within i j here = let most = g.few i j here in let few = within.few in omega (arith, most, few)
 
@@ -410,17 +493,17 @@ module _ (proper : AllProper) (d : Direction) (local : Local) (fair : IsFairFrom
   })
 
   turn_so : (turn : Turn) (old new : Joint) (t : TakesTurn turn old new) (deeds : ℕ → Deeds)
-      (does : TurnDoes (calls_from d) deeds turn old new t) → Goes deeds old → IsWithin old.course →
+      (does : TurnDoes (calls_from d) deeds turn old new t) → Goes deeds old → IsWithout barred old.course →
       Stays (all_did deeds does.of.on.more) new
   turn_so turn old new t deeds does g within =
       still_goes deeds (all_did deeds does.of.on.more) (turns turn) old new t g
       (subst IsJudged (sym t.course) g.judged) (ap (λ (x : Passed). x.first) t.course ∙ g.first)
       (k.turn turn old new t deeds does g.followed
       (step_followed d (wholes.begin (calls_from d) local) proper (turns turn) old new t g.followed)
-      (judged_clear old.course g.judged within.two) g.holds)
+      (firm_so old.course g.judged) within.not g.holds)
       does.of.on.course (subst (λ (x : Passed). AreClean d x.past) (sym t.course) g.clean)
 
-  own_begins_so : (old new : Joint) → Steps d begins_own old new → IsWithin old.course → (deeds : ℕ → Deeds) → Goes deeds old →
+  own_begins_so : (old new : Joint) → Steps d begins_own old new → IsWithout barred old.course → (deeds : ℕ → Deeds) → Goes deeds old →
       Stays deeds new
   own_begins_so old new step within deeds g =
       still_goes deeds deeds begins_own old new step g
@@ -437,19 +520,19 @@ module _ (proper : AllProper) (d : Direction) (local : Local) (fair : IsFairFrom
       (subst (HaveCourses d deeds) (sym step) g.courses) (subst (λ (j : Joint). AreClean d j.course.past) (sym step) g.clean)
 
   -- what passes
-  tap_so : (step : Step) → IsOfTap step → (old new : Joint) → Steps d step old new → IsWithin new.course → (deeds : ℕ → Deeds) →
+  tap_so : (step : Step) → IsOfTap step → (old new : Joint) → Steps d step old new → IsWithout barred new.course → (deeds : ℕ → Deeds) →
       Goes deeds old → Stays deeds new
   tap_so (turns turn) tap old new t within deeds g = absurd tap
   tap_so begins_own tap old new step within deeds g =
-      own_begins_so old new step (step_within d begins_own old new step within) deeds g
+      own_begins_so old new step (step_without barred d begins_own old new step within) deeds g
   tap_so begins_other tap old new step within deeds g = other_begins_so old new step deeds g
   tap_so (passes_own at v) tap old new step within deeds g =
       own_so deeds at v old new step g
-      (judged_clear old.course g.judged (step_within d (passes_own at v) old new step within).two) within.two
+      (step_without barred d (passes_own at v) old new step within).not within.not
   tap_so (passes_other at octets units) tap old new step within deeds g =
-      let two : (units_pass (other d) at units old.course).traffic.course.class ≡ Some Zero → ⊥ =
-      λ zero. within.two (ap (λ (j : Joint). j.course.traffic.course.class) step.2 ∙ zero) in
-      other_by deeds at octets units old new step g two (passed deeds at octets units old new step g two)
+      let not : (units_pass (other d) at units old.course).traffic.course.class ≡ Some barred → ⊥ =
+      λ is_so. within.not (ap (λ (j : Joint). j.course.traffic.course.class) step.2 ∙ is_so) in
+      other_by deeds at octets units old new step g not (passed deeds at octets units old new step g not)
 
   -- what has ended or is broken stays so
   step_stays : (step : Step) (deeds then_deeds : ℕ → Deeds) (old new : Joint) → Steps d step old new →
@@ -459,26 +542,27 @@ module _ (proper : AllProper) (d : Direction) (local : Local) (fair : IsFairFrom
   step_stays step deeds then_deeds old new does on (broken b) =
       broken (step_kept (λ x. HasBroken d x.past) (broken_claim d) d step old new does b)
 
-  tap_stays : (step : Step) → IsOfTap step → (deeds : ℕ → Deeds) (old new : Joint) → Steps d step old new → IsWithin new.course →
+  tap_stays : (step : Step) → IsOfTap step → (deeds : ℕ → Deeds) (old new : Joint) → Steps d step old new → IsWithout barred new.course →
       Stays deeds old → Stays deeds new
   tap_stays step tap deeds old new does within s =
       step_stays step deeds deeds old new does (λ g. tap_so step tap old new does within deeds g) s
 
-  along_within : (steps : List Step) (old new : Joint) → StepsAlong d old steps new → IsWithin new.course → IsWithin old.course
-  along_within [] old new is h = subst (λ (j : Joint). IsWithin j.course) is h
-  along_within (step ∷ steps) old new (mid, one, more) h = step_within d step old mid one (along_within steps mid new more h)
+  along_within : (steps : List Step) (old new : Joint) → StepsAlong d old steps new → IsWithout barred new.course →
+      IsWithout barred old.course
+  along_within [] old new is h = subst (λ (j : Joint). IsWithout barred j.course) is h
+  along_within (step ∷ steps) old new (mid, one, more) h = step_without barred d step old mid one (along_within steps mid new more h)
 
   abbrev Stood : Joint → Type 0
   Stood j = (deeds : ℕ → Deeds) × Stays deeds j
 
   along_so : (steps : List Step) (deeds : ℕ → Deeds) (old new : Joint) (along : StepsAlong d old steps new) →
-      StepsDo d (calls_from d) deeds old steps new along → IsWithin new.course → Stays deeds old → Stood new
+      StepsDo d (calls_from d) deeds old steps new along → IsWithout barred new.course → Stays deeds old → Stood new
   along_so [] deeds old new is does within s = (deeds, subst (Stays deeds) (sym is) s)
   along_so (turns turn ∷ steps) deeds old new (mid, t, more) (does, rest) within s =
       let now = along_within steps mid new more within in
       along_so steps (all_did deeds does.of.on.more) mid new more rest within
       (step_stays (turns turn) deeds (all_did deeds does.of.on.more) old mid t
-      (λ g. turn_so turn old mid t deeds does g (subst IsWithin t.course now)) s)
+      (λ g. turn_so turn old mid t deeds does g (subst (IsWithout barred) t.course now)) s)
   along_so (begins_own ∷ steps) deeds old new (mid, one, more) does within s =
       along_so steps deeds mid new more does within (tap_stays begins_own tt deeds old mid one (along_within steps mid new more within) s)
   along_so (passes_own at v ∷ steps) deeds old new (mid, one, more) does within s =
@@ -529,20 +613,60 @@ module _ (proper : AllProper) (d : Direction) (local : Local) (fair : IsFairFrom
           inl (after_kept (IsSilent d) (silent_claim d) t.back (comes_to t.front)
           (subst (IsSilent d) (sym t.unreadable) ((silent_claim d).bad (other d) t.at t.cause j.course s))).clean
 
-  bad_within : (capture : Capture) (c : Passed) → TurnsBad d capture c → IsWithin (comes_to capture).course → IsWithin c
+  bad_within : (capture : Capture) (c : Passed) → TurnsBad d capture c → IsWithout barred (comes_to capture).course → IsWithout barred c
   bad_within capture c t h =
       let join = ap (λ (x : Capture). comes_to x) t.parts ∙ after_join t.front t.back tapping.begin in
-      unread_within (other d) t.at t.cause c (subst IsWithin t.unreadable
-      (after_within t.back (comes_to t.front) (subst (λ (s : tapping.State). IsWithin s.course) join h)))
+      unread_without barred (other d) t.at t.cause c (subst (IsWithout barred) t.unreadable
+      (after_without barred t.back (comes_to t.front) (subst (λ (s : tapping.State). IsWithout barred s.course) join h)))
 
-  pub never_first : (h : Holding) (capture : Capture) (f : First) → IsFresh (calls_from d) local h →
+  pub never_first_without : (h : Holding) (capture : Capture) (f : First) → IsFresh (calls_from d) local h →
       ComesByDoing d (calls_from d) capture h →
-      IsWithin (comes_to capture).course → BreaksFirst f (comes_to capture).course.past → f.direction ≡ other d
-  never_first h capture f fresh comes within earliest = first_of_other d f (comes_to capture).course.past (by comes.all) earliest
+      IsWithout barred (comes_to capture).course → BreaksFirst f (comes_to capture).course.past → f.direction ≡ other d
+  never_first_without h capture f fresh comes within earliest = first_of_other d f (comes_to capture).course.past (by comes.all) earliest
     where
-      at_last : IsWithin comes.last.course → Stood comes.last
+      at_last : IsWithout barred comes.last.course → Stood comes.last
       at_last w = along_so comes.steps (λ r. no_deeds) (begin h) comes.last comes.along comes.does w (stays_first h fresh)
 
       by : ((comes_to capture).course ≡ comes.last.course) ⊎ TurnsBad d capture comes.last.course → Ends (comes_to capture).course
-      by (inl is) = subst Ends (sym is) (ends_so comes.last (at_last (subst IsWithin is within)))
+      by (inl is) = subst Ends (sym is) (ends_so comes.last (at_last (subst (IsWithout barred) is within)))
       by (inr bad) = bad_so capture comes.last bad (at_last (bad_within capture comes.last.course bad within))
+
+-- ---- while class 0 is not selected
+
+without_zero : (c : Passed) → IsWithin c → IsWithout Zero c
+without_zero c h = record { not = h.two; few = h.few }
+
+taken_one : (d : Direction) (v : Value) (c : Passed) → IsPassed Zero d v c → IsTaken d v c
+taken_one d v c h =
+    let clear : IsClear c.traffic.course = record { sure = h.firm; two = h.not } in
+    record { fine = fine_so (other d) v c h.sure.agrees clear h.right.none; clear = clear; few = h.few }
+
+taken_all : (d : Direction) (at : ℕ) (vs : List Value) (c : Passed) → ArePassed Zero d at vs c → AreTaken d at vs c
+taken_all d at [] c h = tt
+taken_all d at (v ∷ vs) c h = (taken_one d v c h.0, taken_all d at vs (unit_passes (other d) at v c) h.1)
+
+module _ (d : Direction) (local : Local) (Inv : (ℕ → Deeds) → Joint → Type 0) (k : KeepsNoneToBlame d local Inv) where
+  unless_zero : KeepsUnless Zero d local Inv
+  unless_zero = record {
+    begins = k.begins;
+    own_begins = k.own_begins;
+    other_begins = k.other_begins;
+    own_passes = λ deeds at v old new step right firm sure was_not not h.
+        let clear : IsClear old.course.traffic.course = record { sure = firm; two = was_not } in
+        k.own_passes deeds at v old new step (fine_so d v old.course sure.agrees clear right.none) clear not h;
+    other_passes = λ deeds at octets units old new step passed h.
+        k.other_passes deeds at octets units old new step (taken_all d at units old.course passed) h;
+    turn = λ turn old new t deeds does f g firm not h.
+        k.turn turn old new t deeds does f g (record { sure = firm; two = not }) h;
+    none = k.none;
+    none_amid = λ deeds at octets front back old new step courses passed h.
+        k.none_amid deeds at octets front back old new step courses (taken_all d at front old.course passed) h;
+  }
+
+pub never_first : AllProper → (d : Direction) (local : Local) → IsFairFrom (way_of d) (wholes.begin (calls_from d) local) →
+    (Inv : (ℕ → Deeds) → Joint → Type 0) → KeepsNoneToBlame d local Inv → (h : Holding) (capture : Capture) (f : First) →
+    IsFresh (calls_from d) local h → ComesByDoing d (calls_from d) capture h → IsWithin (comes_to capture).course →
+    BreaksFirst f (comes_to capture).course.past → f.direction ≡ other d
+never_first proper d local fair Inv k h capture f fresh comes within earliest =
+    never_first_without proper Zero d local fair Inv (unless_zero d local Inv k) h capture f fresh comes
+    (without_zero (comes_to capture).course within) earliest

@@ -46,9 +46,9 @@ returns-clause-called c = λ local begin end turns capture f fresh run octets se
     octets seen
 
 pub returns-clause-calling : goal.returns-clause-calling
-returns-clause-calling c = λ local begin end turns capture f fresh run octets seen two few first.
+returns-clause-calling c = λ local begin end turns capture f fresh run octets seen few first.
     calling_never_first (known c) (as_sent c) c.what_leaves_in_parts.ensures.read c.an_honest_session_is_explained.ensures.caller
-    c.an_honest_session_is_explained.ensures.called local capture (record { two = two; few = few }) f first begin end turns fresh run
+    c.an_honest_session_is_explained.ensures.called local capture few f first begin end turns fresh run
     octets seen
 
 pub returns-clause-both : goal.returns-clause-both
@@ -57,7 +57,7 @@ returns-clause-both c = λ mine theirs begin end called_begin called_end turns c
     neither_first first (comes_to capture).course.past
     (λ f earliest. calling_never_first (known c) (as_sent c) c.what_leaves_in_parts.ensures.read
     c.an_honest_session_is_explained.ensures.caller c.an_honest_session_is_explained.ensures.called mine capture
-    (record { two = two; few = few }) f earliest begin end turns fresh run octets seen)
+    few f earliest begin end turns fresh run octets seen)
     (λ f earliest. called_never_first (known c) (as_sent c) c.what_leaves_in_parts.ensures.read
     c.an_honest_session_is_explained.ensures.caller c.an_honest_session_is_explained.ensures.called theirs capture
     (record { two = two; few = few }) f earliest called_begin called_end called_turns called_fresh called_run octets called_seen) is
@@ -69,9 +69,9 @@ returns-clause-called_at_a_tap c = λ local begin end turns capture t f fresh ru
     (told_first c capture t f was_fed judged told) begin end turns fresh run octets seen
 
 pub returns-clause-calling_at_a_tap : goal.returns-clause-calling_at_a_tap
-returns-clause-calling_at_a_tap c = λ local begin end turns capture t f fresh run octets seen two few was_fed judged told.
+returns-clause-calling_at_a_tap c = λ local begin end turns capture t f fresh run octets seen few was_fed judged told.
     calling_never_first (known c) (as_sent c) c.what_leaves_in_parts.ensures.read c.an_honest_session_is_explained.ensures.caller
-    c.an_honest_session_is_explained.ensures.called local capture (record { two = two; few = few }) f
+    c.an_honest_session_is_explained.ensures.called local capture few f
     (told_first c capture t f was_fed judged told) begin end turns fresh run octets seen
 
 pub returns-clause-both_at_a_tap : goal.returns-clause-both_at_a_tap
@@ -80,7 +80,7 @@ returns-clause-both_at_a_tap c = λ mine theirs begin end called_begin called_en
     neither_first (first_in t) (comes_to capture).course.past
     (λ f earliest. calling_never_first (known c) (as_sent c) c.what_leaves_in_parts.ensures.read
     c.an_honest_session_is_explained.ensures.caller c.an_honest_session_is_explained.ensures.called mine capture
-    (record { two = two; few = few }) f earliest begin end turns fresh run octets seen)
+    few f earliest begin end turns fresh run octets seen)
     (λ f earliest. called_never_first (known c) (as_sent c) c.what_leaves_in_parts.ensures.read
     c.an_honest_session_is_explained.ensures.caller c.an_honest_session_is_explained.ensures.called theirs capture
     (record { two = two; few = few }) f earliest called_begin called_end called_turns called_fresh called_run octets called_seen)

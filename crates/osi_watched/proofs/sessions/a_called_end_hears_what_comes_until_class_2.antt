@@ -1,0 +1,326 @@
+-- Until class 2 is selected all connections of a called end stand at a tap as units of the other side pass: CRs and DCs, and in class 0
+-- DTs for its one connection. For the session of the connection of a called end in class 0.
+use Rattle.std.proofs.Common.{◌≡◌, ◌∙◌, refl, sym, ap, subst, ℕ, ◌<◌, Bool, true, false, if◌then◌else◌, List, [], ◌∷◌, ◌++◌}
+use Rattle.std.proofs.Common.{Option, Some, None, is_some, append_assoc, drop}
+use Rattle.std.specs.Prelude.{◌||◌, not}
+use Rattle.std.specs.List.{AllByRecursion, list_all}
+use Rattle.std.proofs.lemmas.List.{append-nil}
+use Rattle.osi_tpdu.specs.Value.{Connect, Value, acknowledge, confirm, data0, data2, disconnect, disconnected, error, request}
+use Rattle.osi_class.specs.Runs.{unit_parts}
+use Rattle.osi_class.specs.Tsdus.{Part}
+use Rattle.osi_class.specs.declared.terms.Class.{Class}
+use Rattle.osi_class.specs.declared.terms.Class.TheVariants.{Two, Zero}
+use Rattle.osi_carrier.specs.State.{State as Carrier}
+use Rattle.osi_judge.specs.declared.directions.Direction.TheVariants.{Left, Right}
+use Rattle.osi_rules.specs.declared.directions.Direction.TheVariants as way
+use Rattle.osi_rules.specs.declared.findings.Finding.{Finding}
+use Rattle.osi_rules.specs.declared.findings.Finding.TheVariants.{Broke, Kept, NotJudged, Outside, TooMany}
+use Rattle.osi_rules.specs.declared.findings.Rule.TheVariants as rule
+use Rattle.osi_rules.specs.Rows.{Test, first_failed}
+use Rattle.osi_rules.specs.Sides.{is_over, is_refused}
+use Rattle.osi_rules.specs.Traffic.{Outcome, State, asks_by, is_stopped, none_told, request_tests, route, route_in, routed, takes}
+use Rattle.osi_fair.proofs.left_selects_no_class.{left_class}
+use Rattle.osi_honest.specs.Courses.{Deeds}
+use Rattle.osi_tap.specs.Connections.{Sessions, taken}
+use Rattle.osi_tap.specs.Courses.{Course, unit_passes, units_pass}
+use Rattle.osi_watched.proofs.the_first_break_is_not_of_an_end.{IsNoBreak}
+use Rattle.osi_watched.proofs.sessions.a_calling_end_hears_what_comes_until_class_2.{IsNotTwo}
+use Rattle.osi_watched.proofs.sessions.a_dt_of_class_0_has_one_place.{is_live_there}
+use Rattle.osi_watched.proofs.sessions.a_dt_of_class_0_leaves_all_standing as in_zero
+use Rattle.osi_watched.proofs.sessions.a_dt_of_class_0_leaves_all_standing.{GrowsThere, IsHeardZero, IsZero, told_there}
+use Rattle.osi_watched.proofs.sessions.all_connections_stand.{AllStand}
+use Rattle.osi_watched.proofs.sessions.class_0_has_one_connection.{all_so}
+use Rattle.osi_watched.proofs.sessions.class_0_keeps_its_one_place.{HasOne, IsStill, one_passes, zero_still}
+use Rattle.osi_watched.proofs.sessions.connections_have_the_same_places.{unit_joins, unit_knows}
+use Rattle.osi_watched.proofs.sessions.each_step_leaves_class_0_one_connection.{Sure, is_zero, sure_claim}
+use Rattle.osi_watched.proofs.sessions.no_connection_is_opened_before_a_class_is_selected.{UncalledUntil, uncalled_claim}
+use Rattle.osi_watched.proofs.sessions.nothing_is_done_before_a_cr_passes.{may_take}
+use Rattle.osi_watched.proofs.sessions.steps_of_class_0_leave_all_standing.{zero_grows}
+use Rattle.osi_watched.proofs.sessions.steps_of_either_class_leave_all_standing.{IsRight}
+use Rattle.osi_watched.proofs.sessions.what_a_turn_puts_goes_to_its_peer.{all_of_both}
+use Rattle.osi_watched.proofs.sessions.what_is_in_flight_to_an_end.{flight_same, known_of}
+use Rattle.osi_watched.proofs.sessions.what_passes_leaves_all_standing as in_two
+use Rattle.osi_watched.proofs.sessions.what_passes_leaves_all_standing.{IsHeard}
+use Rattle.osi_watched.proofs.sessions.what_stands_of_a_connection.{Known}
+
+-- ---- what holds
+
+-- a CR or a DC
+abbrev pub IsAsking : Value → Type 0
+IsAsking (request x) = Unit {0}
+IsAsking (disconnected n source) = Unit {0}
+IsAsking (confirm n x) = ⊥
+IsAsking (disconnect n source reason user) = ⊥
+IsAsking (data0 end user) = ⊥
+IsAsking (data2 n number end user) = ⊥
+IsAsking (acknowledge credit n number) = ⊥
+IsAsking (error n cause) = ⊥
+
+-- no CC
+abbrev pub IsNoCc : Value → Type 0
+IsNoCc (confirm n x) = ⊥
+IsNoCc (request x) = Unit {0}
+IsNoCc (disconnect n source reason user) = Unit {0}
+IsNoCc (disconnected n source) = Unit {0}
+IsNoCc (data0 end user) = Unit {0}
+IsNoCc (data2 n number end user) = Unit {0}
+IsNoCc (acknowledge credit n number) = Unit {0}
+IsNoCc (error n cause) = Unit {0}
+
+-- what is known of the parts in flight, at the connection with this reference alone
+abbrev pub known_one : ℕ → Carrier → List Value → Known
+known_one r end coming q later = (q ≡ r) × (0 < q) × known_of (may_take end) coming q later
+
+-- no connection has another reference of the end
+abbrev pub IsNone : ℕ → Type 0
+IsNone q = ⊥
+
+-- All connections of a called end stand. Until class 0 is selected none has a reference of the end, and then the one with this reference
+-- alone.
+pub record StandsCalledEarly (deeds : ℕ → Deeds) (r : ℕ) (end : Carrier) (put : List Value) (begun : Bool) (coming : List Value)
+    (c : Course) : Type 0 where
+  pub sure : Sure c
+  pub all : AllStand Right deeds (known_one r end coming) put begun c.traffic c.sessions
+  pub uncalled : UncalledUntil c
+  pub asking : c.traffic.course.class ≡ None → AllByRecursion IsAsking coming
+  pub plain : AllByRecursion IsNoCc coming
+  pub zero : c.traffic.course.class ≡ Some Zero → HasOne Right r IsNone c.traffic c.sessions
+
+-- a unit of the other side that breaks no rule, while class 2 is not selected
+pub record IsTaken (v : Value) (c : Course) : Type 0 where
+  pub right : IsRight Left v c
+  pub firm : c.traffic.course.right_stopped ≡ false
+  pub not_two : IsNotTwo c
+
+abbrev pub AreTaken : (at : ℕ) → List Value → Course → Type 0
+AreTaken at [] c = Unit {0}
+AreTaken at (v ∷ vs) c = IsTaken v c × AreTaken at vs (unit_passes Left at v c)
+
+-- ---- small facts
+
+pub none_some : {A : Type 0} (k : Option Class) (a : Class) → k ≡ None → k ≡ Some a → A
+none_some k a h e = absurd (cc)
+
+differ : {A : Type 0} (b : Bool) → b ≡ true → b ≡ false → A
+differ b h k = absurd (cc)
+
+same_place : (p q : ℕ) → Some p ≡ Some q → p ≡ q
+same_place p q e = cc
+
+not_true : (b : Bool) → not b ≡ true → b ≡ false
+not_true true h = absurd (cc)
+not_true false h = refl
+
+asking_plain : (v : Value) → IsAsking v → IsNoCc v
+asking_plain (request x) h = tt
+asking_plain (disconnected n source) h = tt
+asking_plain (confirm n x) h = absurd h
+asking_plain (disconnect n source reason user) h = absurd h
+asking_plain (data0 end user) h = absurd h
+asking_plain (data2 n number end user) h = absurd h
+asking_plain (acknowledge credit n number) h = absurd h
+asking_plain (error n cause) h = absurd h
+
+still_plain : (v : Value) (s : State) → IsStill Left v s → IsNoCc v
+still_plain (data0 end user) s h = tt
+still_plain (disconnected n source) s h = tt
+still_plain (error n cause) s h = tt
+still_plain (request x) s h = absurd h
+still_plain (confirm n x) s h = absurd h
+still_plain (disconnect n source reason user) s h = absurd h
+still_plain (data2 n number end user) s h = absurd h
+still_plain (acknowledge credit n number) s h = absurd h
+
+-- ---- left knows no class yet
+
+module _ (s : State) (goes : is_stopped way.Left s.course ≡ false) (seen : s.course.class_seen ≡ None) where
+  takes_early : (v : Value) → takes way.Left v s ≡ routed way.Left v s (route_in None way.Left (is_stopped way.Right s.course) v)
+  takes_early v =
+      ap (λ (b : Bool). if b then none_told way.Left NotJudged s else routed way.Left v s (route way.Left s.course v)) goes
+      ∙ ap (λ (k : Option Class). routed way.Left v s (route_in k way.Left (is_stopped way.Right s.course) v)) seen
+
+  only_asking : (v : Value) → IsNoBreak (takes way.Left v s).told.finding → IsAsking v
+  only_asking v none = by v (subst (λ (o : Outcome). IsNoBreak o.told.finding) (takes_early v) none)
+    where
+      by : (v : Value) → IsNoBreak (routed way.Left v s (route_in None way.Left (is_stopped way.Right s.course) v)).told.finding →
+          IsAsking v
+      by (request x) none = tt
+      by (disconnected n source) none = tt
+      by (confirm n x) none = absurd none
+      by (disconnect n source reason user) none = absurd none
+      by (data0 end user) none = absurd none
+      by (data2 n number end user) none = absurd none
+      by (acknowledge credit n number) none = absurd none
+      by (error n cause) none = absurd none
+
+  -- a CR is a break while a connection is not over
+  first_passes : (a : Bool) (ts : List Test) → IsNoBreak (first_failed ((a, Broke rule.Negotiating) ∷ ts)) → a ≡ true
+  first_passes true ts none = refl
+  first_passes false ts none = absurd none
+
+  asked_found : (f : Finding) (x : Connect) → IsNoBreak (asks_by way.Left f x s).told.finding → IsNoBreak f
+  asked_found Kept x none = tt
+  asked_found NotJudged x none = tt
+  asked_found TooMany x none = tt
+  asked_found (Broke r) x none = none
+  asked_found Outside x none = none
+
+  none_known : (k : Option Class) (all : Bool) → k ≡ None → (is_some k || all) ≡ true → all ≡ true
+  none_known None all e h = h
+  none_known (Some class) all e h = absurd (cc)
+
+  all_over : (x : Connect) → IsNoBreak (takes way.Left (request x) s).told.finding → list_all (is_over way.Left) s.connections ≡ true
+  all_over x none =
+      none_known s.course.class_seen (list_all (is_over way.Left) s.connections) seen
+      (first_passes (is_some s.course.class_seen || list_all (is_over way.Left) s.connections) (drop 1 (request_tests s x))
+      (asked_found (first_failed (request_tests s x)) x
+      (subst (λ (o : Outcome). IsNoBreak o.told.finding) (takes_early (request x)) none)))
+
+-- ---- a unit passes
+
+module _ (deeds : ℕ → Deeds) (r : ℕ) (end : Carrier) (put : List Value) (begun : Bool) (at : ℕ) where
+  abbrev Early : List Value → Course → Type 0
+  Early coming c = StandsCalledEarly deeds r end put begun coming c
+
+  abbrev after : Value → Course → Course
+  after v c = unit_passes Left at v c
+
+  abbrev known : List Value → Known
+  known coming = known_one r end coming
+
+  same_known : (coming : List Value) (v : Value) → unit_parts v ≡ [] → (q : ℕ) (later : List Part) → known coming q later →
+      known (coming ++ v ∷ []) q later
+  same_known coming v none q later sure = (sure.0, sure.1, flight_same (may_take end) coming v q later none sure.2)
+
+  class_was : (v : Value) (c : Course) → (after v c).traffic.course.class ≡ c.traffic.course.class
+  class_was v c = ap (λ (s : State). s.course.class) (unit_knows Left at v c) ∙ left_class v c.traffic
+
+  module _ (coming : List Value) (v : Value) (c : Course) (h : Early coming c) (k : IsTaken v c) where
+    -- it leaves the one connection
+    still_one : IsStill Left v c.traffic → HasOne Right r IsNone c.traffic c.sessions →
+        HasOne Right r IsNone (after v c).traffic (after v c).sessions
+    still_one still one =
+        subst (λ (s : State). HasOne Right r IsNone s (after v c).sessions) (sym (unit_knows Left at v c))
+        (subst (λ (t : Sessions). HasOne Right r IsNone (takes way.Left v c.traffic).state t) (sym (unit_joins Left at v c))
+        (one_passes Right Left r IsNone at v c.traffic c.sessions one h.all.places still))
+
+    -- ---- left knows no class yet
+
+    module _ (seen : c.traffic.course.class_seen ≡ None) where
+      asks : IsAsking v
+      asks = only_asking c.traffic k.right.goes seen v k.right.none
+
+      asked_heard : (u : Value) → IsAsking u → IsHeard Right (known coming) (known (coming ++ u ∷ [])) u put c.traffic c.sessions
+      asked_heard (request x) a = same_known coming (request x) refl
+      asked_heard (disconnected n source) a = same_known coming (disconnected n source) refl
+      asked_heard (confirm n x) a = absurd a
+      asked_heard (disconnect n source reason user) a = absurd a
+      asked_heard (data0 last user) a = absurd a
+      asked_heard (data2 n number last user) a = absurd a
+      asked_heard (acknowledge credit n number) a = absurd a
+      asked_heard (error n cause) a = absurd a
+
+      -- while class 0 is selected it is a DC
+      still_so : (u : Value) → u ≡ v → IsAsking u → c.traffic.course.class ≡ Some Zero → IsStill Left u c.traffic
+      still_so (disconnected n source) e a class = tt
+      still_so (request x) e a class =
+          let z = is_zero Right c.traffic h.sure k.right.firm k.firm class in
+          let over = all_so (is_over way.Left) c.traffic.connections z.only.place z.only.connection
+          (all_over c.traffic k.right.goes seen x
+          (subst (λ (w : Value). IsNoBreak (takes way.Left w c.traffic).told.finding) (sym e) k.right.none)) z.only.there in
+          differ (is_over way.Left z.only.connection) over
+          (not_true (is_over way.Left z.only.connection)
+          (is_live_there c.traffic h.all.judged k.right.firm h.all.apart z.only way.Left))
+      still_so (confirm n x) e a class = absurd a
+      still_so (disconnect n source reason user) e a class = absurd a
+      still_so (data0 last user) e a class = absurd a
+      still_so (data2 n number last user) e a class = absurd a
+      still_so (acknowledge credit n number) e a class = absurd a
+      still_so (error n cause) e a class = absurd a
+
+      unseen_early : Early (coming ++ v ∷ []) (after v c)
+      unseen_early = record {
+        sure = sure_claim.passes Left at v c h.sure;
+        all = in_two.other_stands Right deeds (known coming) (known (coming ++ v ∷ [])) at v put begun c k.right.firm k.right.goes
+            (λ e. none_some c.traffic.course.class_seen Zero seen e) k.right.none (asked_heard v asks) h.all;
+        uncalled = uncalled_claim.passes Left at v c h.uncalled;
+        asking = λ none. all_of_both IsAsking coming (v ∷ []) (h.asking (sym (class_was v c) ∙ none)) (asks, tt);
+        plain = all_of_both IsNoCc coming (v ∷ []) h.plain (asking_plain v asks, tt);
+        zero = λ e.
+            let class = sym (class_was v c) ∙ e in still_one (still_so v refl asks class) (h.zero class);
+      }
+
+    -- ---- left knows class 0
+
+    module _ (seen : c.traffic.course.class_seen ≡ Some Zero) where
+      class : c.traffic.course.class ≡ Some Zero
+      class = h.sure.agrees seen
+
+      one : HasOne Right r IsNone c.traffic c.sessions
+      one = h.zero class
+
+      is_z : IsZero Left c.traffic
+      is_z = is_zero Left c.traffic h.sure k.right.firm k.right.goes seen
+
+      still : IsStill Left v c.traffic
+      still = zero_still Left c.traffic k.right.goes seen v k.right.none
+
+      -- the place of the one connection
+      place_is : (p i : ℕ) (last : Bool) (user : List ℕ) → (takes way.Left (data0 last user) c.traffic).told.place ≡ Some p →
+          (i ≡ p → ⊥) → i ≡ one.place → ⊥
+      place_is p i last user told apart same =
+          let here : Some is_z.only.place ≡ Some p =
+          sym (told_there Right Left deeds (known coming) put begun last user c.traffic c.sessions h.all is_z) ∙ told in
+          differ (is_refused one.connection.right.phase)
+          (is_z.only.others one.place one.connection one.there (λ e. apart (same ∙ e ∙ same_place is_z.only.place p here))) one.up
+
+      grows : (last : Bool) (user : List ℕ) →
+          GrowsThere Right (known coming) (known (coming ++ data0 last user ∷ [])) last user c.traffic c.sessions
+      grows last user = record {
+        grows = λ p j place here q later named sure.
+            (sure.0, sure.1, zero_grows (may_take end) coming last user q later sure.2);
+        stays = record {
+          live = λ p i j apart place here q later named sure.
+              absurd (one.others i j q (place_is p i last user place apart) here named);
+          done = λ i j here q later named sure. absurd (one.done i j q here named);
+        };
+      }
+
+      heard_zero : (u : Value) → IsStill Left u c.traffic →
+          IsHeardZero Right (known coming) (known (coming ++ u ∷ [])) u c.traffic c.sessions
+      heard_zero (data0 last user) s = grows last user
+      heard_zero (disconnected n source) s = same_known coming (disconnected n source) refl
+      heard_zero (error n cause) s = same_known coming (error n cause) refl
+      heard_zero (request x) s = absurd s
+      heard_zero (confirm n x) s = absurd s
+      heard_zero (disconnect n source reason user) s = absurd s
+      heard_zero (data2 n number last user) s = absurd s
+      heard_zero (acknowledge credit n number) s = absurd s
+
+      seen_early : Early (coming ++ v ∷ []) (after v c)
+      seen_early = record {
+        sure = sure_claim.passes Left at v c h.sure;
+        all = in_zero.other_stands Right deeds (known coming) (known (coming ++ v ∷ [])) at v put begun c is_z k.right.none
+            (heard_zero v still) h.all;
+        uncalled = uncalled_claim.passes Left at v c h.uncalled;
+        asking = λ none. none_some c.traffic.course.class Zero (sym (class_was v c) ∙ none) class;
+        plain = all_of_both IsNoCc coming (v ∷ []) h.plain (still_plain v c.traffic still, tt);
+        zero = λ e. still_one still one;
+      }
+
+    unit_early : Early (coming ++ v ∷ []) (after v c)
+    unit_early = by c.traffic.course.class_seen refl
+      where
+        by : (x : Option Class) → c.traffic.course.class_seen ≡ x → Early (coming ++ v ∷ []) (after v c)
+        by None seen = unseen_early seen
+        by (Some Zero) seen = seen_early seen
+        by (Some Two) seen = absurd ((h.sure.narrow k.not_two).known seen)
+
+  -- ---- the units of a packet
+
+  pub units_early : (vs coming : List Value) (c : Course) → AreTaken at vs c → Early coming c →
+      Early (coming ++ vs) (units_pass Left at vs c)
+  units_early [] coming c taken h = subst (λ (l : List Value). Early l c) (sym (append-nil coming)) h
+  units_early (v ∷ vs) coming c taken h =
+      subst (λ (l : List Value). Early l (units_pass Left at (v ∷ vs) c)) (append_assoc coming (v ∷ []) vs)
+      (units_early vs (coming ++ v ∷ []) (after v c) taken.1 (unit_early coming v c h taken.0))

@@ -1,0 +1,554 @@
+-- Until class 2 is selected all connections of a calling end stand at a tap as units of the other side pass: answers to its CRs, and in
+-- class 0 DTs for its one connection. For the session of the connection of an end in class 0.
+use Rattle.std.proofs.Common.{◌≡◌, ◌∙◌, refl, sym, ap, subst, ℕ, ◌<◌, ◌≤◌, Bool, true, false, if◌then◌else◌, List, [], ◌∷◌, ◌++◌}
+use Rattle.std.proofs.Common.{map, Option, Some, None, is_some, arith, append_assoc, inl}
+use Rattle.std.specs.Prelude.{◌&&◌, nat_le, position, slice_get}
+use Rattle.std.specs.List.{AllByRecursion}
+use Rattle.std.proofs.lemmas.Bool.{le-leb, lt-ltb}
+use Rattle.std.proofs.lemmas.List.{append-nil}
+use Rattle.osi_tpdu.specs.Value.{Connect, HasFieldsInRange, Value, acknowledge, confirm, data0, data2, disconnect, disconnected}
+use Rattle.osi_tpdu.specs.Value.{error, request}
+use Rattle.osi_tpdu.specs.Writing.{written}
+use Rattle.osi_class.specs.Runs.{unit_parts}
+use Rattle.osi_class.specs.Tsdus.{Part}
+use Rattle.osi_class.specs.declared.terms.Class.{Class}
+use Rattle.osi_class.specs.declared.terms.Class.TheVariants.{Two, Zero}
+use Rattle.osi_class.specs.declared.terms.Local.{Local}
+use Rattle.osi_carrier.specs.State.{State as Carrier}
+use Rattle.osi_carrier.specs.declared.ends.EndReason.{EndReason}
+use Rattle.osi_judge.specs.declared.directions.Direction.{Direction}
+use Rattle.osi_judge.specs.declared.directions.Direction.TheVariants.{Left, Right}
+use Rattle.osi_rules.specs.declared.connections.Connection.{Connection}
+use Rattle.osi_rules.specs.declared.courses.Course.{Course as Rules}
+use Rattle.osi_rules.specs.declared.directions.Direction.TheVariants as way
+use Rattle.osi_rules.specs.declared.findings.Finding.{Finding}
+use Rattle.osi_rules.specs.declared.findings.Finding.TheVariants.{Broke, Kept, NotJudged, Outside, TooMany}
+use Rattle.osi_rules.specs.Reaches.{is_applied, reach_of}
+use Rattle.osi_rules.specs.Sides.{is_named, is_refused}
+use Rattle.osi_rules.specs.Traffic.{Outcome, State, at_found, at_place, class_for, class_of, course_after, course_after_none, found_on}
+use Rattle.osi_rules.specs.Traffic.{is_stopped, none_told, route, route_in, routed, takes, unnamed}
+use Rattle.osi_stack.specs.Calls.{has_given}
+use Rattle.osi_fair.specs.Naming.{unit as passing}
+use Rattle.osi_fair.specs.Wholes.{Whole}
+use Rattle.osi_fair.specs.Wholes as wholes
+use Rattle.osi_fair.proofs.a_called_end_is_judged_as_the_other_side_is.{own_judged}
+use Rattle.osi_fair.proofs.class_0_stays_selected.{reached_class, zero_stays}
+use Rattle.osi_fair.proofs.no_request_is_blamed.{Holds, holds_next}
+use Rattle.osi_fair.proofs.the_end_is_judged_as_the_other_side_is.{other_judged}
+use Rattle.osi_fair.proofs.what_lasts_at_the_tap.{lasts_passing}
+use Rattle.osi_honest.specs.Courses.{Deeds}
+use Rattle.osi_honest.proofs.courses.how_long_a_connection_is_open.{amid, past, stage_at, stage_over}
+use Rattle.osi_tap.specs.declared.rooms.Room.TheVariants.{All}
+use Rattle.osi_tap.specs.Connections.{Joined, Sessions, taken}
+use Rattle.osi_tap.specs.Courses.{Course, unit_passes, units_pass, way_of}
+use Rattle.osi_watched.proofs.a_carrier_does_events.{IsLike, none_of}
+use Rattle.osi_watched.proofs.the_first_break_is_not_of_an_end.{IsNoBreak}
+use Rattle.osi_watched.proofs.sessions.a_cc_of_class_0_opens_one_connection.{awaits_this, cc_opens, effect}
+use Rattle.osi_watched.proofs.sessions.a_dt_of_class_0_leaves_all_standing as in_zero
+use Rattle.osi_watched.proofs.sessions.a_dt_of_class_0_leaves_all_standing.{GrowsThere, IsHeardZero, IsZero, told_there}
+use Rattle.osi_watched.proofs.sessions.a_calling_end_is_ready.{cr_broke, goes_on}
+use Rattle.osi_watched.proofs.sessions.all_connections_stand.{AllStand, there_too}
+use Rattle.osi_watched.proofs.sessions.class_0_has_one_connection.{none_same}
+use Rattle.osi_watched.proofs.sessions.class_0_keeps_its_one_place.{HasOne, IsStill, one_passes, zero_still}
+use Rattle.osi_watched.proofs.sessions.connections_have_the_same_places.{unit_joins, unit_knows}
+use Rattle.osi_watched.proofs.sessions.each_cr_that_passes_gives_a_new_reference.{AreUpTo, IsUpTo, IsWithin, unit_up}
+use Rattle.osi_watched.proofs.sessions.each_step_leaves_class_0_one_connection.{Sure, is_zero, sure_claim}
+use Rattle.osi_watched.proofs.sessions.nothing_is_done_before_a_cr_passes.{is_under_way, may_take}
+use Rattle.osi_watched.proofs.sessions.references_of_an_end_are_distinct.{AreDistinct, GivesNew, unit_distinct}
+use Rattle.osi_watched.proofs.sessions.steps_of_class_0_leave_all_standing.{zero_grows, zero_stays as flight_stays}
+use Rattle.osi_watched.proofs.sessions.steps_of_either_class_leave_all_standing.{IsRight}
+use Rattle.osi_watched.proofs.sessions.units_of_class_0_come_after_its_cc.{InOrder, IsCcFor, IsLater, IsQuiet, order_more, quiet_cc}
+use Rattle.osi_watched.proofs.sessions.what_a_turn_puts_goes_to_its_peer.{all_of_both}
+use Rattle.osi_watched.proofs.sessions.what_is_in_flight_to_an_end.{flight_same, known_of}
+use Rattle.osi_watched.proofs.sessions.what_passes_leaves_all_standing as in_two
+use Rattle.osi_watched.proofs.sessions.what_passes_leaves_all_standing.{IsHeard}
+use Rattle.osi_watched.proofs.sessions.what_stands_of_a_connection.{Known, Stands, lives, unnamed as unanswered, waiting_for}
+use Rattle.osi_watched.proofs.sessions.what_stands_of_a_connection as standing
+use Rattle.osi_watched.proofs.sessions.what_the_stage_of_a_calling_end_says.{AwaitsAnswer, awaits, cc_comes, gone, one_early}
+
+-- ---- what holds
+
+-- what is known of the parts in flight, at each reference up to this one
+abbrev pub known_below : ℕ → Carrier → List Value → Known
+known_below b end coming r later = IsWithin b r × known_of (may_take end) coming r later
+
+-- this reference is not asked for and not open any more
+abbrev pub IsGone : Carrier → ℕ → Type 0
+IsGone end q = 0 < q → stage_at q end ≡ past
+
+-- In class 0 the end has at most the one connection open that the tap has open, and a CC that comes is for that.
+pub record IsZeroAt (end : Carrier) (coming : List Value) (c : Course) : Type 0 where
+  pub r : ℕ
+  pub one : HasOne Left r (IsGone end) c.traffic c.sessions
+  pub amid_is : (q peer : ℕ) → 0 < q → stage_at q end ≡ amid peer → q ≡ r
+  pub ccs : AllByRecursion (IsCcFor r) coming
+  pub order : InOrder coming
+
+-- All connections of a calling end stand, whose references are up to this one. Nothing has come for them until class 0 is selected.
+pub record StandsEarly (deeds : ℕ → Deeds) (b : ℕ) (end : Carrier) (put : List Value) (begun : Bool) (coming : List Value) (c : Course) :
+    Type 0 where
+  pub sure : Sure c
+  pub all : AllStand Left deeds (known_below b end coming) put begun c.traffic c.sessions
+  pub distinct : AreDistinct Left c.sessions
+  pub below : AreUpTo Left b c.sessions
+  pub quiet : c.traffic.course.class ≡ None → AllByRecursion IsQuiet coming
+  pub zero : c.traffic.course.class ≡ Some Zero → IsZeroAt end coming c
+
+-- a whole end with this tap and an end like this one, which has put units that are written as these
+pub record IsWith (local : Local) (end : Carrier) (put : List Value) (c : Course) : Type 0 where
+  pub whole : Whole
+  pub holds : Holds local whole
+  pub tap : whole.tap ≡ c.traffic
+  pub like : IsLike whole.end end
+  pub same : map written whole.put ≡ map written put
+
+-- class 2 is not selected
+abbrev pub IsNotTwo : Course → Type 0
+IsNotTwo c = c.traffic.course.class ≡ Some Two → ⊥
+
+-- ---- small facts
+
+none_zero : {A : Type 0} (k : Option Class) → k ≡ None → k ≡ Some Zero → A
+none_zero k h e = absurd (cc)
+
+differ : {A : Type 0} (b : Bool) → b ≡ true → b ≡ false → A
+differ b h k = absurd (cc)
+
+none_some : {A : Type 0} (k : Option Class) (a : Class) → k ≡ None → k ≡ Some a → A
+none_some k a h e = absurd (cc)
+
+over_none : {A : Type 0} (o : Option EndReason) → is_some o ≡ true → o ≡ None → A
+over_none None h e = absurd (cc h)
+over_none (Some x) h e = absurd (cc e)
+
+no_written : (put : List Value) → [] ≡ map written put → put ≡ []
+no_written [] e = refl
+no_written (v ∷ put) e = absurd (cc)
+
+same_number : (m n : ℕ) (x y : Connect) → confirm m x ≡ confirm n y → n ≡ m
+same_number m n x y e = cc
+
+pub room_of : (deeds : ℕ → Deeds) (known : Known) (put : List Value) (b : Bool) (c : Connection) (j : Joined) →
+    Stands Left deeds known put b c j → j.room ≡ All
+room_of deeds known put b c j (unanswered none mine theirs room) = room
+room_of deeds known put b c j (lives r o is live later sure h) = h.room
+room_of deeds known put b c j (standing.past r closed waiting later sure h) = h.room
+
+given_so : (r : ℕ) (c : Carrier) → 0 < r → r ≤ c.given → has_given r c ≡ true
+given_so r c some up = ap (λ (b : Bool). b && nat_le r c.given) (lt-ltb 0 r some) ∙ le-leb r c.given up
+
+past_not : (q : ℕ) (end : Carrier) → stage_at q end ≡ past → may_take end q ≡ false
+past_not q end e = ap is_under_way e
+
+kept_of : (f : Finding) → IsNoBreak f → is_applied f ≡ true → f ≡ Kept
+kept_of Kept none h = refl
+kept_of NotJudged none h = absurd (cc)
+kept_of TooMany none h = absurd (cc)
+kept_of (Broke rule) none h = absurd none
+kept_of Outside none h = absurd none
+
+refused_not : (c : Connection) → is_refused c.right.phase ≡ true → is_refused c.right.phase ≡ false → ⊥
+refused_not c h k = differ (is_refused c.right.phase) h k
+
+same_place : (p q : ℕ) → Some p ≡ Some q → p ≡ q
+same_place p q e = cc
+
+-- ---- units that break no rule
+
+-- a unit of the other side, while both sides are judged and class 2 is not selected
+pub record IsTaken (v : Value) (c : Course) : Type 0 where
+  pub right : IsRight Right v c
+  pub left : c.traffic.course.left_stopped ≡ false
+  pub not_two : IsNotTwo c
+
+-- each of these, as it passes
+abbrev pub AreTaken : (at : ℕ) → List Value → Course → Type 0
+AreTaken at [] c = Unit {0}
+AreTaken at (v ∷ vs) c = IsTaken v c × AreTaken at vs (unit_passes Right at v c)
+
+-- no class was selected before, if none is
+pub none_before : (e : Direction) (at : ℕ) (v : Value) (c : Course) → (unit_passes e at v c).traffic.course.class ≡ None →
+    c.traffic.course.class ≡ None
+none_before e at v c none = by c.traffic.course.class refl
+  where
+    same : (unit_passes e at v c).traffic.course.class ≡ (takes (way_of e) v c.traffic).state.course.class
+    same = ap (λ (s : State). s.course.class) (unit_knows e at v c)
+
+    by : (k : Option Class) → c.traffic.course.class ≡ k → c.traffic.course.class ≡ None
+    by None class = class
+    by (Some Zero) class =
+        none_some (unit_passes e at v c).traffic.course.class Zero none (same ∙ zero_stays (passing (way_of e) v) c.traffic class)
+    by (Some Two) class =
+        none_some (unit_passes e at v c).traffic.course.class Two none
+        (same ∙ (lasts_passing (passing (way_of e) v) c.traffic).two class)
+
+pub units_none_before : (at : ℕ) (vs : List Value) (c : Course) → (units_pass Right at vs c).traffic.course.class ≡ None →
+    c.traffic.course.class ≡ None
+units_none_before at [] c none = none
+units_none_before at (v ∷ vs) c none = none_before Right at v c (units_none_before at vs (unit_passes Right at v c) none)
+
+-- the other side asks for nothing
+not_cr : (b : ℕ) (v : Value) (c : Course) → IsRight Right v c → IsUpTo Left b v
+not_cr b (request x) c right =
+    cr_broke (class_for way.Right c.traffic.course) (is_stopped way.Left c.traffic.course) x c.traffic
+    (goes_on (is_stopped way.Right c.traffic.course) c.traffic
+    (routed way.Right (request x) c.traffic (route way.Right c.traffic.course (request x))) right.goes right.none)
+not_cr b (confirm n x) c right = tt
+not_cr b (disconnect n source reason user) c right = tt
+not_cr b (disconnected n source) c right = tt
+not_cr b (data0 end user) c right = tt
+not_cr b (data2 n number end user) c right = tt
+not_cr b (acknowledge credit n number) c right = tt
+not_cr b (error n cause) c right = tt
+
+pub no_crs : (b at : ℕ) (vs : List Value) (c : Course) → AreTaken at vs c → AllByRecursion (IsUpTo Left b) vs
+no_crs b at [] c taken = tt
+no_crs b at (v ∷ vs) c taken = (not_cr b v c taken.0.right, no_crs b at vs (unit_passes Right at v c) taken.1)
+
+-- ---- no class is selected yet
+
+-- a CR, a DT and an AK are breaks then
+abbrev IsEarlyBreak : Value → Type 0
+IsEarlyBreak (request x) = Unit {0}
+IsEarlyBreak (data0 end user) = Unit {0}
+IsEarlyBreak (data2 n number end user) = Unit {0}
+IsEarlyBreak (acknowledge credit n number) = Unit {0}
+IsEarlyBreak (confirm n x) = ⊥
+IsEarlyBreak (disconnect n source reason user) = ⊥
+IsEarlyBreak (disconnected n source) = ⊥
+IsEarlyBreak (error n cause) = ⊥
+
+module _ (s : State) (goes : is_stopped way.Right s.course ≡ false) (class : s.course.class ≡ None) where
+  takes_early : (v : Value) → takes way.Right v s ≡ routed way.Right v s (route_in None way.Right (is_stopped way.Left s.course) v)
+  takes_early v =
+      ap (λ (b : Bool). if b then none_told way.Right NotJudged s else routed way.Right v s (route way.Right s.course v)) goes
+      ∙ ap (λ (k : Option Class). routed way.Right v s (route_in k way.Right (is_stopped way.Left s.course) v)) class
+
+  early_break : {A : Type 0} (v : Value) → IsEarlyBreak v → IsNoBreak (takes way.Right v s).told.finding → A
+  early_break v h none = by v h (subst (λ (o : Outcome). IsNoBreak o.told.finding) (takes_early v) none)
+    where
+      by : {A : Type 0} (v : Value) → IsEarlyBreak v →
+          IsNoBreak (routed way.Right v s (route_in None way.Right (is_stopped way.Left s.course) v)).told.finding → A
+      by (request x) h none = absurd none
+      by (data0 end user) h none = absurd none
+      by (data2 n number end user) h none = absurd none
+      by (acknowledge credit n number) h none = absurd none
+      by (confirm n x) h none = absurd h
+      by (disconnect n source reason user) h none = absurd h
+      by (disconnected n source) h none = absurd h
+      by (error n cause) h none = absurd h
+
+  -- a DR, a DC or an ER selects none
+  quiet_same : (v : Value) → IsQuiet v → (c : Connection) (b : Bool) (k : Rules) → (course_after way.Right c v b k).class ≡ k.class
+  quiet_same (disconnect n source reason user) h c b k = refl
+  quiet_same (disconnected n source) h c b k = refl
+  quiet_same (error n cause) h c b k = refl
+  quiet_same (request x) h c b k = absurd h
+  quiet_same (confirm n x) h c b k = absurd h
+  quiet_same (data0 end user) h c b k = absurd h
+  quiet_same (data2 n number end user) h c b k = absurd h
+  quiet_same (acknowledge credit n number) h c b k = absurd h
+
+  nowhere_class : (v : Value) → (at_place way.Right v s None).state.course.class ≡ s.course.class
+  nowhere_class v =
+      let after = course_after_none v s.course in
+      reached_class way.Right (reach_of (class_for way.Right after) (unnamed s.course v)) after ∙ (none_same v s.course).0
+
+  found_class : (v : Value) → IsQuiet v → (p : ℕ) (o : Option Connection) → (at_found way.Right v s p o).state.course.class ≡ s.course.class
+  found_class v h p None = nowhere_class v
+  found_class v h p (Some c) =
+      let f = found_on way.Right s c v in
+      reached_class way.Right (reach_of (class_for way.Right s.course) f) (course_after way.Right c v (is_applied f) s.course)
+      ∙ quiet_same v h c (is_applied f) s.course
+
+  place_class : (v : Value) → IsQuiet v → (o : Option ℕ) → (at_place way.Right v s o).state.course.class ≡ s.course.class
+  place_class v h None = nowhere_class v
+  place_class v h (Some p) = found_class v h p (slice_get s.connections p)
+
+  quiet_class : (v : Value) → IsQuiet v → (takes way.Right v s).state.course.class ≡ s.course.class
+  quiet_class v h = ap (λ (o : Outcome). o.state.course.class) (takes_early v) ∙ by v h
+    where
+      by : (v : Value) → IsQuiet v →
+          (routed way.Right v s (route_in None way.Right (is_stopped way.Left s.course) v)).state.course.class ≡ s.course.class
+      by (disconnect n source reason user) h =
+          place_class (disconnect n source reason user) tt (position (is_named way.Right n) s.connections)
+      by (disconnected n source) h = place_class (disconnected n source) tt (position (is_named way.Right n) s.connections)
+      by (error n cause) h = place_class (error n cause) tt (position (is_named way.Right n) s.connections)
+      by (request x) h = absurd h
+      by (confirm n x) h = absurd h
+      by (data0 end user) h = absurd h
+      by (data2 n number end user) h = absurd h
+      by (acknowledge credit n number) h = absurd h
+
+quiet_ccs : (r : ℕ) (vs : List Value) → AllByRecursion IsQuiet vs → AllByRecursion (IsCcFor r) vs
+quiet_ccs r [] h = tt
+quiet_ccs r (v ∷ vs) h = ((λ n x is. absurd (subst IsQuiet is h.0)), quiet_ccs r vs h.1)
+
+-- ---- a unit passes
+
+module _ (local : Local) (deeds : ℕ → Deeds) (b : ℕ) (end : Carrier) (put : List Value) (begun : Bool) (at : ℕ)
+    (given : end.ended ≡ None → b ≤ end.given) where
+  abbrev Early : List Value → Course → Type 0
+  Early coming c = StandsEarly deeds b end put begun coming c
+
+  abbrev after : Value → Course → Course
+  after v c = unit_passes Right at v c
+
+  -- what is of no kind of unit
+  distinct_after : (coming : List Value) (v : Value) (c : Course) → Early coming c → GivesNew Left v c.sessions →
+      AreDistinct Left (after v c).sessions
+  distinct_after coming v c h new =
+      subst (AreDistinct Left) (sym (unit_joins Right at v c))
+      (unit_distinct Left Right at v c.traffic c.sessions h.all.places h.distinct new
+      (λ i j here. let (k, there) = there_too c.traffic.connections c.sessions.live i j h.all.places here in
+      room_of deeds (known_below b end coming) put begun k j (h.all.live i k j there here)))
+
+  same_known : (coming : List Value) (v : Value) → unit_parts v ≡ [] → (r : ℕ) (later : List Part) → known_below b end coming r later →
+      known_below b end (coming ++ v ∷ []) r later
+  same_known coming v none r later sure = (sure.0, flight_same (may_take end) coming v r later none sure.1)
+
+  class_was : (v : Value) (c : Course) → (after v c).traffic.course.class ≡ (takes way.Right v c.traffic).state.course.class
+  class_was v c = ap (λ (s : State). s.course.class) (unit_knows Right at v c)
+
+  -- ---- in class 0
+
+  module _ (coming : List Value) (v : Value) (c : Course) (h : Early coming c) (right : IsRight Right v c)
+      (class : c.traffic.course.class ≡ Some Zero) where
+    abbrev z : IsZeroAt end coming c
+    z = h.zero class
+
+    is_z : IsZero Right c.traffic
+    is_z = is_zero Right c.traffic h.sure right.firm right.goes class
+
+    still : IsStill Right v c.traffic
+    still = zero_still Right c.traffic right.goes class v right.none
+
+    -- the place of the one connection
+    place_is : (p i : ℕ) (last : Bool) (user : List ℕ) → (takes way.Right (data0 last user) c.traffic).told.place ≡ Some p →
+        (i ≡ p → ⊥) → i ≡ z.one.place → ⊥
+    place_is p i last user told apart same =
+        let here : Some is_z.only.place ≡ Some p =
+        sym (told_there Left Right deeds (known_below b end coming) put begun last user c.traffic c.sessions h.all is_z) ∙ told in
+        refused_not z.one.connection
+        (is_z.only.others z.one.place z.one.connection z.one.there (λ e. apart (same ∙ e ∙ same_place is_z.only.place p here)))
+        z.one.up
+
+    gone_here : (q : ℕ) → stage_at q end ≡ past → may_take end q ≡ false
+    gone_here q e = past_not q end e
+
+    grows : (last : Bool) (user : List ℕ) →
+        GrowsThere Left (known_below b end coming) (known_below b end (coming ++ data0 last user ∷ [])) last user c.traffic c.sessions
+    grows last user = record {
+      grows = λ p j place here r later named sure. (sure.0, zero_grows (may_take end) coming last user r later sure.1);
+      stays = record {
+        live = λ p i j apart place here r later named sure. (
+          sure.0,
+          flight_stays (may_take end) coming last user r later
+              (gone_here r (z.one.others i j r (place_is p i last user place apart) here named sure.0.0)) sure.1,
+        );
+        done = λ i j here r later named sure.
+            (sure.0, flight_stays (may_take end) coming last user r later (gone_here r (z.one.done i j r here named sure.0.0)) sure.1);
+      };
+    }
+
+    heard_zero : (u : Value) → IsStill Right u c.traffic →
+        IsHeardZero Left (known_below b end coming) (known_below b end (coming ++ u ∷ [])) u c.traffic c.sessions
+    heard_zero (data0 last user) k = grows last user
+    heard_zero (disconnected n source) k = same_known coming (disconnected n source) refl
+    heard_zero (error n cause) k = same_known coming (error n cause) refl
+    heard_zero (request x) k = absurd k
+    heard_zero (confirm n x) k = absurd k
+    heard_zero (disconnect n source reason user) k = absurd k
+    heard_zero (data2 n number last user) k = absurd k
+    heard_zero (acknowledge credit n number) k = absurd k
+
+    later_so : (u : Value) → IsStill Right u c.traffic → IsLater u × GivesNew Left u c.sessions × IsUpTo Left b u × IsCcFor z.r u
+    later_so (data0 last user) k = (tt, tt, tt, λ n x is. absurd (cc is))
+    later_so (disconnected n source) k = (tt, tt, tt, λ m x is. absurd (cc is))
+    later_so (error n cause) k = (tt, tt, tt, λ m x is. absurd (cc is))
+    later_so (request x) k = absurd k
+    later_so (confirm n x) k = absurd k
+    later_so (disconnect n source reason user) k = absurd k
+    later_so (data2 n number last user) k = absurd k
+    later_so (acknowledge credit n number) k = absurd k
+
+    zero_early : Early (coming ++ v ∷ []) (after v c)
+    zero_early =
+        let (later, new, up, cc_for) = later_so v still in
+        record {
+          sure = sure_claim.passes Right at v c h.sure;
+          all = in_zero.other_stands Left deeds (known_below b end coming) (known_below b end (coming ++ v ∷ [])) at v put begun c is_z
+              right.none (heard_zero v still) h.all;
+          distinct = distinct_after coming v c h new;
+          below = unit_up Left Right b at v c h.all.places up h.below;
+          quiet = λ none. none_zero (after v c).traffic.course.class none
+              (class_was v c ∙ zero_stays (passing way.Right v) c.traffic class);
+          zero = λ e. record {
+            r = z.r;
+            one = subst (λ (s : State). HasOne Left z.r (IsGone end) s (after v c).sessions) (sym (unit_knows Right at v c))
+                (subst (λ (t : Sessions). HasOne Left z.r (IsGone end) (takes way.Right v c.traffic).state t)
+                (sym (unit_joins Right at v c))
+                (one_passes Left Right z.r (IsGone end) at v c.traffic c.sessions z.one h.all.places still));
+            amid_is = z.amid_is;
+            ccs = all_of_both (IsCcFor z.r) coming (v ∷ []) z.ccs (cc_for, tt);
+            order = order_more coming v z.order later;
+          };
+        }
+
+  -- ---- before it
+
+  module _ (coming : List Value) (v : Value) (c : Course) (h : Early coming c) (right : IsRight Right v c)
+      (class : c.traffic.course.class ≡ None) where
+    quiet_heard : (u : Value) → IsQuiet u →
+        IsHeard Left (known_below b end coming) (known_below b end (coming ++ u ∷ [])) u put c.traffic c.sessions
+    quiet_heard (disconnect n source reason user) q = same_known coming (disconnect n source reason user) refl
+    quiet_heard (disconnected n source) q = same_known coming (disconnected n source) refl
+    quiet_heard (error n cause) q = same_known coming (error n cause) refl
+    quiet_heard (request x) q = absurd q
+    quiet_heard (confirm n x) q = absurd q
+    quiet_heard (data0 last user) q = absurd q
+    quiet_heard (data2 n number last user) q = absurd q
+    quiet_heard (acknowledge credit n number) q = absurd q
+
+    quiet_new : (u : Value) → IsQuiet u → GivesNew Left u c.sessions × IsUpTo Left b u
+    quiet_new (disconnect n source reason user) q = (tt, tt)
+    quiet_new (disconnected n source) q = (tt, tt)
+    quiet_new (error n cause) q = (tt, tt)
+    quiet_new (request x) q = absurd q
+    quiet_new (confirm n x) q = absurd q
+    quiet_new (data0 last user) q = absurd q
+    quiet_new (data2 n number last user) q = absurd q
+    quiet_new (acknowledge credit n number) q = absurd q
+
+    all_heard : IsHeard Left (known_below b end coming) (known_below b end (coming ++ v ∷ [])) v put c.traffic c.sessions →
+        AllStand Left deeds (known_below b end (coming ++ v ∷ [])) put begun (after v c).traffic (after v c).sessions
+    all_heard heard =
+        in_two.other_stands Left deeds (known_below b end coming) (known_below b end (coming ++ v ∷ [])) at v put begun c right.firm
+        right.goes (λ e. none_zero c.traffic.course.class class e) right.none heard h.all
+
+    quiet_early : IsQuiet v → Early (coming ++ v ∷ []) (after v c)
+    quiet_early q =
+        let (new, up) = quiet_new v q in
+        record {
+          sure = sure_claim.passes Right at v c h.sure;
+          all = all_heard (quiet_heard v q);
+          distinct = distinct_after coming v c h new;
+          below = unit_up Left Right b at v c h.all.places up h.below;
+          quiet = λ e. all_of_both IsQuiet coming (v ∷ []) (h.quiet class) (q, tt);
+          zero = λ e. none_zero (after v c).traffic.course.class
+              (class_was v c ∙ quiet_class c.traffic right.goes class v q ∙ class) e;
+        }
+
+  -- the CC
+  module _ (coming : List Value) (n : ℕ) (x : Connect) (c : Course) (h : Early coming c) (right : IsRight Right (confirm n x) c)
+      (class : c.traffic.course.class ≡ None) (w : IsWith local end put c) (left : c.traffic.course.left_stopped ≡ false)
+      (shut : (q peer : ℕ) → 0 < q → stage_at q end ≡ amid peer → ⊥) where
+    abbrev v : Value
+    v = confirm n x
+
+    -- it is no break, so both sides stay judged
+    then_left : (takes way.Right v c.traffic).state.course.left_stopped ≡ false
+    then_left =
+        let kept = kept_of (takes way.Right v c.traffic).told.finding right.none
+        (effect n x at c h.all.places right.goes class right.firm h.all.judged right.none).applied in
+        other_judged v c.traffic left (own_judged v c.traffic (inl kept) right.goes)
+
+    came : (w.whole.put ≡ []) × AwaitsAnswer local w.whole
+    came =
+        cc_comes local w.whole n x (w.holds.stage (ap (λ (s : State). s.course.left_stopped) w.tap ∙ left))
+        (ap (λ (s : State). s.course.class) w.tap ∙ class)
+        (ap (λ (s : State). (takes way.Right v s).state.course.left_stopped) w.tap ∙ then_left)
+
+    none_put : put ≡ []
+    none_put = no_written put (ap (λ (l : List Value). map written l) (sym came.0) ∙ w.same)
+
+    -- every other reference is gone
+    past_by : (q : ℕ) → IsWithin b q → (q ≡ n → ⊥) → end.ended ≡ None → w.whole.end.ended ≡ None → AwaitsAnswer local w.whole →
+        stage_at q end ≡ past
+    past_by q within apart lasts whole_lasts (gone over) = over_none w.whole.end.ended over whole_lasts
+    past_by q within apart lasts whole_lasts (awaits r p o cs strays is tap waits) =
+        let same = w.like.lasts whole_lasts in
+        let mine : n ≡ r =
+        awaits_this n x at c h.all.places right.goes class right.firm h.all.judged right.none r p o cs strays (sym w.tap ∙ tap) waits in
+        let given_here : has_given q w.whole.end ≡ true =
+        ap (has_given q) same
+        ∙ given_so q end within.0 (let low = within.1 in let most = given lasts in omega (arith, low, most)) in
+        sym (ap (stage_at q) same) ∙ one_early local w.whole q r is given_here (λ e. apart (e ∙ sym mine))
+
+    others_past : (q : ℕ) → IsWithin b q → (q ≡ n → ⊥) → stage_at q end ≡ past
+    others_past q within apart = by end.ended refl
+      where
+        by : (o : Option EndReason) → end.ended ≡ o → stage_at q end ≡ past
+        by (Some reason) over = stage_over q end (ap is_some over)
+        by None lasts =
+            past_by q within apart lasts (none_of w.whole.end.ended (sym w.like.over ∙ ap is_some lasts)) came.1
+
+    cc_early : Early (coming ++ v ∷ []) (after v c)
+    cc_early =
+        let selects : (after v c).traffic.course.class ≡ Some (class_of x) =
+        class_was v c ∙ (effect n x at c h.all.places right.goes class right.firm h.all.judged right.none).class in
+        record {
+          sure = sure_claim.passes Right at v c h.sure;
+          all = all_heard coming v c h right class
+              (ap (waiting_for (Some x.source)) none_put, same_known coming v refl);
+          distinct = distinct_after coming v c h tt;
+          below = unit_up Left Right b at v c h.all.places tt h.below;
+          quiet = λ e. none_some (after v c).traffic.course.class (class_of x) e selects;
+          zero = λ e. record {
+            r = n;
+            one = subst (λ (s : State). HasOne Left n (IsGone end) s (after v c).sessions) (sym (unit_knows Right at v c))
+                (subst (λ (t : Sessions). HasOne Left n (IsGone end) (takes way.Right v c.traffic).state t)
+                (sym (unit_joins Right at v c))
+                (cc_opens n x at c h.all.places right.goes class right.firm h.all.judged right.none (IsGone end) h.distinct b
+                h.below (λ q within apart some. others_past q within apart)));
+            amid_is = λ q peer some live. absurd (shut q peer some live);
+            ccs = all_of_both (IsCcFor n) coming (v ∷ []) (quiet_ccs n coming (h.quiet class)) ((λ m y is. same_number n m x y is), tt);
+            order = quiet_cc coming n x (h.quiet class);
+          };
+        }
+
+  -- ---- each unit
+
+  module _ (coming : List Value) (c : Course) (h : Early coming c) (w : IsWith local end put c)
+      (shut : c.traffic.course.class ≡ None → (q peer : ℕ) → 0 < q → stage_at q end ≡ amid peer → ⊥) where
+    none_early : (v : Value) → IsTaken v c → c.traffic.course.class ≡ None → Early (coming ++ v ∷ []) (after v c)
+    none_early (confirm n x) k class = cc_early coming n x c h k.right class w k.left (shut class)
+    none_early (disconnect n source reason user) k class = quiet_early coming (disconnect n source reason user) c h k.right class tt
+    none_early (disconnected n source) k class = quiet_early coming (disconnected n source) c h k.right class tt
+    none_early (error n cause) k class = quiet_early coming (error n cause) c h k.right class tt
+    none_early (request x) k class = early_break c.traffic k.right.goes class (request x) tt k.right.none
+    none_early (data0 last user) k class = early_break c.traffic k.right.goes class (data0 last user) tt k.right.none
+    none_early (data2 n number last user) k class =
+        early_break c.traffic k.right.goes class (data2 n number last user) tt k.right.none
+    none_early (acknowledge credit n number) k class =
+        early_break c.traffic k.right.goes class (acknowledge credit n number) tt k.right.none
+
+    unit_early : (v : Value) → IsTaken v c → Early (coming ++ v ∷ []) (after v c)
+    unit_early v k = by c.traffic.course.class refl
+      where
+        by : (x : Option Class) → c.traffic.course.class ≡ x → Early (coming ++ v ∷ []) (after v c)
+        by None class = none_early v k class
+        by (Some Zero) class = zero_early coming v c h k.right class
+        by (Some Two) class = absurd (k.not_two class)
+
+  -- ---- the units of a packet
+
+  next_with : (v : Value) (c : Course) → HasFieldsInRange v → IsWith local end put c → IsWith local end put (after v c)
+  next_with v c ranges w =
+      let next : Whole = record w.whole { tap = (takes way.Right v w.whole.tap).state; coming = w.whole.coming ++ v ∷ [] } in
+      record {
+        whole = next;
+        holds = holds_next local (wholes.passes_other v) w.whole next (ranges, refl) w.holds;
+        tap = ap (λ (s : State). (takes way.Right v s).state) w.tap ∙ sym (unit_knows Right at v c);
+        like = w.like;
+        same = w.same;
+      }
+
+  pub units_early : (vs coming : List Value) (c : Course) → AllByRecursion HasFieldsInRange vs → AreTaken at vs c →
+      IsWith local end put c → (c.traffic.course.class ≡ None → (q peer : ℕ) → 0 < q → stage_at q end ≡ amid peer → ⊥) →
+      Early coming c → Early (coming ++ vs) (units_pass Right at vs c)
+  units_early [] coming c ranges taken w shut h = subst (λ (l : List Value). Early l c) (sym (append-nil coming)) h
+  units_early (v ∷ vs) coming c ranges taken w shut h =
+      subst (λ (l : List Value). Early l (units_pass Right at (v ∷ vs) c)) (append_assoc coming (v ∷ []) vs)
+      (units_early vs (coming ++ v ∷ []) (after v c) ranges.1 taken.1 (next_with v c ranges.0 w)
+      (λ none. shut (none_before Right at v c none)) (unit_early coming c h w shut v taken.0))

@@ -1,0 +1,279 @@
+-- A CC of class 0 opens the connection that the end has asked for, or answers; at the tap no other one has a reference that the end still
+-- uses. For the session of the connection of an end in class 0.
+use Rattle.std.proofs.Common.{◌≡◌, ◌∙◌, ◌⊎◌, inl, inr, refl, sym, ap, subst, ℕ, Bool, true, false, if◌then◌else◌, List, [], ◌∷◌}
+use Rattle.std.proofs.Common.{Option, Some, None}
+use Rattle.std.specs.Prelude.{◌==◌, nat_le, not, position, slice_get}
+use Rattle.std.proofs.lemmas.Bool.{eqb-true}
+use Rattle.osi_tpdu.specs.Value.{Connect, Value, confirm}
+use Rattle.osi_class.specs.declared.terms.Class.{Class}
+use Rattle.osi_judge.specs.declared.directions.Direction.TheVariants as side
+use Rattle.osi_rules.specs.declared.connections.Connection.{Connection}
+use Rattle.osi_rules.specs.declared.connections.Offer.{Offer}
+use Rattle.osi_rules.specs.declared.directions.Direction.TheVariants.{Left, Right}
+use Rattle.osi_rules.specs.declared.findings.Finding.{Finding}
+use Rattle.osi_rules.specs.declared.findings.Finding.TheVariants.{Broke, NotJudged, Outside}
+use Rattle.osi_rules.specs.declared.findings.Reach.{Reach}
+use Rattle.osi_rules.specs.declared.findings.Reach.TheVariants as reach
+use Rattle.osi_rules.specs.declared.findings.Rule.TheVariants as rule
+use Rattle.osi_rules.specs.declared.halves.Half.{Half}
+use Rattle.osi_rules.specs.declared.halves.Phase.{Phase}
+use Rattle.osi_rules.specs.declared.halves.Phase.TheVariants as phase
+use Rattle.osi_rules.specs.Reaches.{is_applied, reach_of}
+use Rattle.osi_rules.specs.Rows.{code_named, first_failed, is_inside, is_offered}
+use Rattle.osi_rules.specs.Sides.{is_named, is_refused, is_silent}
+use Rattle.osi_rules.specs.Traffic.{Outcome, State, at_found, at_place, class_for, class_of, connection_after, course_after, found}
+use Rattle.osi_rules.specs.Traffic.{found_on, is_stopped}
+use Rattle.osi_rules.specs.Traffic.{judged_on, none_told, route, route_in, routed, sent_on, takes, unnamed_by, uses_source}
+use Rattle.osi_fair.proofs.a_dt_of_class_zero_passes.{unlike}
+use Rattle.osi_fair.proofs.a_reference_names_one_connection.{applied_found}
+use Rattle.osi_fair.proofs.all_are_judged_unless_one_broke.{AreJudged}
+use Rattle.osi_fair.proofs.class_0_stays_selected.{reached_class}
+use Rattle.osi_fair.proofs.while_no_class_is_selected.{Waits, after_change, calm_tap, set_there}
+use Rattle.osi_tap.specs.Connections.{Joined, Sessions, reference_of, taken}
+use Rattle.osi_tap.specs.Connections as joined
+use Rattle.osi_tap.specs.Courses.{Course}
+use Rattle.osi_watched.specs.ShownPlaces.{HaveSamePlaces}
+use Rattle.osi_watched.proofs.the_first_break_is_not_of_an_end.{IsNoBreak}
+use Rattle.osi_watched.proofs.sessions.a_unit_is_joined_where_it_is_named.{joined_named}
+use Rattle.osi_watched.proofs.sessions.class_0_keeps_its_one_place.{HasOne}
+use Rattle.osi_watched.proofs.sessions.connections_have_the_same_places.{at_same, first_answer}
+use Rattle.osi_watched.proofs.sessions.each_cr_that_passes_gives_a_new_reference.{AreUpTo, IsWithin}
+use Rattle.osi_watched.proofs.sessions.references_of_an_end_are_distinct.{AreDistinct}
+use Rattle.osi_watched.proofs.sessions.what_a_unit_does_at_its_place.{Does, asks_again, asks_more, nowhere, somewhere, unit_does}
+
+-- ---- small facts
+
+no_place : {A : Type 0} (o : Option ℕ) (i : ℕ) → o ≡ None → o ≡ Some i → A
+no_place o i h k = absurd (cc)
+
+differ : {A : Type 0} (b : Bool) → b ≡ true → b ≡ false → A
+differ b h k = absurd (cc)
+
+some_same : (m n : ℕ) → Some m ≡ Some n → m ≡ n
+some_same m n e = cc
+
+same_item : {X : Type 0} (x y : X) → Some x ≡ Some y → x ≡ y
+same_item x y e = cc
+
+silent_not : {A : Type 0} (p : Phase) → is_silent p ≡ true → is_refused p ≡ true → A
+silent_not phase.Silent h k = absurd (cc)
+silent_not phase.Open h k = absurd (cc)
+silent_not phase.Refused h k = absurd (cc)
+silent_not phase.Closing h k = absurd (cc)
+silent_not phase.Closed h k = absurd (cc)
+
+judged_right : (x : Reach) (c : Connection) → (judged_on x c).right ≡ c.right
+judged_right reach.Nothing c = refl
+judged_right reach.Connection c = refl
+judged_right reach.Side c = refl
+judged_right reach.Everything c = refl
+
+-- ---- it has its effect at a place
+
+-- what is told of a unit that has its effect there, and selects a class
+pub record HasEffect (s : State) (k : Class) (o : Outcome) : Type 0 where
+  pub place : ℕ
+  pub connection : Connection
+  pub there : slice_get s.connections place ≡ Some connection
+  pub told : o.told.place ≡ Some place
+  pub applied : is_applied o.told.finding ≡ true
+  pub silent : is_silent connection.right.phase ≡ true
+  pub judged : connection.is_judged ≡ true
+  pub class : o.state.course.class ≡ Some k
+
+unknown_breaks : {A : Type 0} (loose strays : Bool) (n : ℕ) (x : Connect) → loose ≡ false →
+    IsNoBreak (if loose then NotJudged else unnamed_by strays (confirm n x)) → A
+unknown_breaks true strays n x firm none = absurd (cc)
+unknown_breaks false true n x firm none = absurd none
+unknown_breaks false false n x firm none = absurd none
+
+tests_applied : (a b i u l : Bool) →
+    IsNoBreak (first_failed ((a, Broke rule.WrongForm) ∷ (b, Broke rule.BadAnswer) ∷ (i, Outside) ∷ (u, Broke rule.ReferenceInUse)
+    ∷ (l, Broke rule.LargerSize) ∷ [])) →
+    is_applied (first_failed ((a, Broke rule.WrongForm) ∷ (b, Broke rule.BadAnswer) ∷ (i, Outside) ∷ (u, Broke rule.ReferenceInUse)
+    ∷ (l, Broke rule.LargerSize) ∷ [])) ≡ true
+tests_applied false b i u l none = absurd none
+tests_applied true false i u l none = absurd none
+tests_applied true true false u l none = absurd none
+tests_applied true true true false l none = absurd none
+tests_applied true true true true false none = refl
+tests_applied true true true true true none = refl
+
+judged_applied : (j : Bool) (f : Finding) → j ≡ true → (IsNoBreak f → is_applied f ≡ true) → IsNoBreak (if j then f else NotJudged) →
+    is_applied (if j then f else NotJudged) ≡ true
+judged_applied true f h g none = g none
+judged_applied false f h g none = absurd (cc)
+
+module _ (n : ℕ) (x : Connect) (s : State) (goes : is_stopped Right s.course ≡ false) (class : s.course.class ≡ None)
+    (firm : s.course.loose ≡ false) (judged : AreJudged s) where
+  abbrev v : Value
+  v = confirm n x
+
+  applied_so : (c : Connection) → c.is_judged ≡ true → IsNoBreak (found_on Right s c v) → is_applied (found_on Right s c v) ≡ true
+  applied_so c j none =
+      let used = uses_source Right s.connections v in
+      judged_applied c.is_judged (found Right s.course used c v) j
+      (tests_applied (is_silent c.right.phase) (is_offered c.offer s.course.class x) (is_inside x) (not used)
+      (nat_le (code_named x.parameters.size) c.offer.size_code)) none
+
+  silent_so : (c : Connection) → is_applied (found_on Right s c v) ≡ true → is_silent c.right.phase ≡ true
+  silent_so c h =
+      let used = uses_source Right s.connections v in
+      first_answer (is_silent c.right.phase) (is_offered c.offer s.course.class x) (is_inside x) (not used)
+      (nat_le (code_named x.parameters.size) c.offer.size_code) (applied_found c.is_judged (found Right s.course used c v) h)
+
+  found_effect : (p : ℕ) (o : Option Connection) → slice_get s.connections p ≡ o →
+      IsNoBreak (at_found Right v s p o).told.finding → HasEffect s (class_of x) (at_found Right v s p o)
+  found_effect p None there none = unknown_breaks s.course.loose s.course.strays n x firm none
+  found_effect p (Some c) there none =
+      let f = found_on Right s c v in
+      let applied = applied_so c (judged firm p c there) none in
+      record {
+        place = p;
+        connection = c;
+        there = there;
+        told = refl;
+        applied = applied;
+        silent = silent_so c applied;
+        judged = judged firm p c there;
+        class = reached_class Right (reach_of (class_for Right s.course) f) (course_after Right c v (is_applied f) s.course)
+            ∙ ap (λ (b : Bool). (course_after Right c v b s.course).class) applied;
+      }
+
+  place_effect : (o : Option ℕ) → IsNoBreak (at_place Right v s o).told.finding → HasEffect s (class_of x) (at_place Right v s o)
+  place_effect None none = unknown_breaks s.course.loose s.course.strays n x firm none
+  place_effect (Some p) none = found_effect p (slice_get s.connections p) refl none
+
+  takes_so : takes Right v s ≡ at_place Right v s (position (is_named Right n) s.connections)
+  takes_so =
+      ap (λ (b : Bool). if b then none_told Right NotJudged s else routed Right v s (route Right s.course v)) goes
+      ∙ ap (λ (k : Option Class). routed Right v s (route_in k Right (is_stopped Left s.course) v)) class
+
+  -- if it is no break
+  pub has_effect : IsNoBreak (takes Right v s).told.finding → HasEffect s (class_of x) (takes Right v s)
+  has_effect none =
+      subst (HasEffect s (class_of x)) (sym takes_so)
+      (place_effect (position (is_named Right n) s.connections) (subst (λ (o : Outcome). IsNoBreak o.told.finding) takes_so none))
+
+-- ---- so it opens that connection
+
+module _ (n : ℕ) (x : Connect) (at : ℕ) (c : Course) (places : HaveSamePlaces c.traffic.connections c.sessions.live)
+    (goes : is_stopped Right c.traffic.course ≡ false) (class : c.traffic.course.class ≡ None) (firm : c.traffic.course.loose ≡ false)
+    (judged : AreJudged c.traffic) (none : IsNoBreak (takes Right (confirm n x) c.traffic).told.finding) where
+  abbrev s : State
+  s = c.traffic
+
+  abbrev t : Sessions
+  t = c.sessions
+
+  abbrev unit : Value
+  unit = confirm n x
+
+  pub effect : HasEffect s (class_of x) (takes Right unit s)
+  effect = has_effect n x s goes class firm judged none
+
+  -- the one that waits for its answer has this reference
+  pub awaits_this : (r p : ℕ) (o : Offer) (cs : List Connection) (strays : Bool) → s ≡ calm_tap cs strays → Waits r p o cs → n ≡ r
+  awaits_this r p o cs strays tap w =
+      let (k, here, one) = at_same s.connections t.live effect.place effect.connection places effect.there in
+      let mine : Some k.calling ≡ Some n =
+      joined_named side.Right unit c n effect.place effect.connection k places refl effect.told effect.there effect.judged here in
+      sym (some_same k.calling n mine) ∙ one.calling ∙ by (effect.place == p) refl
+    where
+      at_it : slice_get cs effect.place ≡ Some effect.connection
+      at_it = ap (λ (y : State). slice_get y.connections effect.place) (sym tap) ∙ effect.there
+
+      by : (b : Bool) → (effect.place == p) ≡ b → effect.connection.left.reference ≡ r
+      by true e =
+          let same : effect.connection ≡ w.c =
+          same_item effect.connection w.c (sym at_it ∙ ap (slice_get cs) (eqb-true effect.place p e) ∙ w.at) in
+          ap (λ (y : Connection). y.left.reference) same ∙ w.reference
+      by false e =
+          silent_not effect.connection.right.phase effect.silent
+          (w.others effect.place effect.connection at_it (unlike effect.place p e)).1
+
+  module _ (gone : ℕ → Type 0) (distinct : AreDistinct side.Left t) (b : ℕ) (low : AreUpTo side.Left b t)
+      (rest : (q : ℕ) → IsWithin b q → (q ≡ n → ⊥) → gone q) where
+    mine_by : (p : ℕ) (j next z : Joined) → reference_of side.Left j ≡ Some n → reference_of side.Left next ≡ reference_of side.Left j →
+        ((p ≡ p) × (z ≡ next)) ⊎ ((p ≡ p → ⊥) × (slice_get t.live p ≡ Some z)) →
+        reference_of side.Left z ≡ Some n
+    mine_by p j next z mine same (inl (e, is)) = ap (reference_of side.Left) is ∙ same ∙ mine
+    mine_by p j next z mine same (inr (apart, is)) = absurd (apart refl)
+
+    others_by : (p : ℕ) (j next : Joined) (i : ℕ) (z : Joined) (q : ℕ) → (i ≡ p → ⊥) → slice_get t.live p ≡ Some j →
+        reference_of side.Left j ≡ Some n → ((i ≡ p) × (z ≡ next)) ⊎ ((i ≡ p → ⊥) × (slice_get t.live i ≡ Some z)) →
+        reference_of side.Left z ≡ Some q → gone q
+    others_by p j next i z q apart here mine (inl (e, is)) named = absurd (apart e)
+    others_by p j next i z q apart here mine (inr (other, is)) named =
+        rest q (low.live i z q is named)
+        (λ e. apart (distinct.live i p z j n is here (named ∙ ap (λ (m : ℕ). Some m) e) mine))
+
+    opened_by : Does side.Right at unit s t (takes Right unit s) → HasOne side.Left n gone (takes Right unit s).state
+        (taken side.Right at unit (takes Right unit s).told.meaning (takes Right unit s).told.place t)
+    opened_by (nowhere place cs ts) = no_place (takes Right unit s).told.place effect.place place effect.told
+    opened_by (somewhere p k j false y place there here one finding is cs ts) =
+        differ (is_applied (takes Right unit s).told.finding) effect.applied (ap is_applied finding ∙ is)
+    opened_by (somewhere p k j true y place there here one finding is cs ts) =
+        let mine : reference_of side.Left j ≡ Some n =
+        joined_named side.Right unit c n p k j places refl place there (judged firm p k there) here in
+        let new : Connection = connection_after Right unit true y k in
+        let next : Joined = joined.opened x.source (joined.class_of unit) j in
+        subst (HasOne side.Left n gone (takes Right unit s).state) (sym ts) (record {
+          place = p;
+          connection = new;
+          there = ap (λ (l : List Connection). slice_get l p) cs ∙ set_there s.connections p new k there;
+          up = ap (λ (z : Half). is_refused z.phase) (judged_right y (sent_on Right unit k));
+          mine = λ z at_z. mine_by p j next z mine refl (after_change t.live p p next z at_z);
+          others = λ i z q apart at_z named.
+              others_by p j next i z q apart here mine (after_change t.live p i next z at_z) named;
+          done = λ i z q at_z named.
+              let within = low.done i z q at_z named in
+              rest q within (λ e. distinct.done p i j z n here at_z mine (named ∙ ap (λ (m : ℕ). Some m) e));
+        })
+    opened_by (asks_more y is number cs ts) = absurd (cc is)
+    opened_by (asks_again y is number p k here cs ts) = absurd (cc is)
+
+    pub cc_opens : HasOne side.Left n gone (takes Right unit s).state
+        (taken side.Right at unit (takes Right unit s).told.meaning (takes Right unit s).told.place t)
+    cc_opens = opened_by (unit_does side.Right at unit s t places)
+
+  -- ---- the end has put the CC, and has answered no other CR
+
+  module _ (gone : ℕ → Type 0) (unnamed : (i : ℕ) (j : Joined) → slice_get t.live i ≡ Some j → reference_of side.Right j ≡ None)
+      (none_done : (i : ℕ) (j : Joined) → slice_get t.done i ≡ Some j → reference_of side.Right j ≡ None) where
+    no_name : {A : Type 0} (o : Option ℕ) (q : ℕ) → o ≡ None → o ≡ Some q → A
+    no_name o q h e = absurd (cc)
+
+    answered_mine : (p : ℕ) (next z : Joined) → reference_of side.Right next ≡ Some x.source →
+        ((p ≡ p) × (z ≡ next)) ⊎ ((p ≡ p → ⊥) × (slice_get t.live p ≡ Some z)) → reference_of side.Right z ≡ Some x.source
+    answered_mine p next z mine (inl (e, is)) = ap (reference_of side.Right) is ∙ mine
+    answered_mine p next z mine (inr (apart, is)) = absurd (apart refl)
+
+    answered_others : (p i : ℕ) (next z : Joined) (q : ℕ) → (i ≡ p → ⊥) →
+        ((i ≡ p) × (z ≡ next)) ⊎ ((i ≡ p → ⊥) × (slice_get t.live i ≡ Some z)) → reference_of side.Right z ≡ Some q → gone q
+    answered_others p i next z q apart (inl (e, is)) named = absurd (apart e)
+    answered_others p i next z q apart (inr (other, is)) named = no_name (reference_of side.Right z) q (unnamed i z is) named
+
+    answered_by : Does side.Right at unit s t (takes Right unit s) → HasOne side.Right x.source gone (takes Right unit s).state
+        (taken side.Right at unit (takes Right unit s).told.meaning (takes Right unit s).told.place t)
+    answered_by (nowhere place cs ts) = no_place (takes Right unit s).told.place effect.place place effect.told
+    answered_by (somewhere p k j false y place there here one finding is cs ts) =
+        differ (is_applied (takes Right unit s).told.finding) effect.applied (ap is_applied finding ∙ is)
+    answered_by (somewhere p k j true y place there here one finding is cs ts) =
+        let new : Connection = connection_after Right unit true y k in
+        let next : Joined = joined.opened x.source (joined.class_of unit) j in
+        subst (HasOne side.Right x.source gone (takes Right unit s).state) (sym ts) (record {
+          place = p;
+          connection = new;
+          there = ap (λ (l : List Connection). slice_get l p) cs ∙ set_there s.connections p new k there;
+          up = ap (λ (z : Half). is_refused z.phase) (judged_right y (sent_on Right unit k));
+          mine = λ z at_z. answered_mine p next z refl (after_change t.live p p next z at_z);
+          others = λ i z q apart at_z named. answered_others p i next z q apart (after_change t.live p i next z at_z) named;
+          done = λ i z q at_z named. no_name (reference_of side.Right z) q (none_done i z at_z) named;
+        })
+    answered_by (asks_more y is number cs ts) = absurd (cc is)
+    answered_by (asks_again y is number p k here cs ts) = absurd (cc is)
+
+    pub cc_answers : HasOne side.Right x.source gone (takes Right unit s).state
+        (taken side.Right at unit (takes Right unit s).told.meaning (takes Right unit s).told.place t)
+    cc_answers = answered_by (unit_does side.Right at unit s t places)

@@ -1,0 +1,275 @@
+-- Once the CC of class 0 has passed, a turn of a called end leaves all its connections standing at a tap: what it puts is for its one
+-- connection, and what it takes there is the first of what is in flight. And no session of it is to blame then. For the session of the
+-- connection of a called end in class 0.
+use Rattle.std.proofs.Common.{◌≡◌, ◌∙◌, refl, sym, ap, subst, ℕ, zero, suc, ◌<◌, Bool, true, false, List, [], ◌∷◌, ◌++◌}
+use Rattle.std.proofs.Common.{map, Option, Some, arith, is_some, inl, inr, ◌⊎◌}
+use Rattle.std.specs.Prelude.{◌==◌, nat_lt, slice_get}
+use Rattle.std.specs.List.{AllByRecursion}
+use Rattle.std.proofs.lemmas.Bool.{eq-eqb, eqb-true, lt-ltb}
+use Rattle.osi_tpdu.specs.Value.{Connect, Value, confirm}
+use Rattle.osi_tpdu.specs.Writing.{written}
+use Rattle.osi_class.specs.declared.terms.Class.TheVariants.{Zero}
+use Rattle.osi_class.specs.declared.terms.Local.{Local}
+use Rattle.osi_carrier.specs.State.{State as Carrier}
+use Rattle.osi_judge.specs.declared.directions.Direction.TheVariants.{Left, Right}
+use Rattle.osi_judge.proofs.honest.a_call_is_explained.{AsSent}
+use Rattle.osi_judge.proofs.honest.an_honest_run_stays_in_the_profile.{AsParts}
+use Rattle.osi_judge.proofs.honest.an_honest_side_is_kept.{CalledLaw, CallerLaw}
+use Rattle.osi_rules.specs.declared.connections.Connection.{Connection}
+use Rattle.osi_rules.specs.Sides.{is_open, is_refused}
+use Rattle.osi_rules.specs.Traffic.{State}
+use Rattle.osi_fair.proofs.a_called_end_is_fair.{Stage}
+use Rattle.osi_fair.proofs.a_dt_of_class_zero_passes.{unlike}
+use Rattle.osi_fair.proofs.what_the_other_side_closes.{IsFirm}
+use Rattle.osi_honest.specs.Arriving.{AreApart}
+use Rattle.osi_honest.specs.Courses.{Continues, Course, Deeds, then_did, units_in}
+use Rattle.osi_honest.specs.Marked.{Marked, all_units, is_of_link}
+use Rattle.osi_honest.specs.Turns.{Turn}
+use Rattle.osi_honest.proofs.class_0.what_a_packet_does_in_class_0.{AllProper}
+use Rattle.osi_honest.proofs.courses.how_long_a_connection_is_open.{Life, early, stage_at}
+use Rattle.osi_honest.proofs.courses.units_of_each_connection.{all_units_more, none_mark}
+use Rattle.osi_tap.specs.Connections.{Joined, reference_of}
+use Rattle.osi_tap.specs.Courses.{Course as Passed, units_pass}
+use Rattle.osi_watched.specs.Joint.{Joint, Steps, TakesTurn, passes_other, turns}
+use Rattle.osi_watched.specs.ShownPlaces.{IsOneOf}
+use Rattle.osi_watched.proofs.steps_are_events.{IsFollowed, step_followed}
+use Rattle.osi_watched.proofs.what_is_put_is_what_is_written.{written_join}
+use Rattle.osi_watched.proofs.sessions.a_called_end_hears_what_comes_until_class_2.{AreTaken, IsNoCc, IsNone, StandsCalledEarly, known_one}
+use Rattle.osi_watched.proofs.sessions.a_called_end_hears_what_comes_until_class_2.{none_some, units_early}
+use Rattle.osi_watched.proofs.sessions.a_called_end_stands_in_class_0.{StandsInZero, WasOpen, answers_now, cc_not_dt, dts_of, first}
+use Rattle.osi_watched.proofs.sessions.a_called_end_stands_in_class_0.{not_early, open_before, open_so, opens_now, put_so, stage_of}
+use Rattle.osi_watched.proofs.sessions.a_dt_of_class_0_has_one_place.{IsOnly, both_named}
+use Rattle.osi_watched.proofs.sessions.a_turn_does_what_its_deeds_say.{turn_leaves, turn_uses}
+use Rattle.osi_watched.proofs.sessions.a_turn_leaves_all_standing.{Turns}
+use Rattle.osi_watched.proofs.sessions.a_turn_of_a_calling_end_until_class_2.{dt_so, each_of, early_lasts}
+use Rattle.osi_watched.proofs.sessions.after_too_many_nobody_is_to_blame.{NoneIsToBlame}
+use Rattle.osi_watched.proofs.sessions.all_connections_stand.{one_at}
+use Rattle.osi_watched.proofs.sessions.class_0_keeps_its_one_place.{HasOne}
+use Rattle.osi_watched.proofs.sessions.each_step_leaves_class_0_one_connection.{Sure, is_zero}
+use Rattle.osi_watched.proofs.sessions.each_unit_of_a_calling_end_has_a_home.{IsWrittenAs, written_as}
+use Rattle.osi_watched.proofs.sessions.no_connection_is_opened_before_a_class_is_selected.{UncalledUntil}
+use Rattle.osi_watched.proofs.sessions.steps_leave_all_standing.{step_turns}
+use Rattle.osi_watched.proofs.sessions.steps_of_either_class_leave_all_standing.{stand_none}
+use Rattle.osi_watched.proofs.sessions.what_a_turn_puts_goes_to_its_peer.{all_back, all_front, none_for, one_of}
+use Rattle.osi_watched.proofs.sessions.what_a_turn_puts_waits.{Agree, marks_wait}
+use Rattle.osi_watched.proofs.sessions.what_an_end_takes_at_each_stage.{turn_takes}
+use Rattle.osi_watched.proofs.sessions.what_stands_of_a_connection.{is_for, waiting_for}
+use Rattle.osi_watched.proofs.sessions.what_the_stage_of_a_calling_end_says.{IsDt0}
+
+-- ---- small facts
+
+differ : {A : Type 0} (b : Bool) → b ≡ true → b ≡ false → A
+differ b h k = absurd (cc)
+
+none_first : (xs ys : List Value) → xs ++ ys ≡ [] → xs ≡ []
+none_first [] ys e = refl
+none_first (x ∷ xs) ys e = absurd (cc)
+
+same_item : (x y : Connection) → Some x ≡ Some y → x ≡ y
+same_item x y e = cc
+
+some_same : (m n : ℕ) → Some m ≡ Some n → m ≡ n
+some_same m n e = cc
+
+-- ---- a turn
+
+module _ (local : Local) (proper : AllProper) (turn : Turn) (old new : Joint) (t : TakesTurn turn old new) (deeds : ℕ → Deeds)
+    (on : Continues false deeds old.holding turn new.holding)
+    (life : (r : ℕ) → 0 < r → Life false r (stage_at r old.holding.end.carrier) on.took on.put (stage_at r new.holding.end.carrier))
+    (units : t.units ≡ all_units on.put) (sure : IsFirm old.course.traffic.course)
+    (h : StandsInZero local deeds old) where
+  abbrev s : State
+  s = old.course.traffic
+
+  abbrev end : Carrier
+  end = old.holding.end.carrier
+
+  abbrev then_end : Carrier
+  then_end = new.holding.end.carrier
+
+  abbrev coming : List Value
+  coming = units_in old.coming
+
+  abbrev then_coming : List Value
+  then_coming = units_in new.coming
+
+  abbrev e : StandsCalledEarly deeds h.r end old.put old.begun coming old.course
+  e = h.early_is
+
+  -- the whole end goes on
+  f : IsFollowed Right (first local) new
+  f = step_followed Right (first local) proper (turns turn) old new t h.followed
+
+  tap_is : f.whole.tap ≡ s
+  tap_is = f.tap ∙ ap (λ (c : Passed). c.traffic) t.course
+
+  then_stage : Stage local f.whole
+  then_stage = stage_of local new f (subst (λ (c : Passed). IsFirm c.traffic.course) (sym t.course) sure)
+
+  -- all that it puts is DTs
+  dts : AllByRecursion (IsWrittenAs IsDt0) (all_units on.put)
+  dts =
+      let all = dts_of local f.whole then_stage (ap (λ (x : State). x.course.class) tap_is ∙ h.class) in
+      let same : map written t.units ≡ map written (all_units on.put) = ap (λ (l : List Value). map written l) units in
+      let alike : map written f.whole.put ≡ map written (old.put ++ all_units on.put) =
+      f.put ∙ ap (λ (l : List Value). map written l) t.put ∙ written_join old.put t.units
+      ∙ ap (λ (l : List (List ℕ)). map written old.put ++ l) same ∙ sym (written_join old.put (all_units on.put)) in
+      all_back (IsWrittenAs IsDt0) old.put (all_units on.put)
+      (written_as IsDt0 f.whole.put (old.put ++ all_units on.put) alike all)
+
+  -- no CC is put
+  no_answer : {A : Type 0} (n : ℕ) (x : Connect) (front later : List Marked) → on.put ≡ front ++ (0, confirm n x) ∷ later → A
+  no_answer n x front later is =
+      cc_not_dt n x (one_of (IsWrittenAs IsDt0) (all_units front) (all_units later) (confirm n x)
+      (subst (AllByRecursion (IsWrittenAs IsDt0))
+      (ap (λ (l : List Marked). all_units l) is ∙ all_units_more front ((0, confirm n x) ∷ later)) dts))
+
+  -- no CC is taken
+  no_cc : {A : Type 0} (q n : ℕ) (x : Connect) (some later : List Marked) → stage_at q end ≡ early →
+      on.took ≡ some ++ (0, confirm n x) ∷ later → A
+  no_cc q n x some later may is =
+      let u = turn_uses turn old new t false deeds on (early_lasts q end may) in
+      absurd (one_of IsNoCc (all_units some) (all_units later) (confirm n x)
+      (subst (AllByRecursion IsNoCc) (ap (λ (l : List Marked). all_units l) is ∙ all_units_more some ((0, confirm n x) ∷ later))
+      (all_front IsNoCc (all_units on.took) (u.left ++ then_coming) (subst (AllByRecursion IsNoCc) u.coming e.plain))))
+
+  is_r : (q : ℕ) → 0 < q → WasOpen q (stage_at q end) on.took on.put → q ≡ h.r
+  is_r q some (open_before peer is) = h.amid_is q peer some is
+  is_r q some (answers_now n x front later is) = no_answer n x front later is
+  is_r q some (opens_now may n x front later is) = no_cc q n x front later may is
+
+  -- a unit of no link is for no connection
+  unmarked : (m : Marked) (r : ℕ) (o : Option ℕ) → 0 < r → m.0 ≡ 0 → is_of_link m.1 ≡ nat_lt 0 m.0 → (m.0 == r) ≡ is_for o m.1
+  unmarked m r o some is link =
+      ap (λ (n : ℕ). n == r) is ∙ none_mark r some ∙ sym (none_for m.1 (link ∙ ap (nat_lt 0) is) o)
+
+  marked_apart : {A : Type 0} (front rest : List Marked) (m : Marked) → on.put ≡ front ++ m ∷ rest → AreApart m.0 on.put → A
+  marked_apart front rest m is apart =
+      differ (m.0 == m.0) (eq-eqb m.0 m.0 refl)
+      (one_of (λ (k : Marked). (k.0 == m.0) ≡ false) front rest m
+      (subst (AllByRecursion (λ (k : Marked). (k.0 == m.0) ≡ false)) is apart))
+
+  put_open : (front rest : List Marked) (m : Marked) → on.put ≡ front ++ m ∷ rest → 0 < m.0 →
+      WasOpen m.0 (stage_at m.0 end) on.took on.put
+  put_open front rest m is some =
+      by (put_so m.0 (stage_at m.0 end) (stage_at m.0 then_end) on.took on.put (life m.0 some))
+    where
+      by : AreApart m.0 on.put ⊎ WasOpen m.0 (stage_at m.0 end) on.took on.put → WasOpen m.0 (stage_at m.0 end) on.took on.put
+      by (inl apart) = marked_apart front rest m is apart
+      by (inr was) = was
+
+  marked_r : AllByRecursion (λ (m : Marked). (m.0 ≡ 0) ⊎ (m.0 ≡ h.r)) on.put
+  marked_r = each_of (λ (m : Marked). (m.0 ≡ 0) ⊎ (m.0 ≡ h.r)) [] on.put (λ front rest m is. by front rest m is m.0 refl)
+    where
+      by : (front rest : List Marked) (m : Marked) → on.put ≡ front ++ m ∷ rest → (n : ℕ) → m.0 ≡ n → (m.0 ≡ 0) ⊎ (m.0 ≡ h.r)
+      by front rest m is zero at = inl at
+      by front rest m is (suc n) at =
+          let some : 0 < m.0 = omega (arith, at) in inr (is_r m.0 some (put_open front rest m is some))
+
+  agree : (r : ℕ) (o : Option ℕ) → 0 < r → r ≡ h.r → is_some o ≡ true → (put : List Marked) →
+      AllByRecursion (λ (m : Marked). (m.0 ≡ 0) ⊎ (m.0 ≡ h.r)) put →
+      AllByRecursion (λ (m : Marked). is_of_link m.1 ≡ nat_lt 0 m.0) put → AllByRecursion (IsWrittenAs IsDt0) (all_units put) →
+      Agree r o put
+  agree r o some same named [] marks links dts_are = tt
+  agree r o some same named (m ∷ put) marks links dts_are =
+      (by marks.0, agree r o some same named put marks.1 links.1 dts_are.1)
+    where
+      by : (m.0 ≡ 0) ⊎ (m.0 ≡ h.r) → (m.0 == r) ≡ is_for o m.1
+      by (inl at) = unmarked m r o some at links.0
+      by (inr at) =
+          eq-eqb m.0 r (at ∙ sym same)
+          ∙ sym (dt_so m.1 (links.0 ∙ lt-ltb 0 m.0 (omega (arith, at, same, some))) dts_are.0 o ∙ named)
+
+  -- ---- what it puts is for the one connection
+
+  abbrev one : HasOne Right h.r IsNone s old.course.sessions
+  one = e.zero h.class
+
+  only : IsOnly s
+  only = (is_zero Right s e.sure sure.firm sure.right h.class).only
+
+  only_is : only.place ≡ one.place
+  only_is = by (only.place == one.place) refl
+    where
+      by : (x : Bool) → (only.place == one.place) ≡ x → only.place ≡ one.place
+      by true at = eqb-true only.place one.place at
+      by false at =
+          differ (is_refused one.connection.right.phase)
+          (only.others one.place one.connection one.there (λ k. unlike only.place one.place at (sym k))) one.up
+
+  puts_zero : (i : ℕ) (c : Connection) (j : Joined) (r : ℕ) → slice_get s.connections i ≡ Some c →
+      slice_get old.course.sessions.live i ≡ Some j → reference_of Right j ≡ Some r →
+      (on.more r).put ≡ waiting_for (reference_of Left j) t.units
+  puts_zero i c j r there here mine = by (i == only.place) refl
+    where
+      is_one : IsOneOf c j
+      is_one = one_at s.connections old.course.sessions.live i c j e.all.places there here
+
+      by : (x : Bool) → (i == only.place) ≡ x → (on.more r).put ≡ waiting_for (reference_of Left j) t.units
+      by true at =
+          let same : i ≡ only.place = eqb-true i only.place at in
+          let is : c ≡ only.connection = same_item c only.connection (sym there ∙ ap (slice_get s.connections) same ∙ only.there) in
+          let mine_too = one.mine j (ap (slice_get old.course.sessions.live) (sym (same ∙ only_is)) ∙ here) in
+          let is_r_too : r ≡ h.r = some_same r h.r (sym mine ∙ mine_too) in
+          let some : 0 < r = subst (λ (n : ℕ). 0 < n) (sym is_r_too) h.positive in
+          on.own r some
+          ∙ marks_wait r (reference_of Left j) on.put
+          (agree r (reference_of Left j) some is_r_too
+          (both_named Left c j is_one (ap (λ (y : Connection). is_open y.right.phase) is ∙ only.right)) on.put marked_r on.by_links dts)
+          ∙ ap (waiting_for (reference_of Left j)) (sym units)
+      by false at =
+          absurd (one.others i j r (λ k. unlike i only.place at (k ∙ sym only_is)) here mine)
+
+  turns_so : Turns Right on.more (known_one h.r end coming) (known_one h.r then_end then_coming) t.units s old.course.sessions
+  turns_so = record {
+    puts = λ i c j r there here mine live. puts_zero i c j r there here mine;
+    takes = λ r later known.
+        let x = turn_takes false turn old new t deeds on r known.1 (life r known.1)
+        (λ may. absurd (h.opened (ap (λ (q : ℕ). stage_at q end) (sym known.0) ∙ may))) later known.2 in
+        record { rest = x.rest; first = x.first; sure = (known.0, known.1, x.sure) };
+  }
+
+  abbrev then_deeds : ℕ → Deeds
+  then_deeds = λ r. then_did (deeds r) (on.more r)
+
+  pub turns_zero : StandsInZero local then_deeds new
+  turns_zero = record {
+    followed = f;
+    r = h.r;
+    positive = h.positive;
+    class = ap (λ (c : Passed). c.traffic.course.class) t.course ∙ h.class;
+    early_is = record {
+      sure = subst Sure (sym t.course) e.sure;
+      all = (step_turns Right deeds (known_one h.r end coming) turn on.more (known_one h.r then_end then_coming) old new t h.some turns_so
+          (record { all = e.all })).all;
+      uncalled = subst UncalledUntil (sym t.course) e.uncalled;
+      asking = λ none. none_some new.course.traffic.course.class Zero none
+          (ap (λ (c : Passed). c.traffic.course.class) t.course ∙ h.class);
+      plain = all_back IsNoCc (units_in t.used) then_coming (subst (AllByRecursion IsNoCc) (turn_leaves turn old new t) e.plain);
+      zero = λ class. subst (λ (c : Passed). HasOne Right h.r IsNone c.traffic c.sessions) (sym t.course) one;
+    };
+    amid_is = λ q peer some is.
+        is_r q some (open_so q peer (stage_at q end) (stage_at q then_end) on.took on.put (life q some) is);
+    opened = not_early h.r (stage_at h.r end) (stage_at h.r then_end) on.took on.put h.opened (life h.r h.positive);
+    some = λ begun none. h.some (sym t.begun ∙ begun) (none_first old.put t.units (sym t.put ∙ none));
+  }
+
+-- ---- nobody is to blame
+
+module _ (local : Local) (known_of : AsSent) (parts : AsParts) (caller : CallerLaw) (called : CalledLaw) (deeds : ℕ → Deeds) where
+  pub none_zero : (j : Joint) → ((r : ℕ) → Course false r (deeds r) j.holding.end) → StandsInZero local deeds j →
+      NoneIsToBlame Right j.course.sessions
+  none_zero j courses h =
+      stand_none known_of parts caller called Right deeds j.put j.begun j.holding.end courses
+      (known_one h.r j.holding.end.carrier (units_in j.coming)) j.course.traffic j.course.sessions h.early_is.all
+
+  -- after the first of the units of a packet of the other side
+  pub none_amid_zero : (at : ℕ) (octets : List ℕ) (front back : List Value) (old new : Joint) →
+      Steps Right (passes_other at octets (front ++ back)) old new → ((r : ℕ) → Course false r (deeds r) old.holding.end) →
+      AreTaken at front old.course → StandsInZero local deeds old → NoneIsToBlame Right (units_pass Left at front old.course).sessions
+  none_amid_zero at octets front back old new step courses taken h =
+      let after = units_early deeds h.r old.holding.end.carrier old.put old.begun at front (units_in old.coming) old.course taken
+      h.early_is in
+      stand_none known_of parts caller called Right deeds old.put old.begun old.holding.end courses
+      (known_one h.r old.holding.end.carrier (units_in old.coming ++ front)) (units_pass Left at front old.course).traffic
+      (units_pass Left at front old.course).sessions after.all

@@ -1,0 +1,283 @@
+-- At a tap one connection has class 0, with a reference of the end, and of all others the references are gone: so it stays as packets begin
+-- and as units pass in class 0. For the session of the connection of an end in class 0.
+use Rattle.std.proofs.Common.{◌≡◌, ◌∙◌, ◌⊎◌, inl, inr, refl, sym, ap, subst, ℕ, Bool, true, false, List, set, Option, Some, None}
+use Rattle.std.specs.Prelude.{◌==◌, option_map, slice_get}
+use Rattle.std.proofs.lemmas.Bool.{eqb-true}
+use Rattle.std.proofs.lemmas.Option.{slice_get-map}
+use Rattle.osi_tpdu.specs.Value.{Connect, Value, acknowledge, confirm, data0, data2, disconnect, disconnected, error, request}
+use Rattle.osi_class.specs.declared.terms.Class.TheVariants.{Zero}
+use Rattle.osi_judge.specs.declared.directions.Direction.{Direction}
+use Rattle.osi_judge.specs.declared.directions.Direction.TheVariants as side
+use Rattle.osi_rules.specs.declared.connections.Connection.{Connection}
+use Rattle.osi_rules.specs.declared.directions.Direction.{Direction as Way}
+use Rattle.osi_rules.specs.declared.directions.Direction.TheVariants.{Left, Right}
+use Rattle.osi_rules.specs.declared.findings.Reach.{Reach}
+use Rattle.osi_rules.specs.declared.findings.Reach.TheVariants as reach
+use Rattle.osi_rules.specs.declared.halves.Half.{Half}
+use Rattle.osi_rules.specs.Sides.{begins, is_refused}
+use Rattle.osi_rules.specs.Sides as sides
+use Rattle.osi_rules.specs.Traffic.{Outcome, State, class_for, connection_after, is_stopped, judged_on, meaning_if, meant}
+use Rattle.osi_rules.specs.Traffic.{route_zero, routed, sent_on, takes}
+use Rattle.osi_rules.specs.Traffic as traffic
+use Rattle.osi_fair.proofs.a_dt_of_class_zero_passes.{unlike}
+use Rattle.osi_fair.proofs.while_no_class_is_selected.{after_change, set_there}
+use Rattle.osi_tap.specs.Connections.{Joined, Sessions, all_begin, packet_begins, reference_of, taken}
+use Rattle.osi_tap.specs.Connections as joined
+use Rattle.osi_tap.specs.Courses.{way_of}
+use Rattle.osi_watched.specs.ShownPlaces.{HaveSamePlaces}
+use Rattle.osi_watched.proofs.the_first_break_is_not_of_an_end.{IsNoBreak}
+use Rattle.osi_watched.proofs.sessions.a_dt_of_class_0_has_one_place.{zero_takes}
+use Rattle.osi_watched.proofs.sessions.a_dt_of_class_0_leaves_all_standing.{Breaks, routed_breaks}
+use Rattle.osi_watched.proofs.sessions.all_connections_stand.{map_of}
+use Rattle.osi_watched.proofs.sessions.class_0_has_one_connection.{set_other}
+use Rattle.osi_watched.proofs.sessions.each_cr_that_passes_gives_a_new_reference.{named_adds}
+use Rattle.osi_watched.proofs.sessions.what_a_unit_does_at_its_place.{Does, asks_again, asks_more, nowhere, somewhere, unit_does}
+
+-- The called side has not refused the connection at this place, to which this side gave this reference. Of each other one, the reference
+-- of this side is gone.
+pub record HasOne (d : Direction) (r : ℕ) (gone : ℕ → Type 0) (s : State) (t : Sessions) : Type 0 where
+  pub place : ℕ
+  pub connection : Connection
+  pub there : slice_get s.connections place ≡ Some connection
+  pub up : is_refused connection.right.phase ≡ false
+  pub mine : (j : Joined) → slice_get t.live place ≡ Some j → reference_of d j ≡ Some r
+  pub others : (i : ℕ) (j : Joined) (q : ℕ) → (i ≡ place → ⊥) → slice_get t.live i ≡ Some j → reference_of d j ≡ Some q → gone q
+  pub done : (i : ℕ) (j : Joined) (q : ℕ) → slice_get t.done i ≡ Some j → reference_of d j ≡ Some q → gone q
+
+pub still_gone : (d : Direction) (r : ℕ) (gone then_gone : ℕ → Type 0) (s : State) (t : Sessions) → ((q : ℕ) → gone q → then_gone q) →
+    HasOne d r gone s t → HasOne d r then_gone s t
+still_gone d r gone then_gone s t f h = record {
+  place = h.place;
+  connection = h.connection;
+  there = h.there;
+  up = h.up;
+  mine = h.mine;
+  others = λ i j q apart here is. f q (h.others i j q apart here is);
+  done = λ i j q here is. f q (h.done i j q here is);
+}
+
+-- ---- a packet begins
+
+named_begun : (d e : Direction) (j : Joined) → reference_of d (packet_begins e j) ≡ reference_of d j
+named_begun side.Left side.Left j = refl
+named_begun side.Left side.Right j = refl
+named_begun side.Right side.Left j = refl
+named_begun side.Right side.Right j = refl
+
+begun_right : (d : Way) (c : Connection) → (begins d c).right ≡ c.right
+begun_right Left c = refl
+begun_right Right c = refl
+
+pub one_begins : (d e : Direction) (r : ℕ) (gone : ℕ → Type 0) (s : State) (t : Sessions) → HasOne d r gone s t →
+    HasOne d r gone (traffic.packet_begins (way_of e) s) (all_begin e t)
+one_begins d e r gone s t h = record {
+  place = h.place;
+  connection = begins (way_of e) h.connection;
+  there = slice_get-map (begins (way_of e)) s.connections h.place
+      ∙ ap (λ (o : Option Connection). option_map (begins (way_of e)) o) h.there;
+  up = ap (λ (x : Half). is_refused x.phase) (begun_right (way_of e) h.connection) ∙ h.up;
+  mine = λ j here.
+      let (k, at, is) = map_of (packet_begins e) t.live h.place j here in
+      ap (reference_of d) is ∙ named_begun d e k ∙ h.mine k at;
+  others = λ i j q apart here named.
+      let (k, at, is) = map_of (packet_begins e) t.live i j here in
+      h.others i k q apart at (sym (named_begun d e k) ∙ sym (ap (reference_of d) is) ∙ named);
+  done = h.done;
+}
+
+-- ---- a unit in class 0
+
+-- a DT or a DC; or an ER for no connection
+abbrev pub IsStill : Direction → Value → State → Type 0
+IsStill e (data0 end user) s = Unit {0}
+IsStill e (disconnected n source) s = Unit {0}
+IsStill e (error n cause) s = (takes (way_of e) (error n cause) s).told.place ≡ None
+IsStill e (request x) s = ⊥
+IsStill e (confirm n x) s = ⊥
+IsStill e (disconnect n source reason user) s = ⊥
+IsStill e (data2 n number end user) s = ⊥
+IsStill e (acknowledge credit n number) s = ⊥
+
+error_nowhere : (d : Way) (b : Bool) (n cause : ℕ) (s : State) →
+    (routed d (error n cause) s (route_zero d b (error n cause))).told.place ≡ None
+error_nowhere Left true n cause s = refl
+error_nowhere Left false n cause s = refl
+error_nowhere Right true n cause s = refl
+error_nowhere Right false n cause s = refl
+
+module _ (e : Direction) (s : State) (goes : is_stopped (way_of e) s.course ≡ false)
+    (zero : class_for (way_of e) s.course ≡ Some Zero) where
+  breaks_so : {A : Type 0} (v : Value) → Breaks v → IsNoBreak (takes (way_of e) v s).told.finding → A
+  breaks_so v h none =
+      routed_breaks (way_of e) (is_stopped (sides.other (way_of e)) s.course) v s h
+      (subst (λ (o : Outcome). IsNoBreak o.told.finding) (zero_takes (way_of e) v s goes zero) none)
+
+  -- every other unit is a break
+  pub zero_still : (v : Value) → IsNoBreak (takes (way_of e) v s).told.finding → IsStill e v s
+  zero_still (data0 end user) none = tt
+  zero_still (disconnected n source) none = tt
+  zero_still (error n cause) none =
+      ap (λ (o : Outcome). o.told.place) (zero_takes (way_of e) (error n cause) s goes zero)
+      ∙ error_nowhere (way_of e) (is_stopped (sides.other (way_of e)) s.course) n cause s
+  zero_still (request x) none = breaks_so (request x) tt none
+  zero_still (confirm n x) none = breaks_so (confirm n x) tt none
+  zero_still (disconnect n source reason user) none = breaks_so (disconnect n source reason user) tt none
+  zero_still (data2 n number end user) none = breaks_so (data2 n number end user) tt none
+  zero_still (acknowledge credit n number) none = breaks_so (acknowledge credit n number) tt none
+
+-- ---- what it leaves
+
+judged_right : (x : Reach) (c : Connection) → (judged_on x c).right ≡ c.right
+judged_right reach.Nothing c = refl
+judged_right reach.Connection c = refl
+judged_right reach.Side c = refl
+judged_right reach.Everything c = refl
+
+-- at a place
+abbrev IsHere : Value → Type 0
+IsHere (data0 end user) = Unit {0}
+IsHere (disconnected n source) = Unit {0}
+IsHere (error n cause) = ⊥
+IsHere (request x) = ⊥
+IsHere (confirm n x) = ⊥
+IsHere (disconnect n source reason user) = ⊥
+IsHere (data2 n number end user) = ⊥
+IsHere (acknowledge credit n number) = ⊥
+
+sent_up : (d : Way) (v : Value) (c : Connection) → IsHere v → is_refused c.right.phase ≡ false →
+    is_refused (sent_on d v c).right.phase ≡ false
+sent_up Left (data0 end user) c h up = up
+sent_up Right (data0 end user) c h up = up
+sent_up Left (disconnected n source) c h up = up
+sent_up Right (disconnected n source) c h up = refl
+sent_up d (error n cause) c h up = absurd h
+sent_up d (request x) c h up = absurd h
+sent_up d (confirm n x) c h up = absurd h
+sent_up d (disconnect n source reason user) c h up = absurd h
+sent_up d (data2 n number end user) c h up = absurd h
+sent_up d (acknowledge credit n number) c h up = absurd h
+
+after_up : (d : Way) (v : Value) (b : Bool) (x : Reach) (c : Connection) → IsHere v → is_refused c.right.phase ≡ false →
+    is_refused (connection_after d v b x c).right.phase ≡ false
+after_up d v true x c h up = ap (λ (y : Half). is_refused y.phase) (judged_right x (sent_on d v c)) ∙ sent_up d v c h up
+after_up d v false x c h up = ap (λ (y : Half). is_refused y.phase) (judged_right x c) ∙ up
+
+meant_named : (d e : Direction) (at : ℕ) (v : Value) (b : Bool) (j : Joined) → IsHere v →
+    reference_of d (joined.meant e at v (meaning_if b (meant v)) j) ≡ reference_of d j
+meant_named d e at v false j h = refl
+meant_named d e at (data0 end user) true j h = named_adds d e at end user j
+meant_named d e at (disconnected n source) true j h = refl
+meant_named d e at (error n cause) true j h = absurd h
+meant_named d e at (request x) true j h = absurd h
+meant_named d e at (confirm n x) true j h = absurd h
+meant_named d e at (disconnect n source reason user) true j h = absurd h
+meant_named d e at (data2 n number end user) true j h = absurd h
+meant_named d e at (acknowledge credit n number) true j h = absurd h
+
+no_place : {A : Type 0} (o : Option ℕ) (i : ℕ) → o ≡ None → o ≡ Some i → A
+no_place o i h k = absurd (cc)
+
+here_so : (e : Direction) (v : Value) (s : State) (i : ℕ) → IsStill e v s → (takes (way_of e) v s).told.place ≡ Some i → IsHere v
+here_so e (data0 end user) s i h is = tt
+here_so e (disconnected n source) s i h is = tt
+here_so e (error n cause) s i h is = no_place (takes (way_of e) (error n cause) s).told.place i h is
+here_so e (request x) s i h is = absurd h
+here_so e (confirm n x) s i h is = absurd h
+here_so e (disconnect n source reason user) s i h is = absurd h
+here_so e (data2 n number end user) s i h is = absurd h
+here_so e (acknowledge credit n number) s i h is = absurd h
+
+no_cr : {A : Type 0} (e : Direction) (v : Value) (s : State) (x : Connect) → v ≡ request x → IsStill e v s → A
+no_cr e v s x is h = absurd (subst (λ (u : Value). IsStill e u s) is h)
+
+same_item : {X : Type 0} (x y : X) → Some x ≡ Some y → x ≡ y
+same_item x y e = cc
+
+module _ (d e : Direction) (r : ℕ) (gone : ℕ → Type 0) (at : ℕ) (v : Value) (s : State) (t : Sessions) (h : HasOne d r gone s t) where
+  abbrev After : State → Sessions → Type 0
+  After s t = HasOne d r gone s t
+
+  -- the connection at this place changes
+  module _ (p : ℕ) (c : Connection) (k : Joined) (b : Bool) (x : Reach) (there : slice_get s.connections p ≡ Some c)
+      (here : slice_get t.live p ≡ Some k) (kind : IsHere v) where
+    abbrev new : Connection
+    new = connection_after (way_of e) v b x c
+
+    abbrev next : Joined
+    next = joined.meant e at v (meaning_if b (meant v)) k
+
+    named : reference_of d next ≡ reference_of d k
+    named = meant_named d e at v b k kind
+
+    mine_by : (j : Joined) → ((h.place ≡ p) × (j ≡ next)) ⊎ ((h.place ≡ p → ⊥) × (slice_get t.live h.place ≡ Some j)) →
+        reference_of d j ≡ Some r
+    mine_by j (inl (same, is)) = ap (reference_of d) is ∙ named ∙ h.mine k (ap (slice_get t.live) same ∙ here)
+    mine_by j (inr (apart, is)) = h.mine j is
+
+    others_by : (i : ℕ) (j : Joined) (q : ℕ) → (i ≡ h.place → ⊥) →
+        ((i ≡ p) × (j ≡ next)) ⊎ ((i ≡ p → ⊥) × (slice_get t.live i ≡ Some j)) → reference_of d j ≡ Some q → gone q
+    others_by i j q apart (inl (same, is)) named_q =
+        h.others i k q apart (ap (slice_get t.live) same ∙ here) (sym named ∙ sym (ap (reference_of d) is) ∙ named_q)
+    others_by i j q apart (inr (other, is)) named_q = h.others i j q apart is named_q
+
+    place_by : (y : Bool) → (h.place == p) ≡ y →
+        (z : Connection) × (slice_get (set s.connections p new) h.place ≡ Some z) × (is_refused z.right.phase ≡ false)
+    place_by true is =
+        let same = eqb-true h.place p is in
+        let one : h.connection ≡ c = same_item h.connection c (sym h.there ∙ ap (slice_get s.connections) same ∙ there) in (
+          new,
+          ap (slice_get (set s.connections p new)) same ∙ set_there s.connections p new c there,
+          after_up (way_of e) v b x c kind (ap (λ (z : Connection). is_refused z.right.phase) (sym one) ∙ h.up),
+        )
+    place_by false is = (h.connection, set_other s.connections p h.place new (unlike h.place p is) ∙ h.there, h.up)
+
+    changed_one : After (record s { connections = set s.connections p new }) (record t { live = set t.live p next })
+    changed_one =
+        let (z, at_z, up) = place_by (h.place == p) refl in
+        record {
+          place = h.place;
+          connection = z;
+          there = at_z;
+          up = up;
+          mine = λ j is. mine_by j (after_change t.live p h.place next j is);
+          others = λ i j q apart is named_q. others_by i j q apart (after_change t.live p i next j is) named_q;
+          done = h.done;
+        }
+
+  same_conns : (after : State) (joins : Sessions) → after.connections ≡ s.connections → joins ≡ t → After after joins
+  same_conns after joins cs ts = subst (After after) (sym ts) (record {
+    place = h.place;
+    connection = h.connection;
+    there = ap (λ (l : List Connection). slice_get l h.place) cs ∙ h.there;
+    up = h.up;
+    mine = h.mine;
+    others = h.others;
+    done = h.done;
+  })
+
+  as_other : (after other : State) (joins : Sessions) → after.connections ≡ other.connections → After other joins → After after joins
+  as_other after other joins cs one = record {
+    place = one.place;
+    connection = one.connection;
+    there = ap (λ (l : List Connection). slice_get l one.place) cs ∙ one.there;
+    up = one.up;
+    mine = one.mine;
+    others = one.others;
+    done = one.done;
+  }
+
+  one_by : IsStill e v s → Does e at v s t (takes (way_of e) v s) → After (takes (way_of e) v s).state
+      (taken e at v (takes (way_of e) v s).told.meaning (takes (way_of e) v s).told.place t)
+  one_by still (nowhere place cs ts) = same_conns (takes (way_of e) v s).state _ cs ts
+  one_by still (somewhere p c k b x place there here one finding is cs ts) =
+      subst (After (takes (way_of e) v s).state) (sym ts)
+      (as_other (takes (way_of e) v s).state
+      (record s { connections = set s.connections p (connection_after (way_of e) v b x c) })
+      (record t { live = set t.live p (joined.meant e at v (meaning_if b (meant v)) k) }) cs
+      (changed_one p c k b x there here (here_so e v s p still place)))
+  one_by still (asks_more x is number cs ts) = no_cr e v s x is still
+  one_by still (asks_again x is number p k here cs ts) = no_cr e v s x is still
+
+  pub one_passes : HaveSamePlaces s.connections t.live → IsStill e v s → After (takes (way_of e) v s).state
+      (taken e at v (takes (way_of e) v s).told.meaning (takes (way_of e) v s).told.place t)
+  one_passes places still = one_by still (unit_does e at v s t places)

@@ -1,0 +1,41 @@
+-- What holds of a calling end until class 2 is selected is as it is asked for: nobody of the end is to blame, as long as nobody has broken
+-- a rule.
+-- For the law that no session of an end is blamed first.
+use Rattle.std.proofs.Common.{ℕ, List, [], ◌∷◌}
+use Rattle.osi_tpdu.specs.Value.{Value}
+use Rattle.osi_class.specs.declared.terms.Class.TheVariants.{Two}
+use Rattle.osi_class.specs.declared.terms.Local.{Local}
+use Rattle.osi_judge.specs.declared.directions.Direction.TheVariants.{Left, Right}
+use Rattle.osi_judge.proofs.honest.a_call_is_explained.{AsSent}
+use Rattle.osi_judge.proofs.honest.an_honest_run_stays_in_the_profile.{AsParts}
+use Rattle.osi_judge.proofs.honest.an_honest_side_is_kept.{CalledLaw, CallerLaw}
+use Rattle.osi_honest.proofs.class_0.what_a_packet_does_in_class_0.{AllProper}
+use Rattle.osi_tap.specs.Courses.{Course, unit_passes}
+use Rattle.osi_watched.proofs.sessions.a_calling_end_hears_what_comes_until_class_2.{AreTaken}
+use Rattle.osi_watched.proofs.sessions.a_calling_end_stands_until_class_2.{StandsUntilTwo, begin_early, begins_other_early}
+use Rattle.osi_watched.proofs.sessions.a_calling_end_stands_until_class_2.{begins_own_early, passes_other_early, passes_own_early}
+use Rattle.osi_watched.proofs.sessions.a_turn_of_a_calling_end_until_class_2.{turns_early}
+use Rattle.osi_watched.proofs.sessions.no_session_of_an_end_breaks_first.{ArePassed, KeepsUnless}
+use Rattle.osi_watched.proofs.sessions.nobody_of_a_calling_end_is_to_blame_until_class_2.{none_amid_early, none_early}
+
+taken_so : (at : ℕ) (vs : List Value) (c : Course) → ArePassed Two Left at vs c → AreTaken at vs c
+taken_so at [] c h = tt
+taken_so at (v ∷ vs) c h =
+    (record { right = h.0.right; left = h.0.firm.left; not_two = h.0.not }, taken_so at vs (unit_passes Right at v c) h.1)
+
+pub early_keeps : (local : Local) → AllProper → AsSent → AsParts → CallerLaw → CalledLaw → KeepsUnless Two Left local (StandsUntilTwo local)
+early_keeps local proper known_of parts caller called = record {
+  begins = begin_early local;
+  own_begins = λ deeds old new step courses few h. begins_own_early local proper deeds old new step courses few h;
+  other_begins = λ deeds old new step h. begins_other_early local proper deeds old new step h;
+  own_passes = λ deeds at v old new step right firm sure was_not not h.
+      passes_own_early local proper deeds at v old new step right was_not h;
+  other_passes = λ deeds at octets units old new step passed h.
+      passes_other_early local proper deeds at octets units old new step (taken_so at units old.course passed) h;
+  turn = λ turn old new t deeds does f g firm not h.
+      turns_early local proper turn old new t deeds does.of.on does.of.life does.units firm not h;
+  none = λ deeds j courses h. none_early local known_of parts caller called deeds j courses h;
+  none_amid = λ deeds at octets front back old new step courses passed h.
+      none_amid_early local known_of parts caller called deeds at octets front back old new step courses
+      (taken_so at front old.course passed) h;
+}

@@ -1,0 +1,45 @@
+-- Until class 2 is selected, and nobody has broken a rule, no session of a calling end is to blame at a tap: at each step, and after each
+-- unit of a packet of the other side. For the law that no session of an end is blamed first, in class 0.
+use Rattle.std.proofs.Common.{ℕ, true, List, ◌++◌}
+use Rattle.osi_tpdu.specs.Value.{HasFieldsInRange, Value}
+use Rattle.osi_tpdu.proofs.the_units_of_a_packet.{units_fit, units_found}
+use Rattle.osi_class.specs.declared.terms.Local.{Local}
+use Rattle.osi_judge.specs.declared.directions.Direction.TheVariants.{Left, Right}
+use Rattle.osi_judge.proofs.honest.a_call_is_explained.{AsSent}
+use Rattle.osi_judge.proofs.honest.an_honest_run_stays_in_the_profile.{AsParts}
+use Rattle.osi_judge.proofs.honest.an_honest_side_is_kept.{CalledLaw, CallerLaw}
+use Rattle.osi_honest.specs.Courses.{Course, Deeds, units_in}
+use Rattle.osi_tap.specs.Courses.{units_pass}
+use Rattle.osi_watched.specs.Joint.{Joint, Steps, passes_other}
+use Rattle.osi_watched.proofs.sessions.a_calling_end_hears_what_comes_until_class_2.{AreTaken, IsWith, known_below, units_early}
+use Rattle.osi_watched.proofs.sessions.a_calling_end_stands_until_class_2.{StandsUntilTwo, given_so, ranges_of, runs_staged}
+use Rattle.osi_watched.proofs.sessions.after_too_many_nobody_is_to_blame.{NoneIsToBlame}
+use Rattle.osi_watched.proofs.sessions.steps_of_either_class_leave_all_standing.{stand_none}
+use Rattle.osi_watched.proofs.sessions.what_a_turn_puts_goes_to_its_peer.{all_front}
+
+module _ (local : Local) (known_of : AsSent) (parts : AsParts) (caller : CallerLaw) (called : CalledLaw) (deeds : ℕ → Deeds) where
+  pub none_early : (j : Joint) → ((r : ℕ) → Course true r (deeds r) j.holding.end) → StandsUntilTwo local deeds j →
+      NoneIsToBlame Left j.course.sessions
+  none_early j courses h =
+      stand_none known_of parts caller called Left deeds j.put j.begun j.holding.end courses
+      (known_below h.ahead.bound j.holding.end.carrier (units_in j.coming)) j.course.traffic j.course.sessions h.early.all
+
+  -- after the first of the units
+  pub none_amid_early : (at : ℕ) (octets : List ℕ) (front back : List Value) (old new : Joint) →
+      Steps Left (passes_other at octets (front ++ back)) old new → ((r : ℕ) → Course true r (deeds r) old.holding.end) →
+      AreTaken at front old.course → StandsUntilTwo local deeds old → NoneIsToBlame Left (units_pass Right at front old.course).sessions
+  none_amid_early at octets front back old new (all_octets, read, is) courses taken h =
+      let f = h.ahead.followed in
+      let beside : IsWith local old.holding.end.carrier old.put old.course = record {
+        whole = f.whole;
+        holds = runs_staged local old f;
+        tap = f.tap;
+        like = f.like;
+        same = f.put;
+      } in
+      let ranges = ranges_of (front ++ back) (units_fit (front ++ back) octets (units_found octets (front ++ back) all_octets read)) in
+      let after = units_early local deeds h.ahead.bound old.holding.end.carrier old.put old.begun at (given_so local old h.ahead) front
+      (units_in old.coming) old.course (all_front HasFieldsInRange front back ranges) taken beside h.shut h.early in
+      stand_none known_of parts caller called Left deeds old.put old.begun old.holding.end courses
+      (known_below h.ahead.bound old.holding.end.carrier (units_in old.coming ++ front)) (units_pass Right at front old.course).traffic
+      (units_pass Right at front old.course).sessions after.all

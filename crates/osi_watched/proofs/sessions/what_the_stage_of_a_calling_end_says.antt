@@ -1,0 +1,203 @@
+-- What the stage of a whole calling end says until class 2 is selected: which unit of it passes, how it is when a CC comes, what it has put
+-- in class 0, and what has come for a connection that may still open.
+-- For the session of the connection of an end in class 0.
+use Rattle.std.proofs.Common.{◌≡◌, ◌∙◌, refl, sym, ap, subst, ℕ, Bool, true, false, if◌then◌else◌, List, [], ◌∷◌}
+use Rattle.std.proofs.Common.{Option, Some, None, is_some, length}
+use Rattle.std.specs.Prelude.{◌==◌}
+use Rattle.std.proofs.lemmas.Bool.{eqb-true}
+use Rattle.std.specs.List.{AllByRecursion}
+use Rattle.osi_tpdu.specs.Value.{Connect, Value, acknowledge, confirm, data0, data2, disconnect, disconnected, error, request}
+use Rattle.osi_class.specs.Link.{Standing}
+use Rattle.osi_class.specs.declared.terms.Class.{Class}
+use Rattle.osi_class.specs.declared.terms.Class.TheVariants.{Two, Zero}
+use Rattle.osi_class.specs.declared.terms.Local.{Local}
+use Rattle.osi_carrier.specs.Rows.{value_at}
+use Rattle.osi_carrier.specs.State.{Connection as Live, asked, closing, linked}
+use Rattle.osi_carrier.specs.declared.ends.EndReason.{EndReason}
+use Rattle.osi_rules.specs.declared.connections.Connection.{Connection}
+use Rattle.osi_rules.specs.declared.connections.Offer.{Offer}
+use Rattle.osi_rules.specs.declared.directions.Direction.TheVariants.{Right}
+use Rattle.osi_rules.specs.Traffic.{State, takes}
+use Rattle.osi_stack.specs.Calls.{has_given}
+use Rattle.osi_fair.specs.Wholes.{Whole}
+use Rattle.osi_fair.proofs.how_a_calling_end_asks.{IsOver, one}
+use Rattle.osi_fair.proofs.how_requests_go_on.{Calling, Stage, answered, asks, ended, known, quiet, refused, waits, zero}
+use Rattle.osi_fair.proofs.what_an_end_does_in_class_zero.{IsInZero, anyhow, over, talks, zero_puts}
+use Rattle.osi_fair.proofs.what_a_link_does.{begun_by}
+use Rattle.osi_fair.proofs.what_an_end_puts_in_class_zero.{PutsData}
+use Rattle.osi_fair.proofs.what_holds_of_one_item.{HoldsOfEach}
+use Rattle.osi_fair.proofs.while_no_class_is_selected.{GoesOn, IsDone, Waits, calm_tap, done_takes}
+use Rattle.osi_honest.proofs.courses.how_long_a_connection_is_open.{early, past, stage_at, stage_is}
+use Rattle.osi_watched.proofs.sessions.units_of_class_0_come_after_its_cc.{HasCc}
+
+-- ---- small facts
+
+some_put : {A : Type 0} (v : Value) (rest put : List Value) → put ≡ v ∷ rest → put ≡ [] → A
+some_put v rest put e none = absurd (cc (sym e ∙ none))
+
+class_not : {A : Type 0} (k : Option Class) (a b : Class) → k ≡ Some a → k ≡ Some b → (a ≡ b → ⊥) → A
+class_not k a b h e apart = absurd (let same : a ≡ b = cc in apart same)
+
+none_class : {A : Type 0} (k : Option Class) (a : Class) → k ≡ None → k ≡ Some a → A
+none_class k a h e = absurd (cc)
+
+zero_two : Zero ≡ Two → ⊥
+zero_two e = cc
+
+calm_class : (w : Whole) (cs : List Connection) (strays : Bool) → w.tap ≡ calm_tap cs strays → w.tap.course.class ≡ None
+calm_class w cs strays tap = ap (λ (t : State). t.course.class) tap
+
+-- ---- DTs of class 0
+
+abbrev pub IsDt0 : Value → Type 0
+IsDt0 (data0 end user) = Unit {0}
+IsDt0 (request x) = ⊥
+IsDt0 (confirm n x) = ⊥
+IsDt0 (disconnect n source reason user) = ⊥
+IsDt0 (disconnected n source) = ⊥
+IsDt0 (data2 n number end user) = ⊥
+IsDt0 (acknowledge credit n number) = ⊥
+IsDt0 (error n cause) = ⊥
+
+none_all : {units : List Value} → units ≡ [] → AllByRecursion IsDt0 units
+none_all e = subst (AllByRecursion IsDt0) (sym e) tt
+
+pub all_data : (limit begun : ℕ) (units : List Value) → PutsData limit anyhow begun units → AllByRecursion IsDt0 units
+all_data limit begun [] h = tt
+all_data limit begun (data0 end user ∷ units) h = (tt, all_data limit (begun_by begun end (length user)) units h.2)
+all_data limit begun (request x ∷ units) h = absurd h
+all_data limit begun (confirm n x ∷ units) h = absurd h
+all_data limit begun (disconnect n source reason user ∷ units) h = absurd h
+all_data limit begun (disconnected n source ∷ units) h = absurd h
+all_data limit begun (data2 n number end user ∷ units) h = absurd h
+all_data limit begun (acknowledge credit n number ∷ units) h = absurd h
+all_data limit begun (error n cause ∷ units) h = absurd h
+
+-- ---- a unit of the end
+
+-- a CR before the class is known, or a DT of class 0 once it is
+pub data PassesOwn (w : Whole) (v : Value) : Type 0 where
+  asking : (x : Connect) → v ≡ request x → w.tap.course.class ≡ None → PassesOwn w v
+  adding : (end : Bool) (user : List ℕ) → v ≡ data0 end user → w.tap.course.class ≡ Some Zero → w.tap.course.class_seen ≡ Some Zero →
+      PassesOwn w v
+
+data_first : (w : Whole) (limit begun : ℕ) (v : Value) (rest : List Value) → w.tap.course.class ≡ Some Zero →
+    w.tap.course.class_seen ≡ Some Zero → PutsData limit anyhow begun (v ∷ rest) → PassesOwn w v
+data_first w limit begun (data0 end user) rest class seen h = adding end user refl class seen
+data_first w limit begun (request x) rest class seen h = absurd h
+data_first w limit begun (confirm n x) rest class seen h = absurd h
+data_first w limit begun (disconnect n source reason user) rest class seen h = absurd h
+data_first w limit begun (disconnected n source) rest class seen h = absurd h
+data_first w limit begun (data2 n number end user) rest class seen h = absurd h
+data_first w limit begun (acknowledge credit n number) rest class seen h = absurd h
+data_first w limit begun (error n cause) rest class seen h = absurd h
+
+first_of : (v x : Value) (rest more put : List Value) → put ≡ v ∷ rest → put ≡ x ∷ more → v ≡ x
+first_of v x rest more put e h = let same : v ∷ rest ≡ x ∷ more = sym e ∙ h in cc
+
+-- the end is over, or its one CR waits for the answer
+pub data AwaitsAnswer (local : Local) (w : Whole) : Type 0 where
+  gone : IsOver w.end → AwaitsAnswer local w
+  awaits : (r p : ℕ) (o : Offer) (cs : List Connection) (strays : Bool) → Calling local (one r) w.end → w.tap ≡ calm_tap cs strays →
+      Waits r p o cs → AwaitsAnswer local w
+
+module _ (local : Local) (w : Whole) where
+  pub own_unit : (v : Value) (rest : List Value) → Stage local w → w.put ≡ v ∷ rest → w.begun ≡ true →
+      (w.tap.course.class ≡ Some Two → ⊥) → PassesOwn w v
+  own_unit v rest (ended none h) e begun not_two = some_put v rest w.put e none
+  own_unit v rest (quiet is none not_begun cs strays tap done dcs) e begun not_two = some_put v rest w.put e none
+  own_unit v rest (asks x put is offers cs strays tap done dcs all) e begun not_two =
+      asking x (first_of v (request x) rest [] w.put e put) (calm_class w cs strays tap)
+  own_unit v rest (waits r is none not_begun cs strays tap p o offers waiting dcs) e begun not_two = some_put v rest w.put e none
+  own_unit v rest (refused r is none not_begun cs strays tap done dcs u more coming are refusal too) e begun not_two =
+      some_put v rest w.put e none
+  own_unit v rest (answered r is none not_begun dcs n x more coming are class has after so z) e begun not_two =
+      some_put v rest w.put e none
+  own_unit v rest (zero has z) e begun not_two =
+      data_first w z.tap.limit z.tap.c.left.begun v rest z.tap.class (z.tap.class_seen begun)
+      (subst (PutsData z.tap.limit anyhow z.tap.c.left.begun) e (zero_puts z.tap.limit w.end z.tap.c.left.begun w.put z.goes))
+  own_unit v rest (known two seen has) e begun not_two = absurd (not_two two)
+
+  -- ---- a CC comes
+
+  no_cc : {A : Type 0} (n : ℕ) (x : Connect) (cs : List Connection) (strays : Bool) → w.tap ≡ calm_tap cs strays → HoldsOfEach IsDone cs →
+      GoesOn (takes Right (confirm n x) w.tap).state → A
+  no_cc n x cs strays tap done goes =
+      absurd (done_takes cs strays (confirm n x) done (subst (λ (t : State). GoesOn (takes Right (confirm n x) t).state) tap goes)).0
+
+  pub cc_comes : (n : ℕ) (x : Connect) → Stage local w → w.tap.course.class ≡ None → GoesOn (takes Right (confirm n x) w.tap).state →
+      (w.put ≡ []) × AwaitsAnswer local w
+  cc_comes n x (ended none h) class goes = (none, gone h)
+  cc_comes n x (quiet is none not_begun cs strays tap done dcs) class goes = no_cc n x cs strays tap done goes
+  cc_comes n x (asks y put is offers cs strays tap done dcs all) class goes = no_cc n x cs strays tap done goes
+  cc_comes n x (waits r is none not_begun cs strays tap p o offers waiting dcs) class goes = (none, awaits r p o cs strays is tap waiting)
+  cc_comes n x (refused r is none not_begun cs strays tap done dcs u more coming are refusal too) class goes =
+      no_cc n x cs strays tap done goes
+  cc_comes n x (answered r is none not_begun dcs m y more coming are k has after so z) class goes =
+      none_class w.tap.course.class Zero class z.tap.class
+  cc_comes n x (zero has z) class goes = none_class w.tap.course.class Zero class z.tap.class
+  cc_comes n x (known two seen has) class goes = none_class w.tap.course.class Two class two
+
+  -- ---- what it has put in class 0
+
+  pub dts_put : Stage local w → w.tap.course.class ≡ Some Zero → AllByRecursion IsDt0 w.put
+  dts_put (ended none h) class = none_all none
+  dts_put (quiet is none not_begun cs strays tap done dcs) class = none_all none
+  dts_put (asks x put is offers cs strays tap done dcs all) class =
+      none_class w.tap.course.class Zero (calm_class w cs strays tap) class
+  dts_put (waits r is none not_begun cs strays tap p o offers waiting dcs) class = none_all none
+  dts_put (refused r is none not_begun cs strays tap done dcs u more coming are refusal too) class = none_all none
+  dts_put (answered r is none not_begun dcs n x more coming are k has after so z) class = none_all none
+  dts_put (zero has z) class =
+      all_data z.tap.limit z.tap.c.left.begun w.put (zero_puts z.tap.limit w.end z.tap.c.left.begun w.put z.goes)
+  dts_put (known two seen has) class = class_not w.tap.course.class Zero Two class two zero_two
+
+  -- ---- a connection that may still open
+
+  module _ (r : ℕ) (lasts : w.end.ended ≡ None) (given : has_given r w.end ≡ true) (may : stage_at r w.end ≡ early) where
+    row_early : {A : Type 0} (o : Option Live) → value_at r w.end.live ≡ o → (o ≡ Some asked → A) → A
+    row_early None e f = absurd (cc (sym may ∙ stage_is r w.end None true lasts given e))
+    row_early (Some asked) e f = f refl
+    row_early (Some (linked peer link)) e f = absurd (cc (sym may ∙ stage_is r w.end (Some (linked peer link)) true lasts given e))
+    row_early (Some (closing peer)) e f = absurd (cc (sym may ∙ stage_is r w.end (Some (closing peer)) true lasts given e))
+
+    not_linked : {A : Type 0} (q peer : ℕ) (link : Standing) (b : Bool) → (q == r) ≡ b →
+        (if◌then◌else◌ {A = Option Live} b (Some (linked peer link)) None) ≡ Some asked → A
+    not_linked q peer link true e h = absurd (cc h)
+    not_linked q peer link false e h = absurd (cc h)
+
+    over_not : {A : Type 0} (o : Option EndReason) → is_some o ≡ true → o ≡ None → A
+    over_not None h e = absurd (cc h)
+    over_not (Some x) h e = absurd (cc e)
+
+    zero_early : {A : Type 0} (limit begun : ℕ) (units : List Value) → IsInZero limit w.end begun units → A
+    zero_early limit begun units (talks q peer link class live plain puts) =
+        row_early (value_at r w.end.live) refl
+        (λ h. not_linked q peer link (q == r) refl (sym (ap (value_at r) live) ∙ h))
+    zero_early limit begun units (over h puts) = over_not w.end.ended h lasts
+
+    -- its CC has come, if class 0 is selected
+    pub cc_waits : Stage local w → w.tap.course.class ≡ Some Zero → HasCc w.coming
+    cc_waits (ended none h) class = over_not w.end.ended h lasts
+    cc_waits (quiet is none not_begun cs strays tap done dcs) class =
+        none_class w.tap.course.class Zero (calm_class w cs strays tap) class
+    cc_waits (asks x put is offers cs strays tap done dcs all) class =
+        none_class w.tap.course.class Zero (calm_class w cs strays tap) class
+    cc_waits (waits q is none not_begun cs strays tap p o offers waiting dcs) class =
+        none_class w.tap.course.class Zero (calm_class w cs strays tap) class
+    cc_waits (refused q is none not_begun cs strays tap done dcs u more coming are refusal too) class =
+        none_class w.tap.course.class Zero (calm_class w cs strays tap) class
+    cc_waits (answered q is none not_begun dcs n x more coming are k has after so z) class =
+        record { front = dcs; n = n; x = x; rest = more; is = coming }
+    cc_waits (zero has z) class = zero_early z.tap.limit z.tap.c.left.begun w.put z.goes
+    cc_waits (known two seen has) class = class_not w.tap.course.class Zero Two class two zero_two
+
+  -- an end with one CR has no other connection under way
+  pub one_early : (q r : ℕ) → Calling local (one r) w.end → has_given q w.end ≡ true → (q ≡ r → ⊥) → stage_at q w.end ≡ past
+  one_early q r is given apart = by (r == q) refl
+    where
+      by : (b : Bool) → (r == q) ≡ b → stage_at q w.end ≡ past
+      by true e = absurd (apart (sym (eqb-true r q e)))
+      by false e =
+          stage_is q w.end None true is.0.lasts given
+          (ap (value_at q) is.0.live ∙ ap (λ (b : Bool). if◌then◌else◌ {A = Option Live} b (Some asked) None) e)
