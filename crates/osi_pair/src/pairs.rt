@@ -23,9 +23,15 @@ fn either(one: bool, other: bool) -> bool
 }
 
 /// Two ends of one byte connection, the left one a caller, and the journal of what their users asked for and received.
-#[derive(Drop)]
 pub struct Pair {
     ends: Ends,
+}
+
+/// Its parts are dropped here, so the proof of a caller that owns two ends is short.
+impl Drop for Pair {
+    fn drop(self) {
+        let Pair { ends: _ends } = self;
+    }
 }
 
 impl Model for Pair {

@@ -20,11 +20,21 @@ use std::marker::Model;
 
 /// One end of a byte connection: octets come in and go out, its user makes calls and receives indications. Each
 /// connection has a reference of this end.
-#[derive(Drop)]
 pub struct Stack {
     alloc: Global,
     carrier: Carrier,
     lines: Lines,
+}
+
+/// Its parts are dropped here, so the proof of a caller that owns an end is short.
+impl Drop for Stack {
+    fn drop(self) {
+        let Stack {
+            alloc: _,
+            carrier: _carrier,
+            lines: _lines,
+        } = self;
+    }
 }
 
 impl Model for Stack {

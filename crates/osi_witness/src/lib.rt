@@ -17,20 +17,13 @@
 //! done. It stops before the first TSDU that no session sends, or that no call of a script sends; its last line is a
 //! comment then, which names the packet.
 //!
-//! What it leaves to others: the text of a capture (`osi_dispute`), how a session goes on (`osi_session`), and the two
-//! ends (`osi_transcript`, `osi_pair`).
+//! What it leaves to others: the text of a capture (`osi_dispute`), the runs and the lines of the script (`osi_explain`),
+//! and the two ends (`osi_transcript`, `osi_pair`).
 #![tactic(auto)]
 
-mod calls;
 mod captures;
-mod explaining;
-mod halts;
-mod lines;
 mod players;
-mod streams;
 mod telling;
-mod units;
-mod walks;
 mod witnesses;
 
 pub use witnesses::{Witness, witness_of};

@@ -1,9 +1,7 @@
 //! A script that is played as it is written.
 
-use crate::captures::other;
-use crate::halts::Halt;
-use crate::lines::push_line;
 use osi_carrier::EndReason;
+use osi_explain::{Halt, other, push_line};
 use osi_pair::{Event, Pair, PairError};
 use osi_script::{Classes, Command, Side};
 use osi_session::Request;

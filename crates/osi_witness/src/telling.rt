@@ -1,14 +1,11 @@
 //! Both runs as one script.
 
-use crate::calls::{Asking, Offer, asked_by, request_of, selected_by};
-use crate::captures::{Capture, other};
-use crate::explaining::{Limit, Run, Said};
-use crate::halts::Halt;
 use crate::players::Player;
-use crate::streams::Place;
-use crate::units::{acting_unit, has_no_effect};
-use crate::walks::hears;
 use bitflags::Flags;
+use osi_explain::{
+    Asking, Capture, Halt, Limit, Offer, Place, Run, Said, acting_unit, asked_by, has_no_effect,
+    hears, other, request_of, selected_by,
+};
 use osi_message::{Message, Place as Part};
 use osi_script::{Classes, Command, Side};
 use osi_spdu::{Requirements, Serial, Spdu, TokenSetting, TsduSizes, Wish};

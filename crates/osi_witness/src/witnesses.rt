@@ -4,13 +4,10 @@ ghost use Rattle.std.specs.Prelude.{◌≡◌, ◌<◌, ◌≤◌, ◌⊎◌, []
 ghost use Rattle.osi_listing.specs.Capture.{IsNoCapture};
 ghost use Rattle.osi_witness.specs.Witnesses.{IsPlayed, Witnesses};
 
-use crate::captures::Capture;
-use crate::explaining::run_of;
-use crate::halts::Halt;
-use crate::lines::push_comment;
+use crate::captures::capture_of;
 use crate::players::LONGEST;
-use crate::streams::Opening;
 use crate::telling::{Stop, Telling};
+use osi_explain::{Capture, Halt, Opening, push_comment, run_of};
 use osi_listing::{CaptureFault, octets_of};
 use osi_script::{Classes, Side};
 use osi_session::Standing;
@@ -105,7 +102,7 @@ fn witness_of_octets(alloc: Global, text: &[u8], octets: &[u8]) -> Result<Witnes
     ensures played { IfOk result (λ w. IsPlayed w.script.items ⊎ ((w.script.items ≡ []) × (w.status ≡ 1))) }
     ensures status { IfOk result (λ w. w.status < 2) }
 {
-    let capture = Capture::read(alloc, text, octets)?;
+    let capture = capture_of(alloc, text, octets)?;
     let witness = match &capture.left.opening {
         Some(request) => opened(alloc, &capture, request)?,
         None => unopened(alloc, &capture)?,

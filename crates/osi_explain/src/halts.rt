@@ -4,7 +4,7 @@ use std::alloc::AllocError;
 
 /// Why a script goes no further.
 #[derive(Clone, Copy)]
-pub(crate) enum Halt {
+pub enum Halt {
     /// No session sends this.
     NoSession,
     /// Too many sessions send it.
@@ -21,7 +21,7 @@ pub(crate) enum Halt {
 
 impl Halt {
     /// The words for it.
-    pub(crate) fn words(self) -> &'static str {
+    pub fn words(self) -> &'static str {
         match self {
             Halt::NoSession => "no session sends this here",
             Halt::TooMany => "too many sessions explain this",

@@ -6,7 +6,7 @@ use osi_spdu::{Spdu, read_tsdu};
 
 /// The unit of a TSDU that acts in this place, from 0 on; none if there is none. The first unit acts after those that follow it, and
 /// not at all if one of these is an RS.
-pub(crate) fn acting_unit(tsdu: &[u8], place: usize) -> Option<Spdu<'_>> {
+pub fn acting_unit(tsdu: &[u8], place: usize) -> Option<Spdu<'_>> {
     let Ok(group) = read_tsdu(tsdu) else {
         return None;
     };
@@ -31,7 +31,7 @@ pub(crate) fn has_unit(tsdu: &[u8], place: usize) -> bool {
 }
 
 /// Whether a message is a token item that names no token, which has no effect.
-pub(crate) fn has_no_effect(message: &Message<'_>) -> bool {
+pub fn has_no_effect(message: &Message<'_>) -> bool {
     match message {
         Message::Give { tokens } | Message::Please { tokens, .. } => tokens.is_empty(),
         _ => false,

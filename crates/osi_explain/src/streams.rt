@@ -10,40 +10,40 @@ use std::mem;
 
 /// Where octets of a side stand in the capture. Pieces are counted over both sides.
 #[derive(Clone, Copy)]
-pub(crate) struct Place {
+pub struct Place {
     /// The piece in which the first of them passed.
-    pub(crate) first: usize,
+    pub first: usize,
     /// The piece in which the last of them passed.
-    pub(crate) last: usize,
+    pub last: usize,
     /// The offset, in the direction of the side, of the packet in which they end.
-    pub(crate) offset: usize,
+    pub offset: usize,
 }
 
 /// A TSDU of a side.
 #[derive(Clone, Copy)]
-pub(crate) struct Tsdu {
+pub struct Tsdu {
     start: usize,
     end: usize,
-    pub(crate) place: Place,
+    pub place: Place,
 }
 
 /// The first packet of a side.
 #[derive(Clone, Copy)]
-pub(crate) struct Opening {
+pub struct Opening {
     /// It is a DR, which refuses the connection.
-    pub(crate) is_refusal: bool,
+    pub is_refusal: bool,
     /// The class that a CR prefers or a CC selects.
-    pub(crate) class: u8,
+    pub class: u8,
     /// The credit that it gives.
-    pub(crate) credit: u8,
+    pub credit: u8,
     /// The TPDU size that it names.
-    pub(crate) size: Option<SizeCode>,
-    pub(crate) place: Place,
+    pub size: Option<SizeCode>,
+    pub place: Place,
 }
 
 /// One direction of a capture.
 #[derive(Drop)]
-pub(crate) struct Stream {
+pub struct Stream {
     side: Side,
     /// The octets of a packet that is not whole.
     held: Vec<u8>,
@@ -56,11 +56,11 @@ pub(crate) struct Stream {
     start: usize,
     begun: Option<usize>,
     /// Its CR, CC or DR.
-    pub(crate) opening: Option<Opening>,
-    pub(crate) tsdus: Vec<Tsdu>,
+    pub opening: Option<Opening>,
+    pub tsdus: Vec<Tsdu>,
     /// The packet at which it is looked at no further, and why.
-    pub(crate) stop: Option<Place>,
-    pub(crate) halt: Halt,
+    pub stop: Option<Place>,
+    pub halt: Halt,
 }
 
 /// Whether one of these octets has class 0 in its high half.
@@ -137,7 +137,7 @@ impl Stream {
     }
 
     /// The offset after its last whole packet.
-    pub(crate) fn offset(&self) -> usize {
+    pub fn offset(&self) -> usize {
         self.offset
     }
 
@@ -147,7 +147,7 @@ impl Stream {
     }
 
     /// The octets of the TSDU with this number, from 0 on.
-    pub(crate) fn tsdu(&self, number: usize) -> &[u8] {
+    pub fn tsdu(&self, number: usize) -> &[u8] {
         match self.tsdus.get(number) {
             Some(tsdu) => self.octets_of(tsdu),
             None => &[],
@@ -155,12 +155,7 @@ impl Stream {
     }
 
     /// The piece with this number passes.
-    pub(crate) fn pass(
-        &mut self,
-        alloc: Global,
-        octets: &[u8],
-        number: usize,
-    ) -> Result<(), AllocError> {
+    pub fn pass(&mut self, alloc: Global, octets: &[u8], number: usize) -> Result<(), AllocError> {
         if self.stop.is_some() {
             return Ok(());
         }
@@ -224,21 +219,43 @@ impl Stream {
         if self.stop.is_some() {
             return Ok(());
         }
-        match (self.opening, first_unit(unit)) {
-            // It may answer a CR, but no call sends it.
-            (None, Some(Tpdu::Er(_))) => {
-                self.stop_without_call(place);
+        let Some(unit) = first_unit(unit) else {
+            self.stop_at(place);
+            return Ok(());
+        };
+        match self.opening {
+            None => {
+                self.open(&unit, place);
                 Ok(())
             }
-            (None, Some(unit)) => {
-                self.open(opening_of(self.side, &unit, place), place);
-                Ok(())
-            }
-            (Some(opening), Some(Tpdu::Dt0(data))) if !opening.is_refusal => {
-                self.add(data.end, data.user, place)
-            }
+            Some(opening) => self.take_next(opening.is_refusal, &unit, place),
+        }
+    }
+
+    /// The first unit of the side passes.
+    fn open(&mut self, unit: &Tpdu<'_>, place: Place) {
+        // It may answer a CR, but no call sends it.
+        if let Tpdu::Er(_) = unit {
+            self.stop_without_call(place);
+            return;
+        }
+        self.opening = opening_of(self.side, unit, place);
+        if self.opening.is_none() {
+            self.stop_at(place);
+        }
+    }
+
+    /// A unit passes after the first one of the side, which was a DR or was not.
+    fn take_next(
+        &mut self,
+        is_refused: bool,
+        unit: &Tpdu<'_>,
+        place: Place,
+    ) -> Result<(), AllocError> {
+        match unit {
+            Tpdu::Dt0(data) if !is_refused => self.add(data.end, data.user, place),
             // It may answer a DR, but no call sends it.
-            (Some(_), Some(Tpdu::Dc(_))) => {
+            Tpdu::Dc(_) => {
                 self.stop_without_call(place);
                 Ok(())
             }
@@ -246,13 +263,6 @@ impl Stream {
                 self.stop_at(place);
                 Ok(())
             }
-        }
-    }
-
-    fn open(&mut self, opening: Option<Opening>, place: Place) {
-        self.opening = opening;
-        if opening.is_none() {
-            self.stop_at(place);
         }
     }
 

@@ -26,19 +26,19 @@ const WITH_DATA: u8 = 2;
 
 /// What a CN offers that matters to the answer: its functional units and the number of the first point.
 #[derive(Clone, Copy)]
-pub(crate) struct Offer {
-    pub(crate) requirements: u16,
-    pub(crate) serial: Option<Serial>,
+pub struct Offer {
+    pub requirements: u16,
+    pub serial: Option<Serial>,
 }
 
 /// The fields of a connect.
 #[derive(Clone, Copy)]
-pub(crate) struct Asking<'a> {
-    pub(crate) requirements: Requirements,
-    pub(crate) serial: Serial,
-    pub(crate) wishes: TokenSetting,
-    pub(crate) sizes: TsduSizes,
-    pub(crate) user_data: &'a [u8],
+pub struct Asking<'a> {
+    pub requirements: Requirements,
+    pub serial: Serial,
+    pub wishes: TokenSetting,
+    pub sizes: TsduSizes,
+    pub user_data: &'a [u8],
 }
 
 /// The number, or 0 if there is none.
@@ -90,7 +90,7 @@ fn offered(requirements: Requirements, selected: Option<u16>) -> Requirements {
 }
 
 /// The functional units that an AC names, if the message is one.
-pub(crate) fn selected_by(message: &Message<'_>) -> Option<u16> {
+pub fn selected_by(message: &Message<'_>) -> Option<u16> {
     match message {
         Message::Accept { requirements, .. } => Some(requirements.bits()),
         _ => None,
@@ -98,10 +98,7 @@ pub(crate) fn selected_by(message: &Message<'_>) -> Option<u16> {
 }
 
 /// The connect that sends a CN, of which the AC selects these functional units. None if a script can't say it.
-pub(crate) fn asked_by<'a>(
-    message: &Message<'a>,
-    selected: Option<u16>,
-) -> Option<(Asking<'a>, Offer)> {
+pub fn asked_by<'a>(message: &Message<'a>, selected: Option<u16>) -> Option<(Asking<'a>, Offer)> {
     match *message {
         Message::Connect {
             version_2: true,
@@ -189,7 +186,7 @@ fn accepting<'a>(message: &Message<'a>, offer: Offer) -> Option<Request<'a>> {
 }
 
 /// The call that sends a message of a connection with this CN. None if no call does.
-pub(crate) fn request_of<'a>(message: &Message<'a>, offer: Offer) -> Option<Request<'a>> {
+pub fn request_of<'a>(message: &Message<'a>, offer: Offer) -> Option<Request<'a>> {
     match *message {
         Message::Connect { .. } | Message::AbortAccept => None,
         Message::Accept { .. } => accepting(message, offer),

@@ -82,45 +82,42 @@ fn is_covered(said_before: Option<Standing>, said: &Standing) -> bool {
     }
 }
 
-/// Says the unit where the walker stands, if it may, and returns how it then stands.
-fn say(
-    sent: &Sent<'_>,
-    walker: &Walker,
-    behind: &mut Behind<'_>,
-) -> Result<Option<Standing>, AllocError> {
+/// Says the unit where the walker stands, if it may. Whether it was said.
+fn say(sent: &Sent<'_>, walker: &mut Walker, behind: &mut Behind<'_>) -> Result<bool, AllocError> {
     let Ok(said) = walker.standing.say(sent.unit, sent.octets) else {
-        return Ok(None);
+        return Ok(false);
     };
     if !is_covered(walker.said_before, &said) {
         behind.add(walker.taken, said, false)?;
     }
-    Ok(Some(said))
+    walker.said_before = Some(said);
+    Ok(true)
 }
 
 /// How a session stands that takes this TSDU and sends nothing; none if it answers it, or takes nothing.
-pub(crate) fn hears(
+pub fn hears(
     alloc: Global,
     standing: &Standing,
     tsdu: &[u8],
 ) -> Result<Option<Standing>, AllocError> {
-    let Some(taking) = standing.take(alloc, tsdu)? else {
-        return Ok(None);
-    };
-    match taking.reply {
-        None => Ok(Some(taking.next)),
-        Some(_) => Ok(None),
+    match standing.take(alloc, tsdu) {
+        Ok(Some(taking)) if taking.reply.is_none() => Ok(Some(taking.next)),
+        Ok(_) => Ok(None),
+        Err(error) => Err(error),
     }
 }
 
-/// The same of a session that may not be there.
-fn follow(
-    alloc: Global,
-    said_before: Option<Standing>,
-    tsdu: &[u8],
-) -> Result<Option<Standing>, AllocError> {
-    match said_before {
-        Some(standing) => hears(alloc, &standing, tsdu),
-        None => Ok(None),
+/// The session that said the unit at an earlier place takes this TSDU too.
+fn follow(alloc: Global, walker: &mut Walker, tsdu: &[u8]) -> Result<(), AllocError> {
+    let Some(standing) = walker.said_before else {
+        return Ok(());
+    };
+    match hears(alloc, &standing, tsdu) {
+        Ok(next) => {
+            walker.said_before = next;
+            Ok(())
+        }
+        Err(error) => Err(error),
     }
 }
 
@@ -138,33 +135,28 @@ fn answer(
     behind.add(taken, standing, true)
 }
 
-/// Takes the next TSDU. None if the walker can't go on then.
+/// Takes the next TSDU. False if the walker can't go on then.
 fn take(
     alloc: Global,
     heard: &Stream,
     sent: &Sent<'_>,
-    walker: &Walker,
+    walker: &mut Walker,
     behind: &mut Behind<'_>,
-) -> Result<Option<Walker>, AllocError> {
+) -> Result<bool, AllocError> {
     let tsdu = heard.tsdu(walker.taken);
-    let Some(taking) = walker.standing.take(alloc, tsdu)? else {
-        return Ok(None);
+    let taking = match walker.standing.take(alloc, tsdu) {
+        Ok(Some(taking)) => taking,
+        Ok(None) => return Ok(false),
+        Err(error) => return Err(error),
     };
-    let taken = walker.taken.saturating_add(1);
+    walker.taken = walker.taken.saturating_add(1);
     if let Some(reply) = taking.reply {
-        answer(sent, reply, taken, taking.next, behind)?;
-        return Ok(None);
+        answer(sent, reply, walker.taken, taking.next, behind)?;
+        return Ok(false);
     }
-    Ok(Some(Walker {
-        taken,
-        standing: taking.next,
-        said_before: follow(alloc, walker.said_before, tsdu)?,
-    }))
-}
-
-/// Whether a walker that said the unit, or not, is done.
-fn is_done(sent: &Sent<'_>, said: Option<Standing>) -> bool {
-    said.is_some() && is_steady(sent.unit)
+    walker.standing = taking.next;
+    follow(alloc, walker, tsdu)?;
+    Ok(true)
 }
 
 /// Adds the sessions after a unit that come from one: it says the unit as it is, or takes TSDUs first, as many as
@@ -183,18 +175,13 @@ pub(crate) fn walk(
         said_before: None,
     };
     'takes: for _ in node.taken..sent.before {
-        let said = say(sent, &walker, behind)?;
-        if is_done(sent, said) {
+        if say(sent, &mut walker, behind)? && is_steady(sent.unit) {
             return Ok(());
         }
-        if said.is_some() {
-            walker.said_before = said;
-        }
-        match take(alloc, heard, sent, &walker, behind)? {
-            Some(on) => walker = on,
-            None => return Ok(()),
+        if !take(alloc, heard, sent, &mut walker, behind)? {
+            return Ok(());
         }
     }
-    let _last = say(sent, &walker, behind)?;
+    let _is_said = say(sent, &mut walker, behind)?;
     Ok(())
 }

@@ -11,22 +11,22 @@ const MOST_SESSIONS: usize = 4096;
 
 /// A unit that a side sent, and how the session of the run came to send it.
 #[derive(Clone, Copy)]
-pub(crate) struct Said {
+pub struct Said {
     /// The number of its TSDU, from 0 on.
-    pub(crate) tsdu: usize,
+    pub tsdu: usize,
     /// Its place among the units of this TSDU as they act.
-    pub(crate) place: usize,
+    pub place: usize,
     /// How many TSDUs of the other side the session took before it.
-    pub(crate) taken: usize,
+    pub taken: usize,
     /// Whether it is the answer to the last of these, which the session sends by itself.
-    pub(crate) is_answer: bool,
+    pub is_answer: bool,
     /// How the session stands after it.
-    pub(crate) standing: Standing,
+    pub standing: Standing,
 }
 
 /// Why a run goes no further.
 #[derive(Clone, Copy)]
-pub(crate) enum Limit {
+pub enum Limit {
     /// No session sends this TSDU.
     NoSession(Place),
     /// Too many sessions send what was sent up to this TSDU.
@@ -35,11 +35,11 @@ pub(crate) enum Limit {
 
 /// A run of a session that sends what a side sent, unit by unit.
 #[derive(Drop)]
-pub(crate) struct Run {
-    pub(crate) begin: Standing,
-    pub(crate) said: Vec<Said>,
+pub struct Run {
+    pub begin: Standing,
+    pub said: Vec<Said>,
     /// Why and where it goes no further.
-    pub(crate) limit: Option<Limit>,
+    pub limit: Option<Limit>,
 }
 
 /// The sessions that send what was looked at so far.
@@ -199,7 +199,7 @@ fn search_all(
 }
 
 /// A run of a session that begins so and sends what a side sent, as far as there is one.
-pub(crate) fn run_of(
+pub fn run_of(
     alloc: Global,
     own: &Stream,
     heard: &Stream,

@@ -9,7 +9,7 @@ ghost use Rattle.osi_message.specs.Tokens.{named};
 ghost use Rattle.osi_spdu.specs.Fields.{bits_of, unit_bits};
 ghost use Rattle.osi_spdu.specs.Sizes.{named_by};
 ghost use Rattle.osi_tpdu.specs.Limits.{size_code, window_units};
-ghost use Rattle.osi_witness.specs.Lines.{classes_name, data_field, units_field, sizes_field, tokens_field, wishes_field, sides_field, call_text, command_text, comment_line};
+ghost use Rattle.osi_explain.specs.Lines.{classes_name, data_field, units_field, sizes_field, tokens_field, wishes_field, sides_field, call_text, command_text, comment_line};
 
 use bitflags::Flags;
 use osi_listing::{push_number_field, push_octet, push_words};
@@ -364,11 +364,7 @@ fn push_command(alloc: Global, text: &mut Vec<u8>, command: &Command<'_>) -> Res
 }
 
 /// Adds the line of a command.
-pub(crate) fn push_line(
-    alloc: Global,
-    text: &mut Vec<u8>,
-    command: &Command<'_>,
-) -> Result<(), AllocError>
+pub fn push_line(alloc: Global, text: &mut Vec<u8>, command: &Command<'_>) -> Result<(), AllocError>
     ensures { OnOk result (text.new.items ≡ text.old.items ++ command_text (command_by command.now) ++ codes "\n") }
 {
     push_command(alloc, text, command)?;
@@ -376,7 +372,7 @@ pub(crate) fn push_line(
 }
 
 /// Adds a comment on a packet of a side.
-pub(crate) fn push_comment(
+pub fn push_comment(
     text: &mut Vec<u8>,
     side: Side,
     offset: usize,
