@@ -19,19 +19,19 @@ const VERSION: &str = "0.1.0";
 /// What a script is made of.
 const SCRIPTS: &str = "\
 A line for each event, which ends at a line feed alone; empty lines and lines that begin with # are
-skipped.
+skipped. The script has at most 16,777,216 octets.
 
   ends CALLER CALLED SIZE WINDOW      the first line: classes 0, 2 or 20 of the left end, which
                                       calls, and of the right one; TPDU size code 7 to 13;
                                       window 1 to 15
-  connect UNITS SERIAL WISHES DATA    the left end asks for a connection; with A B behind it, the
+  connect UNITS SERIAL WISHES DATA    the left end asks for a connection; with A B after it, the
                                       largest TSDUs that it and the right end would send
-  carry SIDE K                        K octets of a side are carried, or all where there are fewer
+  carry SIDE K                        K octets of a side are carried, or all if there are fewer
   break KL KR                         the connection breaks: so many octets of the left and of the
                                       right side can still be carried
   told SIDE                           a side is told of the break
 
-  SIDE REF accept UNITS SERIAL SIDES DATA, or with A B behind it
+  SIDE REF accept UNITS SERIAL SIDES DATA, or with A B after it
   SIDE REF refuse DATA                SIDE REF minorconfirm N DATA
   SIDE REF data DATA                  SIDE REF major DATA
   SIDE REF give TOKENS                SIDE REF majorconfirm DATA
@@ -47,11 +47,17 @@ answers; in WISHES also c for the choice of the side that answers. A and B are 6
 0 for no limit. TOKENS has two digits: 01 data, 04 minor, 10 major, 40 release. UNITS has four digits:
 0001 half-duplex, 0002 duplex, 0008 minor, 0010 major, 0020 resynchronize, 0080 negotiated release.";
 
+/// What a capture of one direction is.
+const CAPTURE: &str = "\
+Hexadecimal digits of one direction of a byte connection, two for each octet; blanks and line ends are
+skipped, and # begins a comment. The text has at most 16,777,216 octets.";
+
 /// What a capture of both sides is.
 const CAPTURES: &str = "\
 Lines of hexadecimal digits, blanks and # comments. Each line is a piece of one side; a line that begins
 with a tab is of the other side. The side of the first octet is left: it has to be the one that calls.
-The pieces stand in the order in which they passed, all octets of both directions from the first on:
+The pieces stand in the order in which they passed, all octets of both directions from the first on. The
+text has at most 16,777,216 octets:
 
   tshark -r run.pcap -q -z follow,tcp,raw,0 | sed -n '/^[0-9a-f\\t]*$/p' | osi judge
 
@@ -147,7 +153,9 @@ fn show<'a>(alloc: Global) -> Command<'a>
     ensures shape { shape_of result ≡ (new_app (codes "show")).top }
     ensures local { (fields_of result).has_globals ≡ false }
 {
-    Command::new(alloc, "show").about("List the capture on standard input")
+    Command::new(alloc, "show")
+        .about("List the capture on standard input")
+        .after_help(CAPTURE)
 }
 
 /// The subcommand that runs a script.
