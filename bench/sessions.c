@@ -9,8 +9,8 @@
 /* A slice is passed as a pointer and a length; the allocator passes nothing. */
 uint64_t osi_bench_sessions(const uint8_t *data, size_t length, size_t rounds, size_t part);
 
-#define RUNS 1001
-#define ROUNDS 1000
+#define RUNS 301
+#define ROUNDS 10000
 #define PARTS 9
 
 /* Octets to be sent and their room: a buffer that is kept, where an end has its packet. */

@@ -98,7 +98,9 @@ fn data_handed(ends: &mut Ends, user_data: &[u8]) -> Option<usize> {
     Some(octets)
 }
 
-/// The call for data that returns its TSDU in a block of its own.
+/// The call for data that returns its TSDU in a block of its own. What owns a block is kept out of line: otherwise each part
+/// of a round would clear the room for it.
+#[inline(never)]
 fn data_owned(from: &Session, user_data: &[u8]) -> Option<usize> {
     let sent = from.call_data(user_data).ok()?;
     length_of(&sent)
@@ -119,6 +121,18 @@ fn go_on(from: &mut Session, plan: PlannedPoint) -> Sent
 fn point(from: &mut Session) -> Option<Sent> {
     let plan = from.plan_minor(true, &[]).ok()?;
     Some(go_on(from, plan))
+}
+
+/// The call for a point; the length of its TSDU, which is not delivered.
+#[inline(never)]
+fn point_called(from: &mut Session) -> Option<usize> {
+    length_of(&point(from)?)
+}
+
+/// The same, and the TSDU is handed to the other side.
+#[inline(never)]
+fn point_handed(ends: &mut Ends) -> Option<usize> {
+    hand(&point(&mut ends.caller)?, &mut ends.called)
 }
 
 /// The call that confirms this point, as an end makes it.
@@ -192,8 +206,8 @@ fn part(ends: &mut Ends, user_data: &[u8], number: usize) -> Option<usize> {
     match number {
         0 => data(&ends.caller, user_data, &mut ends.out),
         1 => data_handed(ends, user_data),
-        2 => length_of(&point(&mut ends.caller)?),
-        3 => hand(&point(&mut ends.caller)?, &mut ends.called),
+        2 => point_called(&mut ends.caller),
+        3 => point_handed(ends),
         4 => confirmed(ends, false),
         5 => confirmed(ends, true),
         7 => data_written(&ends.caller, user_data, &mut ends.out),
