@@ -83,3 +83,4 @@ pub mod no_called_end_is_blamed_first
 pub mod a_called_end_hears_what_comes_until_class_2
 pub mod a_called_end_stands_in_class_0
 pub mod a_turn_of_a_called_end_in_class_0
+pub mod a_called_end_stands_until_its_cc_of_class_0_passes
