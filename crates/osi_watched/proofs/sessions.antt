@@ -84,3 +84,6 @@ pub mod a_called_end_hears_what_comes_until_class_2
 pub mod a_called_end_stands_in_class_0
 pub mod a_turn_of_a_called_end_in_class_0
 pub mod a_called_end_stands_until_its_cc_of_class_0_passes
+pub mod a_turn_after_which_a_cc_of_class_0_waits
+pub mod only_a_cc_selects_a_class
+pub mod a_called_end_puts_its_cc_of_class_0

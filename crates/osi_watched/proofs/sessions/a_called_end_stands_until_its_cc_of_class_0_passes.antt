@@ -1,12 +1,14 @@
 -- From the turn in which a called end puts its CC of class 0 until this CC passes, all its connections stand at a tap; and after that, as
 -- in class 0. For the session of the connection of a called end in class 0.
 use Rattle.std.proofs.Common.{◌≡◌, ◌∙◌, refl, sym, ap, subst, ℕ, ◌^◌, ◌<◌, Bool, true, false, List, [], ◌∷◌, ◌++◌}
-use Rattle.std.proofs.Common.{length, Option, Some, None, if◌then◌else◌, arith}
+use Rattle.std.proofs.Common.{length, Option, Some, None, if◌then◌else◌}
 use Rattle.std.specs.Prelude.{◌==◌, slice_get}
 use Rattle.std.specs.List.{AllByRecursion}
+use Rattle.std.proofs.lemmas.Bool.{eqb-true}
 use Rattle.std.proofs.lemmas.List.{append-nil}
 use Rattle.osi_tpdu.specs.Packet.{units_of}
 use Rattle.osi_tpdu.specs.Value.{Connect, Value, acknowledge, confirm, data0, data2, disconnect, disconnected, error, request}
+use Rattle.osi_class.specs.Runs.{parts_in}
 use Rattle.osi_class.specs.declared.terms.Class.{Class}
 use Rattle.osi_class.specs.declared.terms.Class.TheVariants.{Two, Zero}
 use Rattle.osi_class.specs.declared.terms.Local.{Local}
@@ -14,7 +16,7 @@ use Rattle.osi_judge.specs.declared.directions.Direction.TheVariants.{Left, Righ
 use Rattle.osi_rules.specs.declared.directions.Direction.TheVariants as way
 use Rattle.osi_rules.specs.Traffic.{State, class_of, takes}
 use Rattle.osi_fair.proofs.left_selects_no_class.{left_class}
-use Rattle.osi_honest.specs.Courses.{Course, Deeds, units_in, units_read, units_taken}
+use Rattle.osi_honest.specs.Courses.{Course, Deeds, units_in, units_read}
 use Rattle.osi_honest.proofs.class_0.what_a_packet_does_in_class_0.{AllProper}
 use Rattle.osi_honest.proofs.courses.how_long_a_connection_is_open.{amid, early, stage_at}
 use Rattle.osi_honest.proofs.reading.what_is_written_is_read_again.{CanBeWritten}
@@ -36,7 +38,6 @@ use Rattle.osi_watched.proofs.sessions.connections_have_the_same_places.{unit_jo
 use Rattle.osi_watched.proofs.sessions.each_step_leaves_class_0_one_connection.{sure_claim}
 use Rattle.osi_watched.proofs.sessions.no_connection_is_opened_before_a_class_is_selected.{uncalled_claim}
 use Rattle.osi_watched.proofs.sessions.steps_of_either_class_leave_all_standing.{IsRight, any_passes_own}
-use Rattle.osi_watched.proofs.sessions.what_is_in_flight_to_an_end.{parts_taken}
 use Rattle.osi_watched.proofs.sessions.what_passes_leaves_all_standing.{IsReady}
 use Rattle.osi_watched.proofs.sessions.what_stands_of_a_connection.{waiting_for}
 
@@ -65,8 +66,12 @@ units_select_none at (v ∷ vs) c h =
     units_select_none at vs (unit_passes Left at v c)
     (ap (λ (s : State). s.course.class) (unit_knows Left at v c) ∙ left_class v c.traffic ∙ h)
 
-zero_class : (x : Connect) → x.class ≡ 0 → class_of x ≡ Zero
-zero_class x is = ap (λ (k : ℕ). if◌then◌else◌ {A = Class} (k == 2) Two Zero) is
+zero_class : (x : Connect) → (x.class ≡ 2 → ⊥) → class_of x ≡ Zero
+zero_class x not = by (x.class == 2) refl
+  where
+    by : (b : Bool) → (x.class == 2) ≡ b → (if◌then◌else◌ {A = Class} b Two Zero) ≡ Zero
+    by true e = absurd (not (eqb-true x.class 2 e))
+    by false e = refl
 
 module _ (local : Local) where
   -- It has put its CC of class 0, which is the first unit that waits: all that it put at this connection waits after it, nothing was taken
@@ -77,13 +82,13 @@ module _ (local : Local) where
     pub x : Connect
     pub rest : List Value
     pub put : j.put ≡ confirm n x ∷ rest
-    pub zero : x.class ≡ 0
+    pub not_two : x.class ≡ 2 → ⊥
     pub can : AllByRecursion CanBeWritten j.put
     pub positive : 0 < x.source
     pub class : j.course.traffic.course.class ≡ None
     pub early_is : StandsCalledEarly deeds x.source j.holding.end.carrier j.put j.begun (units_in j.coming) j.course
     pub waits : (deeds x.source).put ≡ waiting_for (Some n) j.put
-    pub unheard : units_taken (deeds x.source).calls ≡ []
+    pub unheard : parts_in (deeds x.source).calls ≡ []
     pub amid_is : (q peer : ℕ) → 0 < q → stage_at q j.holding.end.carrier ≡ amid peer → q ≡ x.source
     pub opened : stage_at x.source j.holding.end.carrier ≡ early → ⊥
 
@@ -103,7 +108,7 @@ module _ (local : Local) where
         x = h.x;
         rest = h.rest;
         put = h.put;
-        zero = h.zero;
+        not_two = h.not_two;
         can = h.can;
         positive = h.positive;
         class = h.class;
@@ -134,7 +139,7 @@ module _ (local : Local) where
         x = h.x;
         rest = h.rest;
         put = h.put;
-        zero = h.zero;
+        not_two = h.not_two;
         can = h.can;
         positive = h.positive;
         class = h.class;
@@ -169,7 +174,7 @@ module _ (local : Local) where
         x = h.x;
         rest = h.rest;
         put = h.put;
-        zero = h.zero;
+        not_two = h.not_two;
         can = h.can;
         positive = h.positive;
         class = units_select_none at units old.course h.class;
@@ -212,7 +217,7 @@ module _ (local : Local) where
       zero_is : mid.course.traffic.course.class ≡ Some Zero
       zero_is =
           ap (λ (s : State). s.course.class) (unit_knows Right at cc_is c) ∙ effect.class
-          ∙ ap (λ (k : Class). Some k) (zero_class x h.zero)
+          ∙ ap (λ (k : Class). Some k) (zero_class x h.not_two)
 
       ready : IsReady Right deeds (known_one x.source old.holding.end.carrier coming) cc_is new.put c.traffic c.sessions
       ready = (
@@ -221,7 +226,7 @@ module _ (local : Local) where
             let named = joined_named Right cc_is c n p k j h.early_is.all.places refl place there
             (h.early_is.all.judged right.firm p k there) here in
             h.waits ∙ ap (waiting_for (Some n)) step.2 ∙ ap (λ (o : Option ℕ). waiting_for o new.put) (sym named),
-        parts_taken (deeds x.source).calls ∙ ap parts_of h.unheard,
+        h.unheard,
         (refl, h.positive, λ live. sym (ap parts_of (asking_none x.source coming (h.early_is.asking h.class)))),
       )
 

@@ -5,14 +5,14 @@ use Rattle.std.proofs.Common.{map, Option, Some, None, arith, is_some, inl, inr,
 use Rattle.std.specs.Prelude.{◌==◌, ◌≢◌, nat_lt, slice_get}
 use Rattle.std.specs.List.{AllByRecursion}
 use Rattle.std.proofs.lemmas.Bool.{eq-eqb, lt-ltb}
-use Rattle.std.proofs.lemmas.List.{flat_map-append}
+use Rattle.std.proofs.lemmas.List.Concat.{flat_map-append}
 use Rattle.osi_tpdu.specs.Value.{Connect, Value, confirm}
 use Rattle.osi_tpdu.specs.Writing.{written}
 use Rattle.osi_class.specs.Runs.{parts_in, unit_parts}
 use Rattle.osi_class.specs.Tsdus.{Part}
 use Rattle.osi_class.specs.declared.terms.Class.TheVariants.{Zero}
 use Rattle.osi_class.specs.declared.terms.Local.{Local}
-use Rattle.osi_carrier.specs.Negotiation.{unit_octets}
+use Rattle.osi_carrier.specs.Negotiation.{acceptance, unit_octets}
 use Rattle.osi_carrier.specs.State.{State as Carrier}
 use Rattle.osi_judge.specs.declared.directions.Direction.TheVariants.{Right}
 use Rattle.osi_rules.specs.declared.connections.Connection.{Connection}
@@ -97,7 +97,7 @@ module _ (local : Local) (j : Joint) (f : IsFollowed Right (first local) j) (n :
   dts_after z =
       let limit = unit_octets z.size - 3 in
       written_as IsDt0 z.more rest
-      (same_later _ (confirm n x) z.more rest
+      (same_later (confirm z.x.source (acceptance Zero z.size z.x local z.r)) (confirm n x) z.more rest
       (ap (λ (l : List Value). map written l) (sym z.put) ∙ f.put ∙ ap (λ (l : List Value). map written l) put))
       (all_data limit 0 z.more (zero_puts limit f.whole.end 0 z.more z.end))
 
