@@ -87,3 +87,5 @@ pub mod a_called_end_stands_until_its_cc_of_class_0_passes
 pub mod a_turn_after_which_a_cc_of_class_0_waits
 pub mod only_a_cc_selects_a_class
 pub mod a_called_end_puts_its_cc_of_class_0
+pub mod a_called_end_stands_until_class_2
+pub mod no_called_end_is_blamed_first_in_class_0

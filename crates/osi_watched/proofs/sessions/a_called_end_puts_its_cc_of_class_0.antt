@@ -173,7 +173,7 @@ not_early_in_zero limit begun r s units (over gone puts) some up lasts may = ove
 abbrev IsFor : ℕ → Value → Type 0
 IsFor r v = (m : ℕ) (y : Connect) → v ≡ confirm m y → y.source ≡ r
 
-asking_plain : (v : Value) → IsAsking v → IsNoCc v
+pub asking_plain : (v : Value) → IsAsking v → IsNoCc v
 asking_plain (request x) h = tt
 asking_plain (disconnected n source) h = tt
 asking_plain (confirm n x) h = absurd h
@@ -199,7 +199,7 @@ module _ (local : Local) (proper : AllProper) (turn : Turn) (old new : Joint) (t
   abbrev then_end : Carrier
   then_end = new.holding.end.carrier
 
-  pub ahead : GoesOn (first local) h.called.ahead.bound new
+  abbrev pub ahead : GoesOn (first local) h.called.ahead.bound new
   ahead = turns_ahead (first local) proper turn old new t h.called.ahead
 
   abbrev f : IsFollowed Right (first local) new
