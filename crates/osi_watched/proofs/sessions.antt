@@ -79,7 +79,6 @@ pub mod no_calling_end_is_blamed_first_in_class_0
 pub mod no_calling_end_is_blamed_first
 pub mod no_connection_is_opened_before_a_class_is_selected
 pub mod no_session_of_a_called_end_breaks_first
-pub mod no_called_end_is_blamed_first
 pub mod a_called_end_hears_what_comes_until_class_2
 pub mod a_called_end_stands_in_class_0
 pub mod a_turn_of_a_called_end_in_class_0
@@ -89,3 +88,4 @@ pub mod only_a_cc_selects_a_class
 pub mod a_called_end_puts_its_cc_of_class_0
 pub mod a_called_end_stands_until_class_2
 pub mod no_called_end_is_blamed_first_in_class_0
+pub mod no_called_end_is_blamed_first

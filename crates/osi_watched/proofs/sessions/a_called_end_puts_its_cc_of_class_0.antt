@@ -2,7 +2,7 @@
 -- connection is open. For the session of the connection of a called end in class 0.
 use Rattle.std.proofs.Common.{◌≡◌, ◌∙◌, refl, sym, ap, subst, ℕ, ◌<◌, ◌≤◌, Bool, true, false, if◌then◌else◌, List, [], ◌∷◌, ◌++◌}
 use Rattle.std.proofs.Common.{map, Option, Some, None, arith, is_some, inl, inr, ◌⊎◌, ◌-◌}
-use Rattle.std.specs.Prelude.{◌==◌, ◌&&◌, nat_le, slice_get}
+use Rattle.std.specs.Prelude.{◌==◌, ◌&&◌, nat_le}
 use Rattle.std.specs.List.{AllByRecursion}
 use Rattle.std.proofs.lemmas.Bool.{le-leb, lt-ltb}
 use Rattle.osi_tpdu.specs.Value.{Connect, Value, acknowledge, confirm, data0, data2, disconnect, disconnected, error, request}
@@ -12,7 +12,7 @@ use Rattle.osi_class.specs.declared.terms.Class.TheVariants.{Zero}
 use Rattle.osi_class.specs.declared.terms.Local.{Local}
 use Rattle.osi_carrier.specs.Negotiation.{acceptance, unit_octets}
 use Rattle.osi_carrier.specs.Rows.{Rows, value_at}
-use Rattle.osi_carrier.specs.State.{Connection as Live, State as Carrier, asked, closing, linked}
+use Rattle.osi_carrier.specs.State.{Connection as Live, State as Carrier, linked}
 use Rattle.osi_judge.specs.declared.directions.Direction.TheVariants.{Right}
 use Rattle.osi_rules.specs.Traffic.{State}
 use Rattle.osi_stack.specs.Calls.{has_given}
@@ -24,12 +24,11 @@ use Rattle.osi_honest.specs.Courses.{Continues, Deeds, then_did, units_in}
 use Rattle.osi_honest.specs.Marked.{Marked, all_units}
 use Rattle.osi_honest.specs.Turns.{Turn}
 use Rattle.osi_honest.proofs.class_0.what_a_packet_does_in_class_0.{AllProper}
-use Rattle.osi_honest.proofs.courses.how_long_a_connection_is_open.{Life, Stage as Time, amid, early, past, stage_at, stage_is, stage_over}
+use Rattle.osi_honest.proofs.courses.how_long_a_connection_is_open.{Life, amid, early, stage_at, stage_is}
 use Rattle.osi_honest.proofs.courses.how_long_a_connection_is_open.{stage_there}
 use Rattle.osi_honest.proofs.courses.units_of_each_connection.{all_units_more}
 use Rattle.osi_honest.proofs.reading.what_is_written_is_read_again.{CanBeWritten}
-use Rattle.osi_tap.specs.Connections.{Joined, Sessions, reference_of}
-use Rattle.osi_tap.specs.Courses.{Course as Passed}
+use Rattle.osi_tap.specs.Connections.{Joined, Sessions}
 use Rattle.osi_watched.specs.Joint.{Joint, TakesTurn}
 use Rattle.osi_watched.specs.Shown.{parts_of}
 use Rattle.osi_watched.proofs.a_carrier_does_events.{none_of}
@@ -45,7 +44,7 @@ use Rattle.osi_watched.proofs.sessions.a_called_end_stands_until_its_cc_of_class
 use Rattle.osi_watched.proofs.sessions.a_calling_end_stands_as_units_pass.{known_at}
 use Rattle.osi_watched.proofs.sessions.a_turn_after_which_a_cc_of_class_0_waits.{dts_after, no_cc_taken, turns_waiting}
 use Rattle.osi_watched.proofs.sessions.a_turn_of_a_calling_end_until_class_2.{early_lasts}
-use Rattle.osi_watched.proofs.sessions.all_connections_stand.{AllStand, Rests, quiet, rests, there_too}
+use Rattle.osi_watched.proofs.sessions.all_connections_stand.{AllStand, Rests, quiet, rests}
 use Rattle.osi_watched.proofs.sessions.each_cc_that_passes_gives_a_new_reference.{GoesOn, turns_ahead, waits_above}
 use Rattle.osi_watched.proofs.sessions.each_step_leaves_class_0_one_connection.{Sure}
 use Rattle.osi_watched.proofs.sessions.each_unit_of_a_calling_end_has_a_home.{IsWrittenAs}
@@ -257,9 +256,10 @@ module _ (local : Local) (proper : AllProper) (turn : Turn) (old new : Joint) (t
 
     all_for : AllByRecursion (IsFor x.source) (all_units on.put)
     all_for =
-        subst (AllByRecursion (IsFor x.source)) (sym all_put)
-        ((λ m y is. same_cc starts.n m x y is),
-        all_so (IsWrittenAs IsDt0) (IsFor x.source) (λ v w m y is. cc_not_dt m y (subst (IsWrittenAs IsDt0) is w)) starts.rest dts)
+        subst (AllByRecursion (IsFor x.source)) (sym all_put) (
+          (λ m y is. same_cc starts.n m x y is),
+          all_so (IsWrittenAs IsDt0) (IsFor x.source) (λ v w m y is. cc_not_dt m y (subst (IsWrittenAs IsDt0) is w)) starts.rest dts,
+        )
 
     plain : AllByRecursion IsNoCc (units_in old.coming)
     plain = all_so IsAsking IsNoCc asking_plain (units_in old.coming) asking

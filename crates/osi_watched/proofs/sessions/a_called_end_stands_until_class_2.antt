@@ -2,7 +2,7 @@
 -- and after that CC. So nobody of the end is to blame.
 -- For the law that no session of an end is blamed first.
 use Rattle.std.proofs.Common.{◌≡◌, ◌∙◌, ◌⊎◌, inl, inr, refl, sym, ap, subst, ℕ, ◌^◌, ◌<◌, Bool, true, false, if◌then◌else◌, List, [], ◌∷◌}
-use Rattle.std.proofs.Common.{◌++◌, length, Option, Some, None}
+use Rattle.std.proofs.Common.{◌++◌, length, Some, None}
 use Rattle.std.specs.Prelude.{◌==◌, slice_get}
 use Rattle.std.specs.List.{AllByRecursion}
 use Rattle.std.proofs.lemmas.List.{append-nil}
@@ -12,13 +12,12 @@ use Rattle.osi_class.specs.declared.terms.Class.{Class}
 use Rattle.osi_class.specs.declared.terms.Class.TheVariants.{Two, Zero}
 use Rattle.osi_class.specs.declared.terms.Local.{Local}
 use Rattle.osi_carrier.specs.Rows.{value_at}
-use Rattle.osi_carrier.specs.State.{State as Carrier}
 use Rattle.osi_judge.specs.declared.directions.Direction.TheVariants.{Left, Right}
 use Rattle.osi_judge.proofs.honest.a_call_is_explained.{AsSent}
 use Rattle.osi_judge.proofs.honest.an_honest_run_stays_in_the_profile.{AsParts}
 use Rattle.osi_judge.proofs.honest.an_honest_side_is_kept.{CalledLaw, CallerLaw}
 use Rattle.osi_rules.specs.declared.directions.Direction.TheVariants as way
-use Rattle.osi_rules.specs.Traffic.{State, class_of, takes}
+use Rattle.osi_rules.specs.Traffic.{State, class_of}
 use Rattle.osi_stack.specs.Calls.{has_given}
 use Rattle.osi_stack.specs.State.{End, Holding}
 use Rattle.osi_fair.proofs.a_called_end_selects_class_zero.{Selecting}
@@ -29,7 +28,7 @@ use Rattle.osi_honest.specs.Marked.{Marked, all_units}
 use Rattle.osi_honest.specs.Seeing.{IsFresh}
 use Rattle.osi_honest.specs.Turns.{Turn}
 use Rattle.osi_honest.proofs.class_0.what_a_packet_does_in_class_0.{AllProper}
-use Rattle.osi_honest.proofs.courses.how_long_a_connection_is_open.{amid, early, stage_at, stage_is, stage_there}
+use Rattle.osi_honest.proofs.courses.how_long_a_connection_is_open.{amid, stage_at, stage_is, stage_there}
 use Rattle.osi_honest.proofs.courses.units_of_each_connection.{all_units_more}
 use Rattle.osi_honest.proofs.reading.what_is_written_is_read_again.{CanBeWritten}
 use Rattle.osi_tap.specs.Connections.{Joined, spoken}
@@ -55,7 +54,7 @@ use Rattle.osi_watched.proofs.sessions.a_calling_end_stands_as_units_pass.{known
 use Rattle.osi_watched.proofs.sessions.a_cc_of_class_0_opens_one_connection.{has_effect}
 use Rattle.osi_watched.proofs.sessions.a_turn_after_which_a_cc_of_class_0_waits.{no_cc_taken, turns_answering}
 use Rattle.osi_watched.proofs.sessions.a_turn_does_what_its_deeds_say.{turn_leaves, units_join}
-use Rattle.osi_watched.proofs.sessions.a_turn_of_a_called_end_in_class_0.{none_amid_zero, none_zero, turns_zero}
+use Rattle.osi_watched.proofs.sessions.a_turn_of_a_called_end_in_class_0.{none_zero, turns_zero}
 use Rattle.osi_watched.proofs.sessions.after_too_many_nobody_is_to_blame.{NoneIsToBlame}
 use Rattle.osi_watched.proofs.sessions.connections_have_the_same_places.{Agree, unit_knows}
 use Rattle.osi_watched.proofs.sessions.each_cc_that_passes_gives_a_new_reference.{turns_ahead}
@@ -122,7 +121,7 @@ fine_of at (v ∷ vs) c none h = (
   },
   record { sure = h.0.firm; two = λ zero_is. none_some c.traffic.course.class Zero none zero_is },
   fine_of at vs (unit_passes Left at v c)
-    (ap (λ (s : State). s.course.class) (unit_knows Left at v c) ∙ left_class v c.traffic ∙ none) h.1,
+      (ap (λ (s : State). s.course.class) (unit_knows Left at v c) ∙ left_class v c.traffic ∙ none) h.1,
 )
 
 module _ (local : Local) (proper : AllProper) where
@@ -301,9 +300,9 @@ module _ (local : Local) (proper : AllProper) where
       has_cc q peer some (answers_now m x front later source is) = (
         m,
         subst (HasCc m q) (sym turn_put)
-          (has_back m q old.put (all_units put)
-          (subst (HasCc m q) (sym (ap (λ (l : List Marked). all_units l) is ∙ all_units_more front ((0, confirm m x) ∷ later)))
-          (has_back m q (all_units front) (confirm m x ∷ all_units later) (inl (refl, source))))),
+            (has_back m q old.put (all_units put)
+            (subst (HasCc m q) (sym (ap (λ (l : List Marked). all_units l) is ∙ all_units_more front ((0, confirm m x) ∷ later)))
+            (has_back m q (all_units front) (confirm m x ∷ all_units later) (inl (refl, source))))),
       )
       has_cc q peer some (opens_now may m x front later is) =
           no_cc_taken local proper turn old new t deeds does.of.on does.of.life does.units q m x front later

@@ -1,8 +1,8 @@
 -- A turn of a called end after which its CC of class 0 waits: the one in which the end puts this CC, and each one until it passes. What the
 -- end puts after the CC is for this connection, and it takes nothing there yet. For the session of the connection of a called end in class 0.
-use Rattle.std.proofs.Common.{◌≡◌, ◌∙◌, refl, sym, ap, subst, ℕ, zero, suc, ◌-◌, ◌<◌, ◌≤◌, Bool, true, false, List, [], ◌∷◌, ◌++◌}
-use Rattle.std.proofs.Common.{map, Option, Some, None, arith, is_some, inl, inr, ◌⊎◌}
-use Rattle.std.specs.Prelude.{◌==◌, ◌≢◌, nat_lt, slice_get}
+use Rattle.std.proofs.Common.{◌≡◌, ◌∙◌, refl, sym, ap, subst, ℕ, zero, suc, ◌-◌, ◌<◌, Bool, true, false, List, [], ◌∷◌, ◌++◌}
+use Rattle.std.proofs.Common.{map, Option, Some, None, arith, inl, inr, ◌⊎◌}
+use Rattle.std.specs.Prelude.{◌==◌, ◌≢◌, nat_lt}
 use Rattle.std.specs.List.{AllByRecursion}
 use Rattle.std.proofs.lemmas.Bool.{eq-eqb, lt-ltb}
 use Rattle.std.proofs.lemmas.List.Concat.{flat_map-append}
@@ -15,22 +15,21 @@ use Rattle.osi_class.specs.declared.terms.Local.{Local}
 use Rattle.osi_carrier.specs.Negotiation.{acceptance, unit_octets}
 use Rattle.osi_carrier.specs.State.{State as Carrier}
 use Rattle.osi_judge.specs.declared.directions.Direction.TheVariants.{Right}
-use Rattle.osi_rules.specs.declared.connections.Connection.{Connection}
 use Rattle.osi_rules.specs.Traffic.{State}
 use Rattle.osi_fair.proofs.a_called_end_selects_class_zero.{Selecting}
 use Rattle.osi_fair.proofs.what_an_end_does_in_class_zero.{zero_puts}
-use Rattle.osi_fair.proofs.what_the_other_side_closes.{IsClear, IsFirm}
+use Rattle.osi_fair.proofs.what_the_other_side_closes.{IsFirm}
 use Rattle.osi_fair.proofs.which_units_are_for_a_connection.{picked_join}
 use Rattle.osi_honest.specs.Arriving.{AreApart}
 use Rattle.osi_honest.specs.Courses.{Continues, Deeds, then_did, units_in, units_taken}
 use Rattle.osi_honest.specs.Marked.{Marked, all_units, is_of_link}
 use Rattle.osi_honest.specs.Turns.{Turn}
 use Rattle.osi_honest.proofs.class_0.what_a_packet_does_in_class_0.{AllProper}
-use Rattle.osi_honest.proofs.courses.how_long_a_connection_is_open.{Life, amid, early, stage_at}
+use Rattle.osi_honest.proofs.courses.how_long_a_connection_is_open.{Life, early, stage_at}
 use Rattle.osi_honest.proofs.courses.units_of_each_connection.{all_units_more, none_mark}
 use Rattle.osi_honest.proofs.courses.what_calls_of_a_link_say.{taken_more}
 use Rattle.osi_honest.proofs.reading.what_is_written_is_read_again.{CanBeWritten}
-use Rattle.osi_tap.specs.Connections.{Joined, reference_of}
+use Rattle.osi_tap.specs.Connections.{reference_of}
 use Rattle.osi_tap.specs.Courses.{Course as Passed}
 use Rattle.osi_watched.specs.Joint.{Joint, TakesTurn, turns}
 use Rattle.osi_watched.specs.Shown.{parts_of}

@@ -1,6 +1,6 @@
 -- A unit that is no CC leaves the class that is selected on a byte connection, or that none is.
 -- For a called end that has selected no class yet.
-use Rattle.std.proofs.Common.{◌≡◌, ◌∙◌, refl, ap, ℕ, Bool, true, false, if◌then◌else◌, Option, Some, None}
+use Rattle.std.proofs.Common.{◌≡◌, ◌∙◌, refl, ℕ, Bool, true, false, if◌then◌else◌, Option, Some, None}
 use Rattle.std.specs.Prelude.{position, slice_get}
 use Rattle.osi_tpdu.specs.Value.{Value, acknowledge, confirm, data0, data2, disconnect, disconnected, error, request}
 use Rattle.osi_rules.specs.declared.connections.Connection.{Connection}
@@ -12,8 +12,8 @@ use Rattle.osi_rules.specs.declared.routes.Route.{Route}
 use Rattle.osi_rules.specs.declared.routes.Route.TheVariants.{Asks, Named, Only, Unnamed}
 use Rattle.osi_rules.specs.Reaches.{is_applied, reach_of}
 use Rattle.osi_rules.specs.Rows.{first_failed}
-use Rattle.osi_rules.specs.Sides.{is_free, is_live, is_named}
-use Rattle.osi_rules.specs.Traffic.{Outcome, State, asks_by, asks_kept, asks_of, at_found, at_place, class_for, course_after, course_after_none}
+use Rattle.osi_rules.specs.Sides.{is_live, is_named}
+use Rattle.osi_rules.specs.Traffic.{Outcome, State, asks_by, asks_of, at_found, at_place, class_for, course_after, course_after_none}
 use Rattle.osi_rules.specs.Traffic.{found_on, is_stopped, none_told, request_tests, route, routed, takes, unnamed}
 use Rattle.osi_fair.proofs.class_0_stays_selected.{reached_class}
 use Rattle.osi_watched.proofs.sessions.a_called_end_hears_what_comes_until_class_2.{IsNoCc}
