@@ -1,7 +1,6 @@
 //! Laws of an end and of a tap on its byte connection. Each function does nothing: its clauses are the laws.
 
 ghost use Rattle.std.specs.Prelude.{◌≡◌, Bool, false, true, List, None, Option, Some, ◌≢◌, ◌<◌, ◌^◌, ◌++◌, ◌∷◌, [], ℕ, length, slice_get};
-ghost use Rattle.osi_class.specs.declared.terms.Class.{Class};
 ghost use Rattle.osi_class.specs.declared.terms.Local.{Local};
 ghost use Rattle.osi_judge.specs.Captures.{Capture, other};
 ghost use Rattle.osi_judge.specs.declared.directions.Direction.{Direction};
@@ -160,15 +159,14 @@ pub fn connections_have_the_same_places()
 /// capture before it has a break ([`IsFirstOf`]). If both ends are of this library, there is none (`both`). So a tap that was fed the
 /// capture, and has judged it, never tells such an end as the first (`called_at_a_tap`, `calling_at_a_tap`, `both_at_a_tap`).
 ///
-/// It is assumed that fewer than 2^64 units have passed: a tap counts no further. For a called end, and so if both ends are of this library,
-/// it is also assumed that class 0 is not selected on the byte connection.
+/// It is assumed that fewer than 2^64 units have passed: a tap counts no further.
 ///
 /// [`IsSeen`]: ../../osi_honest/specs/Seeing.antt
 /// [`IsFirstOf`]: ../../osi_tap/specs/Blaming.antt
 pub fn no_session_of_an_end_is_blamed_first()
     ensures called { (local : Local) (begin end : Holding) (turns : List Turn) (capture : Capture) (f : First) →
         IsFresh false local begin → Run begin turns end → AreOctets capture → IsSeen Direction.Right turns capture →
-        (comes_to capture).course.traffic.course.class ≢ Some Class.Zero → length (comes_to capture).course.past < 2 ^ 64 →
+        length (comes_to capture).course.past < 2 ^ 64 →
         IsFirstOf (Some f) (comes_to capture).course.past → f.direction ≡ Direction.Left }
     ensures calling { (local : Local) (begin end : Holding) (turns : List Turn) (capture : Capture) (f : First) →
         IsFresh true local begin → Run begin turns end → AreOctets capture → IsSeen Direction.Left turns capture →
@@ -178,11 +176,11 @@ pub fn no_session_of_an_end_is_blamed_first()
         (capture : Capture) (first : Option First) → AreOctets capture →
         IsFresh true mine begin → Run begin turns end → IsSeen Direction.Left turns capture → IsFresh false theirs called_begin →
         Run called_begin called_turns called_end → IsSeen Direction.Right called_turns capture →
-        (comes_to capture).course.traffic.course.class ≢ Some Class.Zero → length (comes_to capture).course.past < 2 ^ 64 →
+        length (comes_to capture).course.past < 2 ^ 64 →
         IsFirstOf first (comes_to capture).course.past → first ≡ None }
     ensures called_at_a_tap { (local : Local) (begin end : Holding) (turns : List Turn) (capture : Capture) (t : Tap) (f : First) →
         IsFresh false local begin → Run begin turns end → AreOctets capture → IsSeen Direction.Right turns capture →
-        (comes_to capture).course.traffic.course.class ≢ Some Class.Zero → length (comes_to capture).course.past < 2 ^ 64 →
+        length (comes_to capture).course.past < 2 ^ 64 →
         IsFed capture t → IsJudged t → first_in t ≡ Some f → f.direction ≡ Direction.Left }
     ensures calling_at_a_tap { (local : Local) (begin end : Holding) (turns : List Turn) (capture : Capture) (t : Tap) (f : First) →
         IsFresh true local begin → Run begin turns end → AreOctets capture → IsSeen Direction.Left turns capture →
@@ -192,7 +190,7 @@ pub fn no_session_of_an_end_is_blamed_first()
         (capture : Capture) (t : Tap) → AreOctets capture →
         IsFresh true mine begin → Run begin turns end → IsSeen Direction.Left turns capture → IsFresh false theirs called_begin →
         Run called_begin called_turns called_end → IsSeen Direction.Right called_turns capture →
-        (comes_to capture).course.traffic.course.class ≢ Some Class.Zero → length (comes_to capture).course.past < 2 ^ 64 →
+        length (comes_to capture).course.past < 2 ^ 64 →
         IsFed capture t → IsJudged t → first_in t ≡ None }
 {
     few_octets_fit();

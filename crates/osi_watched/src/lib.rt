@@ -18,12 +18,10 @@
 //!   [`laws::connections_have_the_same_places`]. In either class, steps of a `Joint` leave this so of all its connections
 //!   (`Standing` in `proofs/sessions`), if nobody breaks a rule, the end takes at each connection the first of what is in flight to
 //!   it, and what it puts in a turn is for the connections that put it. Lemmas there say so of a calling end and of a called end in
-//!   class 2; and of a calling end until class 2 is selected, so in class 0 too.
-//! - **No session of an end is blamed first**, with any number of connections: of a calling end in either class, of a called end in
-//!   class 2. At each step of a `Joint` from the beginning these premises hold as long as nobody breaks a rule, so the first break of
-//!   all, of transport or of a session, is of the other side: [`laws::no_session_of_an_end_is_blamed_first`].
-//!
-//! What is not here: that law for a called end on a byte connection on which class 0 is selected.
+//!   class 2; and of both until class 2 is selected, so in class 0 too.
+//! - **No session of an end is blamed first**, called or calling, in either class, with any number of connections. At each step of a
+//!   `Joint` from the beginning these premises hold as long as nobody breaks a rule, so the first break of all, of transport or of a
+//!   session, is of the other side: [`laws::no_session_of_an_end_is_blamed_first`].
 #![tactic(auto)]
 
 pub mod laws;

@@ -67,7 +67,8 @@ dts_of local w (selected z) zero_is = all_data z.limit z.c.right.begun w.put (ze
 -- it was open, or takes a CR and puts its CC, or takes a CC
 pub data WasOpen (q : ℕ) (s : Time) (took put : List Marked) : Type 0 where
   open_before : (peer : ℕ) → s ≡ amid peer → WasOpen q s took put
-  answers_now : (n : ℕ) (x : Connect) (front later : List Marked) → put ≡ front ++ (0, confirm n x) ∷ later → WasOpen q s took put
+  answers_now : (n : ℕ) (x : Connect) (front later : List Marked) → x.source ≡ q → put ≡ front ++ (0, confirm n x) ∷ later →
+      WasOpen q s took put
   opens_now : s ≡ early → (n : ℕ) (x : Connect) (front later : List Marked) → took ≡ front ++ (0, confirm n x) ∷ later →
       WasOpen q s took put
 
@@ -75,7 +76,7 @@ opened_so : (q peer : ℕ) (unit : Value) (took put some later others answer put
     took ≡ some ++ (0, unit) ∷ later → Answers q peer unit answer → put ≡ others ++ (answer ++ put_later) → WasOpen q early took put
 opened_so q peer (confirm n x) took put some later others answer put_later o is a put_is = opens_now refl n x some later is
 opened_so q peer (request x) took put some later others answer put_later o is (cc_put, source, alone) put_is =
-    answers_now peer cc_put others put_later
+    answers_now peer cc_put others put_later source
     (put_is ∙ ap (λ (l : List Marked). others ++ (l ++ put_later)) alone)
 opened_so q peer (disconnect n source reason user) took put some later others answer put_later o is a put_is = absurd o
 opened_so q peer (disconnected n source) took put some later others answer put_later o is a put_is = absurd o

@@ -135,7 +135,7 @@ module _ (local : Local) (proper : AllProper) (turn : Turn) (old new : Joint) (t
 
   is_r : (q : ℕ) → 0 < q → WasOpen q (stage_at q end) on.took on.put → q ≡ h.r
   is_r q some (open_before peer is) = h.amid_is q peer some is
-  is_r q some (answers_now n x front later is) = no_answer n x front later is
+  is_r q some (answers_now n x front later source is) = no_answer n x front later is
   is_r q some (opens_now may n x front later is) = no_cc q n x front later may is
 
   -- a unit of no link is for no connection

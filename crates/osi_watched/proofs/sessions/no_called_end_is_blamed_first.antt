@@ -1,6 +1,8 @@
--- The first break of all at a tap is never of a called end, whatever classes it offers, as long as class 0 is not selected.
+-- The first break of all at a tap is never of a called end, whatever classes it offers and whichever is selected.
 -- For the law that no session of an end is blamed first.
-use Rattle.std.proofs.Common.{◌≡◌, false, List}
+use Rattle.std.proofs.Common.{◌≡◌, ◌∙◌, refl, sym, ◌^◌, ◌<◌, false, List, length, Option, Some, None}
+use Rattle.osi_class.specs.declared.terms.Class.{Class}
+use Rattle.osi_class.specs.declared.terms.Class.TheVariants.{Two, Zero}
 use Rattle.osi_class.specs.declared.terms.Local.{Local}
 use Rattle.osi_judge.specs.Captures.{Capture}
 use Rattle.osi_judge.specs.declared.directions.Direction.TheVariants.{Left, Right}
@@ -17,14 +19,41 @@ use Rattle.osi_tap.specs.Tapping.{comes_to}
 use Rattle.osi_watched.specs.Passing.{AreOctets}
 use Rattle.osi_watched.proofs.a_capture_is_steps.{capture_steps}
 use Rattle.osi_watched.proofs.no_unit_of_a_whole_end_is_a_break.{called_is_fair}
+use Rattle.osi_watched.proofs.what_the_turns_among_steps_do.{ComesByDoing}
+use Rattle.osi_watched.proofs.sessions.no_called_end_is_blamed_first_in_class_0.{called_early_keeps}
+use Rattle.osi_watched.proofs.sessions.a_called_end_stands_until_class_2.{StandsCalledUntilTwo}
 use Rattle.osi_watched.proofs.sessions.no_session_of_a_called_end_breaks_first.{StandsOrSelected, called_keeps}
-use Rattle.osi_watched.proofs.sessions.no_session_of_an_end_breaks_first.{IsWithin, never_first}
+use Rattle.osi_watched.proofs.sessions.no_session_of_an_end_breaks_first.{never_first, never_first_without}
 
-pub called_never_first : (known : Known) → (known_of : AsSent) → (parts : AsParts) → (caller : CallerLaw) → (called : CalledLaw) →
-    (local : Local) (capture : Capture) → IsWithin (comes_to capture).course → (f : First) →
-    BreaksFirst f (comes_to capture).course.past → (begin end : Holding) (turns : List Turn) → IsFresh false local begin →
-    Run begin turns end → AreOctets capture → IsSeen Right turns capture → f.direction ≡ Left
-called_never_first known known_of parts caller called local capture within f earliest begin end turns fresh run octets seen =
-    never_first known.proper Right local (called_is_fair local) (StandsOrSelected local known.proper)
-    (called_keeps local known.proper known_of parts caller called) begin capture f fresh
-    (capture_steps known Right false local begin end turns capture fresh run octets seen) within earliest
+zero_two : {A : Type 0} (k : Option Class) → k ≡ Some Zero → k ≡ Some Two → A
+zero_two k h e = absurd (let no : Some Zero ≡ Some Two = sym h ∙ e in cc)
+
+module _ (known : Known) (known_of : AsSent) (parts : AsParts) (caller : CallerLaw) (called : CalledLaw) (local : Local)
+    (capture : Capture) (few : length (comes_to capture).course.past < 2 ^ 64) (f : First)
+    (earliest : BreaksFirst f (comes_to capture).course.past) where
+  module _ (begin : Holding) (fresh : IsFresh false local begin) (comes : ComesByDoing Right false capture begin) where
+    abbrev selected : Option Class
+    selected = (comes_to capture).course.traffic.course.class
+
+    without_zero : (selected ≡ Some Zero → ⊥) → f.direction ≡ Left
+    without_zero not =
+        never_first known.proper Right local (called_is_fair local) (StandsOrSelected local known.proper)
+        (called_keeps local known.proper known_of parts caller called) begin capture f fresh comes
+        (record { two = not; few = few }) earliest
+
+    in_zero : selected ≡ Some Zero → f.direction ≡ Left
+    in_zero zero =
+        never_first_without known.proper Two Right local (called_is_fair local) (StandsCalledUntilTwo local known.proper)
+        (called_early_keeps local known.proper known_of parts caller called) begin capture f fresh comes
+        (record { not = λ two. zero_two selected zero two; few = few }) earliest
+
+    by_class : (k : Option Class) → selected ≡ k → f.direction ≡ Left
+    by_class None is = without_zero (λ zero. absurd (let no : None ≡ Some Zero = sym is ∙ zero in cc))
+    by_class (Some Zero) is = in_zero is
+    by_class (Some Two) is = without_zero (λ zero. zero_two selected zero is)
+
+  pub called_never_first : (begin end : Holding) (turns : List Turn) → IsFresh false local begin → Run begin turns end →
+      AreOctets capture → IsSeen Right turns capture → f.direction ≡ Left
+  called_never_first begin end turns fresh run octets seen =
+      by_class begin fresh (capture_steps known Right false local begin end turns capture fresh run octets seen)
+      (comes_to capture).course.traffic.course.class refl

@@ -117,14 +117,17 @@ module _ (local : Local) (proper : AllProper) where
     pub how : StandsCalled local proper deeds j ⊎ HasSelected j
     pub uncalled : UncalledUntil j.course
 
+  pub called_first : (h : Holding) → IsFresh false local h → StandsCalled local proper (λ r. no_deeds) (begin h)
+  called_first h fresh = record {
+    called = begin_called local h fresh;
+    standing = standing_first (known_at (begin h)) h;
+    distinct = distinct_first;
+    can = tt;
+  }
+
   stands_first : (h : Holding) → IsFresh false local h → StandsOrSelected (λ r. no_deeds) (begin h)
   stands_first h fresh = record {
-    how = inl (record {
-      called = begin_called local h fresh;
-      standing = standing_first (known_at (begin h)) h;
-      distinct = distinct_first;
-      can = tt;
-    });
+    how = inl (called_first h fresh);
     uncalled = λ none. record { live = λ i j here. absurd (cc here); done = λ i j here. absurd (cc here) };
   }
 

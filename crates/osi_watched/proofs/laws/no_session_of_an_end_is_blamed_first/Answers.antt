@@ -40,9 +40,9 @@ told_first c capture t f was_fed judged told =
     (c.the_first_break_is_the_earliest.ensures.first capture t was_fed judged)
 
 pub returns-clause-called : goal.returns-clause-called
-returns-clause-called c = λ local begin end turns capture f fresh run octets seen two few first.
+returns-clause-called c = λ local begin end turns capture f fresh run octets seen few first.
     called_never_first (known c) (as_sent c) c.what_leaves_in_parts.ensures.read c.an_honest_session_is_explained.ensures.caller
-    c.an_honest_session_is_explained.ensures.called local capture (record { two = two; few = few }) f first begin end turns fresh run
+    c.an_honest_session_is_explained.ensures.called local capture few f first begin end turns fresh run
     octets seen
 
 pub returns-clause-calling : goal.returns-clause-calling
@@ -53,19 +53,19 @@ returns-clause-calling c = λ local begin end turns capture f fresh run octets s
 
 pub returns-clause-both : goal.returns-clause-both
 returns-clause-both c = λ mine theirs begin end called_begin called_end turns called_turns capture first octets fresh run seen called_fresh
-    called_run called_seen two few is.
+    called_run called_seen few is.
     neither_first first (comes_to capture).course.past
     (λ f earliest. calling_never_first (known c) (as_sent c) c.what_leaves_in_parts.ensures.read
     c.an_honest_session_is_explained.ensures.caller c.an_honest_session_is_explained.ensures.called mine capture
     few f earliest begin end turns fresh run octets seen)
     (λ f earliest. called_never_first (known c) (as_sent c) c.what_leaves_in_parts.ensures.read
     c.an_honest_session_is_explained.ensures.caller c.an_honest_session_is_explained.ensures.called theirs capture
-    (record { two = two; few = few }) f earliest called_begin called_end called_turns called_fresh called_run octets called_seen) is
+    few f earliest called_begin called_end called_turns called_fresh called_run octets called_seen) is
 
 pub returns-clause-called_at_a_tap : goal.returns-clause-called_at_a_tap
-returns-clause-called_at_a_tap c = λ local begin end turns capture t f fresh run octets seen two few was_fed judged told.
+returns-clause-called_at_a_tap c = λ local begin end turns capture t f fresh run octets seen few was_fed judged told.
     called_never_first (known c) (as_sent c) c.what_leaves_in_parts.ensures.read c.an_honest_session_is_explained.ensures.caller
-    c.an_honest_session_is_explained.ensures.called local capture (record { two = two; few = few }) f
+    c.an_honest_session_is_explained.ensures.called local capture few f
     (told_first c capture t f was_fed judged told) begin end turns fresh run octets seen
 
 pub returns-clause-calling_at_a_tap : goal.returns-clause-calling_at_a_tap
@@ -76,12 +76,12 @@ returns-clause-calling_at_a_tap c = λ local begin end turns capture t f fresh r
 
 pub returns-clause-both_at_a_tap : goal.returns-clause-both_at_a_tap
 returns-clause-both_at_a_tap c = λ mine theirs begin end called_begin called_end turns called_turns capture t octets fresh run seen
-    called_fresh called_run called_seen two few was_fed judged.
+    called_fresh called_run called_seen few was_fed judged.
     neither_first (first_in t) (comes_to capture).course.past
     (λ f earliest. calling_never_first (known c) (as_sent c) c.what_leaves_in_parts.ensures.read
     c.an_honest_session_is_explained.ensures.caller c.an_honest_session_is_explained.ensures.called mine capture
     few f earliest begin end turns fresh run octets seen)
     (λ f earliest. called_never_first (known c) (as_sent c) c.what_leaves_in_parts.ensures.read
     c.an_honest_session_is_explained.ensures.caller c.an_honest_session_is_explained.ensures.called theirs capture
-    (record { two = two; few = few }) f earliest called_begin called_end called_turns called_fresh called_run octets called_seen)
+    few f earliest called_begin called_end called_turns called_fresh called_run octets called_seen)
     (c.the_first_break_is_the_earliest.ensures.first capture t was_fed judged)

@@ -1,0 +1,30 @@
+-- What holds of a called end until class 2 is selected is as it is asked for: nobody of the end is to blame, as long as nobody has broken
+-- a rule.
+-- For the law that no session of an end is blamed first.
+use Rattle.osi_class.specs.declared.terms.Class.TheVariants.{Two}
+use Rattle.osi_class.specs.declared.terms.Local.{Local}
+use Rattle.osi_judge.specs.declared.directions.Direction.TheVariants.{Right}
+use Rattle.osi_judge.proofs.honest.a_call_is_explained.{AsSent}
+use Rattle.osi_judge.proofs.honest.an_honest_run_stays_in_the_profile.{AsParts}
+use Rattle.osi_judge.proofs.honest.an_honest_side_is_kept.{CalledLaw, CallerLaw}
+use Rattle.osi_honest.proofs.class_0.what_a_packet_does_in_class_0.{AllProper}
+use Rattle.osi_watched.proofs.sessions.a_called_end_stands_until_class_2.{StandsCalledUntilTwo, begins_called, begins_other_called}
+use Rattle.osi_watched.proofs.sessions.a_called_end_stands_until_class_2.{begins_own_called, none_amid_called, none_called}
+use Rattle.osi_watched.proofs.sessions.a_called_end_stands_until_class_2.{passes_other_called, passes_own_called, turns_called}
+use Rattle.osi_watched.proofs.sessions.no_session_of_an_end_breaks_first.{KeepsUnless}
+
+pub called_early_keeps : (local : Local) (proper : AllProper) → AsSent → AsParts → CallerLaw → CalledLaw →
+    KeepsUnless Two Right local (StandsCalledUntilTwo local proper)
+called_early_keeps local proper known_of parts caller called = record {
+  begins = begins_called local proper;
+  own_begins = λ deeds old new step courses few h. begins_own_called local proper deeds old new step courses few h;
+  other_begins = λ deeds old new step h. begins_other_called local proper deeds old new step h;
+  own_passes = λ deeds at v old new step right firm sure was_not not h.
+      passes_own_called local proper deeds at v old new step right firm not h;
+  other_passes = λ deeds at octets units old new step passed h.
+      passes_other_called local proper deeds at octets units old new step passed h;
+  turn = λ turn old new t deeds does f g firm not h. turns_called local proper turn old new t deeds does firm h;
+  none = λ deeds j courses h. none_called local proper known_of parts caller called deeds j courses h;
+  none_amid = λ deeds at octets front back old new step courses passed h.
+      none_amid_called local proper known_of parts caller called deeds at front old courses passed h;
+}
