@@ -1,6 +1,7 @@
 //! Laws of an end and of a tap on its byte connection. Each function does nothing: its clauses are the laws.
 
-ghost use Rattle.std.specs.Prelude.{◌≡◌, Bool, false, true, List, None, Option, Some, ◌≢◌, ◌<◌, ◌^◌, ◌++◌, ◌∷◌, [], ℕ, length, slice_get};
+ghost use Rattle.std.specs.Prelude.{◌≡◌, ◌⊎◌, Bool, false, true, List, None, Option, Some, ◌≢◌, ◌<◌, ◌^◌, ◌++◌, ◌∷◌, [], ℕ, length, slice_get};
+ghost use Rattle.std.specs.List.{AllByRecursion};
 ghost use Rattle.osi_class.specs.declared.terms.Local.{Local};
 ghost use Rattle.osi_judge.specs.Captures.{Capture, other};
 ghost use Rattle.osi_judge.specs.declared.directions.Direction.{Direction};
@@ -18,9 +19,9 @@ ghost use Rattle.osi_rules.specs.Sides.{is_open, own};
 ghost use Rattle.osi_rules.specs.declared.findings.Finding.{Finding};
 ghost use Rattle.osi_rules.specs.declared.findings.Rule.{Rule};
 ghost use Rattle.osi_honest.specs.Courses.{Course, Deeds, then_did};
-ghost use Rattle.osi_tap.specs.Blaming.{IsFirstOf, IsToBlame};
+ghost use Rattle.osi_tap.specs.Blaming.{IsFirstOf, IsQuiet, IsToBlame};
 ghost use Rattle.osi_tap.specs.Connections.{Joined, adds, packet_begins, reference_of, spoken, user_of};
-ghost use Rattle.osi_tap.specs.Courses.{Course as Passed, unit_passes, way_of};
+ghost use Rattle.osi_tap.specs.Courses.{Course as Passed, Moment, unit_passes, way_of};
 ghost use Rattle.osi_tap.specs.Lines.{heard};
 ghost use Rattle.osi_tap.specs.Standing.{IsFed, IsJudged, first_in};
 ghost use Rattle.osi_tap.specs.declared.tap.Tap.{Tap};
@@ -159,6 +160,9 @@ pub fn connections_have_the_same_places()
 /// capture before it has a break ([`IsFirstOf`]). If both ends are of this library, there is none (`both`). So a tap that was fed the
 /// capture, and has judged it, never tells such an end as the first (`called_at_a_tap`, `calling_at_a_tap`, `both_at_a_tap`).
 ///
+/// As long as no break of transport has passed, no session of the end is to blame for what has passed, on any of its connections, open or
+/// over, whatever sessions of the other side have done (`called_nowhere`, `calling_nowhere`).
+///
 /// It is assumed that fewer than 2^64 units have passed: a tap counts no further.
 ///
 /// [`IsSeen`]: ../../osi_honest/specs/Seeing.antt
@@ -192,6 +196,18 @@ pub fn no_session_of_an_end_is_blamed_first()
         Run called_begin called_turns called_end → IsSeen Direction.Right called_turns capture →
         length (comes_to capture).course.past < 2 ^ 64 →
         IsFed capture t → IsJudged t → first_in t ≡ None }
+    ensures called_nowhere { (local : Local) (begin end : Holding) (turns : List Turn) (capture : Capture) (i : ℕ) (j : Joined) →
+        IsFresh false local begin → Run begin turns end → AreOctets capture → IsSeen Direction.Right turns capture →
+        length (comes_to capture).course.past < 2 ^ 64 →
+        AllByRecursion (λ (m : Moment). IsQuiet m.mark) (comes_to capture).course.past →
+        (slice_get (comes_to capture).course.sessions.live i ≡ Some j)
+        ⊎ (slice_get (comes_to capture).course.sessions.done i ≡ Some j) → ¬ (IsToBlame Direction.Right j) }
+    ensures calling_nowhere { (local : Local) (begin end : Holding) (turns : List Turn) (capture : Capture) (i : ℕ) (j : Joined) →
+        IsFresh true local begin → Run begin turns end → AreOctets capture → IsSeen Direction.Left turns capture →
+        length (comes_to capture).course.past < 2 ^ 64 →
+        AllByRecursion (λ (m : Moment). IsQuiet m.mark) (comes_to capture).course.past →
+        (slice_get (comes_to capture).course.sessions.live i ≡ Some j)
+        ⊎ (slice_get (comes_to capture).course.sessions.done i ≡ Some j) → ¬ (IsToBlame Direction.Left j) }
 {
     few_octets_fit();
     serial_digits();

@@ -230,7 +230,9 @@ module _ (local : Local) (proper : AllProper) (turn : Turn) (old new : Joint) (t
     x = starts.x
 
     empty : old.put ≡ []
-    empty = none_two z.x.source answer z.more old.put t.units (subst (AreAlike (confirm z.x.source answer ∷ z.more)) t.put alike) refl h.called.two
+    empty =
+        none_two z.x.source answer z.more old.put t.units (subst (AreAlike (confirm z.x.source answer ∷ z.more)) t.put alike) refl
+        h.called.two
 
     all_put : all_units on.put ≡ confirm starts.n x ∷ starts.rest
     all_put = sym units ∙ ap (λ (l : List Value). l ++ t.units) (sym empty) ∙ sym t.put ∙ starts.is

@@ -233,7 +233,8 @@ module _ (local : Local) where
       one : HasOne Right x.source IsNone mid.course.traffic mid.course.sessions
       one =
           subst (λ (s : State). HasOne Right x.source IsNone s mid.course.sessions) (sym (unit_knows Right at cc_is c))
-          (subst (λ (t : Sessions). HasOne Right x.source IsNone (takes way.Right cc_is c.traffic).state t) (sym (unit_joins Right at cc_is c))
+          (subst (λ (t : Sessions). HasOne Right x.source IsNone (takes way.Right cc_is c.traffic).state t)
+          (sym (unit_joins Right at cc_is c))
           (cc_answers n x at c h.early_is.all.places right.goes h.class right.firm h.early_is.all.judged right.none IsNone
           (h.early_is.uncalled h.class).live (h.early_is.uncalled h.class).done))
 

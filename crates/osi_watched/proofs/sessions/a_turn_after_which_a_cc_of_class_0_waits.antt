@@ -1,5 +1,6 @@
 -- A turn of a called end after which its CC of class 0 waits: the one in which the end puts this CC, and each one until it passes. What the
--- end puts after the CC is for this connection, and it takes nothing there yet. For the session of the connection of a called end in class 0.
+-- end puts after the CC is for this connection, and it takes nothing there yet.
+-- For the session of the connection of a called end in class 0.
 use Rattle.std.proofs.Common.{◌≡◌, ◌∙◌, refl, sym, ap, subst, ℕ, zero, suc, ◌-◌, ◌<◌, Bool, true, false, List, [], ◌∷◌, ◌++◌}
 use Rattle.std.proofs.Common.{map, Option, Some, None, arith, inl, inr, ◌⊎◌}
 use Rattle.std.specs.Prelude.{◌==◌, ◌≢◌, nat_lt}

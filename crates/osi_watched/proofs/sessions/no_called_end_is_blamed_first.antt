@@ -1,6 +1,7 @@
 -- The first break of all at a tap is never of a called end, whatever classes it offers and whichever is selected.
 -- For the law that no session of an end is blamed first.
-use Rattle.std.proofs.Common.{◌≡◌, ◌∙◌, refl, sym, ◌^◌, ◌<◌, false, List, length, Option, Some, None}
+use Rattle.std.specs.Prelude.{slice_get}
+use Rattle.std.proofs.Common.{◌⊎◌, ℕ, inl, inr, ◌≡◌, ◌∙◌, refl, sym, ◌^◌, ◌<◌, false, List, length, Option, Some, None}
 use Rattle.osi_class.specs.declared.terms.Class.{Class}
 use Rattle.osi_class.specs.declared.terms.Class.TheVariants.{Two, Zero}
 use Rattle.osi_class.specs.declared.terms.Local.{Local}
@@ -14,7 +15,8 @@ use Rattle.osi_honest.specs.Seeing.{IsFresh, IsSeen}
 use Rattle.osi_honest.specs.Turns.{Run, Turn}
 use Rattle.osi_honest.proofs.courses.what_sessions_hear_of_it.{Known}
 use Rattle.osi_tap.specs.declared.marks.First.{First}
-use Rattle.osi_tap.specs.Blaming.{BreaksFirst}
+use Rattle.osi_tap.specs.Blaming.{BreaksFirst, IsToBlame}
+use Rattle.osi_tap.specs.Connections.{Joined}
 use Rattle.osi_tap.specs.Tapping.{comes_to}
 use Rattle.osi_watched.specs.Passing.{AreOctets}
 use Rattle.osi_watched.proofs.a_capture_is_steps.{capture_steps}
@@ -23,37 +25,58 @@ use Rattle.osi_watched.proofs.what_the_turns_among_steps_do.{ComesByDoing}
 use Rattle.osi_watched.proofs.sessions.no_called_end_is_blamed_first_in_class_0.{called_early_keeps}
 use Rattle.osi_watched.proofs.sessions.a_called_end_stands_until_class_2.{StandsCalledUntilTwo}
 use Rattle.osi_watched.proofs.sessions.no_session_of_a_called_end_breaks_first.{StandsOrSelected, called_keeps}
-use Rattle.osi_watched.proofs.sessions.no_session_of_an_end_breaks_first.{never_first, never_first_without}
+use Rattle.osi_watched.proofs.sessions.after_too_many_nobody_is_to_blame.{NoneIsToBlame}
+use Rattle.osi_watched.proofs.sessions.the_first_break_of_all_is_of_the_other_side.{AreQuiet, Ends, first_of_ends, none_of_ends}
+use Rattle.osi_watched.proofs.sessions.no_session_of_an_end_breaks_first.{ends_within, ends_without}
 
 zero_two : {A : Type 0} (k : Option Class) → k ≡ Some Zero → k ≡ Some Two → A
 zero_two k h e = absurd (let no : Some Zero ≡ Some Two = sym h ∙ e in cc)
 
 module _ (known : Known) (known_of : AsSent) (parts : AsParts) (caller : CallerLaw) (called : CalledLaw) (local : Local)
-    (capture : Capture) (few : length (comes_to capture).course.past < 2 ^ 64) (f : First)
-    (earliest : BreaksFirst f (comes_to capture).course.past) where
+    (capture : Capture) (few : length (comes_to capture).course.past < 2 ^ 64) where
   module _ (begin : Holding) (fresh : IsFresh false local begin) (comes : ComesByDoing Right false capture begin) where
     abbrev selected : Option Class
     selected = (comes_to capture).course.traffic.course.class
 
-    without_zero : (selected ≡ Some Zero → ⊥) → f.direction ≡ Left
+    without_zero : (selected ≡ Some Zero → ⊥) → Ends Right (comes_to capture).course
     without_zero not =
-        never_first known.proper Right local (called_is_fair local) (StandsOrSelected local known.proper)
-        (called_keeps local known.proper known_of parts caller called) begin capture f fresh comes
-        (record { two = not; few = few }) earliest
+        ends_within known.proper Right local (called_is_fair local) (StandsOrSelected local known.proper)
+        (called_keeps local known.proper known_of parts caller called) begin capture fresh comes
+        (record { two = not; few = few })
 
-    in_zero : selected ≡ Some Zero → f.direction ≡ Left
+    in_zero : selected ≡ Some Zero → Ends Right (comes_to capture).course
     in_zero zero =
-        never_first_without known.proper Two Right local (called_is_fair local) (StandsCalledUntilTwo local known.proper)
-        (called_early_keeps local known.proper known_of parts caller called) begin capture f fresh comes
-        (record { not = λ two. zero_two selected zero two; few = few }) earliest
+        ends_without known.proper Two Right local (called_is_fair local) (StandsCalledUntilTwo local known.proper)
+        (called_early_keeps local known.proper known_of parts caller called) begin capture fresh comes
+        (record { not = λ two. zero_two selected zero two; few = few })
 
-    by_class : (k : Option Class) → selected ≡ k → f.direction ≡ Left
+    by_class : (k : Option Class) → selected ≡ k → Ends Right (comes_to capture).course
     by_class None is = without_zero (λ zero. absurd (let no : None ≡ Some Zero = sym is ∙ zero in cc))
     by_class (Some Zero) is = in_zero is
     by_class (Some Two) is = without_zero (λ zero. zero_two selected zero is)
 
-  pub called_never_first : (begin end : Holding) (turns : List Turn) → IsFresh false local begin → Run begin turns end →
-      AreOctets capture → IsSeen Right turns capture → f.direction ≡ Left
-  called_never_first begin end turns fresh run octets seen =
+  pub called_ends : (begin end : Holding) (turns : List Turn) → IsFresh false local begin → Run begin turns end →
+      AreOctets capture → IsSeen Right turns capture → Ends Right (comes_to capture).course
+  called_ends begin end turns fresh run octets seen =
       by_class begin fresh (capture_steps known Right false local begin end turns capture fresh run octets seen)
       (comes_to capture).course.traffic.course.class refl
+
+  pub called_never_first : (f : First) → BreaksFirst f (comes_to capture).course.past → (begin end : Holding) (turns : List Turn) →
+      IsFresh false local begin → Run begin turns end → AreOctets capture → IsSeen Right turns capture → f.direction ≡ Left
+  called_never_first f earliest begin end turns fresh run octets seen =
+      first_of_ends Right f (comes_to capture).course (called_ends begin end turns fresh run octets seen) earliest
+
+  -- as long as no break of transport has passed, no session of it is to blame, live or done
+  pub called_blameless : (i : ℕ) (j : Joined) → AreQuiet (comes_to capture).course.past → (begin end : Holding) (turns : List Turn) →
+      IsFresh false local begin → Run begin turns end → AreOctets capture → IsSeen Right turns capture →
+      (slice_get (comes_to capture).course.sessions.live i ≡ Some j) ⊎ (slice_get (comes_to capture).course.sessions.done i ≡ Some j) →
+      IsToBlame Right j → ⊥
+  called_blameless i j quiet begin end turns fresh run octets seen there blame = by there
+    where
+      nobody : NoneIsToBlame Right (comes_to capture).course.sessions
+      nobody = none_of_ends Right (comes_to capture).course (called_ends begin end turns fresh run octets seen) quiet
+
+      by : (slice_get (comes_to capture).course.sessions.live i ≡ Some j) ⊎ (slice_get (comes_to capture).course.sessions.done i ≡ Some j) →
+          ⊥
+      by (inl here) = nobody.live i j here blame
+      by (inr here) = nobody.done i j here blame

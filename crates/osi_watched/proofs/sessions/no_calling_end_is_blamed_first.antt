@@ -1,6 +1,7 @@
 -- The first break of all at a tap is never of a calling end, whatever classes it offers and whichever is selected.
 -- For the law that no session of an end is blamed first.
-use Rattle.std.proofs.Common.{◌≡◌, ◌∙◌, refl, sym, ◌^◌, ◌<◌, Bool, true, false, List, length, Option, Some, None}
+use Rattle.std.specs.Prelude.{slice_get}
+use Rattle.std.proofs.Common.{◌⊎◌, ℕ, inl, inr, ◌≡◌, ◌∙◌, refl, sym, ◌^◌, ◌<◌, Bool, true, false, List, length, Option, Some, None}
 use Rattle.osi_class.specs.declared.terms.Class.{Class}
 use Rattle.osi_class.specs.declared.terms.Class.TheVariants.{Two, Zero}
 use Rattle.osi_class.specs.declared.terms.Local.{Local}
@@ -14,7 +15,8 @@ use Rattle.osi_honest.specs.Seeing.{IsFresh, IsSeen}
 use Rattle.osi_honest.specs.Turns.{Run, Turn}
 use Rattle.osi_honest.proofs.courses.what_sessions_hear_of_it.{Known}
 use Rattle.osi_tap.specs.declared.marks.First.{First}
-use Rattle.osi_tap.specs.Blaming.{BreaksFirst}
+use Rattle.osi_tap.specs.Blaming.{BreaksFirst, IsToBlame}
+use Rattle.osi_tap.specs.Connections.{Joined}
 use Rattle.osi_tap.specs.Tapping.{comes_to}
 use Rattle.osi_watched.specs.Passing.{AreOctets}
 use Rattle.osi_watched.proofs.a_capture_is_steps.{capture_steps}
@@ -25,43 +27,64 @@ use Rattle.osi_watched.proofs.sessions.a_calling_end_without_class_2_puts_no_dt.
 use Rattle.osi_watched.proofs.sessions.an_end_that_has_said_nothing_is_not_to_blame.{HasSaidNothing, mute_keeps}
 use Rattle.osi_watched.proofs.sessions.no_calling_end_is_blamed_first_in_class_0.{early_keeps}
 use Rattle.osi_watched.proofs.sessions.no_session_of_a_calling_end_breaks_first.{StandsQuiet, calling_keeps}
-use Rattle.osi_watched.proofs.sessions.no_session_of_an_end_breaks_first.{never_first, never_first_without}
+use Rattle.osi_watched.proofs.sessions.after_too_many_nobody_is_to_blame.{NoneIsToBlame}
+use Rattle.osi_watched.proofs.sessions.the_first_break_of_all_is_of_the_other_side.{AreQuiet, Ends, first_of_ends, none_of_ends}
+use Rattle.osi_watched.proofs.sessions.no_session_of_an_end_breaks_first.{ends_within, ends_without}
 
 zero_two : {A : Type 0} (k : Option Class) → k ≡ Some Zero → k ≡ Some Two → A
 zero_two k h e = absurd (let no : Some Zero ≡ Some Two = sym h ∙ e in cc)
 
 module _ (known : Known) (known_of : AsSent) (parts : AsParts) (caller : CallerLaw) (called : CalledLaw) (local : Local)
-    (capture : Capture) (few : length (comes_to capture).course.past < 2 ^ 64) (f : First)
-    (earliest : BreaksFirst f (comes_to capture).course.past) where
+    (capture : Capture) (few : length (comes_to capture).course.past < 2 ^ 64) where
   module _ (begin : Holding) (fresh : IsFresh true local begin) (comes : ComesByDoing Left true capture begin) where
     abbrev selected : Option Class
     selected = (comes_to capture).course.traffic.course.class
 
     -- class 0 is not selected
-    by_offer : (selected ≡ Some Zero → ⊥) → (b : Bool) → local.class2 ≡ b → f.direction ≡ Right
+    by_offer : (selected ≡ Some Zero → ⊥) → (b : Bool) → local.class2 ≡ b → Ends Left (comes_to capture).course
     by_offer not true two =
-        never_first known.proper Left local (calling_is_fair local) (StandsQuiet local two known.proper)
-        (calling_keeps local two known.proper known_of parts caller called) begin capture f fresh comes
-        (record { two = not; few = few }) earliest
+        ends_within known.proper Left local (calling_is_fair local) (StandsQuiet local two known.proper)
+        (calling_keeps local two known.proper known_of parts caller called) begin capture fresh comes
+        (record { two = not; few = few })
     by_offer not false without =
-        never_first known.proper Left local (calling_is_fair local) (HasSaidNothing Left local)
-        (mute_keeps known.proper Left local (calling_puts_none local without)) begin capture f fresh comes
-        (record { two = not; few = few }) earliest
+        ends_within known.proper Left local (calling_is_fair local) (HasSaidNothing Left local)
+        (mute_keeps known.proper Left local (calling_puts_none local without)) begin capture fresh comes
+        (record { two = not; few = few })
 
     -- it is
-    in_zero : selected ≡ Some Zero → f.direction ≡ Right
+    in_zero : selected ≡ Some Zero → Ends Left (comes_to capture).course
     in_zero zero =
-        never_first_without known.proper Two Left local (calling_is_fair local) (StandsUntilTwo local)
-        (early_keeps local known.proper known_of parts caller called) begin capture f fresh comes
-        (record { not = λ two. zero_two selected zero two; few = few }) earliest
+        ends_without known.proper Two Left local (calling_is_fair local) (StandsUntilTwo local)
+        (early_keeps local known.proper known_of parts caller called) begin capture fresh comes
+        (record { not = λ two. zero_two selected zero two; few = few })
 
-    by_class : (k : Option Class) → selected ≡ k → f.direction ≡ Right
+    by_class : (k : Option Class) → selected ≡ k → Ends Left (comes_to capture).course
     by_class None is = by_offer (λ zero. absurd (let no : None ≡ Some Zero = sym is ∙ zero in cc)) local.class2 refl
     by_class (Some Zero) is = in_zero is
     by_class (Some Two) is = by_offer (λ zero. zero_two selected zero is) local.class2 refl
 
-  pub calling_never_first : (begin end : Holding) (turns : List Turn) → IsFresh true local begin → Run begin turns end →
-      AreOctets capture → IsSeen Left turns capture → f.direction ≡ Right
-  calling_never_first begin end turns fresh run octets seen =
+  pub calling_ends : (begin end : Holding) (turns : List Turn) → IsFresh true local begin → Run begin turns end →
+      AreOctets capture → IsSeen Left turns capture → Ends Left (comes_to capture).course
+  calling_ends begin end turns fresh run octets seen =
       by_class begin fresh (capture_steps known Left true local begin end turns capture fresh run octets seen)
       (comes_to capture).course.traffic.course.class refl
+
+  pub calling_never_first : (f : First) → BreaksFirst f (comes_to capture).course.past → (begin end : Holding) (turns : List Turn) →
+      IsFresh true local begin → Run begin turns end → AreOctets capture → IsSeen Left turns capture → f.direction ≡ Right
+  calling_never_first f earliest begin end turns fresh run octets seen =
+      first_of_ends Left f (comes_to capture).course (calling_ends begin end turns fresh run octets seen) earliest
+
+  -- as long as no break of transport has passed, no session of it is to blame, live or done
+  pub calling_blameless : (i : ℕ) (j : Joined) → AreQuiet (comes_to capture).course.past → (begin end : Holding) (turns : List Turn) →
+      IsFresh true local begin → Run begin turns end → AreOctets capture → IsSeen Left turns capture →
+      (slice_get (comes_to capture).course.sessions.live i ≡ Some j) ⊎ (slice_get (comes_to capture).course.sessions.done i ≡ Some j) →
+      IsToBlame Left j → ⊥
+  calling_blameless i j quiet begin end turns fresh run octets seen there blame = by there
+    where
+      nobody : NoneIsToBlame Left (comes_to capture).course.sessions
+      nobody = none_of_ends Left (comes_to capture).course (calling_ends begin end turns fresh run octets seen) quiet
+
+      by : (slice_get (comes_to capture).course.sessions.live i ≡ Some j) ⊎ (slice_get (comes_to capture).course.sessions.done i ≡ Some j) →
+          ⊥
+      by (inl here) = nobody.live i j here blame
+      by (inr here) = nobody.done i j here blame

@@ -53,8 +53,8 @@ use Rattle.osi_watched.proofs.sessions.each_step_leaves_class_0_one_connection.{
 use Rattle.osi_watched.proofs.sessions.no_more_tsdus_than_moments_have_passed.{AreFew, few_claim}
 use Rattle.osi_watched.proofs.sessions.steps_leave_all_standing.{IsFine}
 use Rattle.osi_watched.proofs.sessions.steps_of_either_class_leave_all_standing.{IsRight}
-use Rattle.osi_watched.proofs.sessions.the_first_break_of_all_is_of_the_other_side.{AreClean, HasBroken, IsSilent, broken_claim}
-use Rattle.osi_watched.proofs.sessions.the_first_break_of_all_is_of_the_other_side.{first_of_other, moment, silent_claim, unit_breaks}
+use Rattle.osi_watched.proofs.sessions.the_first_break_of_all_is_of_the_other_side.{AreClean, Ends, HasBroken, IsSilent, broken_claim}
+use Rattle.osi_watched.proofs.sessions.the_first_break_of_all_is_of_the_other_side.{moment, silent_claim, unit_breaks}
 use Rattle.osi_watched.proofs.sessions.the_first_break_of_all_is_of_the_other_side.{unit_clean, unit_past, unread_breaks_so}
 use Rattle.osi_watched.proofs.sessions.what_passes_is_no_break_while_none_is_told.{fine_so}
 
@@ -588,30 +588,28 @@ module _ (proper : AllProper) (barred : Class) (d : Direction) (local : Local)
     sure = fresh_sure;
   })
 
-  abbrev Ends : Passed → Type 0
-  Ends c = AreClean d c.past ⊎ HasBroken d c.past
-
-  ends_so : (j : Joint) → Stood j → Ends j.course
-  ends_so j (deeds, goes g) = inl g.clean
-  ends_so j (deeds, silent s) = inl s.clean
+  ends_so : (j : Joint) → Stood j → Ends d j.course
+  ends_so j (deeds, goes g) = inl (record { clean = g.clean; nobody = k.none deeds j g.courses g.holds })
+  ends_so j (deeds, silent s) = inl (record { clean = s.clean; nobody = s.silenced.none })
   ends_so j (deeds, broken b) = inr b
 
   -- the other side sends what can't be read, and then anything passes
-  bad_so : (capture : Capture) (j : Joint) → TurnsBad d capture j.course → Stood j → Ends (comes_to capture).course
+  bad_so : (capture : Capture) (j : Joint) → TurnsBad d capture j.course → Stood j → Ends d (comes_to capture).course
   bad_so capture j t stays =
       let join = ap (λ (x : Capture). comes_to x) t.parts ∙ after_join t.front t.back tapping.begin in
-      subst (λ (s : tapping.State). Ends s.course) (sym join) (by stays)
+      subst (λ (s : tapping.State). Ends d s.course) (sym join) (by stays)
     where
-      broken_so : HasBroken d (unread (other d) t.at t.cause j.course).past → Ends (after t.back (comes_to t.front)).course
+      broken_so : HasBroken d (unread (other d) t.at t.cause j.course).past → Ends d (after t.back (comes_to t.front)).course
       broken_so b = inr (after_kept (λ x. HasBroken d x.past) (broken_claim d) t.back (comes_to t.front)
           (subst (λ (x : Passed). HasBroken d x.past) (sym t.unreadable) b))
 
-      by : Stood j → Ends (after t.back (comes_to t.front)).course
+      by : Stood j → Ends d (after t.back (comes_to t.front)).course
       by (deeds, goes g) = broken_so (unread_breaks_so d t.at t.cause j.course t.bad g.judged g.clean)
       by (deeds, broken b) = broken_so ((broken_claim d).bad (other d) t.at t.cause j.course b)
       by (deeds, silent s) =
-          inl (after_kept (IsSilent d) (silent_claim d) t.back (comes_to t.front)
-          (subst (IsSilent d) (sym t.unreadable) ((silent_claim d).bad (other d) t.at t.cause j.course s))).clean
+          let last = after_kept (IsSilent d) (silent_claim d) t.back (comes_to t.front)
+          (subst (IsSilent d) (sym t.unreadable) ((silent_claim d).bad (other d) t.at t.cause j.course s)) in
+          inl (record { clean = last.clean; nobody = last.silenced.none })
 
   bad_within : (capture : Capture) (c : Passed) → TurnsBad d capture c → IsWithout barred (comes_to capture).course → IsWithout barred c
   bad_within capture c t h =
@@ -619,16 +617,15 @@ module _ (proper : AllProper) (barred : Class) (d : Direction) (local : Local)
       unread_without barred (other d) t.at t.cause c (subst (IsWithout barred) t.unreadable
       (after_without barred t.back (comes_to t.front) (subst (λ (s : tapping.State). IsWithout barred s.course) join h)))
 
-  pub never_first_without : (h : Holding) (capture : Capture) (f : First) → IsFresh (calls_from d) local h →
-      ComesByDoing d (calls_from d) capture h →
-      IsWithout barred (comes_to capture).course → BreaksFirst f (comes_to capture).course.past → f.direction ≡ other d
-  never_first_without h capture f fresh comes within earliest = first_of_other d f (comes_to capture).course.past (by comes.all) earliest
+  pub ends_without : (h : Holding) (capture : Capture) → IsFresh (calls_from d) local h → ComesByDoing d (calls_from d) capture h →
+      IsWithout barred (comes_to capture).course → Ends d (comes_to capture).course
+  ends_without h capture fresh comes within = by comes.all
     where
       at_last : IsWithout barred comes.last.course → Stood comes.last
       at_last w = along_so comes.steps (λ r. no_deeds) (begin h) comes.last comes.along comes.does w (stays_first h fresh)
 
-      by : ((comes_to capture).course ≡ comes.last.course) ⊎ TurnsBad d capture comes.last.course → Ends (comes_to capture).course
-      by (inl is) = subst Ends (sym is) (ends_so comes.last (at_last (subst (IsWithout barred) is within)))
+      by : ((comes_to capture).course ≡ comes.last.course) ⊎ TurnsBad d capture comes.last.course → Ends d (comes_to capture).course
+      by (inl is) = subst (Ends d) (sym is) (ends_so comes.last (at_last (subst (IsWithout barred) is within)))
       by (inr bad) = bad_so capture comes.last bad (at_last (bad_within capture comes.last.course bad within))
 
 -- ---- while class 0 is not selected
@@ -663,10 +660,10 @@ module _ (d : Direction) (local : Local) (Inv : (ℕ → Deeds) → Joint → Ty
         k.none_amid deeds at octets front back old new step courses (taken_all d at front old.course passed) h;
   }
 
-pub never_first : AllProper → (d : Direction) (local : Local) → IsFairFrom (way_of d) (wholes.begin (calls_from d) local) →
-    (Inv : (ℕ → Deeds) → Joint → Type 0) → KeepsNoneToBlame d local Inv → (h : Holding) (capture : Capture) (f : First) →
+pub ends_within : AllProper → (d : Direction) (local : Local) → IsFairFrom (way_of d) (wholes.begin (calls_from d) local) →
+    (Inv : (ℕ → Deeds) → Joint → Type 0) → KeepsNoneToBlame d local Inv → (h : Holding) (capture : Capture) →
     IsFresh (calls_from d) local h → ComesByDoing d (calls_from d) capture h → IsWithin (comes_to capture).course →
-    BreaksFirst f (comes_to capture).course.past → f.direction ≡ other d
-never_first proper d local fair Inv k h capture f fresh comes within earliest =
-    never_first_without proper Zero d local fair Inv (unless_zero d local Inv k) h capture f fresh comes
-    (without_zero (comes_to capture).course within) earliest
+    Ends d (comes_to capture).course
+ends_within proper d local fair Inv k h capture fresh comes within =
+    ends_without proper Zero d local fair Inv (unless_zero d local Inv k) h capture fresh comes
+    (without_zero (comes_to capture).course within)

@@ -128,6 +128,34 @@ pub first_of_other : (d : Direction) (f : First) (past : List Moment) → AreCle
 first_of_other d f past (inl clean) b = among_clean d f b.moment b.back b.breaks past b.front clean b.parts
 first_of_other d f past (inr broken) b = among_broken d f b.moment b.back b.breaks past b.front broken b.parts b.before
 
+-- ---- in the end
+
+-- All moments are clean, and no session of this side is to blame for what has passed.
+pub record IsBlameless (d : Direction) (c : Course) : Type 0 where
+  pub clean : AreClean d c.past
+  pub nobody : NoneIsToBlame d c.sessions
+
+-- Or the other side has broken a rule of transport.
+abbrev pub Ends : Direction → Course → Type 0
+Ends d c = IsBlameless d c ⊎ HasBroken d c.past
+
+pub first_of_ends : (d : Direction) (f : First) (c : Course) → Ends d c → BreaksFirst f c.past → f.direction ≡ other d
+first_of_ends d f c (inl h) b = first_of_other d f c.past (inl h.clean) b
+first_of_ends d f c (inr h) b = first_of_other d f c.past (inr h) b
+
+-- no moment has a break of transport
+abbrev pub AreQuiet : List Moment → Type 0
+AreQuiet past = AllByRecursion (λ (m : Moment). IsQuiet m.mark) past
+
+quiet_unbroken : (d : Direction) (past : List Moment) → AreQuiet past → HasBroken d past → ⊥
+quiet_unbroken d [] quiet h = h
+quiet_unbroken d (m ∷ past) quiet (inl b) = quiet_not m.mark b.mark quiet.0 b.is b.bad
+quiet_unbroken d (m ∷ past) quiet (inr (c, h)) = quiet_unbroken d past quiet.1 h
+
+pub none_of_ends : (d : Direction) (c : Course) → Ends d c → AreQuiet c.past → NoneIsToBlame d c.sessions
+none_of_ends d c (inl h) quiet = h.nobody
+none_of_ends d c (inr h) quiet = absurd (quiet_unbroken d c.past quiet h)
+
 -- if it is neither of left nor of right, there is none
 pub neither_first : (o : Option First) (past : List Moment) → ((f : First) → BreaksFirst f past → f.direction ≡ Right) →
     ((f : First) → BreaksFirst f past → f.direction ≡ Left) → IsFirstOf o past → o ≡ None

@@ -11,8 +11,8 @@ use Rattle.osi_tap.specs.declared.tap.Tap.{Tap}
 use Rattle.osi_tap.specs.Blaming.{BreaksFirst, IsFirstOf}
 use Rattle.osi_tap.specs.Standing.{IsFed, IsJudged, first_in}
 use Rattle.osi_tap.specs.Tapping.{comes_to}
-use Rattle.osi_watched.proofs.sessions.no_called_end_is_blamed_first.{called_never_first}
-use Rattle.osi_watched.proofs.sessions.no_calling_end_is_blamed_first.{calling_never_first}
+use Rattle.osi_watched.proofs.sessions.no_called_end_is_blamed_first.{called_blameless, called_never_first}
+use Rattle.osi_watched.proofs.sessions.no_calling_end_is_blamed_first.{calling_blameless, calling_never_first}
 use Rattle.osi_watched.proofs.sessions.the_first_break_of_all_is_of_the_other_side.{neither_first}
 use Rattle.osi_watched.proofs.laws.no_session_of_an_end_is_blamed_first.Goals as goal
 
@@ -85,3 +85,13 @@ returns-clause-both_at_a_tap c = λ mine theirs begin end called_begin called_en
     c.an_honest_session_is_explained.ensures.caller c.an_honest_session_is_explained.ensures.called theirs capture
     few f earliest called_begin called_end called_turns called_fresh called_run octets called_seen)
     (c.the_first_break_is_the_earliest.ensures.first capture t was_fed judged)
+
+pub returns-clause-called_nowhere : goal.returns-clause-called_nowhere
+returns-clause-called_nowhere c = λ local begin end turns capture i j fresh run octets seen few quiet there.
+    called_blameless (known c) (as_sent c) c.what_leaves_in_parts.ensures.read c.an_honest_session_is_explained.ensures.caller
+    c.an_honest_session_is_explained.ensures.called local capture few i j quiet begin end turns fresh run octets seen there
+
+pub returns-clause-calling_nowhere : goal.returns-clause-calling_nowhere
+returns-clause-calling_nowhere c = λ local begin end turns capture i j fresh run octets seen few quiet there.
+    calling_blameless (known c) (as_sent c) c.what_leaves_in_parts.ensures.read c.an_honest_session_is_explained.ensures.caller
+    c.an_honest_session_is_explained.ensures.called local capture few i j quiet begin end turns fresh run octets seen there
