@@ -29,13 +29,13 @@ use Rattle.osi_honest.proofs.class_0.what_a_packet_does_in_class_0.{AllProper}
 use Rattle.osi_honest.proofs.courses.how_long_a_connection_is_open.{Life, early, stage_at}
 use Rattle.osi_honest.proofs.courses.units_of_each_connection.{all_units_more, none_mark}
 use Rattle.osi_tap.specs.Connections.{Joined, reference_of}
-use Rattle.osi_tap.specs.Courses.{Course as Passed, units_pass}
-use Rattle.osi_watched.specs.Joint.{Joint, Steps, TakesTurn, passes_other, turns}
+use Rattle.osi_tap.specs.Courses.{Course as Passed}
+use Rattle.osi_watched.specs.Joint.{Joint, TakesTurn, turns}
 use Rattle.osi_watched.specs.ShownPlaces.{IsOneOf}
 use Rattle.osi_watched.proofs.steps_are_events.{IsFollowed, step_followed}
 use Rattle.osi_watched.proofs.what_is_put_is_what_is_written.{written_join}
-use Rattle.osi_watched.proofs.sessions.a_called_end_hears_what_comes_until_class_2.{AreTaken, IsNoCc, IsNone, StandsCalledEarly, known_one}
-use Rattle.osi_watched.proofs.sessions.a_called_end_hears_what_comes_until_class_2.{none_some, units_early}
+use Rattle.osi_watched.proofs.sessions.a_called_end_hears_what_comes_until_class_2.{IsNoCc, IsNone, StandsCalledEarly, known_one}
+use Rattle.osi_watched.proofs.sessions.a_called_end_hears_what_comes_until_class_2.{none_some}
 use Rattle.osi_watched.proofs.sessions.a_called_end_stands_in_class_0.{StandsInZero, WasOpen, answers_now, cc_not_dt, dts_of, first}
 use Rattle.osi_watched.proofs.sessions.a_called_end_stands_in_class_0.{not_early, open_before, open_so, opens_now, put_so, stage_of}
 use Rattle.osi_watched.proofs.sessions.a_dt_of_class_0_has_one_place.{IsOnly, both_named}
@@ -262,14 +262,3 @@ module _ (local : Local) (known_of : AsSent) (parts : AsParts) (caller : CallerL
   none_zero j courses h =
       stand_none known_of parts caller called Right deeds j.put j.begun j.holding.end courses
       (known_one h.r j.holding.end.carrier (units_in j.coming)) j.course.traffic j.course.sessions h.early_is.all
-
-  -- after the first of the units of a packet of the other side
-  pub none_amid_zero : (at : ℕ) (octets : List ℕ) (front back : List Value) (old new : Joint) →
-      Steps Right (passes_other at octets (front ++ back)) old new → ((r : ℕ) → Course false r (deeds r) old.holding.end) →
-      AreTaken at front old.course → StandsInZero local deeds old → NoneIsToBlame Right (units_pass Left at front old.course).sessions
-  none_amid_zero at octets front back old new step courses taken h =
-      let after = units_early deeds h.r old.holding.end.carrier old.put old.begun at front (units_in old.coming) old.course taken
-      h.early_is in
-      stand_none known_of parts caller called Right deeds old.put old.begun old.holding.end courses
-      (known_one h.r old.holding.end.carrier (units_in old.coming ++ front)) (units_pass Left at front old.course).traffic
-      (units_pass Left at front old.course).sessions after.all
