@@ -6,6 +6,7 @@ pub mod what_is_sent_is_octets
 pub mod parts_are_written_and_read
 pub mod how_pieces_follow_one_another
 pub mod units_of_the_fast_path
+pub mod brief_messages_in_octets
 pub mod a_field_reads_back
 pub mod what_is_written_means_it
 pub mod the_tsdus_of_a_message

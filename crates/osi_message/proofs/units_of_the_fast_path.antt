@@ -165,7 +165,7 @@ unfolding user_data_of
 plain_sendable p = grind arith
 
 -- octets in the written form of a message have its words
-said_whole : ((m : Meaning) → IsSendable m → tsdu_at (written m) ≡ Ok (spelled m)) →
+pub said_whole : ((m : Meaning) → IsSendable m → tsdu_at (written m) ≡ Ok (spelled m)) →
     ((m : Meaning) → IsSendable m → said_by_units (spelled m) ≡ words_of m)
     → (m : Meaning) → IsSendable m → said_at (written m) ≡ Ok (words_of m)
 unfolding said_at

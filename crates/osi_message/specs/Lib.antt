@@ -1,4 +1,5 @@
 pub mod Meanings
+pub mod Brief
 pub mod InOctets
 pub mod Numbered
 pub mod Plain

@@ -23,6 +23,8 @@
 //!   user data is stored inline, so it needs no allocation.
 //! - [`Place`] says which part of a Data a DT has (X.225 section 8, enclosure item).
 //! - [`PlainUnit`] is a fast path for the most frequent TSDUs: data, a part of it, a minor point and its confirmation.
+//! - [`Message::brief`] reads a few other short messages straight from their octets, such as a GT that gives tokens or an FN;
+//!   [`Sent::of`] writes them straight.
 //! - [`Tokens`] are the four tokens by name, and [`Octets`] are octets that an indication or a TSDU owns.
 //!
 //! The laws ([`mod@laws`]) say that what is sent reads back with the same meaning, alone or in parts; that the parts
@@ -32,6 +34,7 @@
 //! given moment (`osi_session`).
 #![tactic(auto)]
 
+mod brief;
 pub mod laws;
 mod messages;
 mod octets;

@@ -10,6 +10,7 @@ ghost use Rattle.osi_message.specs.Parting.{in_one, is_whole, tsdus_of};
 ghost use Rattle.osi_message.specs.Tsdus.{octets_in, octets_lent, AreSeveral};
 ghost use Rattle.osi_message.specs.Written.{user_data_of};
 
+use crate::brief::brief_octets;
 use crate::messages::Message;
 use crate::parts::parts;
 use crate::plain;
@@ -112,7 +113,7 @@ impl Sent {
     }
 
     /// The written form of a message, in one TSDU. Data is written directly into a buffer of the right length. Minor points
-    /// and their confirmations without user data need no memory.
+    /// and their confirmations without user data, and brief messages, need no memory.
     pub fn of(alloc: Global, message: &Message) -> Result<Sent, AllocError>
         requires { length (user_data_of (meant_by message.now)) < 65000 }
         ensures { IfOk result (λ s. s ≡ in_one (meant_by message.now)) }
@@ -134,7 +135,18 @@ impl Sent {
                 let octets = plain::minor_ack(number);
                 Ok(Sent::short(octets))
             }
-            _ => by_units(alloc, message),
+            _ => Sent::other(alloc, message),
+        }
+    }
+
+    /// A message other than data, in one TSDU. A brief one is written directly, and needs no memory.
+    fn other(alloc: Global, message: &Message) -> Result<Sent, AllocError>
+        requires { length (user_data_of (meant_by message.now)) < 65000 }
+        ensures { IfOk result (λ s. s ≡ in_one (meant_by message.now)) }
+    {
+        match brief_octets(message) {
+            Some(octets) => Ok(Sent::short(octets)),
+            None => by_units(alloc, message),
         }
     }
 

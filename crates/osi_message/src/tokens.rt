@@ -52,7 +52,7 @@ impl Tokens {
 
     /// The octet of a token item.
     #[tactic(auto, unfolding(crate::specs::Tokens::token_octet))]
-    fn octet(self) -> u8
+    pub(crate) fn octet(self) -> u8
         ensures { result ≡ token_octet self }
     {
         let data_token = if self.data_token { 0x01 } else { 0 };

@@ -1,6 +1,6 @@
 //! The units of one TSDU.
 
-ghost use Rattle.std.specs.Prelude.{◌≡◌, true, option_map, drop, MatchOption, Some, None, [], ◌∷◌};
+ghost use Rattle.std.specs.Prelude.{◌≡◌, true, option_map, drop, MatchOption, IfSome, Some, None, [], ◌∷◌};
 ghost use Rattle.osi_spdu.specs.Kinds.{category_of};
 ghost use Rattle.osi_spdu.specs.declared.kinds.Category.TheVariants.{Two};
 ghost use Rattle.osi_spdu.specs.Params.{known_of, no_params};
@@ -82,6 +82,14 @@ impl<'a> Group<'a> {
             (λ unit. behind_of self.now ≡ said_by unit.now ∷ drop 1 (behind_of self.now)) }
     {
         self.others().first()
+    }
+
+    /// The second unit, borrowed, if it is the last one.
+    #[inline(always)]
+    pub fn only_second(&self) -> Option<&Spdu<'a>>
+        ensures { IfSome result (λ unit. behind_of self.now ≡ said_by unit.now ∷ []) }
+    {
+        self.others().only()
     }
 
     /// The units after the second one.
