@@ -1,5 +1,5 @@
-/* Units without a fast path, over two ends of the library for C: tokens that are given and asked for, points with user data,
- * restarts, and refused releases. Each round sends the same number of units, and each of them causes an indication.
+/* Units other than data and plain points, over two ends of the library for C: tokens that are given and asked for, points with
+ * user data, restarts, and refused releases. Each round sends the same number of units, and each of them causes an indication.
  *
  *     others proved KIND CLASS ROUNDS */
 #include "osi.h"

@@ -3,6 +3,7 @@ pub mod what_the_words_of_a_tsdu_preserve
 pub mod words_one_after_the_other
 pub mod two_outcomes_together
 pub mod the_effect_of_a_word
+pub mod a_unit_that_acts_alone
 pub mod the_answer_to_a_tsdu
 pub mod how_many_indications
 pub mod the_verdict_while_joining

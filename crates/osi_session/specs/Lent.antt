@@ -1,8 +1,8 @@
--- Data as it is lent to be sent: cut into parts, each behind the octets of its head.
+-- Data as it is lent to be sent: cut into parts, each after the octets of its head.
 use Rattle.std.specs.Prelude.{ℕ, zero, suc, ◌+◌, ◌<◌, ◌≤◌, nat_le, if◌then◌else◌, List, [], ◌∷◌, ◌++◌, length, take, drop}
 use Rattle.osi_session.specs.declared.lending.DataParts.{DataParts}
 
--- TSDUs with `size` octets each, behind their heads; the last has the rest
+-- TSDUs with `size` octets each, after their heads; the last has the rest
 abbrev pub headed : (fuel : ℕ) (head middle last : List ℕ) (size : ℕ) → List ℕ → List (List ℕ)
 headed zero head middle last size octets = (last ++ octets) ∷ []
 headed (suc fuel) head middle last size octets =

@@ -14,7 +14,7 @@ ghost use Rattle.osi_spdu.specs.Groups.{units_of};
 
 use crate::calling::MOST_DATA;
 use crate::faults::UnitFault;
-use crate::grouping::{either, judge_unread};
+use crate::grouping::{either, judge_unread, lone_unit};
 use crate::hearing::take_message;
 use crate::joining::{PartVerdict, judge_part};
 use crate::reactions::{Reaction, Reply};
@@ -177,7 +177,8 @@ impl Counting {
 
 /// The effect of the units of a TSDU, one after the other. The first unit takes effect after those that follow it, and
 /// has no effect if one of them is an RS. A bad unit is the last that takes effect.
-fn count_all(
+#[inline(never)]
+fn count_each(
     alloc: Global,
     state: &State,
     joined: Option<usize>,
@@ -204,9 +205,26 @@ fn count_all(
     Ok(counting)
 }
 
-/// The effect of the octets of a TSDU.
+/// The effect of the units of a TSDU. Most TSDUs have the effect of one unit.
+#[tactic(auto, using(crate::proofs::tsdu::octets_are_counted::counts_lone))]
+fn count_all(
+    alloc: Global,
+    state: &State,
+    joined: Option<usize>,
+    group: &Group,
+) -> Result<Counting, AllocError>
+    ensures { IfOk result (λ c. CountsAll state.now joined (said_by_units (units_of group.now)) (count_of c)) }
+{
+    let Some(unit) = lone_unit(group) else {
+        return count_each(alloc, state, joined, group);
+    };
+    let counting = count_word(alloc, state, joined, Word::of(unit))?;
+    Ok(counting)
+}
+
+/// The effect of the octets of a TSDU, by its units.
 #[tactic(auto, unfolding(osi_message::specs::Reading::said_at))]
-pub(crate) fn count_tsdu(
+fn count_units(
     alloc: Global,
     state: &State,
     joined: Option<usize>,
@@ -219,4 +237,21 @@ pub(crate) fn count_tsdu(
         Ok(group) => count_all(alloc, state, joined, group),
         Err(fault) => Ok(Counting::of(judge_unread(state, *fault), joined)),
     }
+}
+
+/// The effect of the octets of a TSDU. Those that are read straight are looked at first, because they are the most frequent.
+#[tactic(auto, using(crate::proofs::tsdu::octets_are_counted::counts_alone))]
+pub(crate) fn count_tsdu(
+    alloc: Global,
+    state: &State,
+    joined: Option<usize>,
+    tsdu: &[u8],
+) -> Result<Counting, AllocError>
+    ensures { IfOk result (λ c. CountsCame state.now joined (said_at tsdu.now) (count_of c)) }
+{
+    let Some(word) = Word::alone(tsdu) else {
+        return count_units(alloc, state, joined, tsdu);
+    };
+    let counting = count_word(alloc, state, joined, word)?;
+    Ok(counting)
 }

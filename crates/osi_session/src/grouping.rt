@@ -1,10 +1,13 @@
 //! The effect of the units of a TSDU, one after the other.
 
-ghost use Rattle.std.specs.Prelude.{◌≡◌, ℕ, ◌||◌, ◌++◌, List, [], true, false, Option, None, option_copied, IfOk, OnOk, OnErr};
-ghost use Rattle.osi_message.specs.Meanings.{DT};
-ghost use Rattle.osi_message.specs.Reading.{said_by_units};
+ghost use Rattle.std.specs.Prelude.{◌≡◌, ℕ, ◌||◌, ◌++◌, List, [], true, false, Option, None, option_copied, IfOk, IfSome, OnOk, OnErr};
+ghost use Rattle.osi_message.specs.Meanings.{DT, GT};
+ghost use Rattle.osi_message.specs.Reading.{said_by_units, word};
+ghost use Rattle.osi_message.specs.Tokens.{no_token};
+ghost use Rattle.osi_message.specs.Words.{says};
 ghost use Rattle.osi_spdu.specs.Groups.{units_of};
-ghost use Rattle.osi_session.specs.Joining.{heard, heard_then, idle, kept_in, word_verdict, respond_word, respond_tsdu};
+ghost use Rattle.osi_spdu.specs.Units.{said_by};
+ghost use Rattle.osi_session.specs.Joining.{Taker, heard, heard_then, idle, kept_in, word_verdict, respond_word, respond_tsdu};
 ghost use Rattle.osi_session.specs.Respond.{is_nil, is_faulty, respond_unit, respond_fault, shows};
 ghost use Rattle.osi_session.specs.Shown.{Data};
 ghost use Rattle.osi_session.specs.Steps.{all_shown, hearing_of, hearing_of_all, joined_after, outcome_of, outcome_of_all, shown_list, takes_room, word_by};
@@ -16,7 +19,7 @@ use crate::reactions::{Reaction, Reply};
 use crate::state::State;
 use crate::words::Word;
 use osi_message::Octets;
-use osi_spdu::{Group, SpduFault};
+use osi_spdu::{Group, Kind, Spdu, SpduFault};
 use std::alloc::{AllocError, Global};
 
 /// The effect of the units of a TSDU: the state after them, the joined octets, the indications in order, at most one
@@ -118,7 +121,8 @@ impl Reactions {
 
 /// The effect of the units of a TSDU, one after the other. The first unit takes effect after those that follow it, and
 /// has no effect if one of them is an RS. A bad unit is the last that takes effect.
-pub(crate) fn take_all(
+#[inline(never)]
+fn take_each(
     alloc: Global,
     state: &State,
     joined: Option<&Octets>,
@@ -148,6 +152,71 @@ pub(crate) fn take_all(
     }
     let _is_bad = reactions.then(alloc, joined, first)?;
     Ok(reactions)
+}
+
+/// Whether a unit is a GT that names no token.
+#[tactic(auto, using(crate::proofs::tsdu::a_unit_that_acts_alone::empty_give))]
+fn is_empty_give(unit: &Spdu) -> bool
+    ensures { result ≡ true → word (said_by unit.now) ≡ says (GT no_token) }
+{
+    match unit.kind() {
+        Kind::GiveTokens => match unit.params().token_item() {
+            None => true,
+            Some(_) => false,
+        },
+        _ => false,
+    }
+}
+
+/// The only unit after a GT that names no token.
+#[tactic(auto, using(crate::proofs::tsdu::a_unit_that_acts_alone::second_acts))]
+fn second_unit<'g, 'a>(group: &'g Group<'a>) -> Option<&'g Spdu<'a>>
+    ensures { IfSome result (λ unit. (t : Taker) → respond_tsdu t (said_by_units (units_of group.now)) ≡ respond_word t (word (said_by unit.now))) }
+{
+    if !is_empty_give(group.first()) {
+        return None;
+    }
+    let second = group.only_second()?;
+    Some(second)
+}
+
+/// The unit that alone has the effect of a TSDU: the only one, or the only one after a GT that names no token. It is not
+/// moved.
+#[tactic(auto, using(crate::proofs::tsdu::a_unit_that_acts_alone::first_acts))]
+pub(crate) fn lone_unit<'g, 'a>(group: &'g Group<'a>) -> Option<&'g Spdu<'a>>
+    ensures { IfSome result (λ unit. (t : Taker) → respond_tsdu t (said_by_units (units_of group.now)) ≡ respond_word t (word (said_by unit.now))) }
+{
+    match group.second() {
+        None => Some(group.first()),
+        Some(_) => second_unit(group),
+    }
+}
+
+/// The effect of the units of a TSDU. Most TSDUs have the effect of one unit.
+pub(crate) fn take_all(
+    alloc: Global,
+    state: &State,
+    joined: Option<&Octets>,
+    group: &Group,
+) -> Result<Reactions, AllocError>
+    requires { kept_in state.now.phase (option_copied joined) ≡ option_copied joined }
+    ensures heard { IfOk result (λ r. hearing_of_all (option_copied joined.entry) r
+        ≡ respond_tsdu (record { state = state.now; joined = option_copied joined.entry }) (said_by_units (units_of group.now))) }
+    ensures ordered { IfOk result (λ r. r.first ≡ None → r.more.items ≡ []) }
+    ensures err { OnErr result (takes_room (option_copied joined.entry)
+        (respond_tsdu (record { state = state.now; joined = option_copied joined.entry }) (said_by_units (units_of group.now))) ≡ true) }
+{
+    let Some(unit) = lone_unit(group) else {
+        return take_each(alloc, state, joined, group);
+    };
+    let word = Word::of(unit);
+    match take_word(alloc, state, joined, word) {
+        Ok(heard) => {
+            let reactions = Reactions::of(alloc, heard);
+            Ok(reactions)
+        }
+        Err(error) => Err(error),
+    }
 }
 
 pub(crate) fn either(one: bool, other: bool) -> bool

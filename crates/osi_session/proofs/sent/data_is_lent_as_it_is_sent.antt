@@ -19,7 +19,7 @@ later_if true size o os lent c e = refl
 later_if false size o os lent c e =
     ap (λ (ts : List (List ℕ)). (part_head Middle ++ take size o) ∷ ts) e ∙ ap octets_of (sym (middle_of (take size o) os c))
 
--- those behind the first
+-- those after the first
 later_lent : (fuel size : ℕ) (o : List ℕ) →
     headed fuel (part_head Middle) (part_head Middle) (part_head Last) size o ≡ octets_of (later_parts (pieces fuel size o))
 later_lent zero size o = refl

@@ -1,11 +1,11 @@
 -- The effect of a word with the octets of an unfinished SSDU counted: it is the same whatever these octets are.
 use Rattle.std.proofs.Common.{◌≡◌, ◌∙◌, refl, sym, ap, subst, ℕ, ◌+◌, ◌<◌, ◌≤◌, Bool, true, false, not, ◌||◌, if◌then◌else◌, nat_le, List}
-use Rattle.std.proofs.Common.{[], ◌∷◌, ◌++◌, length, Option, Some, None, Err, is_none, option_map, unwrap_or, arith}
+use Rattle.std.proofs.Common.{[], ◌∷◌, ◌++◌, length, Option, Some, None, Result, Err, is_none, option_map, unwrap_or, arith}
 use Rattle.osi_session.specs.declared.joining.PartVerdict.TheVariants as is
 use Rattle.osi_session.specs.Counting.{no_octets, count_by, count_by_idle, taker_with, Counts, CountsAll, CountsCame}
 use Rattle.osi_session.specs.Standing.{Count, counted}
 use Rattle.osi_session.proofs.Vocabulary.{SpduFault, respond_fault, Words, first_reply, replies_abort, heard_then, idle, is_restart_word}
-use Rattle.osi_session.proofs.Vocabulary.{respond_tsdu, length-append, le-leb, leb-true, State, UnitFault, Unexpected, TokenHeld}
+use Rattle.osi_session.proofs.Vocabulary.{Taker, respond_came, respond_tsdu, length-append, le-leb, leb-true, State, UnitFault, Unexpected, TokenHeld}
 use Rattle.osi_session.proofs.Vocabulary.{BadEnclosure, DataTooLong, most_data, is_over, is_restarting, takes_data, nothing, bad, Outcome}
 use Rattle.osi_session.proofs.Vocabulary.{Verdict, over, dropped, faulty, fine, by_fault, is_faulty, enacted, first_fault, conditions}
 use Rattle.osi_session.proofs.Vocabulary.{is_expected, drops, si, Hearing, joined_octets, drops_parts, begins_anew, is_in_place, is_last}
@@ -285,3 +285,14 @@ walks_item s n words c next restarts item us w e r l = λ j f.
 pub fault_counts : (s : State) (n : Option ℕ) (fault : SpduFault) (c : Count) → c ≡ count_by n (respond_fault s fault) →
     CountsCame s n (Err fault) c
 fault_counts s n fault c e = λ j f. heard_so_many j n (respond_fault s fault) f ∙ sym e
+
+-- a TSDU has the count of the word that alone has its effect
+pub counts_alone : (s : State) (n : Option ℕ) (came : Result Words SpduFault) (w : Word) (c : Count) →
+    ((t : Taker) → respond_came t came ≡ respond_word t w) → Counts s n w c → CountsCame s n came c
+counts_alone s n came w c acts counts = λ j e. ap counted (acts (taker_with s j)) ∙ counts j e
+
+-- and so has a TSDU of units
+pub counts_lone : (s : State) (n : Option ℕ) (words : Words) (w v : Word) (c : Count) →
+    ((t : Taker) → respond_tsdu t words ≡ respond_word t v) → w ≡ v → Counts s n w c → CountsAll s n words c
+counts_lone s n words w v c acts e counts =
+    λ j h. ap counted (acts (taker_with s j) ∙ ap (respond_word (taker_with s j)) (sym e)) ∙ counts j h

@@ -1,5 +1,5 @@
 -- The words of a TSDU take effect one after the other: what a loop over its units has done so far, and what is still to act.
--- For `take_all` of grouping and `count_all` of counting.
+-- For `take_each` of grouping and `count_each` of counting.
 use Rattle.std.proofs.Common.{◌≡◌, refl, sym, ◌∙◌, ap, subst, ℕ, Bool, true, false, ◌||◌, List, [], ◌∷◌, ◌++◌, Option, Some, None, Result}
 use Rattle.std.proofs.Common.{Ok, Err, if◌then◌else◌, arith}
 use Rattle.osi_spdu.specs.declared.behind.Behind.{Behind}

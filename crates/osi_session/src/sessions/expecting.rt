@@ -1,12 +1,14 @@
-//! The fast path for TSDUs that a session expects: whole data, a part of it, a minor point or its confirmation. Each
-//! TSDU is tried once; any other goes to the general reader.
+//! The fast path for TSDUs that a session expects: whole data, a part of it, a minor point or its confirmation, and brief
+//! messages. Each TSDU is tried once; any other goes to the general reader.
 
 use super::Session;
 use crate::expected::{Expected, expected_point};
 use crate::grouping::expects_data;
+use crate::hearing::take_message;
 use crate::indications::Indication;
 use crate::joining::{PartVerdict, join, judge_part, shown_behind};
-use osi_message::{Octets, Place, PlainUnit};
+use crate::reactions::Reaction;
+use osi_message::{Message, Octets, Place, PlainUnit};
 use std::alloc::AllocError;
 
 impl Session {
@@ -14,15 +16,18 @@ impl Session {
     ghost use Rattle.osi_message.specs.Plain.{plain_word};
     ghost use Rattle.osi_message.specs.Words.{part};
     ghost use Rattle.osi_session.specs.Expecting.{Meets, Tries};
-    ghost use Rattle.osi_session.specs.Joining.{respond_word, word_verdict};
+    ghost use Rattle.osi_session.specs.Joining.{heard, respond_word, word_verdict};
     ghost use Rattle.osi_session.specs.Listening.{came, moved, react, taker_of};
+    ghost use Rattle.osi_session.specs.Phases.{is_wait_transport};
     ghost use Rattle.osi_session.specs.Respond.{fine};
     ghost use Rattle.osi_session.specs.Points.{only_shows};
     ghost use Rattle.osi_session.specs.Sessions.{takes_memory};
     ghost use Rattle.osi_session.specs.Shown.{Data, shown_by};
+    ghost use Rattle.osi_session.specs.Sound.{IsSound};
+    ghost use Rattle.osi_session.specs.Steps.{outcome_of};
 
     /// Tries a TSDU as one that is expected: the written form of whole data, of a part of it, or of a minor point or a
-    /// confirmation without other parameters, after a GT that names no token. `Shown` and `Joined` are all that
+    /// confirmation without other parameters, after a GT that names no token; or that of a brief message. `Shown` and `Joined` are all that
     /// [`Session::take_tsdu`] would do apart from the state. `Other` changes nothing: pass the TSDU to
     /// [`Session::take_unexpected`], which doesn't try this again. `Err` changes nothing, and is possible only if
     /// something is indicated or octets are joined.
@@ -73,11 +78,48 @@ impl Session {
         ensures { Tries result (react self.old (came tsdu.now)) self.old self.new }
     {
         let Some(unit) = PlainUnit::read(tsdu) else {
-            return Ok(Expected::Other);
+            let answer = self.take_brief(tsdu);
+            return answer;
         };
         match unit {
             PlainUnit::Part { place, user_data } => self.take_part(place, user_data),
             _ => Ok(self.take_point(unit)),
+        }
+    }
+
+    /// A brief message. The function is kept out of line, because points are more frequent.
+    #[inline(never)]
+    fn take_brief(&mut self, tsdu: &[u8]) -> Result<Expected, AllocError>
+        ensures { Tries result (react self.old (came tsdu.now)) self.old self.new }
+    {
+        let Some(message) = Message::brief(tsdu) else {
+            return Ok(Expected::Other);
+        };
+        match take_message(self.alloc, &self.state, self.joined.as_ref(), message) {
+            Ok(reaction) => Ok(self.show_alone(reaction)),
+            Err(error) => Err(error),
+        }
+    }
+
+    /// The effect of a message, if it has an indication and nothing else but a new state. Any other is left to the general
+    /// reader.
+    #[tactic(auto, using(crate::proofs::moves::a_tsdu_that_is_read_straight::shows_alone))]
+    fn show_alone(&mut self, reaction: Reaction) -> Expected
+        requires sound { IsSound reaction.next }
+        requires begun { is_wait_transport reaction.next.phase ≡ true → is_wait_transport self.old.state.phase ≡ true }
+        ensures { Meets result (moved self.old (heard self.old.joined (outcome_of reaction))) self.old self.new }
+    {
+        match reaction {
+            Reaction {
+                next,
+                shown: Some(indication),
+                reply: None,
+                closes: false,
+            } => {
+                self.go(next);
+                Expected::Shown(indication)
+            }
+            _ => Expected::Other,
         }
     }
 

@@ -4,7 +4,7 @@ use Rattle.osi_session.specs.Counting.{count_of}
 use Rattle.osi_session.proofs.Vocabulary.{units_behind, behind_of, first_of, units_of, word, said_by_units, word_by}
 use Rattle.osi_session.proofs.tsdu.octets_are_counted.{walks_begin, walks_turn, walks_on, walks_stop, walks_restarted, walks_item}
 use Rattle.osi_session.proofs.tsdu.words_one_after_the_other.{behind_none}
-use Rattle.osi_session.proofs.counting.count_all.Goals as goal
+use Rattle.osi_session.proofs.counting.count_each.Goals as goal
 
 pub units-init : goal.units-init
 units-init c =

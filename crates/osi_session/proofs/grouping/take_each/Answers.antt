@@ -4,7 +4,7 @@ use Rattle.osi_session.proofs.Vocabulary.{units_behind, behind_of, first_of, uni
 use Rattle.osi_session.proofs.Vocabulary.{hearing_of_all, word_by}
 use Rattle.osi_session.proofs.tsdu.words_one_after_the_other.{walks_begin, walks_turn, walks_on, walks_end, takes, stops, ends_restarted}
 use Rattle.osi_session.proofs.tsdu.words_one_after_the_other.{ends_with_item, item_takes, on_err, behind_none}
-use Rattle.osi_session.proofs.grouping.take_all.Goals as goal
+use Rattle.osi_session.proofs.grouping.take_each.Goals as goal
 
 pub units-init : goal.units-init
 units-init c =

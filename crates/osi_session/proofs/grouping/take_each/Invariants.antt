@@ -1,7 +1,7 @@
 use Rattle.std.proofs.Common.{length, map, option_copied}
 use Rattle.osi_session.proofs.Vocabulary.{units_behind, units_of, word, said_by_units, respond_tsdu, word_by}
 use Rattle.osi_session.proofs.tsdu.words_one_after_the_other.{Walks}
-use Rattle.osi_session.proofs.grouping.take_all.Given as goal
+use Rattle.osi_session.proofs.grouping.take_each.Given as goal
 
 abbrev pub invariant-units : goal.invariant-units
 invariant-units l =
