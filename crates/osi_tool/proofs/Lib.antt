@@ -1,4 +1,1 @@
-pub mod reads_one_after_the_other_read_all
-pub mod a_failure_is_remembered
-pub mod a_subcommand_is_met_by_its_rows
-pub mod writes_one_after_the_other_append
+pub mod a_script_is_begun

@@ -1,11 +1,11 @@
 -- What each job does with a text.
 use Rattle.std.specs.Prelude.{ℕ, List, Option}
 use Rattle.osi_listing.specs.Capture.{IsNoCapture}
-use Rattle.osi_tool.specs.declared.jobs.Job.{Job}
-use Rattle.osi_tool.specs.declared.jobs.Job.TheVariants.{Show, Pair, Judge, Witness}
-use Rattle.osi_tool.specs.Judging.{Finds, FindsPart}
-use Rattle.osi_tool.specs.Pairing.{Pairs, PairsPart}
-use Rattle.osi_tool.specs.Show.{Shows, ShowsPart}
+use Rattle.osi_words.specs.declared.jobs.Job.{Job}
+use Rattle.osi_words.specs.declared.jobs.Job.TheVariants.{Show, Pair, Judge, Witness}
+use Rattle.osi_commands.specs.Judging.{Finds, FindsPart}
+use Rattle.osi_commands.specs.Pairing.{Pairs, PairsPart}
+use Rattle.osi_commands.specs.Show.{Shows, ShowsPart}
 use Rattle.osi_tool.specs.Witnessing.{Tells, TellsPart}
 
 -- all that the job prints of a text is written, and nothing else

@@ -1,7 +1,3 @@
 pub mod Doing
 pub mod Endings
-pub mod Judging
-pub mod Pairing
-pub mod Show
-pub mod Words
 pub mod Witnessing

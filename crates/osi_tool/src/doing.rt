@@ -2,15 +2,11 @@
 
 ghost use Rattle.std.specs.Prelude.{◌≡◌, ◌<◌, ◌⊎◌, true, length, Err, IfOk, IfSome};
 ghost use Rattle.osi_tool.specs.Doing.{Does, BeginsToDo, IsUnreadable};
-ghost use Rattle.osi_tool.specs.Show.{FailsToRead, TakesAtMost};
+ghost use Rattle.osi_commands.specs.Show.{FailsToRead, TakesAtMost};
 
-use crate::faults::ToolFault;
-use crate::jobs::Job;
-use crate::judging::judge;
-use crate::pairing::pair;
-use crate::showing::show;
-use crate::watched::{WatchedReader, WatchedWriter};
 use crate::witnessing::witness;
+use osi_commands::{ToolFault, WatchedReader, WatchedWriter, judge, pair, show};
+use osi_words::Job;
 use std::alloc::Global;
 use std::io::{Read, Write};
 

@@ -3,25 +3,14 @@
 ghost use Rattle.std.specs.Prelude.{◌≡◌};
 ghost use Rattle.osi_tool.specs.Endings.{fault_line};
 
-/// Why a job failed.
-#[derive(Clone, Copy)]
-pub enum ToolFault {
-    /// A read failed, or the input has more than 16,777,216 octets.
-    Input,
-    /// The input is not a capture: it has a character other than digits, blanks and comments, or an odd number of
-    /// digits.
-    BadHex,
-    /// A write failed.
-    Write,
-    /// An allocation failed.
-    OutOfMemory,
-}
+use osi_commands::ToolFault;
+use osi_words::WordsFault;
 
 /// Why the program ends with status 2.
 #[derive(Clone, Copy)]
 pub enum ProgramFault {
-    /// The arguments of the program name no job.
-    Words,
+    /// The arguments of the program name no job, or the help that they ask for can't be printed.
+    Words(WordsFault),
     /// The job failed.
     Tool(ToolFault),
 }
@@ -32,7 +21,9 @@ impl ProgramFault {
         ensures { result.now ≡ fault_line self }
     {
         match self {
-            ProgramFault::Words => "osi: Words",
+            ProgramFault::Words(WordsFault::Words) => "osi: Words",
+            ProgramFault::Words(WordsFault::Write) => "osi: Write",
+            ProgramFault::Words(WordsFault::OutOfMemory) => "osi: OutOfMemory",
             ProgramFault::Tool(ToolFault::Input) => "osi: Input",
             ProgramFault::Tool(ToolFault::BadHex) => "osi: BadHex",
             ProgramFault::Tool(ToolFault::Write) => "osi: Write",

@@ -12,14 +12,12 @@
 //! not judged; the text says which. It is 2 if the arguments, the input or its digits can't be read, a write failed,
 //! or memory ran out; then one line on standard error names the reason.
 //!
-//! The program only joins other crates to a reader and a writer: `osi_listing` makes a listing, `osi_dispute` a
-//! judgement and `osi_transcript` a transcript, and `clap` reads the arguments. Its own part is small:
+//! The program only joins other crates: `osi_words` reads the arguments, `osi_commands` reads the input and writes a listing,
+//! a judgement or a transcript, and `osi_witness` finds the script of a capture. Its own part is small:
 //!
 //! - `do_job` (`doing.rt`) does one `Job`: it reads all of the input, at most 16,777,216 octets, makes the whole text,
 //!   and then writes it. So nothing is written for an input that can't be read, and a write that fails leaves a prefix
 //!   of the text.
-//! - `WatchedReader` and `WatchedWriter` (`watched.rt`) remember whether a call failed, so that the contracts can say
-//!   when a fault is reported. An interrupted call is repeated.
 //! - `Ending` (`endings.rt`) is the status and the line on standard error.
 //!
 //! The contract of `do_job` says that exactly the text of its job is written, and for each fault when it comes and
@@ -30,26 +28,18 @@
 mod doing;
 mod endings;
 mod faults;
-mod jobs;
-mod judging;
-mod pairing;
-mod showing;
-mod texts;
-mod watched;
 mod witnessing;
-mod words;
 
 ghost use Rattle.std.specs.Prelude.{◌<◌, IfOk};
 
-use clap::Error;
 use doing::do_job;
-use endings::{answer_of_help, ending_of, fault_of_reading_words};
-use faults::{ProgramFault, ToolFault};
-use jobs::Job;
+use endings::ending_of;
+use faults::ProgramFault;
+use osi_commands::{WatchedReader, WatchedWriter};
+use osi_words::{Job, job_of_words};
+use std::io;
 use std::process::ExitCode;
 use std::rt::Env;
-use std::{env, io};
-use watched::{WatchedReader, WatchedWriter};
 
 fn main(rt: HostRuntime) -> ExitCode {
     let ending = ending_of(run(&rt));
@@ -59,20 +49,14 @@ fn main(rt: HostRuntime) -> ExitCode {
     ExitCode::from(ending.status)
 }
 
-/// Does what the program's words ask for, and returns the status.
+/// Does what the program's words ask for, and returns the status: 0 if help was printed.
 fn run<R: Env + Input + Print + AllocGlobal>(rt: &R) -> Result<u8, ProgramFault>
     ensures { IfOk result (λ status. status < 2) }
 {
-    answer(rt, words_of(rt)?.as_slice())
-}
-
-/// Does what words ask for, and returns the status.
-fn answer<R: Input + Print + AllocGlobal>(rt: &R, words: &[String]) -> Result<u8, ProgramFault>
-    ensures { IfOk result (λ status. status < 2) }
-{
-    match words::job(rt.alloc(), words) {
-        Ok(job) => done(rt, job),
-        Err(error) => explain(rt, &error),
+    match job_of_words(rt) {
+        Ok(Some(job)) => done(rt, job),
+        Ok(None) => Ok(0),
+        Err(fault) => Err(ProgramFault::Words(fault)),
     }
 }
 
@@ -85,26 +69,5 @@ fn done<R: Input + Print + AllocGlobal>(rt: &R, job: Job) -> Result<u8, ProgramF
     match do_job(rt.alloc(), job, &mut reader, &mut writer) {
         Ok(status) => Ok(status),
         Err(fault) => Err(ProgramFault::Tool(fault)),
-    }
-}
-
-/// The words that the program was called with.
-fn words_of<R: Env + AllocGlobal>(rt: &R) -> Result<Vec<String>, ProgramFault> {
-    match env::args(rt) {
-        Ok(words) => match words.collect(rt.alloc()) {
-            Ok(words) => Ok(words),
-            Err(_) => Err(ProgramFault::Tool(ToolFault::OutOfMemory)),
-        },
-        Err(error) => Err(fault_of_reading_words(&error)),
-    }
-}
-
-/// Prints the help that was asked for; other errors are faults.
-fn explain<R: Print>(rt: &R, error: &Error) -> Result<u8, ProgramFault>
-    ensures { IfOk result (λ status. status < 2) }
-{
-    match words::fault_of_words(error) {
-        Some(fault) => Err(fault),
-        None => answer_of_help(rt.print(error)),
     }
 }

@@ -3,12 +3,9 @@
 ghost use Rattle.std.specs.Prelude.{◌≡◌, ◌<◌, ◌≤◌, ◌⊎◌, ◌↔◌, true, length, Err, IfOk, IfSome};
 ghost use Rattle.osi_listing.specs.Capture.{IsNoCapture};
 ghost use Rattle.osi_tool.specs.Witnessing.{Scripts, Tells, TellsPart};
-ghost use Rattle.osi_tool.specs.Show.{FailsToRead, TakesAtMost};
+ghost use Rattle.osi_commands.specs.Show.{FailsToRead, TakesAtMost};
 
-use crate::faults::ToolFault;
-use crate::showing::read_input;
-use crate::texts::LONGEST_INPUT;
-use crate::watched::{WatchedReader, WatchedWriter};
+use osi_commands::{LONGEST_INPUT, ToolFault, WatchedReader, WatchedWriter, read_input};
 use osi_listing::CaptureFault;
 use osi_witness::{Witness, witness_of};
 use std::alloc::Global;

@@ -1,8 +1,8 @@
 use Rattle.std.proofs.Common.{◌≡◌, List, ℕ, true, subst}
 use Rattle.osi_tool.specs.Witnessing.{Scripts}
-use Rattle.osi_tool.specs.Show.{BeginsToAppend}
-use Rattle.osi_tool.proofs.reads_one_after_the_other_read_all.{told_in_part}
-use Rattle.osi_tool.proofs.a_failure_is_remembered.{failed_by}
+use Rattle.osi_commands.specs.Show.{BeginsToAppend}
+use Rattle.osi_tool.proofs.a_script_is_begun.{told_in_part}
+use Rattle.osi_commands.proofs.a_failure_is_remembered.{failed_by}
 use Rattle.osi_tool.proofs.witnessing.witness.Goals as goal
 
 pub returns-in_err-write_text-clause-write : goal.returns-in_err-write_text-clause-write

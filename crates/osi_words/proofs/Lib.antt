@@ -1,0 +1,1 @@
+pub mod a_subcommand_is_met_by_its_rows
