@@ -1,4 +1,6 @@
 //! Links of both classes, call by call, and the longest TSDUs between two of them.
+//!
+//! Most tests are a list of steps of one link. Links of class 0, of class 2 and of any class are each owned by one function.
 
 ghost use Rattle.std.specs.Prelude.{◌<◌};
 ghost use Rattle.osi_class.specs.Link.{FitsAUnit};
@@ -23,12 +25,29 @@ enum Given {
 enum Step {
     /// A TSDU is handed in.
     Send(&'static [u8]),
+    /// A TSDU of this many octets is handed in.
+    SendLong(usize),
+    /// A TSDU of 126 octets and an empty one are handed in together.
+    SendTwo,
+    /// This many TSDUs of an octet are handed in, and each goes at once, with the numbers from 0.
+    SendEach(u8),
     /// The transport unit with these octets is taken, or refused with this fault.
     Take(&'static [u8], Option<LinkFault>),
+    /// 16 units of 65,528 octets and one of 128 are taken, none of which ends its TSDU.
+    TakeLong,
+    /// This many units of an octet are taken, with the numbers from 0. Each is answered by the number after its own, and
+    /// credit for one more.
+    TakeEach(u8),
+    /// The unit with these octets is taken, and the TSDU that it completes is handed out.
+    Receive(&'static [u8], Option<&'static [u8]>),
     /// The next unit.
     Give(Given),
+    /// This many units of 123 octets are given, one after the other, and each is acknowledged.
+    GiveEach(u8),
     /// The next TSDU, if there is one.
     HandOut(Option<&'static [u8]>),
+    /// The next TSDU, which is the longest.
+    HandOutLongest,
 }
 
 fn sends(link: &mut impl Link, tsdu: &[u8]) -> Result<(), Fail> {
@@ -45,11 +64,12 @@ fn takes(link: &mut impl Link, unit: &Tpdu<'_>, fault: Option<LinkFault>) -> Res
     }
 }
 
-fn gives(link: &mut impl Link, wanted: Given) -> Result<(), Fail> {
-    let is_given = match (link.next_out(), wanted) {
+/// Whether the unit is as wanted.
+fn is_given(out: &Option<Out<'_>>, wanted: Given) -> bool {
+    match (out, wanted) {
         (None, Given::Nothing) => true,
         (Some(Out::Data0 { end: e, octets }), Given::Part { end, count }) => {
-            e == end && octets.len() == count
+            *e == end && octets.len() == count
         }
         (
             Some(
@@ -60,7 +80,7 @@ fn gives(link: &mut impl Link, wanted: Given) -> Result<(), Fail> {
                 },
             ),
             Given::Data { number, end, count },
-        ) => n == number && e == end && octets.len() == count,
+        ) => *n == number && *e == end && octets.len() == count,
         (
             Some(
                 Out::Ack {
@@ -69,53 +89,181 @@ fn gives(link: &mut impl Link, wanted: Given) -> Result<(), Fail> {
                 },
             ),
             Given::Ack { number, credit },
-        ) => n == number && c == credit,
+        ) => *n == number && *c == credit,
         _ => false,
-    };
-    if !is_given {
+    }
+}
+
+fn gives(link: &mut impl Link, wanted: Given) -> Result<(), Fail> {
+    if !is_given(&link.next_out(), wanted) {
         return Err(Fail::from("another unit"));
     }
     Ok(())
 }
 
-fn hands_out(link: &mut impl Link, wanted: Option<&[u8]>) -> Result<(), Fail> {
-    let handed = link.next_tsdu();
-    let is_wanted = match &handed {
+/// Whether this TSDU was handed out, or none.
+fn is_handed(handed: &Option<Vec<u8>>, wanted: Option<&[u8]>) -> bool {
+    match handed {
         None => wanted.is_none(),
         Some(tsdu) => wanted == Some(tsdu.as_slice()),
-    };
-    if !is_wanted {
+    }
+}
+
+fn hands_out(link: &mut impl Link, wanted: Option<&[u8]>) -> Result<(), Fail> {
+    if !is_handed(&link.next_tsdu(), wanted) {
         return Err(Fail::from("another TSDU"));
     }
     Ok(())
 }
 
-fn does(link: &mut impl Link, step: Step) -> Result<(), Fail> {
+fn receives(link: &mut impl Link, unit: &[u8], wanted: Option<&[u8]>) -> Result<(), Fail> {
+    if !is_handed(&link.receive(&only_unit(unit)?)?, wanted) {
+        return Err(Fail::from("another TSDU"));
+    }
+    Ok(())
+}
+
+/// A TSDU of this many octets.
+fn octets(alloc: Global, count: usize) -> Result<Vec<u8>, Fail> {
+    let tsdu = vec![in alloc; 0x5a; count]?;
+    Ok(tsdu)
+}
+
+/// A TSDU of 126 octets and an empty one.
+fn two(alloc: Global) -> Result<Vec<Vec<u8>>, Fail> {
+    let mut tsdus = Vec::new(alloc);
+    for count in [126, 0] {
+        tsdus.push(octets(alloc, count)?)?;
+    }
+    Ok(tsdus)
+}
+
+fn sends_two(link: &mut impl Link, alloc: Global) -> Result<(), Fail> {
+    link.send_tsdus(two(alloc)?.as_slice())?;
+    Ok(())
+}
+
+fn sends_each(link: &mut impl Link, count: u8) -> Result<(), Fail> {
+    for number in 0..count {
+        sends(link, b"A")?;
+        let data = Given::Data {
+            number,
+            end: true,
+            count: 1,
+        };
+        gives(link, data)?;
+    }
+    Ok(())
+}
+
+/// A DT of class 0 that does not end its TSDU.
+fn data(user: &[u8]) -> Tpdu<'_> {
+    Tpdu::Dt0(DataClass0 { end: false, user })
+}
+
+fn takes_parts(link: &mut impl Link, part: &[u8]) -> Result<(), Fail> {
+    for _ in 0..16u8 {
+        takes(link, &data(part), None)?;
+    }
+    takes(link, &data(&[0x5a; 128]), None)
+}
+
+fn takes_each(link: &mut impl Link, count: u8) -> Result<(), Fail> {
+    for before in 0..count {
+        takes(
+            link,
+            &only_unit(&[4, 0xF0, 0, 1, 0x80 | before, 0x41])?,
+            None,
+        )?;
+        let ack = Given::Ack {
+            number: before.wrapping_add(1),
+            credit: 1,
+        };
+        gives(link, ack)?;
+    }
+    Ok(())
+}
+
+/// One unit is sent and no other, and it is acknowledged.
+fn a_unit_passes(link: &mut impl Link, number: u8) -> Result<(), Fail> {
+    let data = Given::Data {
+        number,
+        end: false,
+        count: 123,
+    };
+    gives(link, data)?;
+    gives(link, Given::Nothing)?;
+    let ack = [4, 0x61, 0, 1, number.wrapping_add(1) % 128];
+    takes(link, &only_unit(&ack)?, None)
+}
+
+fn gives_each(link: &mut impl Link, count: u8) -> Result<(), Fail> {
+    for unit in 0..count {
+        a_unit_passes(link, unit % 128)?;
+    }
+    Ok(())
+}
+
+fn does(link: &mut impl Link, alloc: Global, step: Step) -> Result<(), Fail> {
     match step {
         Step::Send(tsdu) => sends(link, tsdu),
+        Step::SendLong(count) => sends(link, octets(alloc, count)?.as_slice()),
+        Step::SendTwo => sends_two(link, alloc),
+        Step::SendEach(count) => sends_each(link, count),
         Step::Take(octets, fault) => takes(link, &only_unit(octets)?, fault),
+        Step::TakeLong => takes_parts(link, octets(alloc, 65_528)?.as_slice()),
+        Step::TakeEach(count) => takes_each(link, count),
+        Step::Receive(octets, tsdu) => receives(link, octets, tsdu),
         Step::Give(wanted) => gives(link, wanted),
+        Step::GiveEach(count) => gives_each(link, count),
         Step::HandOut(wanted) => hands_out(link, wanted),
+        Step::HandOutLongest => hands_out(link, Some(octets(alloc, LONGEST_TSDU)?.as_slice())),
     }
 }
 
-fn goes(link: &mut impl Link, steps: &[Step]) -> Result<(), Fail> {
+fn goes(link: &mut impl Link, alloc: Global, steps: &[Step]) -> Result<(), Fail> {
     for step in steps {
-        does(link, *step)?;
+        does(link, alloc, *step)?;
     }
     Ok(())
 }
 
 /// A link of class 2 with this window, whose peer gave this credit.
-fn class_2(
+fn class_2(alloc: Global, size: Option<SizeCode>, window: u8, credit: u8) -> Result<Class2, Fail> {
+    let window = Window::new(window).ok_or("window")?;
+    let credit = Credit::new(credit).ok_or("credit")?;
+    Ok(Class2::new(alloc, size, window, credit))
+}
+
+/// A link of class 0, or of class 2 with a window of 2.
+fn any(alloc: Global, is_class_2: bool) -> Result<AnyLink, Fail> {
+    if is_class_2 {
+        Ok(AnyLink::Two(class_2(alloc, None, 2, 0)?))
+    } else {
+        Ok(AnyLink::Zero(Class0::new(alloc, None)))
+    }
+}
+
+fn class_0_does(rt: &HostRuntime, size: Option<SizeCode>, steps: &[Step]) -> Result<(), Fail> {
+    goes(&mut Class0::new(rt.alloc(), size), rt.alloc(), steps)
+}
+
+fn class_2_does(
     rt: &HostRuntime,
     size: Option<SizeCode>,
     window: u8,
     credit: u8,
-) -> Result<Class2, Fail> {
-    let window = Window::new(window).ok_or("window")?;
-    let credit = Credit::new(credit).ok_or("credit")?;
-    Ok(Class2::new(rt.alloc(), size, window, credit))
+    steps: &[Step],
+) -> Result<(), Fail> {
+    goes(
+        &mut class_2(rt.alloc(), size, window, credit)?,
+        rt.alloc(),
+        steps,
+    )
+}
+
+fn any_does(rt: &HostRuntime, is_class_2: bool, steps: &[Step]) -> Result<(), Fail> {
+    goes(&mut any(rt.alloc(), is_class_2)?, rt.alloc(), steps)
 }
 
 const NO_ACK: [Step; 6] = [
@@ -129,36 +277,19 @@ const NO_ACK: [Step; 6] = [
 
 #[test]
 fn class_0_takes_no_ack(rt: HostRuntime) -> Result<(), Fail> {
-    goes(&mut Class0::new(rt.alloc(), None), &NO_ACK)
-}
-
-/// Whether this TSDU was handed out, or none.
-fn is_handed(handed: &Option<Vec<u8>>, wanted: Option<&[u8]>) -> bool {
-    match handed {
-        None => wanted.is_none(),
-        Some(tsdu) => wanted == Some(tsdu.as_slice()),
-    }
-}
-
-/// The unit with these octets is taken, and the TSDU that it completes is handed out.
-fn receives(link: &mut impl Link, unit: &[u8], wanted: Option<&[u8]>) -> Result<(), Fail> {
-    let handed = link.receive(&only_unit(unit)?)?;
-    if !is_handed(&handed, wanted) {
-        return Err(Fail::from("another TSDU"));
-    }
-    Ok(())
+    class_0_does(&rt, None, &NO_ACK)
 }
 
 /// A TSDU in two parts, and one in a single unit.
-fn two_are_received(link: &mut impl Link) -> Result<(), Fail> {
-    receives(link, &[2, 0xF0, 0, 0x41], None)?;
-    receives(link, &[2, 0xF0, 0x80, 0x42], Some(b"AB"))?;
-    receives(link, &[2, 0xF0, 0x80, 0x43], Some(b"C"))
-}
+const RECEIVED: [Step; 3] = [
+    Step::Receive(&[2, 0xF0, 0, 0x41], None),
+    Step::Receive(&[2, 0xF0, 0x80, 0x42], Some(b"AB")),
+    Step::Receive(&[2, 0xF0, 0x80, 0x43], Some(b"C")),
+];
 
 #[test]
 fn a_unit_that_ends_a_tsdu_hands_it_out(rt: HostRuntime) -> Result<(), Fail> {
-    two_are_received(&mut Class0::new(rt.alloc(), None))
+    class_0_does(&rt, None, &RECEIVED)
 }
 
 const PARTS: [Step; 6] = [
@@ -181,19 +312,12 @@ const PARTS: [Step; 6] = [
 
 #[test]
 fn a_tsdu_is_cut_at_the_size(rt: HostRuntime) -> Result<(), Fail> {
-    goes(&mut Class0::new(rt.alloc(), SizeCode::new(7)), &PARTS)
+    class_0_does(&rt, SizeCode::new(7), &PARTS)
 }
 
-/// A TSDU of 126 octets and an empty one.
-fn two(alloc: Global) -> Result<Vec<Vec<u8>>, Fail> {
-    let mut tsdus = Vec::new(alloc);
-    for octets in [126, 0] {
-        tsdus.push(vec![in alloc; 0x5a; octets]?)?;
-    }
-    Ok(tsdus)
-}
-
-const LIST: [Step; 5] = [
+const LIST: [Step; 7] = [
+    Step::Send(b"A"),
+    Step::SendTwo,
     Step::Give(Given::Part {
         end: true,
         count: 1,
@@ -213,64 +337,31 @@ const LIST: [Step; 5] = [
     Step::Give(Given::Nothing),
 ];
 
-fn a_list_goes_on(link: &mut impl Link, tsdus: &[Vec<u8>]) -> Result<(), Fail> {
-    sends(link, b"A")?;
-    link.send_tsdus(tsdus)?;
-    goes(link, &LIST)
-}
-
 #[test]
 fn tsdus_are_handed_in_together(rt: HostRuntime) -> Result<(), Fail> {
-    let tsdus = two(rt.alloc())?;
-    a_list_goes_on(
-        &mut Class0::new(rt.alloc(), SizeCode::new(7)),
-        tsdus.as_slice(),
-    )
+    class_0_does(&rt, SizeCode::new(7), &LIST)
 }
 
-const EDGE: [Step; 3] = [
+/// Fifteen TSDUs of an octet each are sent at once, and no more.
+const EDGE: [Step; 6] = [
     Step::Take(&[4, 0x62, 0, 1, 0], Some(LinkFault::CreditReduced)),
     Step::Take(&[4, 0x63, 0, 1, 1], Some(LinkFault::OutOfSequence)),
     Step::Take(&[4, 0x6F, 0, 1, 0], None),
+    Step::SendEach(15),
+    Step::Send(b"A"),
+    Step::Give(Given::Nothing),
 ];
-
-/// Fifteen TSDUs of an octet each are sent at once, and no more.
-fn fifteen_go_out(link: &mut impl Link) -> Result<(), Fail> {
-    for number in 0..15u8 {
-        let data = Given::Data {
-            number,
-            end: true,
-            count: 1,
-        };
-        goes(link, &[Step::Send(b"A"), Step::Give(data)])?;
-    }
-    goes(link, &[Step::Send(b"A"), Step::Give(Given::Nothing)])
-}
-
-fn credit_goes_on(link: &mut impl Link) -> Result<(), Fail> {
-    goes(link, &EDGE)?;
-    fifteen_go_out(link)
-}
 
 #[test]
 fn an_ack_sets_the_upper_edge(rt: HostRuntime) -> Result<(), Fail> {
     assert!(rt; Credit::new(16).is_none());
-    credit_goes_on(&mut class_2(&rt, SizeCode::new(7), 4, 3)?)
+    class_2_does(&rt, SizeCode::new(7), 4, 3, &EDGE)
 }
 
-/// One unit is sent and no other, and it is acknowledged.
-fn a_unit_passes(link: &mut impl Link, number: u8) -> Result<(), Fail> {
-    let data = Given::Data {
-        number,
-        end: false,
-        count: 123,
-    };
-    goes(link, &[Step::Give(data), Step::Give(Given::Nothing)])?;
-    let ack = [4, 0x61, 0, 1, number.wrapping_add(1) % 128];
-    takes(link, &only_unit(&ack)?, None)
-}
-
-const LAST: [Step; 3] = [
+/// 129 units pass, so that numbers wrap around, and then the last one.
+const NUMBERS: [Step; 5] = [
+    Step::SendLong(15_868),
+    Step::GiveEach(129),
     Step::Give(Given::Data {
         number: 1,
         end: true,
@@ -280,18 +371,9 @@ const LAST: [Step; 3] = [
     Step::Give(Given::Nothing),
 ];
 
-/// 129 units pass, so that numbers wrap around, and then the last one.
-fn numbers_go_on(link: &mut impl Link, tsdu: &[u8]) -> Result<(), Fail> {
-    sends(link, tsdu)?;
-    for unit in 0..129u8 {
-        a_unit_passes(link, unit % 128)?;
-    }
-    goes(link, &LAST)
-}
-
 #[test]
 fn numbers_go_round(rt: HostRuntime) -> Result<(), Fail> {
-    numbers_go_on(&mut class_2(&rt, SizeCode::new(7), 1, 1)?, &[0x5a; 15_868])
+    class_2_does(&rt, SizeCode::new(7), 1, 1, &NUMBERS)
 }
 
 const WINDOW: [Step; 9] = [
@@ -314,89 +396,39 @@ const WINDOW: [Step; 9] = [
 
 #[test]
 fn each_unit_taken_gives_one_ack(rt: HostRuntime) -> Result<(), Fail> {
-    goes(&mut AnyLink::Two(class_2(&rt, None, 2, 0)?), &WINDOW)
+    any_does(&rt, true, &WINDOW)
 }
 
 /// A unit completes a TSDU, and is acknowledged.
-fn one_is_received(link: &mut impl Link) -> Result<(), Fail> {
-    receives(link, &[4, 0xF0, 0, 1, 0x80, 0x41], Some(b"A"))?;
-    gives(
-        link,
-        Given::Ack {
-            number: 1,
-            credit: 2,
-        },
-    )
-}
+const RECEIVED_AND_ANSWERED: [Step; 2] = [
+    Step::Receive(&[4, 0xF0, 0, 1, 0x80, 0x41], Some(b"A")),
+    Step::Give(Given::Ack {
+        number: 1,
+        credit: 2,
+    }),
+];
 
 #[test]
 fn a_unit_of_class_2_hands_out_its_tsdu(rt: HostRuntime) -> Result<(), Fail> {
-    one_is_received(&mut AnyLink::Two(class_2(&rt, None, 2, 0)?))
-}
-
-/// Each unit is answered by the number after its own, and credit for one more.
-fn five_are_answered(link: &mut impl Link) -> Result<(), Fail> {
-    for number in 0..5u8 {
-        takes(
-            link,
-            &only_unit(&[4, 0xF0, 0, 1, 0x80 | number, 0x41])?,
-            None,
-        )?;
-        gives(
-            link,
-            Given::Ack {
-                number: number + 1,
-                credit: 1,
-            },
-        )?;
-    }
-    Ok(())
+    any_does(&rt, true, &RECEIVED_AND_ANSWERED)
 }
 
 #[test]
 fn the_fifth_unit_of_a_window_of_1_is_answered_by_number_5(rt: HostRuntime) -> Result<(), Fail> {
-    five_are_answered(&mut class_2(&rt, None, 1, 0)?)
+    class_2_does(&rt, None, 1, 0, &[Step::TakeEach(5)])
 }
-
-/// A DT of class 0 that does not end its TSDU.
-fn data(user: &[u8]) -> Tpdu<'_> {
-    Tpdu::Dt0(DataClass0 { end: false, user })
-}
-
-/// The longest TSDU.
-fn longest(alloc: Global) -> Result<Vec<u8>, Fail> {
-    let tsdu = vec![in alloc; 0x5a; LONGEST_TSDU]?;
-    Ok(tsdu)
-}
-
-/// A link takes 16 units of 65,528 octets and one of 128.
-fn takes_longest(link: &mut impl Link, longest: &[u8]) -> Result<(), Fail> {
-    let (part, _) = longest.split_at_checked(65_528).ok_or("octets")?;
-    for _ in 0..16u8 {
-        takes(link, &data(part), None)?;
-    }
-    takes(link, &data(&[0x5a; 128]), None)
-}
-
-const TOO_LONG: [Step; 2] = [
-    Step::Take(&[2, 0xF0, 0x80, 0x41], Some(LinkFault::TsduTooLong)),
-    Step::Take(&[2, 0xF0, 0x80], None),
-];
 
 /// A link takes no more than the longest TSDU.
-fn longest_goes_on(link: &mut impl Link, longest: &[u8]) -> Result<(), Fail> {
-    takes_longest(link, longest)?;
-    goes(link, &TOO_LONG)?;
-    hands_out(link, Some(longest))
-}
+const LONGEST: [Step; 4] = [
+    Step::TakeLong,
+    Step::Take(&[2, 0xF0, 0x80, 0x41], Some(LinkFault::TsduTooLong)),
+    Step::Take(&[2, 0xF0, 0x80], None),
+    Step::HandOutLongest,
+];
 
 #[test]
 fn a_tsdu_has_at_most_1048576_octets(rt: HostRuntime) -> Result<(), Fail> {
-    let longest = longest(rt.alloc())?;
-    longest_goes_on(
-        &mut AnyLink::Zero(Class0::new(rt.alloc(), None)),
-        longest.as_slice(),
-    )
+    any_does(&rt, false, &LONGEST)
 }
 
 /// Two links.
@@ -477,33 +509,48 @@ fn all_go_over(ends: &mut Ends, alloc: Global, longest: &[u8]) -> Result<(), Fai
     two_go_over(ends, longest)
 }
 
-fn class_0_ends(alloc: Global) -> Ends {
+fn class_0_ends(alloc: Global, size: Option<SizeCode>) -> Ends {
     Ends {
-        from: AnyLink::Zero(Class0::new(alloc, SizeCode::new(13))),
-        to: AnyLink::Zero(Class0::new(alloc, SizeCode::new(13))),
+        from: AnyLink::Zero(Class0::new(alloc, size)),
+        to: AnyLink::Zero(Class0::new(alloc, size)),
     }
+}
+
+fn class_2_ends(alloc: Global, size: Option<SizeCode>) -> Result<Ends, Fail> {
+    let window = Window::new(15).ok_or("window")?;
+    let credit = Credit::new(15).ok_or("credit")?;
+    Ok(Ends {
+        from: AnyLink::Two(Class2::new(alloc, size, window, credit)),
+        to: AnyLink::Two(Class2::new(alloc, size, window, credit)),
+    })
+}
+
+fn two_ends(alloc: Global, is_class_2: bool) -> Result<Ends, Fail> {
+    if is_class_2 {
+        class_2_ends(alloc, SizeCode::new(13))
+    } else {
+        Ok(class_0_ends(alloc, SizeCode::new(13)))
+    }
+}
+
+fn longest_goes_over(alloc: Global, is_class_2: bool, longest: &[u8]) -> Result<(), Fail> {
+    all_go_over(&mut two_ends(alloc, is_class_2)?, alloc, longest)
 }
 
 #[test]
 fn the_longest_tsdu_goes_over_class_0(rt: HostRuntime) -> Result<(), Fail> {
-    let longest = longest(rt.alloc())?;
-    all_go_over(
-        &mut class_0_ends(rt.alloc()),
+    longest_goes_over(
         rt.alloc(),
-        longest.as_slice(),
+        false,
+        octets(rt.alloc(), LONGEST_TSDU)?.as_slice(),
     )
-}
-
-fn class_2_ends(rt: &HostRuntime) -> Result<Ends, Fail> {
-    let size = SizeCode::new(13);
-    Ok(Ends {
-        from: AnyLink::Two(class_2(rt, size, 15, 15)?),
-        to: AnyLink::Two(class_2(rt, size, 15, 15)?),
-    })
 }
 
 #[test]
 fn the_longest_tsdu_goes_over_class_2(rt: HostRuntime) -> Result<(), Fail> {
-    let longest = longest(rt.alloc())?;
-    all_go_over(&mut class_2_ends(&rt)?, rt.alloc(), longest.as_slice())
+    longest_goes_over(
+        rt.alloc(),
+        true,
+        octets(rt.alloc(), LONGEST_TSDU)?.as_slice(),
+    )
 }

@@ -197,8 +197,21 @@ fn goes_on(alloc: Global, trace: &mut Trace) -> Result<(), Fail> {
     Ok(())
 }
 
+/// A fresh trace of lines, or of counters alone.
+fn trace(alloc: Global, has_lines: bool) -> Trace {
+    if has_lines {
+        Trace::lines(alloc)
+    } else {
+        Trace::counters(alloc)
+    }
+}
+
+fn trace_goes_on(alloc: Global, has_lines: bool) -> Result<(), Fail> {
+    goes_on(alloc, &mut trace(alloc, has_lines))
+}
+
 #[test]
 fn a_trace_goes_on_within_its_bounds(rt: HostRuntime) -> Result<(), Fail> {
-    goes_on(rt.alloc(), &mut Trace::lines(rt.alloc()))?;
-    goes_on(rt.alloc(), &mut Trace::counters(rt.alloc()))
+    trace_goes_on(rt.alloc(), true)?;
+    trace_goes_on(rt.alloc(), false)
 }

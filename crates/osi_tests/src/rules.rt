@@ -2,6 +2,7 @@
 
 use crate::transport_units::only_unit;
 use osi_rules::{Direction, Finding, Rule, Traffic};
+use std::alloc::Global;
 use std::test::Fail;
 
 /// What passes.
@@ -259,10 +260,15 @@ const ROWS: [&[Step]; 17] = [
     &CALLED_ASKS,
 ];
 
+/// What passes on a fresh byte connection, which this function owns.
+fn row_goes(alloc: Global, steps: &[Step]) -> Result<(), Fail> {
+    goes(&mut Traffic::new(alloc), steps)
+}
+
 #[test]
 fn units_are_found_right_or_broken(rt: HostRuntime) -> Result<(), Fail> {
     for steps in ROWS {
-        goes(&mut Traffic::new(rt.alloc()), steps)?;
+        row_goes(rt.alloc(), steps)?;
     }
     Ok(())
 }

@@ -79,19 +79,23 @@ fn is_its_own(out: &mut BytesMut, octets: &[u8]) -> Result<(), Fail> {
     has_unit(out.as_slice(), &unit)
 }
 
-fn each_is_its_own(alloc: Global) -> Result<(), Fail> {
-    for octets in WRITTEN {
-        is_its_own(&mut BytesMut::new(alloc), octets)?;
-    }
-    Ok(())
+fn comes_back(alloc: Global, octets: &[u8]) -> Result<(), Fail> {
+    is_its_own(&mut BytesMut::new(alloc), octets)
+}
+
+/// A DT of class 0 of the greatest length.
+fn longest(alloc: Global) -> Result<Vec<u8>, Fail> {
+    let mut longest = vec![in alloc; 0x5A; 65_531]?;
+    longest[..3].copy_from_slice(&[0x02, 0xF0, 0x80]);
+    Ok(longest)
 }
 
 #[test]
 fn written_units_come_back(rt: HostRuntime) -> Result<(), Fail> {
-    each_is_its_own(rt.alloc())?;
-    let mut longest = vec![in rt.alloc(); 0x5A; 65_531]?;
-    longest[..3].copy_from_slice(&[0x02, 0xF0, 0x80]);
-    is_its_own(&mut BytesMut::new(rt.alloc()), longest.as_slice())
+    for octets in WRITTEN {
+        comes_back(rt.alloc(), octets)?;
+    }
+    comes_back(rt.alloc(), longest(rt.alloc())?.as_slice())
 }
 
 /// DST-REF 1234, then C6, an unknown parameter, C0, C7 and two octets of user data.

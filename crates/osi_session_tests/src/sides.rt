@@ -2,6 +2,7 @@
 //! TSDU arrives before the next is sent.
 
 use osi_judge::{Finding, Side};
+use std::alloc::Global;
 use std::test::Fail;
 
 /// A CN: units 00B9, serial 1, each token for the asker.
@@ -276,36 +277,13 @@ fn is_found(side: &Side, wanted: Finding) -> Result<(), Fail> {
     Ok(())
 }
 
-fn caller(rt: &HostRuntime) -> Result<Side, Fail> {
-    Ok(Side::caller(rt.alloc())?)
-}
-
-fn called(rt: &HostRuntime) -> Result<Side, Fail> {
-    Ok(Side::called(rt.alloc())?)
-}
-
-fn judged(rt: &HostRuntime, run: &Run) -> Result<(), Fail> {
-    judged_with(rt, &mut caller(rt)?, run)
-}
-
-fn judged_with(rt: &HostRuntime, left: &mut Side, run: &Run) -> Result<(), Fail> {
-    judged_between(left, &mut called(rt)?, run)
-}
-
-fn judged_between(left: &mut Side, right: &mut Side, run: &Run) -> Result<(), Fail> {
+/// What passes between two sides.
+fn passes_all(left: &mut Side, right: &mut Side, run: &Run) -> Result<(), Fail> {
     for (who, tsdu) in run.0 {
         passes(left, right, *who, *tsdu)?;
     }
     is_found(left, run.1)?;
     is_found(right, run.2)
-}
-
-#[test]
-fn who_says_what_no_session_could_is_found(rt: HostRuntime) -> Result<(), Fail> {
-    for run in RUNS {
-        judged(&rt, run)?;
-    }
-    Ok(())
 }
 
 /// Data with other octets, and with more of them.
@@ -339,10 +317,50 @@ fn is_kept(side: &mut Side, tsdus: &[&[u8]], wanted: usize) -> Result<(), Fail> 
     Ok(())
 }
 
+/// What a calling side is judged by: a run, or TSDUs in a row that it is sent, and how many of them are kept.
+#[derive(Clone, Copy)]
+enum Case<'a> {
+    Run(&'a Run),
+    Row(&'a [&'a [u8]], usize),
+}
+
+fn called(alloc: Global) -> Result<Side, Fail> {
+    Ok(Side::called(alloc)?)
+}
+
+/// This function owns the called side.
+fn run_with(alloc: Global, left: &mut Side, run: &Run) -> Result<(), Fail> {
+    passes_all(left, &mut called(alloc)?, run)
+}
+
+fn is_judged(alloc: Global, left: &mut Side, what: Case) -> Result<(), Fail> {
+    match what {
+        Case::Run(run) => run_with(alloc, left, run),
+        Case::Row(tsdus, wanted) => is_kept(left, tsdus, wanted),
+    }
+}
+
+fn caller(alloc: Global) -> Result<Side, Fail> {
+    Ok(Side::caller(alloc)?)
+}
+
+/// This function owns the calling side.
+fn judged(alloc: Global, what: Case) -> Result<(), Fail> {
+    is_judged(alloc, &mut caller(alloc)?, what)
+}
+
+#[test]
+fn who_says_what_no_session_could_is_found(rt: HostRuntime) -> Result<(), Fail> {
+    for run in RUNS {
+        judged(rt.alloc(), Case::Run(run))?;
+    }
+    Ok(())
+}
+
 #[test]
 fn what_differs_in_user_data_alone_is_kept_once(rt: HostRuntime) -> Result<(), Fail> {
     for (tsdus, wanted) in ROWS {
-        is_kept(&mut caller(&rt)?, *tsdus, *wanted)?;
+        judged(rt.alloc(), Case::Row(*tsdus, *wanted))?;
     }
     Ok(())
 }

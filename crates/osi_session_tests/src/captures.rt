@@ -2,6 +2,7 @@
 //! and octet by octet.
 
 use osi_judge::{Direction, Finding, Judge, Stop};
+use std::alloc::Global;
 use std::test::Fail;
 
 /// A CR for class 0 with the reference 1.
@@ -233,15 +234,6 @@ fn is_found(judge: &Judge, capture: &Capture) -> Result<(), Fail> {
     Ok(())
 }
 
-fn judge(rt: &HostRuntime) -> Result<Judge, Fail> {
-    Ok(Judge::new(rt.alloc())?)
-}
-
-fn judged(rt: &HostRuntime, capture: &Capture) -> Result<(), Fail> {
-    is_judged_whole(&mut judge(rt)?, capture)?;
-    is_judged_each(&mut judge(rt)?, capture)
-}
-
 /// Fed piece by piece.
 fn is_judged_whole(judge: &mut Judge, capture: &Capture) -> Result<(), Fail> {
     for (direction, octets) in capture.pieces {
@@ -256,14 +248,6 @@ fn is_judged_each(judge: &mut Judge, capture: &Capture) -> Result<(), Fail> {
         feed_each(judge, *direction, *octets)?;
     }
     is_found(judge, capture)
-}
-
-#[test]
-fn a_capture_is_judged_in_any_pieces(rt: HostRuntime) -> Result<(), Fail> {
-    for capture in CAPTURES {
-        judged(&rt, capture)?;
-    }
-    Ok(())
 }
 
 /// The header of a DT of 65,528 octets that does not end its TSDU.
@@ -318,8 +302,45 @@ fn a_long_capture_goes_on(judge: &mut Judge, octets: &[u8]) -> Result<(), Fail> 
     is_kept(judge, 1002)
 }
 
+/// What a judge is fed.
+#[derive(Clone, Copy)]
+enum Fed<'a> {
+    /// A capture, in the pieces given.
+    Whole(&'a Capture),
+    /// A capture, octet by octet.
+    Each(&'a Capture),
+    /// A long capture; the octets are 65,528.
+    Long(&'a [u8]),
+}
+
+fn is_judged(judge: &mut Judge, fed: Fed) -> Result<(), Fail> {
+    match fed {
+        Fed::Whole(capture) => is_judged_whole(judge, capture),
+        Fed::Each(capture) => is_judged_each(judge, capture),
+        Fed::Long(octets) => a_long_capture_goes_on(judge, octets),
+    }
+}
+
+fn judge(alloc: Global) -> Result<Judge, Fail> {
+    Ok(Judge::new(alloc)?)
+}
+
+/// What a fresh judge finds. This function owns it.
+fn judged(alloc: Global, fed: Fed) -> Result<(), Fail> {
+    is_judged(&mut judge(alloc)?, fed)
+}
+
+#[test]
+fn a_capture_is_judged_in_any_pieces(rt: HostRuntime) -> Result<(), Fail> {
+    for capture in CAPTURES {
+        judged(rt.alloc(), Fed::Whole(capture))?;
+        judged(rt.alloc(), Fed::Each(capture))?;
+    }
+    Ok(())
+}
+
 #[test]
 fn a_long_capture_is_judged(rt: HostRuntime) -> Result<(), Fail> {
     let octets = vec![in rt.alloc(); 0x5A; 65_528]?;
-    a_long_capture_goes_on(&mut judge(&rt)?, octets.as_slice())
+    judged(rt.alloc(), Fed::Long(octets.as_slice()))
 }

@@ -1,0 +1,21 @@
+//! Tests over the public items of sessions, of whole ends and of judges: cases that no file of `osi_runs` shows, and
+//! that calls succeed if memory is ample.
+//!
+//! The head of `osi_tests`, which has the tests of what is below a session, says what belongs here and what into a file of
+//! `osi_runs`. A session, a judge or a side of one has many parts. Each is owned by one function of its module, with one
+//! way out, and all others borrow it: so it is dropped in one place. The modules:
+//!
+//! - `sessions`: plans, the greatest lengths of user data, a first part that is too long;
+//! - `sides`, `captures`: which side first broke the protocol; a long capture;
+//! - `stacks`: a selector that is too long, a called end that asks for a connection, two connections distinguished by
+//!   the address they ask for, one of which is given up.
+#![tactic(auto)]
+
+#[cfg(test)]
+mod captures;
+#[cfg(test)]
+mod sessions;
+#[cfg(test)]
+mod sides;
+#[cfg(test)]
+mod stacks;
