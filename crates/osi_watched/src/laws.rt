@@ -157,8 +157,9 @@ pub fn connections_have_the_same_places()
 /// pieces of whatever octets arrive, any calls of its user, any shortage of memory, any number of connections, whatever classes it offers.
 /// Take any capture of it, at a tap anywhere between it and the other side ([`IsSeen`]). The first break of all, of transport or of a
 /// session, is of the other side, if there is one, be the end the called one (`called`) or the calling one (`calling`): no moment of the
-/// capture before it has a break ([`IsFirstOf`]). If both ends are of this library, there is none (`both`). So a tap that was fed the
-/// capture, and has judged it, never tells such an end as the first (`called_at_a_tap`, `calling_at_a_tap`, `both_at_a_tap`).
+/// capture before it has a break ([`IsFirstOf`]). If both ends are of this library, there is none (`both`). So a tap without a bound
+/// ([`IsFed`]) that was fed the capture, and has judged it, never tells such an end as the first (`called_at_a_tap`,
+/// `calling_at_a_tap`, `both_at_a_tap`).
 ///
 /// As long as no break of transport has passed, no session of the end is to blame for what has passed, on any of its connections, open or
 /// over, whatever sessions of the other side have done (`called_nowhere`, `calling_nowhere`).
@@ -167,6 +168,7 @@ pub fn connections_have_the_same_places()
 ///
 /// [`IsSeen`]: ../../osi_honest/specs/Seeing.antt
 /// [`IsFirstOf`]: ../../osi_tap/specs/Blaming.antt
+/// [`IsFed`]: ../../osi_tap/specs/Standing.antt
 pub fn no_session_of_an_end_is_blamed_first()
     ensures called { (local : Local) (begin end : Holding) (turns : List Turn) (capture : Capture) (f : First) →
         IsFresh false local begin → Run begin turns end → AreOctets capture → IsSeen Direction.Right turns capture →
