@@ -9,7 +9,7 @@ import tempfile
 import unittest
 from unittest import mock
 
-from ladders import judged, script, test_judged
+from ladders import script, tapped, test_judged
 
 from . import program
 from .test_judging import DISPUTES, LAST
@@ -37,7 +37,7 @@ class Rows:
 
     def of(self, name):
         """The segments of a dispute."""
-        return [self.row(piece.side, piece.octets) for piece in judged.read(test_judged.stored(name)[0])]
+        return [self.row(piece.side, piece.octets) for piece in tapped.read(test_judged.stored(name)[0])]
 
 
 class Watching(unittest.TestCase):
@@ -184,7 +184,7 @@ class ByLibrary(unittest.TestCase):
 
     def test_a_stream_that_is_too_long_is_watched_no_further(self):
         rows = Rows()
-        opening = [rows.row(piece.side, piece.octets) for piece in judged.read(test_judged.stored("restart")[0])[:4]]
+        opening = [rows.row(piece.side, piece.octets) for piece in tapped.read(test_judged.stored("restart")[0])[:4]]
         much = bytes.fromhex("0300c35002f08001000100") + bytes(50000 - 11)
         self.assertEqual(self.printed(*opening, *(rows.row("left", much) for _ in range(3))), "")
         said = "not judged further: more passed than a judge of the library keeps"
