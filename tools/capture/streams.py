@@ -5,7 +5,7 @@ comes twice counts once. Octets that the capture doesn't have leave a gap, and a
 """
 SPACE = 2 ** 32
 SIDES = ("left", "right")
-CONNECT_REQUEST = 0xE0
+CONNECT_REQUEST, CONNECT_CONFIRM = 0xE0, 0xD0
 # A direction in which nothing was sent counts as one that begins with a packet.
 FRONT = b"\3\0\0\7"
 
@@ -129,9 +129,14 @@ def is_packet(octets):
     return len(octets) >= 4 and octets[0] == 3 and int.from_bytes(octets[2:4], "big") >= 7
 
 
-def is_connect_request(octets):
-    """Whether octets begin with a CR in a TPKT packet."""
-    return len(octets) > 5 and is_packet(octets) and octets[5] & 0xF0 == CONNECT_REQUEST
+def is_connect_request(octets, code=CONNECT_REQUEST):
+    """Whether octets begin with a CR in a TPKT packet, or with another unit that has this code."""
+    return len(octets) > 5 and is_packet(octets) and octets[5] & 0xF0 == code
+
+
+def is_connect_confirm(octets):
+    """Whether octets begin with a CC in a TPKT packet."""
+    return is_connect_request(octets, CONNECT_CONFIRM)
 
 
 def joined(segments):

@@ -8,10 +8,8 @@ import re
 
 from ladders import tapped
 
-from .streams import SIDES, Piece
+from .streams import SIDES, Piece, is_connect_confirm
 from .tshark import BadInput
-
-CONNECT_CONFIRM = 0xD0
 
 
 class Text:
@@ -60,8 +58,8 @@ def of_sides(name):
 
 def side_of(name, parts):
     """The side of a text that has one: the right one if its name says so, or if it begins with a CC."""
-    octets = b"".join(octets for _, _, _, octets in parts)[:6]
-    return SIDES[name.endswith((".right", ".right.hex")) or (len(octets) == 6 and octets[5] & 0xF0 == CONNECT_CONFIRM)]
+    octets = b"".join(octets for _, _, _, octets in parts)
+    return SIDES[name.endswith((".right", ".right.hex")) or is_connect_confirm(octets)]
 
 
 def is_text(path):

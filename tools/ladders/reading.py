@@ -36,9 +36,10 @@ def by_name(name, port, stream):
 
 
 def by_caller(pieces):
-    """The pieces with the caller at the left, if one side alone begins with a CR."""
-    calls = {side: streams.is_connect_request(tapped.octets_of(pieces, side)) for side in SIDES}
-    return turned(pieces) if calls["right"] and not calls["left"] else pieces
+    """The pieces with the caller at the left: the side that alone begins with a CR, or the other one of that which begins with a CC."""
+    left, right = (tapped.octets_of(pieces, side) for side in SIDES)
+    is_turned = streams.is_connect_request(right) and not streams.is_connect_request(left)
+    return turned(pieces) if is_turned or (streams.is_connect_confirm(left) and not right) else pieces
 
 
 def by_first(pieces):

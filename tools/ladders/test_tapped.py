@@ -187,6 +187,8 @@ class Files(Room):
         pieces = [tapped.Piece("left", b"\3\0\0\7\2\xf0\x80"), tapped.Piece("right", bytes.fromhex("0300000e09e00000000100c0010a"))]
         self.assertEqual([piece.side for piece in reading.by_caller(pieces)], ["right", "left"])
         self.assertEqual(reading.by_caller(pieces[:1]), pieces[:1])
+        answer_alone = [tapped.Piece("left", bytes.fromhex("0300000e09d00001000100c0010a"))]
+        self.assertEqual([piece.side for piece in reading.by_caller(answer_alone)], ["right"])
 
     def test_a_part_of_the_packets(self):
         rows = self.rows(RESTART + ".follow", "--from", "3", "--to", "5")
