@@ -14,6 +14,10 @@ from ladders import script, tapped, test_judged
 from . import program
 from .test_judging import DISPUTES, LAST
 
+# The package for Python over the library that `make lib` built, if it did.
+if os.path.exists(os.path.join(script.TOP, "build", "libosi-session.so")):
+    sys.path.insert(0, os.path.join(script.TOP, "bindings", "python", "src"))
+    os.environ.setdefault("OSI_SESSION_DIR", os.path.join(script.TOP, "build"))
 SOURCE = importlib.util.spec_from_file_location("watch", os.path.join(script.TOP, "examples", "watch.py"))
 watch = importlib.util.module_from_spec(SOURCE)
 SOURCE.loader.exec_module(watch)
@@ -190,7 +194,6 @@ class ByLibrary(unittest.TestCase):
         said = "not judged further: more passed than a judge of the library keeps"
         self.assertEqual(self.printed(rows.row("left", much)), f"{NAME}: {said}\n")
 
-
     def test_connections_of_class_2_are_watched_on_after_a_break(self):
         """Two connections of class 2; on the second, right sends data without the token."""
         rows, told = Rows(), ""
@@ -203,7 +206,7 @@ class ByLibrary(unittest.TestCase):
                 told += self.printed(rows.row(side, bytes.fromhex(octets)))
         self.assertEqual(told, "")
         told = self.printed(rows.row("right", bytes.fromhex("0300001104f00003810100010064617461")))
-        said = "connection 1 (3, 4): right broke the protocol, in its packet 92: DT TOKEN_NOT_HELD"
+        said = "connection 1: right 4 broke packet 92 Data TokenNotHeld"
         self.assertEqual(told, f"{NAME}: frame 9, 1.000000 seconds: {said}\n")
         self.assertEqual(self.printed(rows.row("left", bytes.fromhex("0300001104f00002810100010064617461")), is_end=True), "")
         self.assertEqual(self.watching.status(), 1)
