@@ -191,7 +191,7 @@ class Watch:
     def take(self, values):
         """Takes what tshark printed of a segment."""
         segment = tshark.Segment(values)
-        has_gap, closes, resets = (value in ("1", "True") for value in values[len(tshark.FIELDS):])
+        has_gap, closes, resets = (value in tshark.YES for value in values[len(tshark.FIELDS):])
         ends = segment.source, segment.target
         if segment.stream in self.told or self.port not in (segment.source[1], segment.target[1]):
             return
@@ -287,7 +287,7 @@ def main():
     if not shutil.which("tshark"):
         print("watch: there is no tshark (Debian has it in the package tshark)", file=sys.stderr)
         return 2
-    source = ["-i", asked.interface, "-f", f"tcp port {asked.port}"] if asked.interface else ["-r", asked.file, "-Y", "tcp"]
+    source = ["-i", asked.interface, "-f", f"tcp port {asked.port}"] if asked.interface else ["-r", asked.file, "-Y", tshark.TCP]
     command = ["tshark", "-n", "-l", "-T", "fields", "-E", "separator=/t", "-E", "occurrence=f", *source,
                "-o", "tcp.desegment_tcp_streams:FALSE", *(word for field in tshark.FIELDS + CLOSING for word in ("-e", field))]
     if asked.by == "library" and not library():

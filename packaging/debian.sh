@@ -58,7 +58,7 @@ take() {
 
 # The functions of the shared library, each with the version of this one: a package that links it depends on no newer one.
 symbols() {
-    printf 'libosi-session.so.%s libosi-session%s #MINVER#\n' "$abi" "$abi"
+    printf 'libosi-session.so.%s libosi-session%s #MINVER#\n* Build-Depends-Package: libosi-session-dev\n' "$abi" "$abi"
     nm -D --defined-only "$room/libosi-session$abi$libdir/libosi-session.so.$version" | awk '{ print $3 }' | sed 's/@@/@/' | sort |
         sed -n "/^LIBOSI_SESSION_$abi\(@.*\)\?$/! s/^\(.*\)$/ \1 $version/p; 1i\\ LIBOSI_SESSION_$abi@LIBOSI_SESSION_$abi $version"
 }

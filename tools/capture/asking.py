@@ -25,7 +25,7 @@ def status_of(name, run):
         sys.stdout.flush()
         return status
     except BadInput as error:
-        print(f"{name}: {error}", file=sys.stderr)
+        print(f"{name}: {' '.join(str(error).split())}", file=sys.stderr)
         return 2
     except OSError as error:
         # A reader that has enough closes the pipe, and need not be told.
@@ -37,11 +37,11 @@ def status_of(name, run):
         return 130
 
 
-def found_in(asked):
-    """The streams with TPKT of the capture that was asked for."""
-    found = streams.with_packets(streams.joined(tshark.segments(asked.file)), asked.port)
+def found_in(name, port):
+    """The streams with TPKT of a capture."""
+    found = streams.with_packets(streams.joined(tshark.segments(name)), port)
     if not found:
-        raise BadInput(f"{asked.file}: no TCP stream carries TPKT (--port N names another port than {asked.port})")
+        raise BadInput(f"{name}: no TCP stream carries TPKT (--port N names another port than {port})")
     return found
 
 
@@ -50,18 +50,23 @@ def named(end):
     return f"{end[0]}:{end[1]}" if "." in end[0] else f"[{end[0]}]:{end[1]}"
 
 
-def chosen(asked):
-    """The stream that the options name, or the only one that can be read whole."""
-    found = found_in(asked)
-    if asked.stream is not None:
-        found = [stream for stream in found if stream.number == asked.stream]
-        if not found:
-            raise BadInput(f"{asked.file}: stream {asked.stream} carries no TPKT")
+def found_by(name, port, number):
+    """The streams with TPKT of a capture; only the one with this number, if it is not None."""
+    found = found_in(name, port)
+    wanted = [stream for stream in found if number in (None, stream.number)]
+    if not wanted:
+        raise BadInput(f"{name}: stream {number} carries no TPKT")
+    return wanted
+
+
+def chosen(name, port, number):
+    """The stream with a number, or if that is None the only one that can be read whole."""
+    found = found_by(name, port, number)
     whole = [stream for stream in found if not stream.why_not()]
     if not whole:
-        raise BadInput(f"{asked.file}: stream {found[0].number}: {found[0].why_not()}")
+        raise BadInput(f"{name}: stream {found[0].number}: {found[0].why_not()}")
     if len(whole) > 1:
-        raise BadInput(f"{asked.file}: name one of the streams {', '.join(str(it.number) for it in whole)} by --stream")
+        raise BadInput(f"{name}: name one of the streams {', '.join(str(it.number) for it in whole)} by --stream")
     return whole[0]
 
 

@@ -2,11 +2,11 @@
 import os
 import sys
 
-from ladders import drawing, judged, transcript, verdicts
+from ladders import drawing, judged, tapped, transcript, verdicts
 from ladders.program import Progress
 
 from . import listing, streams, texts
-from .asking import PORT, Words, found_in, named, status_of, write_all
+from .asking import PORT, Words, found_by, named, status_of, write_all
 from .streams import SIDES
 from .tshark import BadInput
 
@@ -37,14 +37,11 @@ def add_words(made):
 def streams_of(asked):
     """The streams that were asked for."""
     text = texts.read(asked.file)
+    if text is not None and not text.is_ordered:
+        raise BadInput(f"{asked.file}: there is no {asked.file}.follow, and its files don't say when octets passed")
     if text is not None:
         return [by_first(text)]
-    found = found_in(asked)
-    if asked.stream is not None:
-        found = [stream for stream in found if stream.number == asked.stream]
-        if not found:
-            raise BadInput(f"{asked.file}: stream {asked.stream} carries no TPKT")
-    return found
+    return found_by(asked.file, asked.port, asked.stream)
 
 
 def by_first(text):
@@ -76,12 +73,12 @@ class Judged:
 
     def __init__(self, stream, judge):
         self.stream = stream
-        self.pieces = [judged.Piece(side, piece.octets) for side, piece in stream.by_side()]
-        self.verdict = verdicts.printed(judge(judged.text_of(self.pieces)))
+        self.pieces = [tapped.Piece(side, piece.octets, piece.frame, piece.time) for side, piece in stream.by_side()]
+        self.verdict = verdicts.printed(judge(tapped.text_of(self.pieces)))
 
     def octets(self, side):
         """What a side sent."""
-        return b"".join(piece.octets for piece in self.pieces if piece.side == side)
+        return tapped.octets_of(self.pieces, side)
 
     def place(self):
         """The frame and the seconds at which the packet of the first break had passed; or None."""
@@ -92,11 +89,7 @@ class Judged:
         head = octets[offset:offset + 4]
         end = offset + int.from_bytes(head[2:4], "big") if streams.is_packet(head) else len(octets)
         piece = listing.Passing([piece for where, piece in self.stream.by_side() if where == side]).at(min(end, len(octets)) - 1)
-        return None if piece.time is None else (piece.frame, piece.time - self.begin())
-
-    def begin(self):
-        """The time of the first piece."""
-        return next(piece.time for _, piece in self.stream.by_side())
+        return None if piece.time is None else (piece.frame, piece.time - listing.begin(self.stream))
 
     def lines(self):
         """What is printed: what `osi judge` prints, and if a side broke the protocol the same in a sentence."""
@@ -110,14 +103,13 @@ class Judged:
     def picture(self, title, osi, progress):
         """The ladder of the stream, as SVG."""
         listings = {side: "\n".join(listing.shown(osi, self.octets(side))) if self.octets(side) else "" for side in SIDES}
-        return drawing.draw(judged.picture_of(judged.text_of(self.pieces), listings, title, judged.runner(osi, progress.running)))
+        return drawing.draw(judged.picture_of(self.pieces, listings, title, judged.runner(osi, progress.running)))
 
 
 def shown(stream, osi):
     """Both directions in their order: the frame and the seconds of each packet, its side, and its lines."""
-    found = listing.lines(stream, osi)
-    begin = next((line.time for line in found if line.time is not None), 0)
-    for line in found:
+    begin = listing.begin(stream)
+    for line in listing.lines(stream, osi):
         is_packet = line.time is not None and not line.text.startswith(" ")
         yield f"{line.frame:6} {line.time - begin:11.6f} {line.side:5} {line.text}" if is_packet else f"{'':18} {line.side:5} {line.text}"
 
@@ -161,8 +153,6 @@ def judge(asked):
     progress = Progress(sys.stderr, "judge")
     try:
         return run(asked, progress)
-    except transcript.BadInput as error:
-        raise BadInput(" ".join(str(error).split())) from None
     finally:
         progress.end()
 

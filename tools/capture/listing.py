@@ -17,12 +17,20 @@ USER_DATA = re.compile(r"    [A-Z]+ (?:.* )?19[34]=([0-9a-f]*)(?: .*)?")
 
 
 class Line:
-    """A line of a listing: its side, the frame and the time at which its packet had passed, and its user data."""
+    """A line of a listing: its side, the piece with which its packet had passed, and its user data."""
 
-    __slots__ = ("side", "frame", "time", "packet", "text", "data")
+    __slots__ = ("side", "piece", "text", "data")
 
-    def __init__(self, side, frame, time, packet, text, data=None):
-        self.side, self.frame, self.time, self.packet, self.text, self.data = side, frame, time, packet, text, data
+    def __init__(self, side, piece, text, data=None):
+        self.side, self.piece, self.text, self.data = side, piece, text, data
+
+    @property
+    def frame(self):
+        return self.piece.frame
+
+    @property
+    def time(self):
+        return self.piece.time
 
 
 def program(asked):
@@ -90,18 +98,24 @@ def lines_of(side, pieces, osi):
             start, length = int(begun.group(1)), int(begun.group(2))
             packet, piece = octets[start:start + length], passing.at(start + length - 1)
         piece = piece or pieces[-1]
-        found.append(Line(side, piece.frame, piece.time, text.startswith(" ") or begun, text, joining.take(packet, text)))
+        found.append(Line(side, piece, text, joining.take(packet, text)))
     return found
 
 
 def lines(stream, osi):
     """The lines of both directions in the order in which their packets passed."""
-    sides = {side: [] for side in SIDES}
-    for side, piece in stream.by_side():
+    sides, places = {side: [] for side in SIDES}, {}
+    for place, (side, piece) in enumerate(stream.by_side()):
         sides[side].append(piece)
+        places[piece] = place
     groups = [group for side in SIDES if sides[side] for group in by_packet(lines_of(side, sides[side], osi))]
-    groups.sort(key=lambda group: group[0].frame or 0)
+    groups.sort(key=lambda group: places[group[0].piece])
     return [line for group in groups for line in group]
+
+
+def begin(stream):
+    """The time at which the first octets passed, as far as times are known."""
+    return next((piece.time for _, piece in stream.by_side() if piece.time is not None), 0)
 
 
 def by_packet(found):

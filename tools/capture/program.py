@@ -49,7 +49,7 @@ def words():
 
 def list_streams(asked):
     """Prints a line for each stream: who called whom, and how many octets passed in each direction, or why it is left out."""
-    for stream in found_in(asked):
+    for stream in found_in(asked.file, asked.port):
         caller = stream.caller() or stream.ends[0]
         far = next(end for end in stream.ends if end != caller)
         why = stream.why_not()
@@ -59,14 +59,14 @@ def list_streams(asked):
 
 def show(asked):
     """Lists both directions in their order."""
-    stream = texts.read(asked.file) or chosen(asked)
+    stream = texts.read(asked.file) or chosen(asked.file, asked.port, asked.stream)
     found = listing.lines(stream, listing.program(asked.osi))
     if not asked.data:
-        found = [listing.Line(line.side, line.frame, line.time, line.packet, line.text) for line in found]
-    begin = next((line.time for line in found if line.time is not None), 0)
+        found = [listing.Line(line.side, line.piece, line.text) for line in found]
+    begin = listing.begin(stream)
 
     def when(line):
-        """The seconds since the first packet, for a line that begins a packet."""
+        """The seconds since the first octets, for a line that begins a packet."""
         return f"{line.time - begin:11.6f}" if line.time is not None and not line.text.startswith(" ") else " " * 11
 
     if asked.json:
@@ -91,7 +91,7 @@ def told(number, line):
 
 def data_line(line):
     """A line with the user data of another line, if it has any."""
-    return () if line.data is None else (listing.Line(line.side, line.frame, line.time, line.packet, f"      {line.data.hex()}"),)
+    return () if line.data is None else (listing.Line(line.side, line.piece, f"      {line.data.hex()}"),)
 
 
 def in_lines(octets):
@@ -102,7 +102,7 @@ def in_lines(octets):
 
 def split(asked):
     """Writes what each side sent, and both in the order in which they passed."""
-    stream = chosen(asked)
+    stream = chosen(asked.file, asked.port, asked.stream)
     texts = {side: [] for side in (*SIDES, "follow")}
     for side, piece in stream.by_side():
         note = f"# {piece.time:.6f} frame {piece.frame}"
@@ -114,7 +114,7 @@ def split(asked):
 
 def join(asked):
     """Writes a pcap of NAME.follow, or of NAME.left and NAME.right if there is none."""
-    pieces = [(time or 0.0, side, octets) for _, time, side, octets in texts.of_sides(asked.file)]
+    pieces = [(time or 0.0, side, octets) for _, time, side, octets in texts.of_sides(asked.file).parts]
     if not any(streams.is_packet(octets) for _, _, octets in pieces):
         raise BadInput(f"{asked.file}: there is no TPKT packet in it")
     write_all({asked.output: pcap.written(pieces)})

@@ -5,7 +5,7 @@ comes twice counts once. Octets that the capture doesn't have leave a gap, and a
 """
 SPACE = 2 ** 32
 SIDES = ("left", "right")
-CONNECT_REQUEST = 0xE0
+CONNECT_REQUEST, CONNECT_CONFIRM = 0xE0, 0xD0
 # A direction in which nothing was sent counts as one that begins with a packet.
 FRONT = b"\3\0\0\7"
 
@@ -19,44 +19,65 @@ class Piece:
         self.frame, self.time, self.start, self.octets = frame, time, start, octets
 
 
+def distance(first, second):
+    """How far one sequence number lies ahead of another; negative if it lies before it."""
+    return (second - first + SPACE // 2) % SPACE - SPACE // 2
+
+
 class Direction:
     """One direction of a TCP connection."""
 
     def __init__(self):
         self.next, self.count, self.waiting, self.has_first = None, 0, {}, False
+        self.heard = self.furthest = None
 
     def take(self, segment):
         """The octets that have passed with this segment, or none."""
         start = (segment.sequence + segment.is_first) % SPACE
         self.next = start if self.next is None else self.next
         self.has_first = self.has_first or segment.is_first
-        if len(segment.octets) > len(self.waiting.get(start, b"")):
+        if segment.missing:
+            self.hear(start + len(segment.octets) + segment.missing)
+        if len(segment.octets) > max(self.known(start), len(self.waiting.get(start, b""))):
             self.waiting[start] = segment.octets
-        passed = b"".join(self.in_order())
+        # If it lies ahead, nothing that waits has become the next.
+        passed = b"".join(self.in_order()) if self.known(start) >= 0 else b""
         piece = Piece(segment.frame, segment.time, self.count, passed)
         self.count += len(passed)
         return piece if passed else None
 
+    def hear(self, number):
+        """Notes that octets up to a sequence number were sent."""
+        self.heard = number if self.heard is None else self.heard
+        self.furthest = number if self.furthest is None or distance(self.furthest, number) > 0 else self.furthest
+
     def in_order(self):
         """The next octets, as far as they are there."""
         while True:
-            found = [(self.known(start), start) for start in self.waiting if 0 <= self.known(start) <= len(self.waiting[start])]
-            if not found:
+            start = self.next if self.next in self.waiting else self.overlapping()
+            if start is None:
                 return
-            known, start = max(found, key=lambda each: len(self.waiting[each[1]]) - each[0])
-            octets = self.waiting.pop(start)[known:]
+            octets = self.waiting.pop(start)[self.known(start):]
             if octets:
                 self.next = (self.next + len(octets)) % SPACE
                 yield octets
 
+    def overlapping(self):
+        """Where the octets begin that have some which passed, and reach furthest; or None."""
+        found = [start for start in self.waiting if 0 <= self.known(start) <= len(self.waiting[start])]
+        return max(found, key=lambda start: len(self.waiting[start]) - self.known(start), default=None)
+
     def known(self, start):
         """How many octets from a sequence number on have passed already; negative if it lies ahead."""
-        return (self.next - start + SPACE // 2) % SPACE - SPACE // 2
+        return distance(start, self.next)
 
     def lost(self):
-        """How many octets are missing before those that wait."""
+        """How many octets are missing before those that wait, or else before what the far end has acknowledged, or at the end of a
+        segment that was captured in part. (The end of a direction has a number too, so what is acknowledged may be one more.)"""
         ahead = [-self.known(start) for start in self.waiting if self.known(start) < 0]
-        return min(ahead, default=0)
+        if ahead or self.furthest is None:
+            return min(ahead, default=0)
+        return max(distance(self.heard if self.next is None else self.next, self.furthest), 0)
 
 
 class Stream:
@@ -67,6 +88,10 @@ class Stream:
         self.directions = {end: Direction() for end in ends}
 
     def take(self, segment):
+        if not {segment.source, segment.target} <= self.directions.keys():
+            return
+        if segment.acknowledged is not None:
+            self.directions[segment.target].hear(segment.acknowledged - 1)
         piece = self.directions[segment.source].take(segment)
         if piece:
             self.pieces.append((segment.source, piece))
@@ -104,9 +129,14 @@ def is_packet(octets):
     return len(octets) >= 4 and octets[0] == 3 and int.from_bytes(octets[2:4], "big") >= 7
 
 
-def is_connect_request(octets):
-    """Whether octets begin with a CR in a TPKT packet."""
-    return len(octets) > 5 and is_packet(octets) and octets[5] & 0xF0 == CONNECT_REQUEST
+def is_connect_request(octets, code=CONNECT_REQUEST):
+    """Whether octets begin with a CR in a TPKT packet, or with another unit that has this code."""
+    return len(octets) > 5 and is_packet(octets) and octets[5] & 0xF0 == code
+
+
+def is_connect_confirm(octets):
+    """Whether octets begin with a CC in a TPKT packet."""
+    return is_connect_request(octets, CONNECT_CONFIRM)
 
 
 def joined(segments):

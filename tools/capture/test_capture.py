@@ -264,7 +264,8 @@ class Texts(unittest.TestCase):
             self.assertEqual(found, None if wanted is None else bytes.fromhex(wanted), line)
 
     def test_columns_have_the_sides_beside_each_other(self):
-        lines = [listing.Line("left", 1, 0.0, True, "packet 0"), listing.Line("right", 2, 1.0, True, 40 * "x")]
+        lines = [listing.Line("left", streams.Piece(1, 0.0, 0, b""), "packet 0"),
+                 listing.Line("right", streams.Piece(2, 1.0, 0, b""), 40 * "x")]
         found = list(columns.rows(lines, 60, lambda line: f"{line.time:11.6f}"))
         self.assertEqual(found[1:], ["   0.000000 | packet 0              |",
                                      "   1.000000 |                       | " + 20 * "x" + "\u2026"])
@@ -344,6 +345,41 @@ class Joining(unittest.TestCase):
 
     def test_overlaps_count_once(self):
         self.assertEqual(self.taken((5, b"abcd"), (7, b"cdef"), (6, b"bc"), (11, b"g")), (b"abcdefg", 0))
+
+    def test_octets_that_passed_are_not_kept(self):
+        direction = streams.Direction()
+        for each in ((5, b"abcd"), (5, b"ab"), (3, b"xx"), (20, b"z"), (7, b"cd")):
+            direction.take(self.segment(*each))
+        self.assertEqual(direction.waiting, {20: b"z"})
+
+    def test_what_the_far_end_acknowledges_was_sent(self):
+        ends = ("a", 1), ("b", 2)
+        for acknowledged, lost in ((7, 0), (8, 0), (10, 2)):
+            stream = streams.Stream(0, ends)
+            stream.take(self.segment(5, b"ab"))
+            answer = self.segment(90, b"")
+            answer.source, answer.target, answer.acknowledged = *reversed(ends), acknowledged
+            stream.take(answer)
+            self.assertEqual(stream.directions[ends[0]].lost(), lost, acknowledged)
+
+    def test_a_direction_that_is_not_there_at_all_is_lost(self):
+        stream = streams.Stream(0, (("a", 1), ("b", 2)))
+        for sequence, acknowledged in ((5, 90), (7, 90), (9, 104)):
+            segment = self.segment(sequence, b"ab")
+            segment.acknowledged = acknowledged
+            stream.take(segment)
+        self.assertEqual([direction.lost() for direction in stream.directions.values()], [0, 14])
+
+    def test_a_segment_that_was_captured_in_part_is_lost(self):
+        direction, segment = streams.Direction(), self.segment(5, b"ab")
+        segment.missing = 3
+        direction.take(segment)
+        self.assertEqual(direction.lost(), 3)
+
+    def test_a_segment_of_another_connection_is_left_out(self):
+        stream, stray = streams.Stream(0, (("a", 1), ("c", 2))), self.segment(5, b"ab")
+        stream.take(stray)
+        self.assertEqual((stream.pieces, stream.directions["a", 1].next), ([], None))
 
     def test_a_gap_holds_back_what_comes_after_it(self):
         self.assertEqual(self.taken((5, b"ab"), (9, b"ef")), (b"ab", 2))

@@ -7,7 +7,7 @@ import tempfile
 import unittest
 from unittest import mock
 
-from ladders import judged, script, test_judged, verdicts
+from ladders import script, tapped, test_judged, verdicts
 
 from . import judging, listing, program, streams, tshark
 
@@ -117,7 +117,7 @@ class Streams(Room):
     def setUp(self):
         super().setUp()
         self.sequences = {}
-        self.found = [self.segment(*each) for each in enumerate(judged.read(test_judged.stored("restart")[0]))]
+        self.found = [self.segment(*each) for each in enumerate(tapped.read(test_judged.stored("restart")[0]))]
         patched = mock.patch.object(tshark, "segments", lambda path: iter(self.found))
         patched.start()
         self.addCleanup(patched.stop)
@@ -149,7 +149,7 @@ class Streams(Room):
         self.assertEqual((status, out.partition(" not ")[2], os.listdir(self.room.name)), (1, "judged: begins in the middle\n", []))
 
     def test_each_stream_is_judged_by_itself(self):
-        cured = judged.read(test_judged.stored("restart_cured")[0])
+        cured = tapped.read(test_judged.stored("restart_cured")[0])
         self.found += [self.segment(100 + place, piece, 5) for place, piece in enumerate(cured)]
         rows = call("run.pcap", "--pictures", self.path("pictures"))[1].splitlines()
         self.assertEqual([row.split()[1] for row in rows if row.startswith("stream ")], ["4", "5"])
@@ -159,13 +159,13 @@ class Streams(Room):
         self.assertIn("stream 6 carries no TPKT", self.refused("run.pcap", "--stream", "6"))
 
     def test_answers_that_are_no_packets_are_judged_if_the_beginning_is_there(self):
-        pieces = [judged.Piece("left", self.found[0].octets), judged.Piece("right", b"220 ready\r\n")]
+        pieces = [tapped.Piece("left", self.found[0].octets), tapped.Piece("right", b"220 ready\r\n")]
         self.sequences.clear()
         self.found = [self.segment(place, piece, 7) for place, piece in enumerate(pieces)]
         stream = streams.joined(iter(self.found))[7]
         self.assertEqual(judging.why_not(stream), "begins in the middle")
         self.sequences.clear()
-        begun = [self.segment(place, judged.Piece(side, b""), 7) for place, side in enumerate(("left", "right"))]
+        begun = [self.segment(place, tapped.Piece(side, b""), 7) for place, side in enumerate(("left", "right"))]
         for each in begun:
             each.is_first, each.sequence = True, 0
         self.assertIsNone(judging.why_not(streams.joined(iter(begun + self.found))[7]))

@@ -9,11 +9,15 @@ import tempfile
 import unittest
 from unittest import mock
 
-from ladders import judged, script, test_judged
+from ladders import script, tapped, test_judged
 
 from . import program
 from .test_judging import DISPUTES, LAST
 
+# The package for Python over the library that `make lib` built, if it did.
+if os.path.exists(os.path.join(script.TOP, "build", "libosi-session.so")):
+    sys.path.insert(0, os.path.join(script.TOP, "bindings", "python", "src"))
+    os.environ.setdefault("OSI_SESSION_DIR", os.path.join(script.TOP, "build"))
 SOURCE = importlib.util.spec_from_file_location("watch", os.path.join(script.TOP, "examples", "watch.py"))
 watch = importlib.util.module_from_spec(SOURCE)
 SOURCE.loader.exec_module(watch)
@@ -37,7 +41,7 @@ class Rows:
 
     def of(self, name):
         """The segments of a dispute."""
-        return [self.row(piece.side, piece.octets) for piece in judged.read(test_judged.stored(name)[0])]
+        return [self.row(piece.side, piece.octets) for piece in tapped.read(test_judged.stored(name)[0])]
 
 
 class Watching(unittest.TestCase):
@@ -184,12 +188,11 @@ class ByLibrary(unittest.TestCase):
 
     def test_a_stream_that_is_too_long_is_watched_no_further(self):
         rows = Rows()
-        opening = [rows.row(piece.side, piece.octets) for piece in judged.read(test_judged.stored("restart")[0])[:4]]
+        opening = [rows.row(piece.side, piece.octets) for piece in tapped.read(test_judged.stored("restart")[0])[:4]]
         much = bytes.fromhex("0300c35002f08001000100") + bytes(50000 - 11)
         self.assertEqual(self.printed(*opening, *(rows.row("left", much) for _ in range(3))), "")
         said = "not judged further: more passed than a judge of the library keeps"
         self.assertEqual(self.printed(rows.row("left", much)), f"{NAME}: {said}\n")
-
 
     def test_connections_of_class_2_are_watched_on_after_a_break(self):
         """Two connections of class 2; on the second, right sends data without the token."""
@@ -203,7 +206,7 @@ class ByLibrary(unittest.TestCase):
                 told += self.printed(rows.row(side, bytes.fromhex(octets)))
         self.assertEqual(told, "")
         told = self.printed(rows.row("right", bytes.fromhex("0300001104f00003810100010064617461")))
-        said = "connection 1 (3, 4): right broke the protocol, in its packet 92: DT TOKEN_NOT_HELD"
+        said = "connection 1: right 4 broke packet 92 Data TokenNotHeld"
         self.assertEqual(told, f"{NAME}: frame 9, 1.000000 seconds: {said}\n")
         self.assertEqual(self.printed(rows.row("left", bytes.fromhex("0300001104f00002810100010064617461")), is_end=True), "")
         self.assertEqual(self.watching.status(), 1)

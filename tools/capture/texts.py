@@ -6,20 +6,20 @@ has both sides.
 import os
 import re
 
-from .streams import SIDES, Piece
-from .tshark import BadInput
+from ladders import tapped
 
-NOTE = re.compile(r"# (\d+\.\d+) frame (\d+)")
-CONNECT_CONFIRM = 0xD0
+from .streams import SIDES, Piece, is_connect_confirm
+from .tshark import BadInput
 
 
 class Text:
-    """The pieces of a text; `by_side` gives them as a stream of a network does. Times that the text doesn't have are None."""
+    """The pieces of a text; `by_side` gives them as a stream of a network does. Times that the text doesn't have are None; and if it
+    is the texts of two sides without times, it is not known in which order they passed."""
 
     number = 0
 
-    def __init__(self, parts):
-        self.parts = parts
+    def __init__(self, parts, is_ordered=True):
+        self.parts, self.is_ordered = parts, is_ordered
 
     def by_side(self):
         counts = dict.fromkeys(SIDES, 0)
@@ -38,33 +38,28 @@ def text_of(name):
 
 def parts_of(text, name):
     """The pieces of a text: for each its frame, its time, its side and its octets."""
-    frame, time, found = None, None, []
-    for row in text.split("\n"):
-        noted = NOTE.match(row)
-        frame, time = (int(noted.group(2)), float(noted.group(1))) if noted else (frame, time)
-        digits = row.partition("#")[0]
-        side = SIDES[digits.startswith("\t")]
-        digits = re.sub(r"\s", "", digits)
-        if not re.fullmatch(r"([0-9a-fA-F]{2})*", digits):
-            raise BadInput(f"{name}: a line has something other than pairs of hexadecimal digits")
-        if digits:
-            found.append((frame, time, side, bytes.fromhex(digits)))
-    return found
+    try:
+        return [(frame, time, SIDES[tabbed], octets) for tabbed, octets, frame, time in tapped.lines_of(text)]
+    except BadInput as error:
+        raise BadInput(f"{name}: {error}") from None
 
 
 def of_sides(name):
-    """Both sides of NAME: of NAME.follow, or of NAME.left and NAME.right if there is none."""
+    """Both sides of NAME: of NAME.follow, or of NAME.left and NAME.right in the order of their times if there is none."""
     follow = f"{name}.follow"
     if os.path.exists(follow):
-        return parts_of(text_of(follow), follow)
-    return [(frame, time, side, octets) for side in SIDES
-            for frame, time, _, octets in parts_of(text_of(f"{name}.{side}"), f"{name}.{side}")]
+        return Text(parts_of(text_of(follow), follow))
+    parts = [(frame, time, side, octets) for side in SIDES
+             for frame, time, _, octets in parts_of(text_of(f"{name}.{side}"), f"{name}.{side}")]
+    if all(time is not None for _, time, _, _ in parts):
+        return Text(sorted(parts, key=lambda part: (part[1], part[0])))
+    return Text(parts, len({side for _, _, side, _ in parts}) == 1)
 
 
 def side_of(name, parts):
     """The side of a text that has one: the right one if its name says so, or if it begins with a CC."""
-    octets = b"".join(octets for _, _, _, octets in parts)[:6]
-    return SIDES[name.endswith((".right", ".right.hex")) or (len(octets) == 6 and octets[5] & 0xF0 == CONNECT_CONFIRM)]
+    octets = b"".join(octets for _, _, _, octets in parts)
+    return SIDES[name.endswith((".right", ".right.hex")) or is_connect_confirm(octets)]
 
 
 def is_text(path):
@@ -79,7 +74,7 @@ def is_text(path):
 def read(name):
     """Reads a text with one side or both, or the files of NAME that `split` wrote. None if the name is no text."""
     if not os.path.exists(name) and any(os.path.exists(f"{name}.{end}") for end in ("follow", "left")):
-        return Text(of_sides(name))
+        return of_sides(name)
     if not os.path.isfile(name) or not is_text(name):
         return None
     parts = parts_of(text_of(name), name)

@@ -2,45 +2,61 @@
 import os
 import shutil
 import subprocess
+import sys
+
+from ladders.transcript import BadInput
 
 FIELDS = ("frame.number", "frame.time_epoch", "tcp.stream", "ip.src", "ipv6.src", "tcp.srcport", "ip.dst", "ipv6.dst", "tcp.dstport",
           "tcp.seq_raw", "tcp.flags.syn", "tcp.payload")
-
-
-class BadInput(Exception):
-    """The program can't do what was asked; the text is one line for the user."""
+# What is asked of a whole capture besides: what a segment acknowledges, and how many octets it had on its way.
+FATE = ("tcp.ack_raw", "tcp.flags.ack", "tcp.flags.reset", "tcp.len")
+# An ICMP message about a segment quotes it, and is none.
+TCP = "tcp and not icmp and not icmpv6"
+YES = ("1", "True")
+CUT_SHORT = "cut short in the middle of a packet"
 
 
 class Segment:
-    """A TCP segment: when it passed, its stream, both addresses, its first sequence number, and its octets."""
+    """A TCP segment: when it passed, its stream, both addresses, its first sequence number, and its octets; what it acknowledges, if that
+    is known, and how many of its octets the capture doesn't have."""
 
-    __slots__ = ("frame", "time", "stream", "source", "target", "sequence", "is_first", "octets")
+    acknowledged, missing = None, 0
 
     def __init__(self, values):
         named = dict(zip(FIELDS, values))
         self.frame, self.time, self.stream = int(named["frame.number"]), float(named["frame.time_epoch"]), int(named["tcp.stream"])
         self.source = named["ip.src"] or named["ipv6.src"], int(named["tcp.srcport"])
         self.target = named["ip.dst"] or named["ipv6.dst"], int(named["tcp.dstport"])
-        self.sequence, self.is_first = int(named["tcp.seq_raw"]), named["tcp.flags.syn"] in ("1", "True")
+        self.sequence, self.is_first = int(named["tcp.seq_raw"]), named["tcp.flags.syn"] in YES
         self.octets = bytes.fromhex(named["tcp.payload"].replace(":", ""))
+
+    def tell(self, number, has_number, is_reset, length):
+        """Takes what tshark says of FATE. What a reset acknowledges need not have been sent."""
+        self.acknowledged = int(number) if has_number in YES and is_reset not in YES else None
+        self.missing = max(int(length or 0) - len(self.octets), 0)
 
 
 def segments(path):
-    """The TCP segments of a capture, one by one."""
+    """The TCP segments of a capture, one by one. Of a capture that ends within a packet, those before it: that is said on standard error."""
     if not os.path.isfile(path):
         raise BadInput(f"{path}: {'it is no file' if os.path.exists(path) else 'there is no such file'}")
     if not shutil.which("tshark"):
         raise BadInput("there is no tshark, which reads captures (Debian has it in the package tshark)")
-    words = ["tshark", "-n", "-r", path, "-Y", "tcp", "-T", "fields", "-E", "separator=/t", "-E", "occurrence=f",
+    # Of packets within packets, the innermost.
+    words = ["tshark", "-n", "-r", path, "-Y", TCP, "-T", "fields", "-E", "separator=/t", "-E", "occurrence=l",
              "-o", "tcp.desegment_tcp_streams:FALSE"]
-    words += [word for field in FIELDS for word in ("-e", field)]
+    words += [word for field in FIELDS + FATE for word in ("-e", field)]
     with subprocess.Popen(words, stdout=subprocess.PIPE, stderr=subprocess.PIPE, text=True, errors="replace") as run:
         for line in run.stdout:
             values = line.rstrip("\n").split("\t")
-            if len(values) == len(FIELDS) and values[9]:
-                yield Segment(values)
+            if len(values) == len(FIELDS + FATE) and values[9]:
+                made = Segment(values[:len(FIELDS)])
+                made.tell(*values[len(FIELDS):])
+                yield made
         said = run.stderr.read()
-    if run.returncode != 0:
+    if run.returncode != 0 and CUT_SHORT in said:
+        print(f"{os.path.basename(sys.argv[0])}: {path} ends within a packet; it is read up to there", file=sys.stderr)
+    elif run.returncode != 0:
         raise BadInput(f"{path}: {reason(said, path)}")
 
 

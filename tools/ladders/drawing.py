@@ -7,18 +7,21 @@ from .picture import cut, wrapped
 
 TEXT, LETTER, LINE_HEIGHT, TOP = 270, 7.25, 15, 76
 TEXT_COLUMNS, BAND, GAP, MIDDLE = 36, 8, 14, 250
+SECONDS = "seconds"
 LETTERS = (("data", "d"), ("minor", "m"), ("major", "M"), ("release", "r"))
 PLACES = (0.3, 0.45, 0.6, 0.18, 0.74, 0.86)
 
 
 class Page:
-    """The places on the page: columns by connection, rows by line."""
+    """The places on the page: columns by connection, rows by line. `edge` is where the column of times ends, `left` the text of left."""
 
     def __init__(self, picture, first, last):
         self.picture = picture
         self.step = 4 * BAND + GAP
-        count = max(len(picture.connections), 1)
-        self.width = max(1000, 2 * TEXT + 16 + 2 * count * self.step + MIDDLE)
+        count, times = max(len(picture.connections), 1), picture.columns_of_times()
+        self.edge = int(LETTER * max(times, len(SECONDS)) + 16) if times else 0
+        self.left = self.edge + TEXT
+        self.width = self.edge + max(1000, 2 * TEXT + 16 + 2 * count * self.step + MIDDLE)
         self.place = {number: place for place, number in enumerate(picture.connections)}
         self.rows = [row for row in picture.rows if first <= row.index <= last]
         self.lay_out()
@@ -54,7 +57,7 @@ class Page:
     def x(self, side, connection):
         """The life line of an end of a connection."""
         inwards = TEXT + 8 + self.place.get(connection, 0) * self.step + 4 * BAND + 3
-        return inwards if side == "left" else self.width - inwards
+        return self.edge + inwards if side == "left" else self.width - inwards
 
     def inner(self, x, width):
         """The place nearest to x at which a label covers no life line."""
@@ -118,7 +121,9 @@ def head(page):
     page.add(STYLE + (VERDICT if picture.verdict else ""))
     page.add(f'<rect class="paper" width="{page.width}" height="{page.height}"/>')
     page.add(f'<text class="head" x="{middle}" y="24" text-anchor="middle">{escape(cut(picture.title, 112))}</text>')
-    page.add(f'<text class="head" x="{TEXT}" y="50" text-anchor="end">left: the caller</text>')
+    if page.edge:
+        page.add(f'<text class="muted" x="{page.edge}" y="50" text-anchor="end">{SECONDS}</text>')
+    page.add(f'<text class="head" x="{page.left}" y="50" text-anchor="end">left: the caller</text>')
     page.add(f'<text class="head" x="{page.width - TEXT}" y="50">right: the called end</text>')
     for connection in picture.connections:
         for side in ("left", "right"):
@@ -162,11 +167,11 @@ def draw_life(page, side, connection, span):
 
 def draw_break(page, row):
     """Draws a break of the byte connection, across the middle."""
-    y, left, right = page.at[row.index], TEXT + 10, page.width - TEXT - 10
+    y, left, right = page.at[row.index], page.left + 10, page.width - TEXT - 10
     steps = int((right - left) // 12)
     points = " ".join(f"{left + 12 * step},{y + (4 if step % 2 else -4)}" for step in range(steps + 1))
     page.add(f'<polyline class="break" points="{points}"/>')
-    page.free(page.width / 2, y, 80)
+    page.free((page.edge + page.width) / 2, y, 80)
 
 
 def draw_arrow(page, arrow):
@@ -214,12 +219,13 @@ def draw_row(page, row):
     y = page.at[row.index]
     rows, notes = page.texts[row.index]
     if row.side:
-        x, anchor = (TEXT, "end") if row.side == "left" else (page.width - TEXT, "start")
+        x, anchor = (page.left, "end") if row.side == "left" else (page.width - TEXT, "start")
     else:
-        x, anchor = page.width / 2, "middle"
+        x, anchor = (page.edge + page.width) / 2, "middle"
     kind = "refused" if row.mark in ("refused", "stop") else "muted" if row.muted else "plain"
-    spans = [f'<text class="{kind}" x="{x}" y="{y + 4 + LINE_HEIGHT * place}" text-anchor="{anchor}">'
-             f'{escape(text)}</text>' for place, text in enumerate(rows)]
+    spans = [f'<text class="muted" x="{page.edge}" y="{y + 4}" text-anchor="end">{row.time}</text>'] if row.time else []
+    spans += [f'<text class="{kind}" x="{x}" y="{y + 4 + LINE_HEIGHT * place}" text-anchor="{anchor}">'
+              f'{escape(text)}</text>' for place, text in enumerate(rows)]
     below = y + 4 + LINE_HEIGHT * (len(rows) - 1)
     spans += [f'<text class="note" x="{x}" y="{below + 13 * place}" text-anchor="{anchor}">{escape(text)}</text>'
               for place, text in enumerate(notes, 1)]

@@ -1,10 +1,10 @@
 """The picture of a capture of both sides: its packets in the order in which they passed, the state of each side, and the verdict."""
-import re
 import time
 
-from . import captures, script, verdicts
+from . import script, verdicts
 from .history import TOKENS, Band
-from .picture import Arrow, Picture, Row
+from .picture import TIMES_KEY, Picture, Row
+from .tapped import Piece, arrow_of, row_of, steps_of, text_of, times_of
 from .transcript import SIDES, BadInput, other
 
 KEY = ("● a packet as it passed the tap; the number before it is its offset in its direction · × the packet that broke the protocol",
@@ -13,84 +13,6 @@ KEY = ("● a packet as it passed the tap; the number before it is its offset in
 # The program is asked after so many packets at most, so many of them before the break; only once if that took more than SLOW
 # seconds, and no more after LONGEST seconds.
 MOST, BEFORE, SLOW, LONGEST = 300, 270, 5, 60
-SIDES_OF = "arc?"
-SESSION = re.compile(r"    ([A-Z]+)((?: .*)?)")
-
-
-class Piece:
-    """Octets of one side that passed together."""
-
-    __slots__ = ("side", "octets")
-
-    def __init__(self, side, octets):
-        self.side, self.octets = side, octets
-
-
-def read(text):
-    """Reads a capture as `osi judge` does: a line is a piece of one side, left is the side of the first octet, and an octet
-    belongs to the line of its first digit."""
-    found, half = [], ""
-    for row in text.split("\n"):
-        digits = re.sub(r"[ \t\r]", "", row.partition("#")[0])
-        if not re.fullmatch("[0-9a-fA-F]*", digits):
-            raise BadInput("the capture has something other than hexadecimal digits, blanks and comments")
-        if half and digits:
-            found[-1][1], digits, half = found[-1][1] + half + digits[0], digits[1:], ""
-        if len(digits) % 2:
-            digits, half = digits[:-1], digits[-1]
-        if digits or half:
-            found.append([row.startswith("\t"), digits])
-    if half or not found:
-        raise BadInput("the capture has no octets" if not found else "the capture ends within an octet")
-    return [Piece(SIDES[tabbed != found[0][0]], bytes.fromhex(digits)) for tabbed, digits in found if digits]
-
-
-def text_of(pieces):
-    """A capture as `osi judge` reads it."""
-    return "".join("\t" * (piece.side == "right") + piece.octets.hex() + "\n" for piece in pieces)
-
-
-class Step:
-    """A packet, or the octets at the end of a side that are none; and the verdict on everything up to it, if it is known."""
-
-    def __init__(self, packet, start, passed):
-        self.packet, self.side, self.start, self.passed, self.verdict = packet, packet.side, start, passed, None
-        self.bands = []
-
-    @property
-    def tokens(self):
-        """The tokens that a GT in it names."""
-        given = [int(text, 16) for row in self.packet.lines for text in re.findall(r"^    GT 16=([0-9a-f]{2})", row)]
-        return [name for name, bit, _ in TOKENS if given and given[0] & bit]
-
-    def since(self, side, token):
-        """Since when a side held a token when this packet passed, or None."""
-        for band in self.bands:
-            if (band.side, band.token) == (side, token):
-                return band.since
-        return None
-
-
-def steps_of(pieces, listings):
-    """The packets of both listings, and the octets that are none, in the order in which their last octets passed."""
-    ends = {side: [] for side in SIDES}
-    for place, piece in enumerate(pieces):
-        before = ends[piece.side][-1][0] if ends[piece.side] else 0
-        ends[piece.side].append((before + len(piece.octets), place))
-    found = []
-    for side in SIDES:
-        whole, start, place = (ends[side][-1][0] if ends[side] else 0), 0, 0
-        for packet in captures.read(side, listings[side]) if listings[side] else []:
-            length = packet.octets or whole - start
-            if not length:
-                continue
-            if start + length > whole or not packet.lines[0].startswith(("rest", f"packet {start} ", f"fault {start} ")):
-                raise BadInput(f"the listing of {side} is not that of the capture: {packet.lines[0]}")
-            while ends[side][place][0] < start + length:
-                place += 1
-            found.append((ends[side][place][1], start + length, Step(packet, start, (side, start + length))))
-            start += length
-    return [step for _, _, step in sorted(found, key=lambda each: each[:2])]
 
 
 def up_to(pieces, steps, last):
@@ -147,18 +69,18 @@ def broken_step(steps, verdict, side=None):
     return offsets.index(place) if place in offsets else None
 
 
-def picture_of(text, listings, title, judge=None, told=None):
+def picture_of(pieces, listings, title, judge=None, told=None):
     """The picture of a capture. `judge` gives what `osi judge` prints for a text; or `told` has the verdicts."""
-    pieces = read(text)
     steps = steps_of(pieces, listings)
     if not steps:
         raise BadInput("there is no packet in the capture")
-    verdict = given(steps, told) if told else ask(pieces, steps, judge)
+    verdict, times = given(steps, told) if told else ask(pieces, steps, judge), times_of(pieces, steps)
     made = Picture(title, describe(steps, verdict))
-    made.key, made.connections = KEY, [1]
+    made.key, made.connections = KEY + (TIMES_KEY if any(times) else ()), [1]
+    made.of, made.rows_of_each = "packet", 2
     made.spans = {(side, 1): (0, end_of(steps, side)) for side in SIDES}
     made.bands = bands_of(steps)
-    add_rows(made, steps, verdict)
+    add_rows(made, steps, verdict, times)
     broken = broken_step(steps, verdict)
     made.verdict = verdicts.box(verdict, None if broken is None else steps[broken])
     made.is_wrong = verdict.first is not None
@@ -166,50 +88,12 @@ def picture_of(text, listings, title, judge=None, told=None):
     return made
 
 
-def told(text, listings, judge):
+def told(pieces, listings, judge):
     """What `osi judge` prints after each packet, one text after the other."""
-    pieces = read(text)
     steps = steps_of(pieces, listings)
     whole = ask(pieces, steps, judge)
     kept = [step.verdict for step in steps if step.verdict]
     return "".join(row + "\n" for verdict in (kept if len(kept) == len(steps) else [whole]) for row in verdict.rows)
-
-
-def described(packet):
-    """A packet in a line, as the text of its row."""
-    if not packet.octets:
-        return packet.lines[0]
-    units = [row for row in packet.lines[1:] if row.startswith("    ")]
-    named = [told for told in (of_session(row) for row in units) if told]
-    if not named:
-        named = [row.strip().split(" ")[0] + (", unfinished" if " eot 0 " in row else "") for row in packet.lines[1:2]]
-        named += [row.strip() for row in units if row.strip().startswith("fault")]
-    return f"{packet.lines[0].split(' ')[1]}: " + " ".join(named)
-
-
-def of_session(row):
-    """A session unit in some words: its name, its number, tokens, sides and octets; nothing of an empty GT."""
-    found = SESSION.fullmatch(row)
-    if not found:
-        return None
-    name, values = found.group(1), dict(re.findall(r"(\d+)=([0-9a-f]*)", found.group(2)))
-    parts = [values["20"]] if "20" in values else []
-    parts += [bytes.fromhex(values["42"]).decode("ascii", "replace")] if "42" in values else []
-    parts += [" ".join(verdicts.letters(int(values["16"], 16)))] if "16" in values else []
-    parts += ["sides " + sides_of(int(values["26"], 16))] if "26" in values else []
-    parts += [values["17"] + reason_of(int(values["17"], 16))] if "17" in values else []
-    parts += re.findall(r" octets (\d+)", found.group(2))[:1] and [found.group(2).split(" octets ")[1] + " octets"]
-    return " ".join([name, *parts]) if parts or name != "GT" else None
-
-
-def reason_of(bits):
-    """What the bits of an abort say."""
-    return ", protocol error" if bits & 4 else ", by the user" if bits & 2 else ""
-
-
-def sides_of(setting):
-    """The letters of a token setting, as transcripts have them: data, minor, major, release."""
-    return "".join(SIDES_OF[setting >> 2 * place & 3] for place in range(4))
 
 
 def describe(steps, verdict):
@@ -219,7 +103,7 @@ def describe(steps, verdict):
             f"in the order in which they passed. {' '.join(verdicts.box(verdict)[:2])}")
 
 
-def add_rows(made, steps, verdict):
+def add_rows(made, steps, verdict, times):
     """Adds for each packet its row and its arrow, and a row with the state of the other side if that has changed."""
     broken = {broken_step(steps, verdict, side) for side in SIDES if verdict.break_of(side)}
     has_points = {side: any(state and state.numbers["next"] for state in states(steps, side)) for side in SIDES}
@@ -227,7 +111,7 @@ def add_rows(made, steps, verdict):
     for place, step in enumerate(steps):
         index, is_wrong = 2 * place, place in broken
         mark = "refused" if is_wrong else "call" if step.packet.octets else "carried"
-        row = Row(index, "; ".join(line.strip() for line in step.packet.lines), described(step.packet), step.side, 1, mark)
+        row = row_of(step, index, times[place], 1, mark)
         made.rows.append(row)
         if is_wrong:
             row.note = "this broke the protocol" if made_wrong(verdict, step.side) else "this left the profile"
@@ -244,23 +128,13 @@ def add_rows(made, steps, verdict):
                 made.rows.append(Row(index + 1, told, told, side, 1, "standing"))
                 made.rows[-1].muted = True
         if step.packet.octets:
-            made.arrows.append(arrow_of(step, index, made.rows[-1].index, is_wrong))
+            made.arrows.append(arrow_of(step, index, made.rows[-1].index, times[place], 1))
+            made.arrows[-1].wrong = is_wrong
 
 
 def made_wrong(verdict, side):
     """Whether a side broke the protocol, and didn't only leave the profile."""
     return verdict.fields(side, "broke", "stopped") is not None
-
-
-def arrow_of(step, index, end, is_wrong):
-    """The arrow of a packet."""
-    names = [row.split()[0] for row in step.packet.lines[1:] if SESSION.fullmatch(row)] or \
-        [row.split()[0] for row in step.packet.lines[1:2]]
-    label = " ".join(name for name in names if name != "GT" or len(names) == 1) or "packet"
-    arrow = Arrow(step.side, 1, index, end, 0, 1, f"{label} {step.packet.octets}",
-                  f"{step.side}: packet {step.start}, {label}, {step.packet.octets} octets")
-    arrow.wrong, arrow.carry = is_wrong, index
-    return arrow
 
 
 def states(steps, side):

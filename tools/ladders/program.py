@@ -1,16 +1,18 @@
 """The program `osi-ladders`: reads its words and its input, and writes one picture or nothing."""
 import argparse
 import os
-import re
 import sys
 import tempfile
 
-from . import captures, drawing, history, judged, picture, script, terminal, transcript, verdicts, wire
+from capture import asking
+
+from . import captures, drawing, history, judged, picture, reading, script, tapped, terminal, transcript, verdicts, wire
 from .transcript import BadInput
 
-ABOUT = """Draws a ladder of a run of two ends, as SVG: of what `osi pair` printed, of a script, for which it runs
-`osi pair`, of the two captures of a gateway, for which it runs `osi show`, or of a capture of both directions with the verdict on
-it, for which it runs `osi judge`."""
+ABOUT = """Draws a ladder of a run of two ends, as SVG: of what `osi pair` printed, of a script, for which it runs `osi pair`, or of a
+capture of both directions, for which it runs `osi show`, with the times of the packets; with --judge also with the verdict of
+`osi judge`. A capture is a pcap or pcapng, which tshark reads, a text of hexadecimal digits, or the NAME of the files that
+`osi-capture split` wrote. --left and --right draw two captures of one direction each."""
 
 
 class Words(argparse.ArgumentParser):
@@ -23,11 +25,14 @@ class Words(argparse.ArgumentParser):
 def words():
     """The options of the program."""
     parser = Words(prog="osi-ladders", description=ABOUT)
-    parser.add_argument("file", nargs="?", help="a transcript or a script; standard input if none is named, or -")
+    parser.add_argument("file", nargs="?", help="a transcript, a script, or a capture of both sides; standard input if none is named, or -")
     parser.add_argument("--script", help="the script that the transcript is of: then all octets are known")
-    parser.add_argument("--left", help="a capture of what the left end, which calls, sent; or its listing")
+    parser.add_argument("--left", help="a capture of what the left end, which calls, sent; or its listing; with a capture of both sides "
+                        "only the listing, and no program is run for it")
     parser.add_argument("--right", help="a capture of what the right end sent; or its listing")
-    parser.add_argument("--judge", metavar="CAPTURE", help="a capture of both sides, as osi judge reads it: draws the verdict on it")
+    parser.add_argument("--judge", metavar="CAPTURE", help="a capture of both sides: draws the verdict of osi judge on it")
+    parser.add_argument("--stream", type=int, metavar="N", help="of a pcap or pcapng, the stream with this number (osi-capture list)")
+    parser.add_argument("--port", type=int, default=asking.PORT, metavar="N", help="the port of TPKT, for streams without a CR (102)")
     parser.add_argument("--verdicts", metavar="FILE", help="what --states printed of that capture; with --left and --right no "
                         "program is run")
     parser.add_argument("--states", action="store_true", help="with --judge: print what osi judge says after each packet, and draw "
@@ -35,8 +40,8 @@ def words():
     parser.add_argument("--connection", type=int, action="append", metavar="N",
                         help="show this connection (and others so named)")
     parser.add_argument("--from", dest="first", type=int, default=1, metavar="LINE",
-                        help="the first line to show; with --judge the first packet")
-    parser.add_argument("--to", dest="last", type=int, default=10 ** 9, metavar="LINE", help="the last line to show")
+                        help="the first line to show; of a capture of both sides the first packet")
+    parser.add_argument("--to", dest="last", type=int, default=10 ** 9, metavar="LINE", help="the last line or packet to show")
     parser.add_argument("--text", action="store_true", help="draw in the columns of a terminal")
     parser.add_argument("--columns", type=int, default=100, metavar="N", help="so many columns (100; at least 60)")
     parser.add_argument("--title", help="what the picture is of")
@@ -89,9 +94,8 @@ def read_text(name):
         raise BadInput(f"{name or 'standard input'}: no text of ASCII letters") from None
 
 
-def picture_of_run(options, progress):
+def picture_of_run(text, options, progress):
     """The picture of a transcript or a script."""
-    text = read_text(options.file)
     written = said = None
     if script.is_script(text):
         written = script.read(text)
@@ -108,8 +112,13 @@ def picture_of_run(options, progress):
             raise BadInput(f"there is no connection {number}")
     followed = wire.Wire(lines, asked, written.ends if written else None).run()
     story = history.History(lines, followed, asked).run()
-    named = os.path.basename(options.file) if options.file not in (None, "-") else "a run of two ends"
-    return picture.of_run(lines, followed, story, readable(options.title or said or named), options.connection)
+    title = readable(options.title or said or named(options.file, "a run of two ends"))
+    return picture.of_run(lines, followed, story, title, options.connection)
+
+
+def named(name, other):
+    """The name of a file without its folder, or another name for standard input."""
+    return other if name in (None, "-") else os.path.basename(name)
 
 
 def readable(title):
@@ -126,35 +135,79 @@ def script_text(name):
 
 
 def picture_of_captures(options, progress):
-    """The picture of two captures, or of their listings."""
-    listings = {}
-    for side, name in (("left", options.left), ("right", options.right)):
-        text = read_text(name)
+    """The picture of two captures, or of their listings: in the order of their times, if both have them."""
+    texts = {"left": read_text(options.left), "right": read_text(options.right)}
+    pieces, listings = reading.in_time(texts), {}
+    title = readable(options.title or "two captures")
+    if pieces:
+        return tapped.picture_of(pieces, listings_of(pieces, options.osi, {}, progress), title)
+    for side, text in texts.items():
         listings[side] = text if captures.is_listing(text) else script.run(
             options.osi, "show", text, progress.running("osi show"))
-    return captures.picture_of(listings, readable(options.title or "two captures"))
+    return captures.picture_of(listings, title)
+
+
+def listings_of(pieces, osi, names, progress):
+    """The listings of both sides: from the files that are named, or by `osi show`."""
+    found = {}
+    for side in transcript.SIDES:
+        octets = tapped.octets_of(pieces, side)
+        if names.get(side):
+            found[side] = read_text(names[side])
+        else:
+            found[side] = script.run(osi, "show", octets.hex(), progress.running("osi show")) if octets else ""
+    return found
+
+
+def named_listings(options):
+    """The files of listings that are named, by side."""
+    return {"left": options.left, "right": options.right}
+
+
+def pieces_of(name, options):
+    """The pieces of a capture, and the title in its file, if it has one; or None and a text that is no capture."""
+    pieces = reading.by_name(name, options.port, options.stream)
+    if pieces is not None:
+        return pieces, None
+    if options.stream is not None:
+        raise BadInput("--stream is for a pcap or pcapng")
+    text = read_text(name)
+    return (tapped.read(text), title_of_capture(text)) if options.judge or reading.is_capture(text) else (None, text)
+
+
+def picture_of_file(options, progress):
+    """The picture of a transcript, a script, or a capture of both sides."""
+    pieces, text = pieces_of(options.file, options)
+    if pieces is None:
+        if options.left:
+            raise BadInput("the file is no capture of both sides, whose listings --left and --right are")
+        return picture_of_run(text, options, progress)
+    if options.script:
+        raise BadInput("--script goes with a transcript, and this is a capture")
+    pieces = reading.by_caller(pieces)
+    title = readable(options.title or text or named(options.file, "a capture of both sides"))
+    return tapped.picture_of(pieces, listings_of(pieces, options.osi, named_listings(options), progress), title, options.connection)
 
 
 def judged_capture(options, progress):
     """The picture of a capture of both sides with its verdict; or, with --states, what `osi judge` says after each packet."""
-    text = read_text(options.judge)
+    pieces, said = pieces_of(options.judge, options)
+    if reading.is_network(options.judge) and pieces[0].side == "right":
+        raise BadInput(f"{options.judge}: the called side sent first, so osi judge gives no verdict")
+    pieces = reading.by_first(pieces)
     told = verdicts.read(read_text(options.verdicts)) if options.verdicts else None
-    listings = {}
-    for side, name in (("left", options.left), ("right", options.right)):
-        octets = b"".join(piece.octets for piece in judged.read(text) if piece.side == side)
-        listings[side] = read_text(name) if name else octets and script.run(
-            options.osi, "show", octets.hex(), progress.running("osi show"))
+    listings = listings_of(pieces, options.osi, named_listings(options), progress)
     judge = judged.runner(options.osi, progress.running)
     if options.states:
-        return judged.told(text, listings, judge)
-    named = os.path.basename(options.judge) if options.judge != "-" else "a capture of both sides"
-    return judged.picture_of(text, listings, readable(options.title or title_of_capture(text) or named), judge, told)
+        return judged.told(pieces, listings, judge)
+    title = readable(options.title or said or named(options.judge, "a capture of both sides"))
+    return judged.picture_of(pieces, listings, title, judge, told)
 
 
 def title_of_capture(text):
     """The comment with which a capture begins, or None."""
     first = text.split("\n", 1)[0]
-    return first[1:].strip() or None if first.startswith("#") and not re.match(r"# \d+\.\d+ frame", first) else None
+    return first[1:].strip() or None if first.startswith("#") and not tapped.NOTE.match(first) else None
 
 
 def write(name, text):
@@ -188,26 +241,32 @@ def picture_asked_for(options, progress):
     """The picture that the options ask for; with --states a text."""
     if options.judge:
         return judged_capture(options, progress)
-    return picture_of_captures(options, progress) if options.left else picture_of_run(options, progress)
+    return picture_of_captures(options, progress) if options.left and not options.file else picture_of_file(options, progress)
 
 
-def make(options, progress):
-    """Reads, draws and writes."""
+def check(options):
+    """Whether the options go together."""
     if (options.left is None) != (options.right is None):
         raise BadInput("--left and --right go together")
-    if (options.left or options.judge) and (options.file or options.script or options.connection):
-        raise BadInput("captures are drawn without a transcript, a script and --connection")
+    if options.judge and (options.file or options.script or options.connection):
+        raise BadInput("--judge goes without another file, --script and --connection")
+    if options.left and not options.file and (options.script or options.connection):
+        raise BadInput("two captures are drawn without --script and --connection")
     if (options.verdicts or options.states) and not options.judge:
         raise BadInput("--verdicts and --states go with --judge")
     if not 1 <= options.first <= options.last:
         raise BadInput("--from and --to are lines from 1 on, in this order")
+
+
+def make(options, progress):
+    """Reads, draws and writes."""
+    check(options)
     made = picture_asked_for(options, progress)
     if isinstance(made, str):
         return made
-    of_each = 2 if options.judge else 1
-    if made.rows and of_each * (options.first - 1) > made.rows[-1].index:
-        raise BadInput(f"there is no {'packet' if options.judge else 'line'} {options.first}")
-    span = of_each * (options.first - 1), of_each * options.last - 1
+    if made.rows and made.rows_of_each * (options.first - 1) > made.rows[-1].index:
+        raise BadInput(f"there is no {made.of} {options.first}")
+    span = made.rows_of_each * (options.first - 1), made.rows_of_each * options.last - 1
     if options.text:
         return terminal.draw(made, *span, columns=options.columns, progress=progress)
     return drawing.draw(made, *span, progress=progress)

@@ -9,18 +9,24 @@ LEAST = 60
 
 def draw(picture, first=0, last=10 ** 12, columns=100, progress=None):
     """The rows, each of at most so many columns; the sides and the tokens are aligned."""
-    columns = max(columns, LEAST)
-    side = (columns - 2 * 8 - 6) * 4 // 11
-    middle = columns - 2 * side - 2 * 8
+    columns, times = max(columns, LEAST), picture.columns_of_times()
+    room = columns - times - bool(times)
+    side = (room - 2 * 8 - 6) * 4 // 11
+    middle = room - 2 * side - 2 * 8
     held, arrows = holding(picture), {}
     for arrow in picture.arrows:
         arrows.setdefault(arrow.carry, []).append(arrow)
+
+    def timed(text, row):
+        """A row with its time in front of it, if the picture has times."""
+        return f"{cut(text or '', times):>{times}} {row}" if times else row
+    letters = "".join(LETTERS.values()) if picture.has_tokens else ""
     out = [cut(picture.title, columns),
-           row_text("left: the caller", "dmMr", " ", "", " ", "dmMr", "right: the called end", side, middle)]
+           timed("seconds", row_text("left: the caller", letters, " ", "", " ", letters, "right: the called end", side, middle))]
     for row in picture.rows:
         tokens = held(row)
         if first <= row.index <= last:
-            out.append(one_row(row, arrows.get(row.index, []), tokens, side, middle))
+            out.append(timed(row.time, one_row(row, arrows.get(row.index, []), tokens, side, middle)))
         if progress:
             progress(row.index, picture.rows[-1].index + 1)
     out += box(picture.verdict, columns)
@@ -38,6 +44,8 @@ def box(verdict, columns):
 
 def holding(picture):
     """A function that gives, for rows in their order, the tokens that both ends of the row's connection hold."""
+    if not picture.has_tokens:
+        return lambda row: ["", ""]
     starts, ends, now = {}, {}, {}
     for band in picture.bands:
         starts.setdefault(band.start, []).append(band)

@@ -6,7 +6,7 @@ import unittest
 import xml.etree.ElementTree as tree
 from unittest import mock
 
-from . import drawing, judged, script, terminal, transcript, verdicts
+from . import captures, drawing, judged, script, tapped, terminal, transcript, verdicts
 from .test_ladders import SVG, call, text_of
 
 DISPUTES = os.path.join(script.TOP, "examples", "disputes")
@@ -44,7 +44,7 @@ def stored(name):
 def drawn(name):
     """The picture of a dispute."""
     text, listings, told = stored(name)
-    return judged.picture_of(text, listings, name, told=told)
+    return judged.picture_of(tapped.read(text), listings, name, told=told)
 
 
 def files(name):
@@ -56,13 +56,13 @@ def files(name):
 
 def answer(_, word, text, tick=None):
     """What `osi` printed for a text: the verdict on so many octets of each side of a dispute, or the listing of a side."""
-    pieces = judged.read(text)
+    pieces = tapped.read(text)
     sums = [sum(len(piece.octets) for piece in pieces if piece.side == side) for side in transcript.SIDES]
     for name in NAMES:
         whole, listings, told = stored(name)
         if word == "show":
             for side in transcript.SIDES:
-                if b"".join(it.octets for it in judged.read(whole) if it.side == side) == pieces[0].octets:
+                if b"".join(it.octets for it in tapped.read(whole) if it.side == side) == pieces[0].octets:
                     return listings[side]
         for verdict in told if word == "judge" and starts(whole, text) else ():
             if [int(verdict.lines[side, "read"]["octets"]) for side in transcript.SIDES] == sums:
@@ -72,7 +72,7 @@ def answer(_, word, text, tick=None):
 
 def starts(whole, text):
     """Whether each side of a capture begins as that of another."""
-    of = [[b"".join(it.octets for it in judged.read(each) if it.side == side) for side in transcript.SIDES] for each in (whole, text)]
+    of = [[b"".join(it.octets for it in tapped.read(each) if it.side == side) for side in transcript.SIDES] for each in (whole, text)]
     return all(one.startswith(other) for one, other in zip(*of))
 
 
@@ -83,7 +83,7 @@ class Pictures(unittest.TestCase):
         for name in NAMES:
             text, listings, _ = stored(name)
             rows = [row for row in drawn(name).rows if row.mark != "standing"]
-            wanted = [piece.side for piece in judged.read(text)]
+            wanted = [piece.side for piece in tapped.read(text)]
             self.assertEqual([row.side for row in rows], wanted)
             for side in transcript.SIDES:
                 found = [row.whole.split(" ")[1] for row in rows if row.side == side]
@@ -150,17 +150,17 @@ class Pictures(unittest.TestCase):
 
     def test_one_verdict_alone_is_drawn_without_states(self):
         text, listings, told = stored("restart")
-        made = judged.picture_of(text, listings, "", told=told[-1:])
+        made = judged.picture_of(tapped.read(text), listings, "", told=told[-1:])
         self.assertEqual(made.bands, [])
         self.assertIn("it did not hold the data token", made.verdict[1])
         self.assertIn("not shown", made.notes[0])
 
     def test_a_packet_that_ends_in_a_later_piece_passes_there(self):
         left, right = "0300000e09e00000000100c0010a", "0300000e09d00001000100c0010a"
-        pieces = judged.read(f"{left}0300\n\t{right}\n000b06f08001024142\n")
+        pieces = tapped.read(f"{left}0300\n\t{right}\n000b06f08001024142\n")
         listings = {"left": "packet 0 length 14 code e0\npacket 14 length 11 code f0\nrest 0\n",
                     "right": "packet 0 length 14 code d0\nrest 0\n"}
-        steps = judged.steps_of(pieces, listings)
+        steps = tapped.steps_of(pieces, listings)
         self.assertEqual([(step.side, step.start) for step in steps], [("left", 0), ("right", 0), ("left", 14)])
         kept = [[len(it.octets) for it in judged.up_to(pieces, steps, place)] for place in range(3)]
         self.assertEqual(kept, [[14], [16, 14], [16, 14, 9]])
@@ -170,7 +170,7 @@ class Pictures(unittest.TestCase):
         listings = {"left": "packet 0 length 14 code e0\nfault 14 BadVersion\n", "right": "packet 0 length 14 code d0\nrest 0\n"}
         told = verdicts.read("left 1 kept 0 phase WaitTransport held 00 next 0 below 0 lowest 0\nleft broke packet 14 TPKT BadVersion\n"
                              "left broke the protocol first, packet 14: TPKT BadVersion\n")
-        made = judged.picture_of(text, listings, "", told=told)
+        made = judged.picture_of(tapped.read(text), listings, "", told=told)
         self.assertEqual([row.text for row in made.rows if row.mark == "refused"], ["fault 14 BadVersion"])
         self.assertEqual(made.verdict[1], "It sent octets that can't be read: BadVersion.")
 
@@ -179,7 +179,7 @@ class Reading(unittest.TestCase):
     """Captures and verdicts."""
 
     def sides(self, text):
-        return [(piece.side, piece.octets.hex()) for piece in judged.read(text)]
+        return [(piece.side, piece.octets.hex()) for piece in tapped.read(text)]
 
     def test_left_is_the_side_of_the_first_octet(self):
         self.assertEqual(self.sides("# a\n\t0a 0b # c\n0c\n"), [("left", "0a0b"), ("right", "0c")])
@@ -190,7 +190,7 @@ class Reading(unittest.TestCase):
 
     def test_what_is_no_capture_is_refused(self):
         for text in ("", "# nothing\n", "0a0\n", "xy\n"):
-            self.assertRaises(transcript.BadInput, judged.read, text)
+            self.assertRaises(transcript.BadInput, tapped.read, text)
 
     def test_what_is_no_verdict_is_refused(self):
         for text in ("", "left packets 1 octets 14 rest 0\n", "perhaps\nboth kept the protocol\n", "left 1 kept\nboth kept the protocol\n"):
@@ -236,7 +236,7 @@ class Asking(unittest.TestCase):
                 self.assertEqual(call("--judge", capture, "--states")[1], text_of(os.path.join(DISPUTES, name + ".verdicts")))
 
     def test_of_a_long_capture_it_is_asked_around_the_break(self):
-        steps = [judged.Step(packet, 0, None) for packet in judged.captures.read("left", "packet 0 length 14 code e0\n" * 1000)]
+        steps = [tapped.Step(packet, 0, None) for packet in captures.read("left", "packet 0 length 14 code e0\n" * 1000)]
         for place, step in enumerate(steps):
             step.start = place
         broken = verdicts.read(OPENED.format("Data BadState", "Ready held 55 next 1 below 1 lowest 1").replace("41", "600"))[0]
@@ -252,14 +252,14 @@ class Asking(unittest.TestCase):
             asked.append(given)
             return answer(None, "judge", given)
         with mock.patch.object(judged, "SLOW", 0):
-            self.assertEqual(len(judged.picture_of(text, listings, "", judge).notes), 1)
+            self.assertEqual(len(judged.picture_of(tapped.read(text), listings, "", judge).notes), 1)
         self.assertEqual(len(asked), 1)
 
     def test_if_time_runs_out_it_was_asked_around_the_break(self):
         text, listings, told = stored("restart")
         seconds = iter(range(100))
         with mock.patch.object(judged, "LONGEST", 4), mock.patch.object(judged.time, "monotonic", lambda: next(seconds)):
-            made = judged.picture_of(text, listings, "", lambda given: answer(None, "judge", given))
+            made = judged.picture_of(tapped.read(text), listings, "", lambda given: answer(None, "judge", given))
         self.assertIn("from packet 126 of left to packet 75 of right: of 15 packets, the 3 around the verdict", made.notes[0])
         self.assertIn("it did not hold the data token", made.verdict[1])
 

@@ -1,0 +1,63 @@
+"""Reads a capture of both sides: a pcap or pcapng by tshark, the files that `osi-capture split` wrote, or a text of hexadecimal digits."""
+import os
+import re
+
+from capture import asking, streams, texts
+
+from . import captures, tapped
+from .transcript import SIDES, BadInput
+
+
+def is_capture(text):
+    """Whether a text is a capture and no script or transcript: its first line that says something has hexadecimal digits."""
+    rows = (row.partition("#")[0].strip() for row in text.split("\n"))
+    return re.fullmatch(r"[0-9a-fA-F \t]+", next(filter(None, rows), "")) is not None
+
+
+def is_network(name):
+    """Whether a file is no text, and so perhaps a capture of a network."""
+    if not os.path.isfile(name):
+        return False
+    with open(name, "rb") as file:
+        return re.fullmatch(rb"[\t\n\r -~]*", file.read(4096)) is None
+
+
+def by_name(name, port, stream):
+    """The pieces of a capture of a network, or of the files NAME.left, NAME.right and NAME.follow. None if the name is that of a text."""
+    if name in (None, "-"):
+        return None
+    if is_network(name):
+        chosen = asking.chosen(name, port, stream)
+        return [tapped.Piece(side, piece.octets, piece.frame, piece.time) for side, piece in chosen.by_side()]
+    found = None if os.path.exists(name) else texts.read(name)
+    if found and not found.is_ordered:
+        raise BadInput(f"{name}: there is no {name}.follow, and the files don't say when octets passed (name them by --left and --right)")
+    return found and [tapped.Piece(side, piece.octets, piece.frame, piece.time) for side, piece in found.by_side()]
+
+
+def by_caller(pieces):
+    """The pieces with the caller at the left: the side that alone begins with a CR, or the other one of that which begins with a CC."""
+    left, right = (tapped.octets_of(pieces, side) for side in SIDES)
+    is_turned = streams.is_connect_request(right) and not streams.is_connect_request(left)
+    return turned(pieces) if is_turned or (streams.is_connect_confirm(left) and not right) else pieces
+
+
+def by_first(pieces):
+    """The pieces with the side of the first octet at the left, as `osi judge` has it."""
+    return turned(pieces) if pieces[0].side == "right" else pieces
+
+
+def turned(pieces):
+    """The pieces with the sides exchanged."""
+    return [tapped.Piece(SIDES[piece.side == "left"], piece.octets, piece.frame, piece.time) for piece in pieces]
+
+
+def in_time(sides):
+    """The pieces of two captures, one of each side, in the order of their times; None if they have no times, or one is a listing."""
+    if any(map(captures.is_listing, sides.values())):
+        return None
+    try:
+        found = [tapped.Piece(side, *rest) for side, text in sides.items() for _, *rest in tapped.lines_of(text)]
+    except BadInput:
+        return None
+    return None if any(piece.time is None for piece in found) else sorted(found, key=lambda piece: (piece.time, piece.frame))
