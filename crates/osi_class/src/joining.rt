@@ -1,6 +1,6 @@
 //! Joining TSDUs from parts.
 
-ghost use Rattle.std.specs.Prelude.{◌≡◌, ◌<◌, ◌≤◌, ◌+◌, [], true, length, map, max, option_map, Ok, IfOk, IfNone, OnOk, OnErr};
+ghost use Rattle.std.specs.Prelude.{◌≡◌, ◌<◌, ◌≤◌, ◌+◌, ◌++◌, [], true, length, map, max, option_map, Ok, IfOk, IfNone, OnOk, OnErr};
 ghost use Rattle.std.specs.Vec.{vec_capacity};
 ghost use Rattle.osi_class.specs.Joining.{joined, joining, before_handing};
 ghost use Rattle.osi_class.specs.Limits.{longest_tsdu};
@@ -69,8 +69,14 @@ impl Begun {
         if octets.len() > LONGEST_TSDU - self.octets.len() {
             return Err(LinkFault::TsduTooLong);
         }
-        if !last || !self.octets.is_empty() {
-            return self.take_part(last, octets, whole);
+        if !last {
+            if self.add(octets).is_err() {
+                return Err(LinkFault::OutOfMemory);
+            }
+            return Ok(());
+        }
+        if !self.octets.is_empty() {
+            return self.finish(octets, whole);
         }
         let Ok(tsdu) = Vec::from_slice(self.alloc, octets) else {
             return Err(LinkFault::OutOfMemory);
@@ -99,42 +105,42 @@ impl Begun {
         if octets.len() > room {
             return Err(LinkFault::TsduTooLong);
         }
-        if last && self.octets.is_empty() && whole.is_empty() {
+        if !last {
+            if self.add(octets).is_err() {
+                return Err(LinkFault::OutOfMemory);
+            }
+            return Ok(whole.pop());
+        }
+        if self.octets.is_empty() && whole.is_empty() {
             return match Vec::from_slice(self.alloc, octets) {
                 Ok(tsdu) => Ok(Some(tsdu)),
                 Err(_) => Err(LinkFault::OutOfMemory),
             };
         }
-        self.take_part(last, octets, whole)?;
+        self.finish(octets, whole)?;
         Ok(whole.pop())
     }
 
-    /// Takes a part that begins, continues or ends a TSDU of several.
-    #[inline(never)]
-    fn take_part(
-        &mut self,
-        last: bool,
-        octets: &[u8],
-        whole: &mut Queue<Vec<u8>>,
-    ) -> Result<(), LinkFault>
+    /// Takes a part that does not end its TSDU. Memory is needed only if it has an octet.
+    #[inline(always)]
+    fn add(&mut self, octets: &[u8]) -> Result<(), AllocError>
         requires { length self.old + length octets.now ≤ longest_tsdu }
-        ensures { TakesUnit result (part_needs_memory last octets.now) (joined (joining self.old (map (λ v. v.items) whole.old.items)) last octets.now)
-            (joining self.old (map (λ v. v.items) whole.old.items)) (joining self.new (map (λ v. v.items) whole.new.items)) }
+        ensures ok { OnOk result (self.new ≡ self.old ++ octets.now) }
+        ensures err { OnErr result (self.new ≡ self.old) }
+        ensures some { OnErr result (0 < length octets.now) }
     {
-        if last {
-            return self.finish(octets, whole);
-        }
         if octets.is_empty() {
             return Ok(());
         }
         match self.octets.extend_from_slice(octets) {
             Ok(()) => Ok(()),
-            Err(_) => Err(LinkFault::OutOfMemory),
+            Err(_) => Err(AllocError),
         }
     }
 
     /// Takes the last part of a TSDU, with no more room than it needs. The place in the queue of complete TSDUs is
     /// reserved first.
+    #[inline(never)]
     fn finish(&mut self, octets: &[u8], whole: &mut Queue<Vec<u8>>) -> Result<(), LinkFault>
         requires { length self.old + length octets.now ≤ longest_tsdu }
         ensures { TakesUnit result true (joined (joining self.old (map (λ v. v.items) whole.old.items)) true octets.now)

@@ -27,10 +27,12 @@ pub struct Outgoing {
     queue: VecDeque<Vec<u8>>,
     /// Their octets. Together with those of `current` they fit a `usize`.
     queued: usize,
+    /// Whether nothing is to be sent, and no buffer is to be freed. Mostly it is so, and then this is all that is tested.
+    rests: bool,
 }
 
 impl Model for Outgoing {
-    ghost use Rattle.std.specs.Prelude.{◌≡◌, ◌≤◌, ◌<◌, ◌+◌, ◌^◌, ◌∷◌, length, drop, map, slice_range, if◌then◌else◌};
+    ghost use Rattle.std.specs.Prelude.{◌≡◌, ◌≤◌, ◌<◌, ◌+◌, ◌^◌, [], ◌∷◌, true, false, length, drop, map, slice_range, if◌then◌else◌};
     ghost use Rattle.std.specs.Vec.{vec_capacity};
     ghost use Rattle.osi_class.specs.Sending.{Sending};
     ghost use Rattle.osi_class.specs.Tsdus.{octets_of_tsdus};
@@ -45,7 +47,8 @@ impl Model for Outgoing {
     } };
 
     ghost invariant = { λ o. (o.from ≤ o.to) × (o.to ≤ length o.current.items) ×
-        (o.queued ≡ octets_of_tsdus (map (λ v. v.items) o.queue.items)) × (o.queued + length o.current.items < 2 ^ 64) };
+        (o.queued ≡ octets_of_tsdus (map (λ v. v.items) o.queue.items)) × (o.queued + length o.current.items < 2 ^ 64) ×
+        (o.rests ≡ true → (o.has_more ≡ false) × (o.queue.items ≡ []) × (o.is_owned ≡ false)) };
 }
 
 /// The queued octets plus this many more. `Err` exactly if these and those of the TSDU before them don't fit a `usize`.
@@ -101,6 +104,7 @@ impl Outgoing {
             has_more: false,
             queue: VecDeque::new(alloc),
             queued: 0,
+            rests: true,
         }
     }
 
@@ -110,7 +114,7 @@ impl Outgoing {
         ensures nothing { result ≡ true → self.now.unsent ≡ [] }
         ensures something { result ≡ false → self.now.unsent ≢ [] }
     {
-        !self.has_more && self.queue.is_empty()
+        self.rests || (!self.has_more && self.queue.is_empty())
     }
 
     /// The octets that are to be sent.
@@ -137,6 +141,7 @@ impl Outgoing {
         let octets = Vec::from_slice(self.alloc, tsdu)?;
         self.queue.push_back(octets)?;
         self.queued = queued;
+        self.rests = false;
         Ok(())
     }
 
@@ -153,6 +158,7 @@ impl Outgoing {
         let mut copies = copy_all(self.alloc, tsdus)?;
         self.queue.append(&mut copies)?;
         self.queued = queued;
+        self.rests = false;
         Ok(())
     }
 
@@ -178,6 +184,7 @@ impl Outgoing {
         let mut moved = VecDeque::from(tsdus);
         self.queue.append(&mut moved)?;
         self.queued = queued;
+        self.rests = false;
         Ok(())
     }
 
@@ -197,6 +204,7 @@ impl Outgoing {
         self.has_more = false;
         self.queue = VecDeque::from(tsdus);
         self.queued = queued;
+        self.rests = false;
         Ok(())
     }
 
@@ -211,6 +219,7 @@ impl Outgoing {
             let queued = queued_with(self.queued, tsdu.len(), self.current.len())?;
             self.queue.push_back(tsdu)?;
             self.queued = queued;
+            self.rests = false;
             return Ok(());
         }
         self.current = tsdu;
@@ -218,6 +227,7 @@ impl Outgoing {
         self.from = 0;
         self.to = 0;
         self.has_more = true;
+        self.rests = false;
         Ok(())
     }
 
@@ -241,6 +251,7 @@ impl Outgoing {
         self.from = 0;
         self.to = 0;
         self.has_more = true;
+        self.rests = false;
         Ok(())
     }
 
@@ -250,7 +261,7 @@ impl Outgoing {
         ensures nothing { result ≡ true → self.now.unsent ≡ [] }
         ensures freed { result ≡ true → self.now.is_owned ≡ false }
     {
-        self.is_empty() && !self.is_owned
+        self.rests
     }
 
     /// Goes to the next part, of at most `limit` octets, and returns whether it ends its TSDU. An empty TSDU is one
@@ -268,6 +279,7 @@ impl Outgoing {
                 self.is_owned = false;
                 self.from = 0;
                 self.to = 0;
+                self.rests = true;
                 return None;
             };
             self.queued -= tsdu.len();
@@ -276,6 +288,7 @@ impl Outgoing {
             self.to = 0;
             self.has_more = true;
         }
+        self.rests = false;
         self.from = self.to;
         if self.current.len() - self.from > limit {
             self.to = self.from + limit;
@@ -283,6 +296,7 @@ impl Outgoing {
         }
         self.to = self.current.len();
         self.has_more = false;
+        self.rests = !self.is_owned && self.queue.is_empty();
         Some(true)
     }
 
