@@ -1,4 +1,5 @@
--- The map of these proofs, in reading order.
+-- The map of these proofs, in reading order. `Vocabulary` has the names that come from elsewhere.
+mod Vocabulary
 -- What an end puts whose connection is open in class 0.
 pub mod class_0
 -- What stays true of an end over each turn.

@@ -1,24 +1,11 @@
 -- Whatever happens to a session of class 0, what it sends is put at once, and the connection stays open unless the session closes it.
 -- For the turns of an end.
-use Rattle.std.proofs.Common.{◌≡◌, ◌∙◌, refl, sym, ap, subst, ℕ, Bool, true, false, List, [], Option, Some, None, is_some, IsSome, inl, inr}
-use Rattle.osi_class.specs.declared.terms.Class.{Class}
-use Rattle.osi_class.specs.declared.terms.Class.TheVariants.{Zero}
-use Rattle.osi_carrier.specs.Calls.{closed_on, closed_with, closes, sent_all}
-use Rattle.osi_carrier.specs.Rows.{Rows, put, value_at}
-use Rattle.osi_carrier.specs.State.{State as Carrier}
-use Rattle.osi_carrier.proofs.references.what_a_change_leaves_there.{put_here}
-use Rattle.osi_message.specs.Parting.{tsdus_sent}
-use Rattle.osi_session.specs.Listening.{Input, Listener, react, after_input}
-use Rattle.osi_session.specs.Phases.{is_wait_transport}
-use Rattle.osi_session.proofs.runs.what_every_run_preserves.{input_begun}
-use Rattle.osi_judge.specs.Running.{sends}
-use Rattle.osi_stack.specs.Messages.{AreShort, kept_at}
-use Rattle.osi_stack.specs.Moving.{answers, by_line, carrier_by, limit_for, line_by, to_session}
-use Rattle.osi_stack.specs.State.{End, Line, session_in}
-use Rattle.osi_stack.specs.Transport.{answers_by, hands}
-use Rattle.osi_stack.proofs.called.tsdus_that_are_handed_together.{handed}
-use Rattle.osi_honest.specs.Parts.{IsOpenZero, IsWritten}
-use Rattle.osi_honest.specs.Talking.{Moves, Puts, Talks}
+use Rattle.osi_honest.proofs.Vocabulary.{[], ap, Bool, false, inl, inr, is_some, IsSome, List, None, Option, refl, Some, subst, sym, true}
+use Rattle.osi_honest.proofs.Vocabulary.{ℕ, ◌∙◌, ◌≡◌, Class, Zero, put_here, closed_on, closed_with, closes, sent_all, put, Rows, value_at}
+use Rattle.osi_honest.proofs.Vocabulary.{State as Carrier, tsdus_sent, input_begun, after_input, Input, Listener, session_react as react}
+use Rattle.osi_honest.proofs.Vocabulary.{is_wait_transport, handed, AreShort, kept_at, by_line, carrier_by, limit_for, line_by, to_session}
+use Rattle.osi_honest.proofs.Vocabulary.{End, Line, session_in, answers_by, hands, sends, IsOpenZero, IsWritten, Moves, Puts, Talks}
+use Rattle.osi_stack.specs.Moving.{answers}
 use Rattle.osi_honest.proofs.class_0.what_class_0_writes_of_a_tsdu.{all_written, none_written, open_is, written_open}
 
 -- ---- the line of a session

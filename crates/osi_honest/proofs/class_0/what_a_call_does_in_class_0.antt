@@ -1,45 +1,20 @@
 -- A call of the user at an end with an open connection of class 0, and any turn of such an end, or of one that is over.
 -- For runs of an end.
-use Rattle.std.proofs.Common.{◌≡◌, ◌≢◌, ◌∙◌, refl, sym, ap, subst, ℕ, ◌==◌, Bool, true, false, if◌then◌else◌, not, List, [], ◌∷◌, ◌++◌}
-use Rattle.std.proofs.Common.{length, map, Option, Some, None, is_some, IsSome, inl, inr, arith}
-use Rattle.std.proofs.lemmas.Bool.{eqb-true, eq-eqb}
-use Rattle.std.proofs.lemmas.List.{append-nil, append_cancel_left}
-use Rattle.osi_class.specs.declared.terms.Class.{Class}
-use Rattle.osi_carrier.specs.Calls.{class_error, closed_on, closed_with, link_of, open_link, or_else, room_error}
-use Rattle.osi_carrier.specs.Rows.{Rows, value_at}
-use Rattle.osi_carrier.specs.State.{Connection, State as Carrier, packets}
-use Rattle.osi_carrier.specs.declared.ends.EndReason.{EndReason}
-use Rattle.osi_carrier.specs.declared.ends.EndReason.TheVariants.{Broken}
-use Rattle.osi_carrier.specs.declared.faults.OpenError.{OpenError}
-use Rattle.osi_carrier.specs.declared.faults.OpenError.TheVariants.{Ended, NotCaller, OneConnection}
-use Rattle.osi_message.specs.Parting.{tsdus_sent}
-use Rattle.osi_session.specs.Calls.{Call as SessionCall, HasSerial}
-use Rattle.osi_session.specs.Listening.{Listener, called, react, after_input}
-use Rattle.osi_session.specs.Sizes.{limit_of}
-use Rattle.osi_judge.specs.Running.{sends}
-use Rattle.osi_stack.specs.Calls.{after_open, breaks, call_error, connect_error, terms_error}
-use Rattle.osi_stack.specs.Disconnecting.{disconnects, gives_up}
-use Rattle.osi_stack.specs.Hearing.{ends}
-use Rattle.osi_stack.specs.Inputs.{IsAccepted}
-use Rattle.osi_stack.specs.Messages.{AreShort, IsGranted, kept_at}
-use Rattle.osi_stack.specs.Moving.{to_session}
-use Rattle.osi_stack.specs.Rounds.{UserCall, user_does}
-use Rattle.osi_stack.specs.Rounds.UserCall.{breaking, calling, connecting, disconnecting}
-use Rattle.osi_stack.specs.Runs.{Call, Calls, carried_in}
-use Rattle.osi_stack.specs.Runs.Call.{carrying, feeding, telling}
-use Rattle.osi_stack.specs.State.{End, Holding, session_in}
-use Rattle.osi_stack.specs.declared.connecting.Connect.{Connect}
-use Rattle.osi_stack.specs.declared.connecting.ConnectError.{ConnectError}
-use Rattle.osi_stack.proofs.given_up.the_invariant_stays.{closed_and_given, disconnect_carrier, disconnect_is, given_other}
-use Rattle.osi_stack.proofs.carried.what_a_move_leaves.{says_is}
-use Rattle.osi_honest.specs.Parts.{Carry, dt}
-use Rattle.osi_honest.specs.Seeing.{put_along}
-use Rattle.osi_honest.specs.Stretches.{Goes, Stands}
-use Rattle.osi_honest.specs.Stretches.Stands.{gone, talking}
-use Rattle.osi_honest.specs.Talking.{History, Moves, Puts, Said, Talks, said_after}
+use Rattle.osi_honest.proofs.Vocabulary.{[], ap, arith, Bool, false, if◌then◌else◌, inl, inr, is_some, IsSome, length, List, map, None, not}
+use Rattle.osi_honest.proofs.Vocabulary.{Option, refl, Some, subst, sym, true, ℕ, ◌++◌, ◌==◌, ◌∙◌, ◌∷◌, ◌≡◌, ◌≢◌, eq-eqb, eqb-true}
+use Rattle.osi_honest.proofs.Vocabulary.{append-nil, append_cancel_left, Class, class_error, closed_on, closed_with, link_of, open_link}
+use Rattle.osi_honest.proofs.Vocabulary.{or_else, room_error, Rows, value_at, Connection, packets, State as Carrier, EndReason, Broken}
+use Rattle.osi_honest.proofs.Vocabulary.{OpenError, Ended, NotCaller, OneConnection, tsdus_sent, SessionCall, HasSerial, after_input}
+use Rattle.osi_honest.proofs.Vocabulary.{called, Listener, session_react as react, limit_of, says_is, closed_and_given, disconnect_carrier}
+use Rattle.osi_honest.proofs.Vocabulary.{disconnect_is, given_other, after_open, call_error, connect_error, terms_error, disconnects}
+use Rattle.osi_honest.proofs.Vocabulary.{gives_up, ends, IsAccepted, AreShort, IsGranted, kept_at, to_session, user_does, UserCall}
+use Rattle.osi_honest.proofs.Vocabulary.{breaking, calling, connecting, disconnecting, Call, Calls, carried_in, carrying, feeding, telling}
+use Rattle.osi_honest.proofs.Vocabulary.{End, Holding, session_in, Request as Connect, ConnectError, sends, Carry, dt, put_along, Stands}
+use Rattle.osi_honest.proofs.Vocabulary.{gone, talking, History, Moves, Said, said_after, Talks, Act, Acts, carried_by, HasSerialIn, Run}
+use Rattle.osi_honest.proofs.Vocabulary.{Takes, Turn, used_by, serving, using}
+use Rattle.osi_stack.specs.Calls.{breaks}
+use Rattle.osi_honest.specs.Stretches.{Goes}
 use Rattle.osi_honest.specs.Talking as history
-use Rattle.osi_honest.specs.Turns.{Act, Acts, HasSerialIn, Run, Takes, Turn, carried_by, used_by}
-use Rattle.osi_honest.specs.Turns.Act.{serving, using}
 use Rattle.osi_honest.proofs.class_0.a_session_of_class_0_puts_what_it_sends.{IsProper, closed_ends, session_moves}
 use Rattle.osi_honest.proofs.class_0.what_a_packet_does_in_class_0.{AllProper}
 use Rattle.osi_honest.proofs.class_0.what_packets_do_in_class_0.{never_lasts, said_by, said_octets}

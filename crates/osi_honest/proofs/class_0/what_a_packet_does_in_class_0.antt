@@ -1,39 +1,19 @@
 -- A packet at an open connection of class 0: a part of a TSDU, the last part, which the session takes, or the end is over.
 -- For the turns of an end.
-use Rattle.std.proofs.Common.{◌≡◌, ◌∙◌, refl, sym, ap, subst, ℕ, ◌+◌, Bool, true, false, if◌then◌else◌, nat_lt, List, [], ◌∷◌, ◌++◌}
-use Rattle.std.proofs.Common.{length, map, Option, Some, None, is_some, IsSome, IsTrue, Result, Ok, Err, inl, inr}
-use Rattle.std.proofs.lemmas.List.{append-nil}
-use Rattle.osi_tpkt.specs.Octets.{IsOctets}
-use Rattle.osi_tpdu.specs.Packet.{AreUnits, units_of}
-use Rattle.osi_tpdu.specs.Value.{Value, acknowledge, confirm, data0, data2, disconnect, disconnected, error, may_be_followed, request}
-use Rattle.osi_tpdu.specs.declared.faults.TpduFault.{TpduFault}
-use Rattle.osi_tpdu.proofs.the_units_of_a_packet.{units_found}
-use Rattle.osi_class.specs.Giving.{Drained, drained}
-use Rattle.osi_class.specs.Joining.{joining, with_part}
-use Rattle.osi_class.specs.Limits.{longest_tsdu}
-use Rattle.osi_class.specs.Link.{Standing, unit_of, with_joined, zero_standing}
+use Rattle.osi_honest.proofs.Vocabulary.{[], ap, Bool, Err, false, if◌then◌else◌, inl, inr, is_some, IsSome, IsTrue, length, List, map}
+use Rattle.osi_honest.proofs.Vocabulary.{nat_lt, None, Ok, Option, refl, Result, Some, subst, sym, true, ℕ, ◌++◌, ◌+◌, ◌∙◌, ◌∷◌, ◌≡◌}
+use Rattle.osi_honest.proofs.Vocabulary.{append-nil, IsOctets, units_found, AreUnits, units_of, data0, disconnect, may_be_followed, request}
+use Rattle.osi_honest.proofs.Vocabulary.{Value, TpduFault, Drained, drained, joining, with_part, longest_tsdu, unit_of, with_joined}
+use Rattle.osi_honest.proofs.Vocabulary.{zero_standing, Class, Zero, react_quiet, reacts_over, closed_on, link_of, open_link, sent_on}
+use Rattle.osi_honest.proofs.Vocabulary.{Happening, tsdu, in_class, in_zero, leaves, reacts, taking, to_linked, to_only, put, Rows}
+use Rattle.osi_honest.proofs.Vocabulary.{value_at, Connection, linked, packets, State as Carrier, after_input, came, Listener, all_quiet}
+use Rattle.osi_honest.proofs.Vocabulary.{concluded_carrier, packet_is, one_heard, Carries, events_heard, session_carried, concludes_lasting}
+use Rattle.osi_honest.proofs.Vocabulary.{after_packet, attends, concludes, hears_all, with_carrier, to_session, End, IsOpenZero, one_open}
+use Rattle.osi_honest.proofs.Vocabulary.{resting, IsPart, Moves, Packet, Talks, last, part}
 use Rattle.osi_class.specs.declared.faults.LinkFault.TheVariants.{TsduTooLong, WrongForm}
-use Rattle.osi_class.specs.declared.terms.Class.{Class}
-use Rattle.osi_class.specs.declared.terms.Class.TheVariants.{Zero}
-use Rattle.osi_carrier.specs.Calls.{closed_on, link_of, open_link, sent_on}
-use Rattle.osi_carrier.specs.Happenings.{Happening, tsdu}
 use Rattle.osi_carrier.specs.Packets as carriers
-use Rattle.osi_carrier.specs.React.{breaks, in_class, in_zero, leaves, react, reacts, taking, to_linked, to_only}
-use Rattle.osi_carrier.specs.Rows.{Rows, put, value_at}
-use Rattle.osi_carrier.specs.State.{Connection, State as Carrier, linked, packets}
-use Rattle.osi_carrier.proofs.effects.units_one_after_the_other.{react_quiet, reacts_over}
-use Rattle.osi_session.specs.Listening.{Listener, came, after_input}
-use Rattle.osi_stack.specs.Hearing.{after_packet, attends, concludes, hears_all, with_carrier}
-use Rattle.osi_stack.specs.Moving.{to_session}
-use Rattle.osi_stack.specs.State.{End}
-use Rattle.osi_stack.proofs.carried.events_one_after_the_other.{all_quiet, concluded_carrier}
-use Rattle.osi_stack.proofs.carried.packets_without_events.{packet_is}
-use Rattle.osi_stack.proofs.carried.what_a_move_leaves.{one_heard}
-use Rattle.osi_stack.proofs.sound.the_invariant_is_kept.{concludes_lasting}
-use Rattle.osi_stack.proofs.carried.what_each_step_preserves.{Carries, events_heard, session_carried}
-use Rattle.osi_honest.specs.Parts.{IsOpenZero, one_open, resting}
-use Rattle.osi_honest.specs.Talking.{IsPart, Moves, Packet, Talks}
-use Rattle.osi_honest.specs.Talking.Packet.{last, over, part}
+use Rattle.osi_carrier.specs.React.{breaks, react}
+use Rattle.osi_honest.specs.Talking.Packet.{over}
 use Rattle.osi_honest.proofs.class_0.a_session_of_class_0_puts_what_it_sends.{IsProper, session_moves}
 use Rattle.osi_honest.proofs.class_0.what_class_0_writes_of_a_tsdu.{nothing_left, put_one}
 
@@ -70,9 +50,6 @@ pub data AfterUnit (r peer limit : ℕ) (begun : List ℕ) (v : Value) (old new 
 
 module _ (r peer limit : ℕ) (begun : List ℕ) (c : Carrier) (h : IsOpenZero r peer limit begun c) (zero : c.class ≡ Some Zero)
     (quiet : c.events ≡ []) where
-  link_now : (begun : List ℕ) → Standing
-  link_now begun = zero_standing (resting limit begun)
-
   settled : (begun : List ℕ) (told : List Happening) →
       record c {
         live = put r (linked peer (drained (zero_standing (resting limit begun))).link) c.live;
@@ -125,25 +102,14 @@ module _ (r peer limit : ℕ) (begun : List ℕ) (c : Carrier) (h : IsOpenZero r
     ap
         (λ (x : Option Class). (leaves r peer reason x c).outgoing) zero,
   )
-  in_link (request cr) = wrong_form (request cr)
-  in_link (confirm destination cc0) = wrong_form (confirm destination cc0)
-  in_link (disconnected destination source) = wrong_form (disconnected destination source)
-  in_link (data2 destination number end octets) = wrong_form (data2 destination number end octets)
-  in_link (acknowledge credit destination number) = wrong_form (acknowledge credit destination number)
-  in_link (error destination cause) = wrong_form (error destination cause)
+  in_link v = wrong_form v
 
   in_only : (v : Value) → AfterUnit r peer limit begun v c (to_only c.live v c)
   in_only v = subst (λ (rows : Rows Connection). AfterUnit r peer limit begun v c (to_only rows v c)) (sym h.live) (in_link v)
 
   by_zero : (b : Bool) (v : Value) → AfterUnit r peer limit begun v c (in_zero b v c)
   by_zero true (request cr) = is_over (refl, refl)
-  by_zero true (confirm destination cc0) = in_only (confirm destination cc0)
-  by_zero true (disconnect destination source reason user) = in_only (disconnect destination source reason user)
-  by_zero true (disconnected destination source) = in_only (disconnected destination source)
-  by_zero true (data0 end octets) = in_only (data0 end octets)
-  by_zero true (data2 destination number end octets) = in_only (data2 destination number end octets)
-  by_zero true (acknowledge credit destination number) = in_only (acknowledge credit destination number)
-  by_zero true (error destination cause) = in_only (error destination cause)
+  by_zero true v = in_only v
   by_zero false v = in_only v
 
   pub unit_acts : (v : Value) → AfterUnit r peer limit begun v c (react v c)

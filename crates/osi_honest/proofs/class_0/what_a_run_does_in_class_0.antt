@@ -1,11 +1,6 @@
 -- A run of an end with an open connection of class 0, turn by turn.
 -- For the laws of an end and its captures.
-use Rattle.std.proofs.Common.{ℕ, List, [], ◌∷◌, ◌++◌}
-use Rattle.osi_session.specs.Listening.{Listener}
-use Rattle.osi_stack.specs.State.{Holding}
-use Rattle.osi_honest.specs.Stretches.{GoesAlong, Stands}
-use Rattle.osi_honest.specs.Talking.{Said}
-use Rattle.osi_honest.specs.Turns.{Run, Turn}
+use Rattle.osi_honest.proofs.Vocabulary.{[], List, ℕ, ◌++◌, ◌∷◌, Listener, Holding, GoesAlong, Stands, Said, Run, Turn}
 use Rattle.osi_honest.proofs.class_0.what_a_packet_does_in_class_0.{AllProper}
 use Rattle.osi_honest.proofs.class_0.what_a_call_does_in_class_0.{turn_goes}
 

@@ -1,19 +1,11 @@
 -- What a session answers a TSDU by is one short TSDU, and it answers nothing where it closes its connection.
 -- For the turns of an end.
-use Rattle.std.proofs.Common.{◌≡◌, ◌∙◌, refl, sym, ap, subst, ℕ, true, false, List, [], Option, Some, None}
-use Rattle.osi_message.specs.Meanings.{AA, AB, DT, Meaning, RF}
-use Rattle.osi_message.specs.Parting.{is_parted, tsdus_sent}
-use Rattle.osi_message.specs.Reading.{said_at}
+use Rattle.osi_honest.proofs.Vocabulary.{[], ap, false, List, None, Option, refl, Some, subst, sym, true, ℕ, ◌∙◌, ◌≡◌, sent_alone, AA, AB}
+use Rattle.osi_honest.proofs.Vocabulary.{DT, Meaning, RF, is_parted, tsdus_sent, said_at, came, Listener, session_react as react, taker_of}
+use Rattle.osi_honest.proofs.Vocabulary.{limit_of, sent_short, SpduLaws, AreShort, limit_for, came_moves, came_itself, SaysItself}
 unfoldable use Rattle.osi_message.specs.Written.{unit_of}
-use Rattle.osi_message.proofs.the_tsdus_of_a_message.{sent_alone}
-use Rattle.osi_session.specs.Listening.{Listener, Move, came, react, taker_of}
-use Rattle.osi_session.specs.Sizes.{limit_of}
+use Rattle.osi_session.specs.Listening.{Move}
 use Rattle.osi_session.specs.Standing.{answers}
-use Rattle.osi_judge.proofs.honest.a_run_is_explained.{came_moves}
-use Rattle.osi_judge.proofs.honest.an_answer_says_itself.{SaysItself, came_itself}
-use Rattle.osi_stack.specs.Messages.{AreShort}
-use Rattle.osi_stack.specs.Moving.{limit_for}
-use Rattle.osi_stack.proofs.called.what_is_sent_is_short.{SpduLaws, sent_short}
 use Rattle.osi_honest.proofs.class_0.what_a_packet_does_in_class_0.{AllProper}
 
 pub answer_alone : (m : Meaning) (limit : ℕ) → answers m m ≡ true → is_parted limit m ≡ false

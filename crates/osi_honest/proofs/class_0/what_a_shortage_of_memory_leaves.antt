@@ -1,25 +1,13 @@
 -- If memory runs out for a packet at an open connection of class 0, nothing was put for it.
 -- For the turns of an end.
-use Rattle.std.proofs.Common.{◌≡◌, ◌∙◌, refl, sym, ap, subst, ℕ, zero, suc, Bool, true, false, if◌then◌else◌, List, [], ◌∷◌, ◌++◌, None}
-use Rattle.std.proofs.Common.{is_some, inl, inr}
-use Rattle.osi_tpkt.specs.Octets.{IsOctets}
-use Rattle.osi_tpdu.specs.Packet.{AreUnits}
-use Rattle.osi_tpdu.specs.Value.{Value, may_be_followed}
-use Rattle.osi_tpdu.proofs.the_units_of_a_packet.{units_found}
-use Rattle.osi_carrier.specs.Happenings.{Happening, tsdu}
+use Rattle.osi_honest.proofs.Vocabulary.{[], ap, Bool, false, if◌then◌else◌, inl, inr, is_some, List, None, refl, subst, suc, sym, true}
+use Rattle.osi_honest.proofs.Vocabulary.{zero, ℕ, ◌++◌, ◌∙◌, ◌∷◌, ◌≡◌, IsOctets, units_found, AreUnits, may_be_followed, Value, reacts_over}
+use Rattle.osi_honest.proofs.Vocabulary.{acts_cases, Happening, tsdu, reacts, State as Carrier, NoMemory, Listener, never_starved}
+use Rattle.osi_honest.proofs.Vocabulary.{times_quiet, rest_is, events_heard, session_carried, hears_next, hears_times, RunsOut, Starves}
+use Rattle.osi_honest.proofs.Vocabulary.{starves, with_carrier, with_events, End, Talks}
 use Rattle.osi_carrier.specs.Packets as carriers
-use Rattle.osi_carrier.specs.React.{react, reacts}
-use Rattle.osi_carrier.specs.State.{State as Carrier, ends}
-use Rattle.osi_carrier.specs.declared.ends.EndReason.TheVariants.{NoMemory}
-use Rattle.osi_carrier.proofs.effects.units_one_after_the_other.{reacts_over}
-use Rattle.osi_carrier.proofs.stream.a_piece_is_read_packet_by_packet.{acts_cases}
-use Rattle.osi_session.specs.Listening.{Listener}
-use Rattle.osi_stack.specs.Hearing.{RunsOut, Starves, hears_next, hears_times, starves, with_carrier, with_events}
-use Rattle.osi_stack.specs.State.{End}
-use Rattle.osi_stack.proofs.carried.events_one_after_the_other.{never_starved, times_quiet}
-use Rattle.osi_stack.proofs.carried.open_connections_stay_open.{rest_is}
-use Rattle.osi_stack.proofs.carried.what_each_step_preserves.{events_heard, session_carried}
-use Rattle.osi_honest.specs.Talking.{Talks}
+use Rattle.osi_carrier.specs.React.{react}
+use Rattle.osi_carrier.specs.State.{ends}
 use Rattle.osi_honest.proofs.class_0.what_a_packet_does_in_class_0.{AfterPacket, AfterUnit, Over, acted, alone, attends_over, over_carries}
 use Rattle.osi_honest.proofs.class_0.what_a_packet_does_in_class_0.{unit_acts}
 use Rattle.osi_honest.proofs.class_0.what_a_packet_does_in_class_0.AfterUnit.{adds_part as unit_adds, ends_tsdu as unit_ends}

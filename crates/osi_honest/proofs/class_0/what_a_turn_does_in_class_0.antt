@@ -1,35 +1,14 @@
 -- Each turn of an end with an open connection of class 0: what its session took, and that what it sent was put.
 -- For runs of an end.
-use Rattle.std.proofs.Common.{◌≡◌, ◌∙◌, refl, sym, ap, subst, ℕ, Bool, true, false, if◌then◌else◌, List, [], ◌∷◌, ◌++◌, length, take}
-use Rattle.std.proofs.Common.{drop, map, Option, Some, None, is_some, IsSome, inl, inr, ◌⊎◌, append_assoc, arith}
-use Rattle.std.specs.List.{AllByRecursion}
-use Rattle.std.proofs.lemmas.List.{append-nil, append_cancel_left, take-append-drop, take_all}
-use Rattle.osi_tpkt.specs.Octets.{IsOctets}
-use Rattle.osi_tpkt.specs.Packet.{IsPacket}
-use Rattle.osi_tpkt.proofs.lists_of_octets_stay_octets.{octets_right}
-use Rattle.osi_tpkt.specs.Stream.{ArePackets}
-use Rattle.osi_tpkt.specs.declared.cutting.Fed.{Fed}
-use Rattle.osi_carrier.specs.State.{packets}
-use Rattle.osi_carrier.specs.declared.ends.EndReason.{EndReason}
-use Rattle.osi_carrier.proofs.stream.a_piece_is_read_packet_by_packet.{packets_more}
-use Rattle.osi_session.specs.Listening.{Listener}
-use Rattle.osi_stack.specs.Feeding.{Feeds, FindsNoMemory, RunsDry, StopsBehind, TakesPackets, uses_all}
-use Rattle.osi_stack.specs.Feeding.{Goes as GoesThrough}
-use Rattle.osi_stack.specs.State.{End, Holding, waits}
-use Rattle.osi_stack.specs.Calls.{without_first}
-use Rattle.osi_stack.specs.Runs.{Call, Calls, carried_in, put_back, used_in}
-use Rattle.osi_stack.specs.Runs.Call.{carrying, feeding, telling}
-use Rattle.osi_stack.proofs.stream.what_was_written_is_read.{uses_within}
-use Rattle.osi_stack.proofs.carried.packets_without_events.{lasting_of, quiet_stops}
-use Rattle.osi_stack.proofs.carried.what_a_move_leaves.{kept_first}
-use Rattle.osi_stack.proofs.stream.the_room_for_a_packet.{found_how}
-use Rattle.osi_stack.proofs.stream.an_end_is_what_its_packets_make.{none_ended}
-use Rattle.osi_stack.specs.Hearing.{Starves, ends}
-use Rattle.osi_carrier.specs.declared.ends.EndReason.TheVariants.{NoMemory}
-use Rattle.osi_honest.specs.Parts.{dt}
-use Rattle.osi_honest.specs.Stretches.{Extends, Goes, Stands}
-use Rattle.osi_honest.specs.Stretches.Stands.{gone, talking}
-use Rattle.osi_honest.specs.Talking.{History, Said, Talks}
+use Rattle.osi_honest.proofs.Vocabulary.{[], ap, append_assoc, arith, Bool, drop, false, if◌then◌else◌, inl, inr, is_some, IsSome, length}
+use Rattle.osi_honest.proofs.Vocabulary.{List, map, None, Option, refl, Some, subst, sym, take, true, ℕ, ◌++◌, ◌∙◌, ◌∷◌, ◌≡◌, ◌⊎◌}
+use Rattle.osi_honest.proofs.Vocabulary.{append-nil, append_cancel_left, take-append-drop, take_all, AllByRecursion, octets_right, IsOctets}
+use Rattle.osi_honest.proofs.Vocabulary.{IsPacket, ArePackets, Fed, packets_more, packets, EndReason, NoMemory, Listener, lasting_of}
+use Rattle.osi_honest.proofs.Vocabulary.{quiet_stops, kept_first, none_ended, found_how, uses_within, without_first, Feeds, FindsNoMemory}
+use Rattle.osi_honest.proofs.Vocabulary.{Goes as GoesThrough, RunsDry, StopsBehind, TakesPackets, uses_all, ends, Starves, Call, Calls}
+use Rattle.osi_honest.proofs.Vocabulary.{carried_in, put_back, used_in, carrying, feeding, telling, End, Holding, waits, dt, Extends}
+use Rattle.osi_honest.proofs.Vocabulary.{Stands, gone, talking, History, Said, Talks}
+use Rattle.osi_honest.specs.Stretches.{Goes}
 use Rattle.osi_honest.proofs.class_0.what_a_packet_does_in_class_0.{AllProper}
 use Rattle.osi_honest.proofs.class_0.what_packets_do_in_class_0.{never_lasts, packets_act, stands_still}
 use Rattle.osi_honest.proofs.class_0.what_a_shortage_of_memory_leaves.{starved_still}

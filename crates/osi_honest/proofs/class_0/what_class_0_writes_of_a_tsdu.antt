@@ -1,22 +1,14 @@
 -- A TSDU that is handed to an open connection of class 0 is written at once, whole, and the link is as it was before.
 -- For what a session of class 0 puts.
-use Rattle.std.proofs.Common.{◌≡◌, ◌∙◌, refl, sym, ap, subst, ℕ, zero, suc, ◌<◌, ◌≤◌, Bool, true, false, if◌then◌else◌, nat_lt, List, []}
-use Rattle.std.proofs.Common.{◌∷◌, ◌++◌, length, take, drop, map, Some, None, is_some, arith, append_assoc, length-drop, take-append-drop}
-use Rattle.std.proofs.lemmas.Bool.{eq-eqb, ltb-true}
-use Rattle.std.proofs.lemmas.List.{append-nil, map-append}
+use Rattle.osi_honest.proofs.Vocabulary.{[], ap, append_assoc, arith, Bool, drop, false, if◌then◌else◌, is_some, length, length-drop, List}
+use Rattle.osi_honest.proofs.Vocabulary.{map, nat_lt, None, refl, Some, subst, suc, sym, take, true, zero, ℕ, ◌++◌, ◌<◌, ◌∙◌, ◌∷◌, ◌≡◌, ◌≤◌}
+use Rattle.osi_honest.proofs.Vocabulary.{eq-eqb, ltb-true, append-nil, map-append, packet_of, Value, written, drained_none, drained_some}
+use Rattle.osi_honest.proofs.Vocabulary.{Drained, drained, joining, Given, next, part0, Standing, unit_of, zero_standing, Part, tsdus_after}
+use Rattle.osi_honest.proofs.Vocabulary.{link_of, open_link, sent, sent_all, sent_on, put, Rows, value_at, Connection, linked, packets}
+use Rattle.osi_honest.proofs.Vocabulary.{State, Carry, dt, ends_whole, IsOpenZero, IsWritten, resting}
+use Rattle.std.proofs.Common.{take-append-drop}
 use Rattle.std.proofs.lemmas.List.Concat.{flat_map-append}
-use Rattle.osi_tpkt.specs.Packet.{packet_of}
-use Rattle.osi_tpdu.specs.Value.{Value}
-use Rattle.osi_tpdu.specs.Writing.{written}
-use Rattle.osi_class.specs.Giving.{Drained, drained}
-use Rattle.osi_class.specs.Joining.{joining}
-use Rattle.osi_class.specs.Link.{Given, Standing, next, part0, unit_of, zero_standing}
-use Rattle.osi_class.specs.Tsdus.{Part, tsdus_after}
-use Rattle.osi_class.proofs.giving.a_link_gives_finitely_many_units.{drained_none, drained_some}
-use Rattle.osi_carrier.specs.Calls.{link_of, open_link, sent, sent_all, sent_on}
-use Rattle.osi_carrier.specs.Rows.{Rows, put, value_at}
-use Rattle.osi_carrier.specs.State.{Connection, State, linked, packets}
-use Rattle.osi_honest.specs.Parts.{Carry, IsOpenZero, IsWritten, adds, dt, ends_whole, resting}
+use Rattle.osi_honest.specs.Parts.{adds}
 
 -- ---- the parts of one TSDU
 

@@ -1,24 +1,14 @@
 -- Packets one after the other at an open connection of class 0: what the session took, sent and put.
 -- For the turns of an end.
-use Rattle.std.proofs.Common.{◌≡◌, ◌∙◌, refl, sym, ap, subst, ℕ, ◌+◌, ◌≤◌, Bool, true, false, List, [], ◌∷◌, ◌++◌, length, map, Option}
-use Rattle.std.proofs.Common.{Some, None, IsSome, inl, inr, append_assoc, length-append, arith}
-use Rattle.std.specs.List.{AllByRecursion}
-use Rattle.std.proofs.lemmas.List.{append-nil, map-append}
-use Rattle.osi_tpkt.specs.Octets.{IsOctets}
-use Rattle.osi_carrier.specs.State.{State as Carrier, packets}
-use Rattle.osi_session.specs.Listening.{Listener, came, react, after_input}
-use Rattle.osi_judge.specs.Running.{sends}
-use Rattle.osi_stack.specs.Feeding.{TakesPackets}
-use Rattle.osi_stack.specs.Hearing.{after_packet}
-use Rattle.osi_stack.specs.Messages.{AreShort}
-use Rattle.osi_stack.specs.State.{End, waits}
-use Rattle.osi_stack.proofs.carried.packets_without_events.{lasting_of}
-use Rattle.osi_honest.specs.Parts.{dt}
-use Rattle.osi_honest.specs.Stretches.{AllSaidBy, Extends, Stands, octets_said}
-use Rattle.osi_honest.specs.Stretches.Stands.{gone, talking}
-use Rattle.osi_honest.specs.Talking.{History, IsPart, Moves, Packet, Puts, Said, Talks, said_after}
+use Rattle.osi_honest.proofs.Vocabulary.{[], ap, append_assoc, arith, Bool, false, inl, inr, IsSome, length, List, map, None, Option, refl}
+use Rattle.osi_honest.proofs.Vocabulary.{Some, subst, sym, true, ℕ, ◌++◌, ◌+◌, ◌∙◌, ◌∷◌, ◌≡◌, ◌≤◌, append-nil, map-append, AllByRecursion}
+use Rattle.osi_honest.proofs.Vocabulary.{IsOctets, packets, State as Carrier, after_input, came, Listener, session_react as react}
+use Rattle.osi_honest.proofs.Vocabulary.{lasting_of, TakesPackets, after_packet, AreShort, End, waits, sends, dt, AllSaidBy, Extends}
+use Rattle.osi_honest.proofs.Vocabulary.{octets_said, Stands, gone, talking, History, IsPart, Packet, Puts, Said, said_after, Talks, last}
+use Rattle.osi_honest.proofs.Vocabulary.{part}
+use Rattle.std.proofs.Common.{length-append}
 use Rattle.osi_honest.specs.Talking as history
-use Rattle.osi_honest.specs.Talking.Packet.{last, over, part}
+use Rattle.osi_honest.specs.Talking.Packet.{over}
 use Rattle.osi_honest.proofs.class_0.what_class_0_writes_of_a_tsdu.{carry_more, packets_joined}
 use Rattle.osi_honest.proofs.class_0.what_a_packet_does_in_class_0.{AllProper, packet_acts}
 

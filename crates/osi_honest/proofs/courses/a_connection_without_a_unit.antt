@@ -1,38 +1,20 @@
 -- What becomes of a connection while no unit arrives: its session sends, and its link gives units for the peer; or its session closes it;
 -- or it stays as it is.
 -- For the course of a connection.
-use Rattle.std.proofs.Common.{◌≡◌, ◌∙◌, refl, sym, ap, subst, ℕ, ◌+◌, ◌<◌, ◌==◌, ◌&&◌, Bool, true, false, if◌then◌else◌}
-use Rattle.std.proofs.Common.{List, [], ◌∷◌, ◌++◌, map, nat_le, nat_lt, Option, Some, None, is_some, inl, inr, arith}
-use Rattle.std.proofs.lemmas.Bool.{eq-eqb, eqb-true}
-use Rattle.std.proofs.lemmas.List.{map-append}
-use Rattle.osi_tpdu.specs.Value.{Value}
-use Rattle.osi_class.specs.Giving.{all_given}
-use Rattle.osi_class.specs.Link.{Given, Standing, ack, part0, part2, unit_of, with_tsdu}
-use Rattle.osi_class.specs.declared.terms.Class.{Class}
-use Rattle.osi_class.specs.declared.terms.Class.TheVariants.{Two, Zero}
-use Rattle.osi_carrier.specs.Calls.{closed_on, closed_with, closes, link_of, open_link, send_all_error, sent, sent_all, sent_on}
-use Rattle.osi_carrier.specs.Happenings.{Happening}
+use Rattle.osi_honest.proofs.Vocabulary.{[], ap, arith, Bool, false, if◌then◌else◌, inl, inr, is_some, List, map, nat_le, nat_lt, None}
+use Rattle.osi_honest.proofs.Vocabulary.{Option, refl, Some, subst, sym, true, ℕ, ◌&&◌, ◌++◌, ◌+◌, ◌<◌, ◌==◌, ◌∙◌, ◌∷◌, ◌≡◌, eq-eqb}
+use Rattle.osi_honest.proofs.Vocabulary.{eqb-true, map-append, Value, all_given, Given, part0, Standing, unit_of, with_tsdu, Class, Zero}
+use Rattle.osi_honest.proofs.Vocabulary.{push_other, put_other, beyond, push_here, put_here, closed_on, closed_with, closes, link_of}
+use Rattle.osi_honest.proofs.Vocabulary.{open_link, send_all_error, sent, sent_all, sent_on, Happening, IsOrderly, pumped, put, Rows}
+use Rattle.osi_honest.proofs.Vocabulary.{value_at, asked, closing, Connection, linked, State as Carrier, SendError, tsdus_sent, broken}
+use Rattle.osi_honest.proofs.Vocabulary.{came, Input, Listener, linked_up as opened, session_react as react, connects, has_given, hears}
+use Rattle.osi_honest.proofs.Vocabulary.{opens_line as opens, by_line, carrier_by, limit_for, to_session, End, Line, answers_by}
+use Rattle.osi_honest.proofs.Vocabulary.{sent_unless, Request as Connect, GivesTo, is_for, Marked}
 use Rattle.osi_carrier.specs.Happenings as told
-use Rattle.osi_carrier.specs.Orderly.{IsOrderly}
-use Rattle.osi_carrier.specs.Pump.{pumped}
-use Rattle.osi_carrier.specs.Rows.{Rows, put, value_at}
-use Rattle.osi_carrier.specs.State.{Connection, State as Carrier, asked, closing, linked}
-use Rattle.osi_carrier.specs.declared.faults.SendError.{SendError}
-use Rattle.osi_carrier.proofs.references.rows_after_a_change.{push_other, put_other}
-use Rattle.osi_carrier.proofs.references.what_a_change_leaves_there.{beyond, push_here, put_here}
-use Rattle.osi_message.specs.Parting.{tsdus_sent}
-use Rattle.osi_session.specs.Listening.{Input, Listener, broken, came, opened, react, refused}
-use Rattle.osi_stack.specs.Calls.{connects, has_given}
-use Rattle.osi_stack.specs.Hearing.{hears, opens}
-use Rattle.osi_stack.specs.Moving.{by_line, carrier_by, limit_for, to_session}
-use Rattle.osi_stack.specs.State.{End, Line}
-use Rattle.osi_stack.specs.Transport.{answers_by, sent_unless}
-use Rattle.osi_stack.specs.declared.connecting.Connect.{Connect}
-use Rattle.osi_honest.specs.Arriving.{GivesTo, is_for}
-use Rattle.osi_honest.specs.Marked.{Marked}
+use Rattle.osi_session.specs.Listening.{refused}
 use Rattle.osi_honest.proofs.courses.how_long_a_connection_is_open.{Life, Rests, Stage, life_open, life_rests, stage_at, stage_by, stage_is}
 use Rattle.osi_honest.proofs.courses.how_long_a_connection_is_open.{stage_there}
-use Rattle.osi_honest.proofs.courses.how_long_a_connection_is_open.Stage.{amid, early, past}
+use Rattle.osi_honest.proofs.courses.how_long_a_connection_is_open.Stage.{amid, past}
 use Rattle.osi_honest.proofs.courses.the_connections_of_each_class.{linked_at}
 use Rattle.osi_honest.proofs.courses.units_of_each_connection.{all_of_both, marked, none_marked, other_marked, unequal}
 use Rattle.osi_honest.proofs.courses.what_a_session_puts.{all_put, answer_puts, event_puts, line_puts, move_puts, one_puts, opening_puts}
@@ -84,10 +66,7 @@ module _ (q r : ℕ) where
   closes_rests : (peer : ℕ) (link : Standing) (held : Option Class) (s : Carrier) → open_link q s ≡ Some (peer, link) →
       Rests (stage_at r s) (stage_at r (closes q peer 128 held s))
   closes_rests peer link (Some Zero) s e = inr refl
-  closes_rests peer link (Some Two) s e =
-      rests_put Rests (λ t. inl refl) q r (closing peer) (linked peer link) s.live
-      (linked_at (is_some s.ended) (value_at q s.live) peer link e) (λ given. inr refl) (is_some s.ended) (has_given r s)
-  closes_rests peer link None s e =
+  closes_rests peer link _ s e =
       rests_put Rests (λ t. inl refl) q r (closing peer) (linked peer link) s.live
       (linked_at (is_some s.ended) (value_at q s.live) peer link e) (λ given. inr refl) (is_some s.ended) (has_given r s)
 
@@ -106,19 +85,16 @@ given_to r peer (given ∷ units) = ((λ own. for_peer given), given_to r peer u
   where
     for_peer : (g : Given) → is_for peer (unit_of peer g) ≡ true
     for_peer (part0 last octets) = refl
-    for_peer (part2 number last octets) = eq-eqb peer peer refl
-    for_peer (ack number credit) = eq-eqb peer peer refl
+    for_peer _ = eq-eqb peer peer refl
 
 amid_open : (over given : Bool) (o : Option Connection) (peer : ℕ) (link : Standing) →
     (if over then None else link_of o) ≡ Some (peer, link) → (p : ℕ) → stage_by over given o ≡ amid p → peer ≡ p
 amid_open true given o peer link h p is = absurd (cc)
-amid_open false given None peer link h p is = absurd (cc)
-amid_open false given (Some asked) peer link h p is = absurd (cc)
-amid_open false given (Some (closing q)) peer link h p is = absurd (cc)
 amid_open false given (Some (linked q t)) peer link h p is =
     let pair : ◌≡◌ {A = ℕ × Standing} (q, t) (peer, link) = cc in
     let same : q ≡ p = cc in
     sym (ap (λ (x : ℕ × Standing). x.0) pair) ∙ same
+amid_open false given _ peer link h p is = absurd (cc)
 
 one_gives : (r p : ℕ) (tsdu : List ℕ) (o : Option (ℕ × Standing)) (s : Carrier) → open_link r s ≡ o → stage_at r s ≡ amid p →
     GivesTo r p (marked r (one_puts tsdu o))
@@ -146,10 +122,8 @@ unless_gives (Some e) r p tsdus s is = tt
 unlinked_stage : (over given : Bool) (o : Option Connection) → ((peer : ℕ) → stage_by over given o ≡ amid peer → ⊥) →
     (if over then None else link_of o) ≡ None
 unlinked_stage true given o shut = refl
-unlinked_stage false given None shut = refl
-unlinked_stage false given (Some asked) shut = refl
-unlinked_stage false given (Some (closing q)) shut = refl
 unlinked_stage false given (Some (linked q link)) shut = absurd (shut q refl)
+unlinked_stage false given _ shut = refl
 
 -- ---- the life of a connection as something happens to a session
 
@@ -163,16 +137,11 @@ module _ (is_caller : Bool) (q r : ℕ) (some : 0 < r) where
   sends_by : (s : Stage) (tsdus : List (List ℕ)) (o : Option SendError) (c : Carrier) → stage_at r c ≡ s →
       Life is_caller r s [] (marked r (put_unless o r tsdus c)) s
   sends_by (amid peer) tsdus o c is = life_open is_caller r peer [] _ tt (unless_gives o r peer tsdus c is)
-  sends_by early tsdus o c is =
+  sends_by v tsdus o c is =
       let none = unlinked_unless o r tsdus c (unlinked_stage (is_some c.ended) (has_given r c) (value_at r c.live)
-      (λ peer now. absurd (let both : early ≡ amid peer = sym is ∙ now in cc))) in
-      subst (λ (l : List Value). Life is_caller r early [] (marked r l) early) (sym none)
-      (life_rests is_caller r early early [] tt (inl refl))
-  sends_by past tsdus o c is =
-      let none = unlinked_unless o r tsdus c (unlinked_stage (is_some c.ended) (has_given r c) (value_at r c.live)
-      (λ peer now. absurd (let both : past ≡ amid peer = sym is ∙ now in cc))) in
-      subst (λ (l : List Value). Life is_caller r past [] (marked r l) past) (sym none)
-      (life_rests is_caller r past past [] tt (inl refl))
+      (λ peer now. absurd (let both : v ≡ amid peer = sym is ∙ now in cc))) in
+      subst (λ (l : List Value). Life is_caller r v [] (marked r l) v) (sym none)
+      (life_rests is_caller r v v [] tt (inl refl))
 
   sends_life : (b : Bool) → (r == q) ≡ b → (tsdus : List (List ℕ)) (o : Option SendError) (c : Carrier) →
       Still c (marked q (put_unless o q tsdus c)) (sent_unless o q tsdus c)

@@ -1,19 +1,11 @@
 -- The units that arrive and those that are put, one step after the other, for one connection: it is not open yet, then its link takes
 -- those that are for it and gives units for the peer, and then it takes and gives no more.
 -- For the course of a connection.
-use Rattle.std.proofs.Common.{◌≡◌, ◌∙◌, refl, sym, ap, subst, ℕ, ◌<◌, ◌==◌, Bool, true, false, if◌then◌else◌, List, [], ◌∷◌, ◌++◌}
-use Rattle.std.proofs.Common.{Option, Some, None, is_some, IsSome, inl, inr, ◌⊎◌, append_assoc}
-use Rattle.std.proofs.lemmas.List.{append-nil}
-use Rattle.osi_tpdu.specs.Value.{Value}
-use Rattle.osi_class.specs.Link.{Standing}
-use Rattle.osi_carrier.specs.Calls.{link_of, open_link}
-use Rattle.osi_carrier.specs.Rows.{value_at}
-use Rattle.osi_carrier.specs.State.{Connection, State as Carrier, asked, closing, linked}
-use Rattle.osi_carrier.specs.declared.ends.EndReason.{EndReason}
-use Rattle.osi_stack.specs.Calls.{has_given}
-use Rattle.osi_honest.specs.Arriving.{Answers, AreApart, GivesTo, Lives, Opens, TakesAll, is_for}
-use Rattle.osi_honest.specs.Arriving.Begins.{is_open, is_shut, opens}
-use Rattle.osi_honest.specs.Marked.{Marked}
+use Rattle.osi_honest.proofs.Vocabulary.{[], ap, append_assoc, Bool, false, if◌then◌else◌, inl, inr, is_some, IsSome, List, None, Option}
+use Rattle.osi_honest.proofs.Vocabulary.{refl, Some, subst, sym, true, ℕ, ◌++◌, ◌<◌, ◌==◌, ◌∙◌, ◌∷◌, ◌≡◌, ◌⊎◌, append-nil, Value, Standing}
+use Rattle.osi_honest.proofs.Vocabulary.{link_of, open_link, value_at, asked, closing, Connection, linked, State as Carrier, EndReason}
+use Rattle.osi_honest.proofs.Vocabulary.{has_given, Answers, AreApart, GivesTo, is_for, Lives, Opens, TakesAll, is_shut, Marked}
+use Rattle.osi_honest.specs.Arriving.Begins.{is_open, opens}
 use Rattle.osi_honest.proofs.courses.units_of_each_connection.{all_of_both, none_mark}
 
 -- ---- how far a connection has come
@@ -56,11 +48,6 @@ Rests s t = (t ≡ s) ⊎ (t ≡ past)
 
 pub rests_over : (r : ℕ) (s : Stage) (c : Carrier) → IsSome c.ended → Rests s (stage_at r c)
 rests_over r s c ended = inr (stage_over r c ended)
-
-pub rests_then : (s t u : Stage) → Rests s t → Rests t u → Rests s u
-rests_then s t u a (inr is) = inr is
-rests_then s t u (inl is) (inl then_is) = inl (then_is ∙ is)
-rests_then s t u (inr is) (inl then_is) = inr (then_is ∙ is)
 
 -- ---- steps
 
@@ -272,17 +259,15 @@ module _ (is_caller : Bool) (r : ℕ) where
 -- ---- a connection is open just then
 
 abbrev IsOpenAt : Stage → Option (ℕ × Standing) → Type 0
-IsOpenAt early o = o ≡ None
 IsOpenAt (amid peer) o = (link : Standing) × (o ≡ Some (peer, link))
-IsOpenAt past o = o ≡ None
+IsOpenAt _ o = o ≡ None
 
 open_by_stage : (over given : Bool) (o : Option Connection) → IsOpenAt (stage_by over given o) (if over then None else link_of o)
 open_by_stage true given o = refl
 open_by_stage false true None = refl
 open_by_stage false false None = refl
-open_by_stage false given (Some asked) = refl
 open_by_stage false given (Some (linked peer link)) = (link, refl)
-open_by_stage false given (Some (closing peer)) = refl
+open_by_stage false given _ = refl
 
 open_at : (r : ℕ) (c : Carrier) → IsOpenAt (stage_at r c) (open_link r c)
 open_at r c = open_by_stage (is_some c.ended) (has_given r c) (value_at r c.live)

@@ -1,15 +1,8 @@
 -- Steps of all connections of an end, one after the other, each with the calls of their links and with what was put and taken.
 -- For the course of a connection.
-use Rattle.std.proofs.Common.{◌≡◌, ◌∙◌, refl, sym, ap, subst, ℕ, ◌<◌, Bool, List, [], ◌++◌, append_assoc, map}
-use Rattle.std.proofs.Common.{IsSome, inl}
-use Rattle.std.proofs.lemmas.List.{append-nil}
-use Rattle.osi_tpdu.specs.Value.{Value}
-use Rattle.osi_class.specs.Link.{unit_of}
-use Rattle.osi_class.specs.Runs.{Move}
-use Rattle.osi_carrier.specs.State.{State as Carrier, packets}
-use Rattle.osi_stack.specs.State.{End}
-use Rattle.osi_honest.specs.Courses.{Deeds, all_did, no_deeds, then_did, units_given, units_taken}
-use Rattle.osi_honest.specs.Marked.{Marked, all_units, units_at}
+use Rattle.osi_honest.proofs.Vocabulary.{[], ap, append_assoc, Bool, inl, IsSome, List, map, refl, subst, sym, ℕ, ◌++◌, ◌<◌, ◌∙◌, ◌≡◌}
+use Rattle.osi_honest.proofs.Vocabulary.{append-nil, Value, unit_of, Move, packets, State as Carrier, End, all_did, Deeds, no_deeds}
+use Rattle.osi_honest.proofs.Vocabulary.{then_did, units_given, units_taken, all_units, Marked, units_at}
 use Rattle.osi_honest.proofs.class_0.what_class_0_writes_of_a_tsdu.{packets_joined}
 use Rattle.osi_honest.proofs.courses.how_long_a_connection_is_open.{Life, Rests, Stage, life_rests, life_then, life_then_rests}
 use Rattle.osi_honest.proofs.courses.how_long_a_connection_is_open.{life_to_past, rests_over, stage_at, stage_over}

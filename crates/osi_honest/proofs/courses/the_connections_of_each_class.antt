@@ -1,31 +1,19 @@
 -- Which connections a carrier has: before a class is selected at most one, which was requested; in class 0 at most one, whose link is
 -- of class 0.
 -- For the units that arrive for a connection.
-use Rattle.std.proofs.Common.{◌≡◌, ◌∙◌, refl, sym, ap, subst, ℕ, ◌+◌, ◌==◌, ◌&&◌, Bool, true, false, if◌then◌else◌, List, [], ◌∷◌, ◌++◌}
-use Rattle.std.proofs.Common.{◌||◌, Option, Some, None, is_some, not, Result, Ok, Err}
-use Rattle.std.proofs.lemmas.Bool.{eq-eqb, eqb-true}
-use Rattle.osi_tpdu.specs.Value.{Connect, Value, acknowledge, confirm, data0, data2, disconnect, disconnected, error, request}
-use Rattle.osi_class.specs.Link.{Standing, taken, with_tsdu}
-use Rattle.osi_class.specs.Negotiation.{Selection, accept, refuse, selected_by}
-use Rattle.osi_class.specs.declared.faults.LinkFault.{LinkFault}
-use Rattle.osi_class.specs.declared.terms.Class.{Class}
-use Rattle.osi_class.specs.declared.terms.Class.TheVariants.{Two, Zero}
-use Rattle.osi_carrier.specs.Calls.{class_error, closed_on, closes, link_of, may_connect, open_link, or_else, room_error, sent_on}
+use Rattle.osi_honest.proofs.Vocabulary.{[], ap, Bool, Err, false, if◌then◌else◌, is_some, List, None, not, Ok, Option, refl, Result, Some}
+use Rattle.osi_honest.proofs.Vocabulary.{subst, sym, true, ℕ, ◌&&◌, ◌++◌, ◌+◌, ◌==◌, ◌||◌, ◌∙◌, ◌∷◌, ◌≡◌, eq-eqb, eqb-true, acknowledge}
+use Rattle.osi_honest.proofs.Vocabulary.{confirm, data0, data2, disconnect, disconnected, error, request, Value, Standing, taken, with_tsdu}
+use Rattle.osi_honest.proofs.Vocabulary.{accept, refuse, selected_by, Selection, LinkFault, Class, Two, Zero, orderly_same, orderly_unit}
+use Rattle.osi_honest.proofs.Vocabulary.{react_over, react_quiet, class_error, closed_on, closes, link_of, may_connect, open_link, or_else}
+use Rattle.osi_honest.proofs.Vocabulary.{room_error, sent_on, Happening, agreed_size, confirmed, opened_link, proposes_two}
+use Rattle.osi_honest.proofs.Vocabulary.{selects_expedited, IsOrderly, pumped, answers, before_class, denies, handed_out, has_peer}
+use Rattle.osi_honest.proofs.Vocabulary.{in_class, in_two, in_zero, is_full, leaves, opens_by as opens, settles, taking, to_asked}
+use Rattle.osi_honest.proofs.Vocabulary.{to_closing, to_connection, to_linked, to_only, to_unknown, put, Rows, value_at, without, asked}
+use Rattle.osi_honest.proofs.Vocabulary.{closing, Connection, linked, State as Carrier, EndReason, OpenError, Ended, NotCaller}
+use Rattle.osi_tpdu.specs.Value.{Connect}
 use Rattle.osi_carrier.specs.Calls.{asks as requests}
-use Rattle.osi_carrier.specs.Happenings.{Happening}
-use Rattle.osi_carrier.specs.Negotiation.{agreed_size, confirmed, opened_link, proposes_two, selects_expedited}
-use Rattle.osi_carrier.specs.Orderly.{IsOrderly}
-use Rattle.osi_carrier.specs.Pump.{pumped}
-use Rattle.osi_carrier.specs.React.{answers, before_class, breaks, denies, handed_out, has_peer, in_class, in_two, in_zero}
-use Rattle.osi_carrier.specs.React.{is_full, leaves, opens, react, settles, taking, to_asked, to_closing, to_connection, to_linked}
-use Rattle.osi_carrier.specs.React.{to_only, to_unknown}
-use Rattle.osi_carrier.specs.Rows.{Rows, put, value_at, without}
-use Rattle.osi_carrier.specs.State.{Connection, State as Carrier, asked, closing, linked}
-use Rattle.osi_carrier.specs.declared.ends.EndReason.{EndReason}
-use Rattle.osi_carrier.specs.declared.faults.OpenError.{OpenError}
-use Rattle.osi_carrier.specs.declared.faults.OpenError.TheVariants.{Ended, NotCaller}
-use Rattle.osi_carrier.proofs.effects.a_unit_touches_one_connection.{orderly_same, orderly_unit}
-use Rattle.osi_carrier.proofs.effects.units_one_after_the_other.{react_over, react_quiet}
+use Rattle.osi_carrier.specs.React.{breaks, react}
 use Rattle.osi_honest.proofs.keeping.what_a_unit_keeps_a_turn_keeps.{IsKept}
 use Rattle.osi_honest.proofs.reading.what_a_link_gives_can_be_written.{gives_data, taken_zero}
 
@@ -75,13 +63,7 @@ module _ (s : Carrier) (is : s.class ≡ Some Two) where
 
   two_unknown : (v : Value) → ByClass (to_unknown v s)
   two_unknown (disconnect destination source reason user) = two is
-  two_unknown (disconnected destination source) = two is
-  two_unknown (request c) = two is
-  two_unknown (confirm destination c) = two is
-  two_unknown (data0 end user) = two is
-  two_unknown (data2 destination number end user) = two is
-  two_unknown (acknowledge credit destination number) = two is
-  two_unknown (error destination cause) = two is
+  two_unknown _ = two is
 
   confirmed_two : (c : Connect) → confirmed c s.local s.class ≡ Some Zero → confirmed c s.local s.class ≡ Some Two
   confirmed_two c h =
@@ -96,18 +78,11 @@ module _ (s : Carrier) (is : s.class ≡ Some Two) where
 
   two_asked : (r : ℕ) (v : Value) → ByClass (to_asked r v s)
   two_asked r (confirm destination c) = two_opens r c (confirmed c s.local s.class) (confirmed_two c)
-  two_asked r (disconnect destination source reason user) = two is
-  two_asked r (error destination cause) = two is
-  two_asked r (request c) = two is
-  two_asked r (disconnected destination source) = two is
-  two_asked r (data0 end user) = two is
-  two_asked r (data2 destination number end user) = two is
-  two_asked r (acknowledge credit destination number) = two is
+  two_asked r _ = two is
 
   two_breaks : (r peer : ℕ) (fault : LinkFault) (held : Option Class) → ByClass (breaks r peer fault held s)
   two_breaks r peer fault (Some Two) = two is
-  two_breaks r peer fault (Some Zero) = two is
-  two_breaks r peer fault None = two is
+  two_breaks r peer fault _ = two is
 
   two_taking : (r peer : ℕ) (result : Result Standing LinkFault) → ByClass (taking r peer result s)
   two_taking r peer (Ok link) = two is
@@ -115,29 +90,15 @@ module _ (s : Carrier) (is : s.class ≡ Some Two) where
 
   two_leaves : (r peer reason : ℕ) (held : Option Class) → ByClass (leaves r peer reason held s)
   two_leaves r peer reason (Some Two) = two is
-  two_leaves r peer reason (Some Zero) = two is
-  two_leaves r peer reason None = two is
+  two_leaves r peer reason _ = two is
 
   two_linked : (r peer : ℕ) (link : Standing) (v : Value) → ByClass (to_linked r peer link v s)
   two_linked r peer link (disconnect destination source reason user) = two_leaves r peer reason s.class
-  two_linked r peer link (request c) = two_taking r peer (taken link (request c))
-  two_linked r peer link (confirm destination c) = two_taking r peer (taken link (confirm destination c))
-  two_linked r peer link (disconnected destination source) = two_taking r peer (taken link (disconnected destination source))
-  two_linked r peer link (data0 end user) = two_taking r peer (taken link (data0 end user))
-  two_linked r peer link (data2 destination number end user) = two_taking r peer (taken link (data2 destination number end user))
-  two_linked r peer link (acknowledge credit destination number) =
-      two_taking r peer (taken link (acknowledge credit destination number))
-  two_linked r peer link (error destination cause) = two_taking r peer (taken link (error destination cause))
+  two_linked r peer link v = two_taking r peer (taken link v)
 
   two_closing : (r : ℕ) (v : Value) → ByClass (to_closing r v s)
   two_closing r (disconnected destination source) = two is
-  two_closing r (disconnect destination source reason user) = two is
-  two_closing r (request c) = two is
-  two_closing r (confirm destination c) = two is
-  two_closing r (data0 end user) = two is
-  two_closing r (data2 destination number end user) = two is
-  two_closing r (acknowledge credit destination number) = two is
-  two_closing r (error destination cause) = two is
+  two_closing r _ = two is
 
   two_connection : (r : ℕ) (o : Option Connection) (v : Value) → ByClass (to_connection r o v s)
   two_connection r None v = two_unknown v
@@ -146,9 +107,7 @@ module _ (s : Carrier) (is : s.class ≡ Some Two) where
   two_connection r (Some (closing peer)) v = two_closing r v
 
   two_in : (b : Bool) (v : Value) → ByClass (in_two b v s)
-  two_in true (request c) = two is
   two_in false (request c) = two_answers c (has_peer c.source s.live) (is_full s)
-  two_in true (data0 end user) = two is
   two_in false (data0 end user) = two is
   two_in true (confirm d c) = two_connection d (value_at d s.live) (confirm d c)
   two_in false (confirm d c) = two_connection d (value_at d s.live) (confirm d c)
@@ -161,6 +120,7 @@ module _ (s : Carrier) (is : s.class ≡ Some Two) where
   two_in true (acknowledge credit d number) = two_connection d (value_at d s.live) (acknowledge credit d number)
   two_in false (acknowledge credit d number) = two_connection d (value_at d s.live) (acknowledge credit d number)
   two_in true (error d cause) = two_connection d (value_at d s.live) (error d cause)
+  two_in true _ = two is
   two_in false (error d cause) = two_connection d (value_at d s.live) (error d cause)
 
 -- ---- a unit in class 0
@@ -168,13 +128,11 @@ module _ (s : Carrier) (is : s.class ≡ Some Two) where
 module _ (s : Carrier) (is : s.class ≡ Some Zero) where
   zero_breaks : (r peer : ℕ) (fault : LinkFault) (held : Option Class) → held ≡ Some Zero → ByClass (breaks r peer fault held s)
   zero_breaks r peer fault (Some Zero) e = none refl
-  zero_breaks r peer fault (Some Two) e = absurd (cc)
-  zero_breaks r peer fault None e = absurd (cc)
+  zero_breaks r peer fault _ e = absurd (cc)
 
   zero_leaves : (r peer reason : ℕ) (held : Option Class) → held ≡ Some Zero → ByClass (leaves r peer reason held s)
   zero_leaves r peer reason (Some Zero) e = none refl
-  zero_leaves r peer reason (Some Two) e = absurd (cc)
-  zero_leaves r peer reason None e = absurd (cc)
+  zero_leaves r peer reason _ e = absurd (cc)
 
   module _ (r peer : ℕ) (link : Standing) (flow : link.flow ≡ None) (live : s.live ≡ (r, linked peer link) ∷ []) where
     zero_put : (after : Standing) (t : Carrier) → after.flow ≡ None → t.class ≡ s.class →
@@ -189,16 +147,7 @@ module _ (s : Carrier) (is : s.class ≡ Some Zero) where
 
     zero_linked : (v : Value) → ByClass (to_linked r peer link v s)
     zero_linked (disconnect destination source reason user) = zero_leaves r peer reason s.class is
-    zero_linked (request c) = zero_taking (request c) (taken link (request c)) refl
-    zero_linked (confirm destination c) = zero_taking (confirm destination c) (taken link (confirm destination c)) refl
-    zero_linked (disconnected destination source) =
-        zero_taking (disconnected destination source) (taken link (disconnected destination source)) refl
-    zero_linked (data0 end user) = zero_taking (data0 end user) (taken link (data0 end user)) refl
-    zero_linked (data2 destination number end user) =
-        zero_taking (data2 destination number end user) (taken link (data2 destination number end user)) refl
-    zero_linked (acknowledge credit destination number) =
-        zero_taking (acknowledge credit destination number) (taken link (acknowledge credit destination number)) refl
-    zero_linked (error destination cause) = zero_taking (error destination cause) (taken link (error destination cause)) refl
+    zero_linked v = zero_taking v (taken link v) refl
 
     zero_only : (v : Value) → ByClass (to_only s.live v s)
     zero_only v = subst (λ (rows : Rows Connection). ByClass (to_only rows v s)) (sym live) (zero_linked v)
@@ -206,20 +155,8 @@ module _ (s : Carrier) (is : s.class ≡ Some Zero) where
   in_zero_by : (b : Bool) (v : Value) → ByClass (to_only s.live v s) → ByClass (in_zero b v s)
   in_zero_by true (request c) p = none refl
   in_zero_by false (request c) p = p
-  in_zero_by true (confirm destination c) p = p
-  in_zero_by false (confirm destination c) p = p
-  in_zero_by true (disconnect destination source reason user) p = p
-  in_zero_by false (disconnect destination source reason user) p = p
-  in_zero_by true (disconnected destination source) p = p
-  in_zero_by false (disconnected destination source) p = p
-  in_zero_by true (data0 end user) p = p
-  in_zero_by false (data0 end user) p = p
-  in_zero_by true (data2 destination number end user) p = p
-  in_zero_by false (data2 destination number end user) p = p
-  in_zero_by true (acknowledge credit destination number) p = p
-  in_zero_by false (acknowledge credit destination number) p = p
-  in_zero_by true (error destination cause) p = p
-  in_zero_by false (error destination cause) p = p
+  in_zero_by true _ p = p
+  in_zero_by false _ p = p
 
 -- ---- a unit before a class is selected
 
@@ -254,12 +191,7 @@ module _ (s : Carrier) (is : s.class ≡ None) where
   first_unknown (disconnect destination source reason user) (asks r class caller live) = asks r class caller live
   first_unknown (disconnect destination source reason user) (zero r peer link class flow live) = zero r peer link class flow live
   first_unknown (disconnected destination source) p = p
-  first_unknown (request c) p = none refl
-  first_unknown (confirm destination c) p = none refl
-  first_unknown (data0 end user) p = none refl
-  first_unknown (data2 destination number end user) p = none refl
-  first_unknown (acknowledge credit destination number) p = none refl
-  first_unknown (error destination cause) p = none refl
+  first_unknown _ p = none refl
 
   -- one was requested
   module _ (r : ℕ) (caller : s.is_caller ≡ true) (live : s.live ≡ (r, asked) ∷ []) where
@@ -271,11 +203,8 @@ module _ (s : Carrier) (is : s.class ≡ None) where
     first_asked (confirm destination c) = first_opens r c (confirmed c s.local s.class) live
     first_asked (disconnect destination source reason user) = dropped _ refl
     first_asked (error destination cause) = dropped _ refl
-    first_asked (request c) = none refl
     first_asked (disconnected destination source) = asks r is caller live
-    first_asked (data0 end user) = none refl
-    first_asked (data2 destination number end user) = none refl
-    first_asked (acknowledge credit destination number) = none refl
+    first_asked _ = none refl
 
     first_at : (d : ℕ) (o : Option Connection) (v : Value) → value_at d s.live ≡ o → ByClass (to_connection d o v s)
     first_at d None v e = first_unknown v (asks r is caller live)
@@ -283,18 +212,13 @@ module _ (s : Carrier) (is : s.class ≡ None) where
       where
         by : (y : Connection) → (r ≡ d) × (asked ≡ y) → ByClass (to_connection d (Some y) v s)
         by asked same = subst (λ (n : ℕ). ByClass (to_asked n v s)) same.0 (first_asked v)
-        by (linked peer link) same = absurd (let k = same.1 in cc)
-        by (closing peer) same = absurd (let k = same.1 in cc)
+        by _ same = absurd (let k = same.1 in cc)
 
     first_before : (v : Value) → ByClass (before_class true v s)
     first_before (confirm d c) = first_at d (value_at d s.live) (confirm d c) refl
     first_before (disconnect d source reason user) = first_at d (value_at d s.live) (disconnect d source reason user) refl
     first_before (error d cause) = first_at d (value_at d s.live) (error d cause) refl
-    first_before (request c) = none refl
-    first_before (disconnected destination source) = none refl
-    first_before (data0 end user) = none refl
-    first_before (data2 destination number end user) = none refl
-    first_before (acknowledge credit destination number) = none refl
+    first_before _ = none refl
 
   -- there is none
   module _ (live : s.live ≡ []) where
@@ -306,19 +230,9 @@ module _ (s : Carrier) (is : s.class ≡ None) where
     none_before true (confirm d c) = none_at d (confirm d c)
     none_before true (disconnect d source reason user) = none_at d (disconnect d source reason user)
     none_before true (error d cause) = none_at d (error d cause)
-    none_before true (request c) = none refl
-    none_before true (disconnected destination source) = none refl
-    none_before true (data0 end user) = none refl
-    none_before true (data2 destination number end user) = none refl
-    none_before true (acknowledge credit destination number) = none refl
+    none_before true _ = none refl
     none_before false (request c) = first_answers c (has_peer c.source s.live) (is_full s) live
-    none_before false (confirm d c) = none refl
-    none_before false (disconnect d source reason user) = none refl
-    none_before false (error d cause) = none refl
-    none_before false (disconnected destination source) = none refl
-    none_before false (data0 end user) = none refl
-    none_before false (data2 destination number end user) = none refl
-    none_before false (acknowledge credit destination number) = none refl
+    none_before false _ = none refl
 
 -- ---- any unit
 
@@ -352,12 +266,10 @@ unit_class v s p = by s.ended refl
 pub linked_at : (over : Bool) (o : Option Connection) (peer : ℕ) (link : Standing) →
     (if over then None else link_of o) ≡ Some (peer, link) → o ≡ Some (linked peer link)
 linked_at true o peer link h = absurd (cc)
-linked_at false None peer link h = absurd (cc)
-linked_at false (Some asked) peer link h = absurd (cc)
-linked_at false (Some (closing q)) peer link h = absurd (cc)
 linked_at false (Some (linked q t)) peer link h =
     let pair : ◌≡◌ {A = ℕ × Standing} (q, t) (peer, link) = cc in
     λ i. Some (linked (pair i).0 (pair i).1)
+linked_at false _ peer link h = absurd (cc)
 
 module _ (q : ℕ) (s : Carrier) where
   sent_class : (tsdu : List ℕ) (o : Option (ℕ × Standing)) → open_link q s ≡ o → ByClass s → ByClass (sent_on q tsdu o s)

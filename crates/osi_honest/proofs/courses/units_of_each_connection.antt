@@ -1,16 +1,9 @@
 -- Units in order, each with the connection that it is of: which are of one connection.
 -- For the course of a connection.
-use Rattle.std.proofs.Common.{◌≡◌, ◌≢◌, ◌∙◌, refl, sym, ap, ℕ, ◌<◌, ◌==◌, Bool, true, false, if◌then◌else◌, nat_lt, List, []}
-use Rattle.std.proofs.Common.{◌∷◌, ◌++◌, map, arith}
-use Rattle.std.specs.List.{AllByRecursion}
-use Rattle.std.proofs.lemmas.Bool.{eq-eqb, eqb-true}
-use Rattle.std.proofs.lemmas.Bool.Decides.{nat_tests}
+use Rattle.osi_honest.proofs.Vocabulary.{[], ap, arith, Bool, false, if◌then◌else◌, List, map, nat_lt, refl, sym, true, ℕ, ◌++◌, ◌<◌, ◌==◌}
+use Rattle.osi_honest.proofs.Vocabulary.{◌∙◌, ◌∷◌, ◌≡◌, ◌≢◌, eq-eqb, eqb-true, nat_tests, map-append, AllByRecursion, Value, Given, part0}
+use Rattle.osi_honest.proofs.Vocabulary.{unit_of, all_units, AreByLinks, if_of, is_of_link, Marked, units_at, CanBeWritten}
 use Rattle.std.proofs.lemmas.Grind.{flat_map-append}
-use Rattle.std.proofs.lemmas.List.{map-append}
-use Rattle.osi_tpdu.specs.Value.{Value}
-use Rattle.osi_class.specs.Link.{Given, ack, part0, part2, unit_of}
-use Rattle.osi_honest.specs.Marked.{AreByLinks, Marked, all_units, if_of, is_of_link, units_at}
-use Rattle.osi_honest.specs.Writable.{CanBeWritten}
 
 -- ---- one list after another
 
@@ -104,8 +97,7 @@ plain_accounted (unit ∷ units) all = ((all.0.0, λ plain. all.0.1), plain_acco
 
 given_by_link : (peer : ℕ) (given : Given) → is_of_link (unit_of peer given) ≡ true
 given_by_link peer (part0 last octets) = refl
-given_by_link peer (part2 number last octets) = refl
-given_by_link peer (ack number credit) = refl
+given_by_link peer _ = refl
 
 is_above : (q : ℕ) → 0 < q → nat_lt 0 q ≡ true
 is_above q some = grind (arith, nat_tests)

@@ -1,48 +1,19 @@
 -- A call of the user: what becomes of the course of one connection, whichever connection the call is for.
 -- For the course of a connection.
-use Rattle.std.proofs.Common.{◌≡◌, ◌≢◌, ◌∙◌, refl, sym, ap, subst, ℕ, ◌+◌, ◌<◌, ◌==◌, ◌&&◌, Bool, true, false, if◌then◌else◌, not, nat_le}
-use Rattle.std.proofs.Common.{nat_lt, List, [], ◌∷◌, ◌++◌, length, Option, Some, None, is_some, option_map}
-use Rattle.std.proofs.lemmas.Bool.{eqb-true}
-use Rattle.osi_tpdu.specs.Limits.{tsap_octets}
-use Rattle.osi_tpdu.specs.Value.{Value, request}
-use Rattle.osi_class.specs.Link.{Standing}
-use Rattle.osi_class.specs.Runs.{tsdus_out}
-use Rattle.osi_carrier.specs.Calls.{closed_on, closed_with, link_of, may_connect, open_link}
-use Rattle.osi_carrier.specs.Negotiation.{proposal, proposes_two}
-use Rattle.osi_carrier.specs.Orderly.{IsOrderly}
-use Rattle.osi_carrier.specs.Rows.{value_at}
-use Rattle.osi_carrier.specs.State.{Connection, State as Carrier, asked}
-use Rattle.osi_carrier.specs.declared.ends.EndReason.{EndReason}
-use Rattle.osi_carrier.specs.declared.ends.EndReason.TheVariants.{Broken}
-use Rattle.osi_carrier.specs.declared.faults.OpenError.{OpenError}
-use Rattle.osi_carrier.specs.declared.faults.OpenError.TheVariants.{Ended, NotCaller}
-use Rattle.osi_carrier.proofs.references.rows_after_a_change.{push_other}
-use Rattle.osi_carrier.proofs.references.what_a_change_leaves_there.{push_here}
-use Rattle.osi_session.specs.Calls.{Call, HasSerial}
-use Rattle.osi_session.specs.Listening.{Listener, after_input, called}
-use Rattle.osi_judge.specs.Running.{sends}
-use Rattle.osi_stack.specs.Calls.{after_open, breaks, call_error, calls_with, connect_error, connects, has_given, terms_error}
-use Rattle.osi_stack.specs.Disconnecting.{awaits_transport, disconnect_error, disconnects}
-use Rattle.osi_stack.specs.Hearing.{ends}
-use Rattle.osi_stack.specs.Inputs.{IsAccepted}
-use Rattle.osi_stack.specs.Messages.{IsGranted, kept_at}
-use Rattle.osi_stack.specs.Moving.{to_session}
-use Rattle.osi_stack.specs.Rounds.{UserCall, user_does}
-use Rattle.osi_stack.specs.Rounds.UserCall.{breaking, calling, connecting, disconnecting}
-use Rattle.osi_stack.specs.State.{End, fresh_line, session_at, session_in}
-use Rattle.osi_stack.specs.declared.connecting.Connect.{Connect}
-use Rattle.osi_stack.specs.declared.connecting.ConnectError.{ConnectError}
-use Rattle.osi_stack.proofs.carried.packets_without_events.{both}
-use Rattle.osi_stack.proofs.carried.what_a_move_leaves.{says_is, used_live}
-use Rattle.osi_stack.proofs.given_up.the_invariant_stays.{disconnect_carrier, disconnect_is, given_other}
-use Rattle.osi_stack.proofs.sound.the_invariant_is_kept.{closed_given, open_none}
-use Rattle.osi_honest.specs.Courses.{Course, Deeds, Gone, IsOpen, IsShut, said_in}
-use Rattle.osi_honest.specs.Courses.Course.{awaited, is_gone, is_open, unknown}
-use Rattle.osi_honest.specs.Courses.Gone.{closed, never, over}
-use Rattle.osi_honest.specs.Marked.{Marked}
-use Rattle.osi_honest.specs.Talking.{History, said_after}
+use Rattle.osi_honest.proofs.Vocabulary.{[], ap, Bool, false, if◌then◌else◌, is_some, length, List, nat_le, nat_lt, None, not, Option}
+use Rattle.osi_honest.proofs.Vocabulary.{option_map, refl, Some, subst, sym, true, ℕ, ◌&&◌, ◌++◌, ◌+◌, ◌<◌, ◌==◌, ◌∙◌, ◌∷◌, ◌≡◌, ◌≢◌}
+use Rattle.osi_honest.proofs.Vocabulary.{eqb-true, tsap_octets, request, Value, Standing, tsdus_out, push_other, push_here, closed_on}
+use Rattle.osi_honest.proofs.Vocabulary.{closed_with, link_of, may_connect, open_link, proposal, proposes_two, IsOrderly, value_at, asked}
+use Rattle.osi_honest.proofs.Vocabulary.{Connection, State as Carrier, EndReason, Broken, OpenError, Ended, NotCaller, SessionCall as Call}
+use Rattle.osi_honest.proofs.Vocabulary.{HasSerial, after_input, called, Listener, both, says_is, used_live, disconnect_carrier}
+use Rattle.osi_honest.proofs.Vocabulary.{disconnect_is, given_other, closed_given, open_none, after_open, call_error, calls_with}
+use Rattle.osi_honest.proofs.Vocabulary.{connect_error, connects, has_given, terms_error, awaits_transport, disconnect_error, disconnects}
+use Rattle.osi_honest.proofs.Vocabulary.{ends, IsAccepted, IsGranted, kept_at, to_session, user_does, UserCall, breaking, calling}
+use Rattle.osi_honest.proofs.Vocabulary.{connecting, disconnecting, End, fresh_line, session_at, session_in, Request as Connect}
+use Rattle.osi_honest.proofs.Vocabulary.{ConnectError, sends, Course, Deeds, Gone, IsOpen, IsShut, said_in, awaited, is_gone, is_open}
+use Rattle.osi_honest.proofs.Vocabulary.{unknown, closed, Marked, History, said_after, HasSerialIn, never}
+use Rattle.osi_stack.specs.Calls.{breaks}
 use Rattle.osi_honest.specs.Talking as history
-use Rattle.osi_honest.specs.Turns.{HasSerialIn}
 use Rattle.osi_honest.proofs.class_0.a_session_of_class_0_puts_what_it_sends.{still_begun}
 use Rattle.osi_honest.proofs.class_0.what_a_call_does_in_class_0.{granted_proper}
 use Rattle.osi_honest.proofs.class_0.what_packets_do_in_class_0.{never_lasts}
@@ -59,10 +30,7 @@ use Rattle.osi_honest.proofs.courses.what_another_connection_leaves.{used_none}
 use Rattle.osi_honest.proofs.courses.how_long_a_connection_is_open.{Life, life_rests, rests_over, stage_at}
 use Rattle.osi_honest.proofs.courses.what_its_own_session_does.{CanSpeak, session_speaks}
 use Rattle.osi_honest.proofs.reading.a_cr_and_a_cc_can_be_written.{cr_by}
-
--- no connection has two states
-two_states : {A : Type 0} (o x y : Option Connection) → o ≡ x → o ≡ y → (x ≡ y → A) → A
-two_states o x y a b differ = differ (sym a ∙ b)
+use Rattle.osi_honest.specs.Courses.Gone.{over}
 
 -- the CR of a request
 abbrev request_put : Connect → End → List Value

@@ -1,36 +1,19 @@
 -- What the link of a connection does as it takes a unit, and as its session hands in TSDUs; and what a session of another
 -- connection leaves of it.
 -- For the course of a connection.
-use Rattle.std.proofs.Common.{◌≡◌, ◌≢◌, ◌∙◌, refl, sym, ap, subst, ℕ, ◌+◌, Bool, true, false, if◌then◌else◌, nat_lt, List, [], ◌∷◌}
-use Rattle.std.proofs.Common.{◌++◌, length, drop, map, Option, Some, None, is_some, Result, Ok, Err, inl, inr, ◌⊎◌, IsSome}
-use Rattle.std.proofs.lemmas.List.{append-nil, map-append}
-use Rattle.osi_tpdu.specs.Value.{Value, acknowledge, confirm, data0, data2, disconnect, disconnected, error, may_be_followed, request}
-use Rattle.osi_class.specs.Ends.{Ends}
-use Rattle.osi_class.specs.Flow.{Flow, Sender, acknowledged, is_awaited}
-use Rattle.osi_class.specs.Giving.{all_given}
-use Rattle.osi_class.specs.Joining.{Joining, joined, with_part}
-use Rattle.osi_class.specs.Limits.{longest_tsdu}
-use Rattle.osi_class.specs.Link.{Standing, taken, taken_by, taken_flow, unit_of, with_joined, with_sender, with_tsdu}
-use Rattle.osi_class.specs.Runs.{Move, MovesAlong, hand_out, take_in, tsdus_in, tsdus_out}
-use Rattle.osi_class.specs.declared.faults.LinkFault.{LinkFault}
-use Rattle.osi_class.specs.declared.faults.LinkFault.TheVariants.{OutOfSequence, TsduTooLong}
-use Rattle.osi_class.specs.declared.terms.Class.{Class}
-use Rattle.osi_class.specs.declared.terms.Class.TheVariants.{Two, Zero}
-use Rattle.osi_class.proofs.giving.a_link_gives_finitely_many_units.{drained_leaves, drained_moves}
-use Rattle.osi_carrier.specs.Calls.{closed_on, closed_with, closes, link_of, open_link, send_all_error, sent, sent_all, sent_on}
-use Rattle.osi_carrier.specs.Pump.{pumped, written_by}
-use Rattle.osi_carrier.specs.React.{handed_out}
-use Rattle.osi_carrier.specs.Rows.{value_at}
-use Rattle.osi_carrier.specs.State.{Connection, State as Carrier, asked, closing, linked}
-use Rattle.osi_carrier.specs.declared.faults.SendError.{SendError}
-use Rattle.osi_carrier.proofs.references.rows_after_a_change.{put_other}
-use Rattle.osi_carrier.proofs.references.what_a_change_leaves_there.{put_here}
-use Rattle.osi_stack.specs.Transport.{answers_by, sent_unless}
-use Rattle.osi_honest.specs.Courses.{IsShut, units_given, units_taken}
+use Rattle.osi_honest.proofs.Vocabulary.{[], ap, Bool, drop, Err, false, if◌then◌else◌, inl, inr, is_some, IsSome, length, List, map}
+use Rattle.osi_honest.proofs.Vocabulary.{nat_lt, None, Ok, Option, refl, Result, Some, subst, sym, true, ℕ, ◌++◌, ◌+◌, ◌∙◌, ◌∷◌, ◌≡◌, ◌≢◌}
+use Rattle.osi_honest.proofs.Vocabulary.{◌⊎◌, append-nil, map-append, acknowledge, data0, data2, may_be_followed, Value, drained_leaves}
+use Rattle.osi_honest.proofs.Vocabulary.{drained_moves, Ends, acknowledged, Flow, is_awaited, Sender, all_given, joined, Joining, with_part}
+use Rattle.osi_honest.proofs.Vocabulary.{longest_tsdu, Standing, taken, taken_by, taken_flow, unit_of, with_joined, with_sender, with_tsdu}
+use Rattle.osi_honest.proofs.Vocabulary.{hand_out, Move, MovesAlong, take_in, tsdus_in, tsdus_out, LinkFault, OutOfSequence, Class, Two}
+use Rattle.osi_honest.proofs.Vocabulary.{Zero, put_other, put_here, closed_on, closed_with, closes, link_of, open_link, send_all_error}
+use Rattle.osi_honest.proofs.Vocabulary.{sent, sent_all, sent_on, pumped, written_by, handed_out, value_at, asked, closing, Connection}
+use Rattle.osi_honest.proofs.Vocabulary.{linked, State as Carrier, SendError, answers_by, sent_unless, IsShut, units_given, units_taken}
+use Rattle.osi_class.specs.declared.faults.LinkFault.TheVariants.{TsduTooLong}
 use Rattle.osi_honest.proofs.courses.what_a_session_puts.{all_put, one_puts}
 use Rattle.osi_honest.proofs.courses.what_calls_of_a_link_say.{HandsIn, given_more, gives, gives_none_in, gives_none_out, gives_units}
-use Rattle.osi_honest.proofs.courses.what_calls_of_a_link_say.{gives_untaken}
-use Rattle.osi_honest.proofs.courses.what_calls_of_a_link_say.{hands_more, hands_none, hands_one, one_in}
+use Rattle.osi_honest.proofs.courses.what_calls_of_a_link_say.{gives_untaken, hands_more, hands_none, hands_one, one_in}
 
 -- ---- a link takes a unit
 
@@ -73,23 +56,12 @@ few_by : (e : Ends) (o : Option Flow) (v : Value) (after : Standing) → e.joini
     HasFew v after.ends.joining.whole
 few_by e None (data0 last octets) after none is =
     part_by (data0 last octets) e None last octets after (nat_lt longest_tsdu (length e.joining.begun + length octets)) refl none is
-few_by e None (request c) after none is = absurd (cc)
-few_by e None (confirm destination c) after none is = absurd (cc)
-few_by e None (disconnect destination source reason user) after none is = absurd (cc)
-few_by e None (disconnected destination source) after none is = absurd (cc)
-few_by e None (data2 destination number last octets) after none is = absurd (cc)
-few_by e None (acknowledge credit destination number) after none is = absurd (cc)
-few_by e None (error destination cause) after none is = absurd (cc)
+few_by e None _ after none is = absurd (cc)
 few_by e (Some flow) (data2 destination number last octets) after none is =
     awaited_by (data2 destination number last octets) e flow last octets after (is_awaited flow.receiver number) refl none is
 few_by e (Some flow) (acknowledge credit destination number) after none is =
     sender_by (acknowledge credit destination number) e flow after (acknowledged flow.sender number credit) none is
-few_by e (Some flow) (data0 last octets) after none is = absurd (cc)
-few_by e (Some flow) (request c) after none is = absurd (cc)
-few_by e (Some flow) (confirm destination c) after none is = absurd (cc)
-few_by e (Some flow) (disconnect destination source reason user) after none is = absurd (cc)
-few_by e (Some flow) (disconnected destination source) after none is = absurd (cc)
-few_by e (Some flow) (error destination cause) after none is = absurd (cc)
+few_by e (Some flow) _ after none is = absurd (cc)
 
 pub has_few : (link after : Standing) (v : Value) → link.ends.joining.whole ≡ [] → taken link v ≡ Ok after →
     HasFew v after.ends.joining.whole
@@ -153,10 +125,9 @@ link_open r peer link c lasts here =
 
 unlinked_by : (b : Bool) (o : Option Connection) → IsShut o → (if b then None else link_of o) ≡ None
 unlinked_by true o shut = refl
-unlinked_by false None shut = refl
 unlinked_by false (Some asked) shut = absurd shut
 unlinked_by false (Some (linked peer link)) shut = absurd shut
-unlinked_by false (Some (closing peer)) shut = refl
+unlinked_by false _ shut = refl
 
 -- nor is one of a carrier that has ended
 pub over_unlinked : (r : ℕ) (c : Carrier) → IsSome c.ended → open_link r c ≡ None
@@ -304,9 +275,7 @@ module _ (q r : ℕ) (ne : r ≢ q) where
 
   closes_leave : (peer : ℕ) (class : Option Class) (c : Carrier) → c.ended ≡ None → Leaves r c (closes q peer 128 class c)
   closes_leave peer (Some Zero) c lasts = record { live = λ h. absurd (cc); given = refl; side = refl; events = refl; lasted = λ h. lasts }
-  closes_leave peer (Some Two) c lasts =
-      record { live = λ h. put_other r q (closing peer) c.live ne; given = refl; side = refl; events = refl; lasted = λ h. h }
-  closes_leave peer None c lasts =
+  closes_leave peer _ c lasts =
       record { live = λ h. put_other r q (closing peer) c.live ne; given = refl; side = refl; events = refl; lasted = λ h. h }
 
   linked_lasts : (b : Bool) (o : Option Connection) (link : ℕ × Standing) → (if b then None else link_of o) ≡ Some link → b ≡ false

@@ -1,39 +1,17 @@
 -- A packet takes effect, or memory runs out for it: what becomes of the course of one connection. And pieces of the stream.
 -- For the course of a connection.
-use Rattle.std.proofs.Common.{◌≡◌, ◌∙◌, refl, sym, ap, subst, ℕ, Bool, true, false, List, [], ◌∷◌, ◌++◌, length, take, drop}
-use Rattle.std.proofs.Common.{Option, Some, None, is_some, IsSome, Result, Ok, Err, inl, inr, ◌⊎◌, append_assoc, arith}
-use Rattle.std.specs.List.{AllByRecursion}
+use Rattle.osi_honest.proofs.Vocabulary.{[], ap, append_assoc, arith, Bool, drop, Err, false, inl, inr, is_some, IsSome, length, List, None}
+use Rattle.osi_honest.proofs.Vocabulary.{Ok, Option, refl, Result, Some, subst, sym, take, true, ℕ, ◌++◌, ◌∙◌, ◌∷◌, ◌≡◌, ◌⊎◌, append-nil}
+use Rattle.osi_honest.proofs.Vocabulary.{take-append-drop, take_all, AllByRecursion, IsOctets, ArePackets, Fed, units_found, AreUnits}
+use Rattle.osi_honest.proofs.Vocabulary.{units_of, Value, TpduFault, orderly_closed, orderly_end, orderly_same, orderly_sent, orderly_unit}
+use Rattle.osi_honest.proofs.Vocabulary.{acts_cases, IsOrderly, reacts, State as Carrier, EndReason, NoMemory, awaits, starved_over}
+use Rattle.osi_honest.proofs.Vocabulary.{lasting_of, packet_is, quiet_stops, none_ended, found_how, packets_kept, attended_kept, Feeds}
+use Rattle.osi_honest.proofs.Vocabulary.{FindsNoMemory, Goes as GoesThrough, Refuses, RunsDry, StopsBehind, TakesPackets, uses_all}
+use Rattle.osi_honest.proofs.Vocabulary.{after_packet, attends, ends, hears_times, RunsOut, Starves, starves, with_carrier, with_events}
+use Rattle.osi_honest.proofs.Vocabulary.{End, Holding, IsAttended, waits, Deeds, units_in, units_read, is_gone}
 use Rattle.std.proofs.lemmas.Grind.{flat_map-append}
-use Rattle.std.proofs.lemmas.List.{append-nil, take-append-drop, take_all}
-use Rattle.osi_tpkt.specs.Octets.{IsOctets}
-use Rattle.osi_tpkt.specs.Stream.{ArePackets}
-use Rattle.osi_tpkt.specs.declared.cutting.Fed.{Fed}
-use Rattle.osi_tpdu.specs.Packet.{AreUnits, units_of}
-use Rattle.osi_tpdu.specs.Value.{Value}
-use Rattle.osi_tpdu.specs.declared.faults.TpduFault.{TpduFault}
-use Rattle.osi_tpdu.proofs.the_units_of_a_packet.{units_found}
-use Rattle.osi_carrier.specs.Orderly.{IsOrderly}
 use Rattle.osi_carrier.specs.Packets as carriers
-use Rattle.osi_carrier.specs.React.{reacts}
-use Rattle.osi_carrier.specs.State.{State as Carrier}
 use Rattle.osi_carrier.specs.State as states
-use Rattle.osi_carrier.specs.declared.ends.EndReason.{EndReason}
-use Rattle.osi_carrier.specs.declared.ends.EndReason.TheVariants.{NoMemory}
-use Rattle.osi_carrier.proofs.effects.a_unit_touches_one_connection.{orderly_closed, orderly_end, orderly_same, orderly_sent, orderly_unit}
-use Rattle.osi_carrier.proofs.stream.a_piece_is_read_packet_by_packet.{acts_cases}
-use Rattle.osi_session.specs.Sessions.{awaits}
-use Rattle.osi_stack.specs.Feeding.{Feeds, FindsNoMemory, Refuses, RunsDry, StopsBehind, TakesPackets, uses_all}
-use Rattle.osi_stack.specs.Feeding.{Goes as GoesThrough}
-use Rattle.osi_stack.specs.Hearing.{RunsOut, Starves, after_packet, attends, ends, hears_times, starves, with_carrier, with_events}
-use Rattle.osi_stack.specs.State.{End, Holding, IsAttended, waits}
-use Rattle.osi_stack.proofs.carried.events_one_after_the_other.{starved_over}
-use Rattle.osi_stack.proofs.carried.packets_without_events.{lasting_of, packet_is, quiet_stops}
-use Rattle.osi_stack.proofs.stream.an_end_is_what_its_packets_make.{none_ended}
-use Rattle.osi_stack.proofs.stream.the_room_for_a_packet.{found_how}
-use Rattle.osi_stack.proofs.stream.what_feeding_keeps.{packets_kept}
-use Rattle.osi_stack.proofs.stream.what_was_written_is_read.{attended_kept}
-use Rattle.osi_honest.specs.Courses.{Deeds, units_in, units_read}
-use Rattle.osi_honest.specs.Courses.Course.{is_gone}
 use Rattle.osi_honest.specs.Talking as history
 use Rattle.osi_honest.proofs.class_0.what_a_shortage_of_memory_leaves.{starves_same}
 use Rattle.osi_honest.proofs.class_0.what_a_turn_does_in_class_0.{all_octets, more_used, stopped_within}

@@ -1,38 +1,15 @@
 -- Each turn of an end, and a run: what becomes of the course of one connection.
 -- For the laws of an end and its captures.
-use Rattle.std.proofs.Common.{◌≡◌, ◌∙◌, refl, sym, ap, subst, ℕ, ◌<◌, ◌==◌, Bool, true, false, if◌then◌else◌, List, [], ◌∷◌, ◌++◌, take}
-use Rattle.std.proofs.Common.{None, inl, is_some, option_map}
-use Rattle.std.proofs.lemmas.List.{append-nil, append_cancel_left}
-use Rattle.osi_tpkt.specs.Stream.{ArePackets}
-use Rattle.osi_class.specs.declared.terms.Local.{Local}
-use Rattle.osi_carrier.specs.Calls.{may_connect}
-use Rattle.osi_carrier.specs.Rows.{Rows, value_at}
-use Rattle.osi_carrier.specs.State.{State as Carrier, packets}
-use Rattle.osi_carrier.specs.declared.ends.EndReason.TheVariants.{Broken}
-use Rattle.osi_carrier.proofs.effects.a_unit_touches_one_connection.{orderly_fresh}
-use Rattle.osi_session.specs.Listening.{called}
-use Rattle.osi_tpdu.specs.Limits.{tsap_octets}
-use Rattle.osi_tpdu.specs.Value.{Value}
-use Rattle.osi_stack.specs.Calls.{terms_error, without_first}
-use Rattle.osi_stack.specs.Hearing.{ends}
-use Rattle.osi_stack.specs.Inputs.{IsAccepted}
-use Rattle.osi_stack.specs.Rounds.{UserCall, user_does}
-use Rattle.osi_stack.specs.Rounds.UserCall.{breaking, calling, connecting, disconnecting}
-use Rattle.osi_stack.specs.Runs.{Call, Calls, carried_in, put_back, used_in}
-use Rattle.osi_stack.specs.Runs.Call.{carrying, feeding, telling}
-use Rattle.osi_stack.specs.State.{End, Holding, IsAttended, Line, fresh_end}
-use Rattle.osi_stack.proofs.carried.all_events_are_handled.{breaks_attended, connect_attended, feeds_attended, session_attended}
-use Rattle.osi_stack.proofs.carried.what_a_move_leaves.{first_keep, kept_first}
-use Rattle.osi_stack.proofs.carried.what_each_step_preserves.{session_carried}
-use Rattle.osi_stack.proofs.given_up.the_invariant_stays.{disconnect_attended, disconnect_carrier}
-use Rattle.osi_stack.proofs.sound.the_invariant_is_kept.{open_none}
-use Rattle.osi_stack.proofs.sound.the_invariant_between_calls.{connect_orderly}
-use Rattle.osi_honest.specs.Courses.{Continues, ContinuesAlong, Course, Deeds, SoFar, all_did, no_deeds, units_taken}
-use Rattle.osi_honest.specs.Courses.Course.{unknown}
-use Rattle.osi_honest.specs.Marked.{Marked, all_units, units_at}
-use Rattle.osi_honest.specs.Seeing.{IsFresh}
-use Rattle.osi_honest.specs.Turns.{Act, Acts, Run, Takes, Turn, carried_by, used_by}
-use Rattle.osi_honest.specs.Turns.Act.{serving, using}
+use Rattle.osi_honest.proofs.Vocabulary.{[], ap, Bool, false, if◌then◌else◌, inl, is_some, List, None, option_map, refl, subst, sym, take}
+use Rattle.osi_honest.proofs.Vocabulary.{true, ℕ, ◌++◌, ◌<◌, ◌==◌, ◌∙◌, ◌∷◌, ◌≡◌, append-nil, append_cancel_left, ArePackets, tsap_octets}
+use Rattle.osi_honest.proofs.Vocabulary.{Value, Local, orderly_fresh, may_connect, Rows, value_at, packets, State as Carrier, Broken}
+use Rattle.osi_honest.proofs.Vocabulary.{called, breaks_attended, connect_attended, feeds_attended, session_attended, first_keep}
+use Rattle.osi_honest.proofs.Vocabulary.{kept_first, session_carried, disconnect_attended, disconnect_carrier, connect_orderly, open_none}
+use Rattle.osi_honest.proofs.Vocabulary.{terms_error, without_first, ends, IsAccepted, user_does, UserCall, breaking, calling, connecting}
+use Rattle.osi_honest.proofs.Vocabulary.{disconnecting, Call, Calls, carried_in, put_back, used_in, carrying, feeding, telling, End}
+use Rattle.osi_honest.proofs.Vocabulary.{fresh_end, Holding, IsAttended, Line, all_did, Continues, ContinuesAlong, Course, Deeds, no_deeds}
+use Rattle.osi_honest.proofs.Vocabulary.{SoFar, units_taken, unknown, all_units, Marked, units_at, IsFresh, Act, Acts, carried_by, Run}
+use Rattle.osi_honest.proofs.Vocabulary.{Takes, Turn, used_by, serving, using}
 use Rattle.osi_honest.proofs.courses.steps_of_a_course.{AllRest, HoldEach, Steps}
 use Rattle.osi_honest.proofs.courses.the_connections_of_each_class.{IsSound, request_class, sound_same}
 use Rattle.osi_honest.proofs.courses.the_connections_of_each_class.ByClass.{none as no_connection}

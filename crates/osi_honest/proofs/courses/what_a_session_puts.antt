@@ -1,31 +1,16 @@
 -- The units that are put as something happens to a session, each with the connection whose link gave it: a session that sends hands
 -- TSDUs to its link, and one that closes its connection causes a DR.
 -- For the course of a connection.
-use Rattle.std.proofs.Common.{◌≡◌, ◌≢◌, ◌∙◌, refl, sym, ap, subst, ℕ, ◌<◌, Bool, true, false, List, [], ◌∷◌, ◌++◌, Option, Some, None}
-use Rattle.std.proofs.Common.{◌&&◌, ◌⊎◌, append_assoc, arith, inl, inr, nat_le, nat_lt}
-use Rattle.std.proofs.lemmas.Bool.Decides.{nat_tests}
-use Rattle.std.proofs.lemmas.List.{append-nil, map-append}
-use Rattle.osi_tpdu.specs.Value.{Value, disconnect}
-use Rattle.osi_class.specs.Giving.{all_given}
-use Rattle.osi_class.specs.Link.{Standing, with_tsdu}
-use Rattle.osi_class.specs.declared.terms.Class.{Class}
-use Rattle.osi_class.specs.declared.terms.Class.TheVariants.{Two, Zero}
-use Rattle.osi_carrier.specs.Calls.{closed_on, closes, open_link, send_all_error, sent, sent_all, sent_on}
-use Rattle.osi_carrier.specs.Happenings.{Happening}
+use Rattle.osi_honest.proofs.Vocabulary.{[], ap, append_assoc, arith, Bool, false, inl, inr, List, nat_le, nat_lt, None, Option, refl, Some}
+use Rattle.osi_honest.proofs.Vocabulary.{subst, sym, true, ℕ, ◌&&◌, ◌++◌, ◌<◌, ◌∙◌, ◌∷◌, ◌≡◌, ◌≢◌, ◌⊎◌, nat_tests, append-nil, map-append}
+use Rattle.osi_honest.proofs.Vocabulary.{disconnect, Value, all_given, Standing, with_tsdu, Class, Zero, closed_on, closes, open_link}
+use Rattle.osi_honest.proofs.Vocabulary.{send_all_error, sent, sent_all, sent_on, Happening, written_by, value_at, packets}
+use Rattle.osi_honest.proofs.Vocabulary.{State as Carrier, SendError, tsdus_sent, broken, came, Input, Listener, linked_up as opened}
+use Rattle.osi_honest.proofs.Vocabulary.{session_react as react, has_given, hears, opens_line as opens, by_line, carrier_by, limit_for}
+use Rattle.osi_honest.proofs.Vocabulary.{to_session, End, Line, answers_by, sent_unless, all_units, Marked}
 use Rattle.osi_carrier.specs.Happenings as told
 use Rattle.osi_carrier.specs.Orderly.{told_of}
-use Rattle.osi_carrier.specs.Pump.{written_by}
-use Rattle.osi_carrier.specs.Rows.{value_at}
-use Rattle.osi_carrier.specs.State.{State as Carrier, packets}
-use Rattle.osi_carrier.specs.declared.faults.SendError.{SendError}
-use Rattle.osi_message.specs.Parting.{tsdus_sent}
-use Rattle.osi_session.specs.Listening.{Input, Listener, broken, came, opened, react, refused}
-use Rattle.osi_stack.specs.Calls.{has_given}
-use Rattle.osi_stack.specs.Hearing.{hears, opens}
-use Rattle.osi_stack.specs.Moving.{by_line, carrier_by, limit_for, to_session}
-use Rattle.osi_stack.specs.State.{End, Line}
-use Rattle.osi_stack.specs.Transport.{answers_by, sent_unless}
-use Rattle.osi_honest.specs.Marked.{Marked, all_units}
+use Rattle.osi_session.specs.Listening.{refused}
 use Rattle.osi_honest.proofs.class_0.what_class_0_writes_of_a_tsdu.{packets_joined}
 use Rattle.osi_honest.proofs.courses.steps_of_a_course.{HasNone}
 use Rattle.osi_honest.proofs.courses.units_of_each_connection.{AreAccounted, ArePlain, accounted_more, elsewhere, given_accounted, marked}
@@ -50,8 +35,7 @@ put_unless (Some e) q tsdus c = []
 -- a connection that is closed
 abbrev pub put_by_class : (q peer : ℕ) → Option Class → List Value
 put_by_class q peer (Some Zero) = []
-put_by_class q peer (Some Two) = disconnect peer q 128 [] ∷ []
-put_by_class q peer None = disconnect peer q 128 [] ∷ []
+put_by_class q peer _ = disconnect peer q 128 [] ∷ []
 
 abbrev pub put_closing : ℕ → Option (ℕ × Standing) → Carrier → List Value
 put_closing q None c = []
@@ -118,8 +102,7 @@ unless_written (Some e) q tsdus c = sym (append-nil c.outgoing)
 class_written : (q peer : ℕ) (class : Option Class) (c : Carrier) →
     (closes q peer 128 class c).outgoing ≡ c.outgoing ++ packets (put_by_class q peer class)
 class_written q peer (Some Zero) c = sym (append-nil c.outgoing)
-class_written q peer (Some Two) c = refl
-class_written q peer None c = refl
+class_written q peer _ c = refl
 
 closing_written : (q : ℕ) (o : Option (ℕ × Standing)) (c : Carrier) →
     (closed_on q 128 o c).outgoing ≡ c.outgoing ++ packets (put_closing q o c)
@@ -260,8 +243,7 @@ unless_accounted (Some e) q tsdus c some = tt
 
 class_plain : (q peer : ℕ) (class : Option Class) → ArePlain (put_by_class q peer class)
 class_plain q peer (Some Zero) = tt
-class_plain q peer (Some Two) = ((refl, tt), tt)
-class_plain q peer None = ((refl, tt), tt)
+class_plain q peer _ = ((refl, tt), tt)
 
 closing_plain : (q : ℕ) (o : Option (ℕ × Standing)) (c : Carrier) → ArePlain (put_closing q o c)
 closing_plain q None c = tt

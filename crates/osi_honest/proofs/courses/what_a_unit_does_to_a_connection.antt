@@ -1,37 +1,21 @@
 -- What a unit that arrives does to one connection of a carrier, of either class: nothing; it opens it; the link takes it; or the
 -- connection or the carrier ends. And what is put then.
 -- For the course of a connection.
-use Rattle.std.proofs.Common.{◌≡◌, ◌≢◌, ◌∙◌, refl, sym, ap, subst, ℕ, ◌+◌, ◌&&◌, Bool, true, false, if◌then◌else◌, nat_le, nat_lt}
-use Rattle.std.proofs.Common.{List, [], ◌∷◌, ◌++◌, Option, Some, None, is_some, IsSome, Result, Ok, Err, inl, inr, arith}
-use Rattle.std.specs.List.{AllByRecursion}
-use Rattle.std.proofs.lemmas.Bool.{eq-eqb}
-use Rattle.std.proofs.lemmas.Bool.Decides.{nat_tests}
-use Rattle.std.proofs.lemmas.List.{append-nil}
-use Rattle.osi_tpdu.specs.Value.{Connect, HasFieldsInRange, IsConnect, Value, acknowledge, confirm, data0, data2, disconnect, disconnected}
-use Rattle.osi_tpdu.specs.Value.{error, may_be_followed, request}
-use Rattle.osi_class.specs.Link.{Standing, taken}
-use Rattle.osi_class.specs.Negotiation.{Selection, accept, refuse, selected_by}
-use Rattle.osi_class.specs.declared.faults.LinkFault.{LinkFault}
-use Rattle.osi_class.specs.declared.terms.Class.{Class}
-use Rattle.osi_class.specs.declared.terms.Class.TheVariants.{Two, Zero}
-use Rattle.osi_class.specs.declared.terms.Local.{Local}
-use Rattle.osi_carrier.specs.Happenings.{Happening, opened}
-use Rattle.osi_carrier.specs.Negotiation.{acceptance, agreed_size, confirmed, opened_link}
-use Rattle.osi_carrier.specs.Orderly.{RiseFrom, connection_by, connection_of, only_of, told_of}
-use Rattle.osi_carrier.specs.React.{answers, answers_request, before_class, breaks, denies, has_peer, in_class, in_two, in_zero}
-use Rattle.osi_carrier.specs.React.{is_full, leaves, opens, react, settles, taking, to_asked, to_closing, to_connection, to_linked}
-use Rattle.osi_carrier.specs.React.{to_only, to_reference, to_unknown}
-use Rattle.osi_carrier.specs.Rows.{Rows, put, value_at, without}
-use Rattle.osi_carrier.specs.State.{Connection, State as Carrier, asked, closing, linked, packets}
-use Rattle.osi_carrier.proofs.effects.a_unit_touches_one_connection.{How, changes_one, effect}
-use Rattle.osi_carrier.proofs.effects.units_one_after_the_other.{react_quiet}
-use Rattle.osi_carrier.proofs.references.what_a_change_leaves_there.{push_here, put_here, without_here}
-use Rattle.osi_stack.specs.Calls.{has_given}
-use Rattle.osi_honest.specs.Courses.{IsFreshLink}
-use Rattle.osi_honest.specs.Courses.{IsShut}
-use Rattle.osi_honest.specs.Arriving.{Answers, Opens, is_for}
-use Rattle.osi_honest.specs.Marked.{is_of_link}
-use Rattle.osi_honest.specs.Writable.{CanBeWritten}
+use Rattle.osi_honest.proofs.Vocabulary.{[], ap, arith, Bool, Err, false, if◌then◌else◌, inl, inr, is_some, IsSome, List, nat_le, nat_lt}
+use Rattle.osi_honest.proofs.Vocabulary.{None, Ok, Option, refl, Result, Some, subst, sym, true, ℕ, ◌&&◌, ◌++◌, ◌+◌, ◌∙◌, ◌∷◌, ◌≡◌, ◌≢◌}
+use Rattle.osi_honest.proofs.Vocabulary.{eq-eqb, nat_tests, append-nil, AllByRecursion, acknowledge, confirm, data0, data2, disconnect}
+use Rattle.osi_honest.proofs.Vocabulary.{disconnected, error, HasFieldsInRange, IsConnect, may_be_followed, request, Value, Standing, taken}
+use Rattle.osi_honest.proofs.Vocabulary.{accept, refuse, selected_by, Selection, LinkFault, Class, Two, Zero, Local, changes_one, effect}
+use Rattle.osi_honest.proofs.Vocabulary.{How, react_quiet, push_here, put_here, without_here, Happening, told_opened as opened, acceptance}
+use Rattle.osi_honest.proofs.Vocabulary.{agreed_size, confirmed, opened_link, connection_by, connection_of, only_of, RiseFrom, answers}
+use Rattle.osi_honest.proofs.Vocabulary.{answers_request, before_class, denies, has_peer, in_class, in_two, in_zero, is_full, leaves}
+use Rattle.osi_honest.proofs.Vocabulary.{opens_by as opens, settles, taking, to_asked, to_closing, to_connection, to_linked, to_only}
+use Rattle.osi_honest.proofs.Vocabulary.{to_reference, to_unknown, put, Rows, value_at, without, asked, closing, Connection, linked}
+use Rattle.osi_honest.proofs.Vocabulary.{packets, State as Carrier, has_given, Answers, is_for, Opens, IsFreshLink, IsShut, is_of_link}
+use Rattle.osi_honest.proofs.Vocabulary.{CanBeWritten}
+use Rattle.osi_tpdu.specs.Value.{Connect}
+use Rattle.osi_carrier.specs.Orderly.{told_of}
+use Rattle.osi_carrier.specs.React.{breaks, react}
 use Rattle.osi_honest.proofs.courses.the_connections_of_each_class.{IsSound, zero_asks_none}
 use Rattle.osi_honest.proofs.courses.units_of_each_connection.{ArePlain, marked}
 use Rattle.osi_honest.proofs.reading.a_cr_and_a_cc_can_be_written.{HasSizeInRange, cc_plain, selected_in_range}
@@ -192,12 +176,7 @@ module _ (s : Carrier) (rise : RiseFrom 0 s.live) where
   acts_unknown r (disconnected destination source) =
       nothing r (disconnected destination source) s refl
       (acts_none r (disconnected destination source) _ s refl refl refl (λ peer link here. refl))
-  acts_unknown r (request c) = ends_it r (request c) _ refl refl
-  acts_unknown r (confirm destination c) = ends_it r (confirm destination c) _ refl refl
-  acts_unknown r (data0 end user) = ends_it r (data0 end user) _ refl refl
-  acts_unknown r (data2 destination number end user) = ends_it r (data2 destination number end user) _ refl refl
-  acts_unknown r (acknowledge credit destination number) = ends_it r (acknowledge credit destination number) _ refl refl
-  acts_unknown r (error destination cause) = ends_it r (error destination cause) _ refl refl
+  acts_unknown r v = ends_it r v _ refl refl
 
   -- the CC is awaited
   acts_opens : (r destination : ℕ) (c : Connect) (class : Option Class) → destination ≡ r → value_at r s.live ≡ Some asked →
@@ -228,11 +207,7 @@ module _ (s : Carrier) (rise : RiseFrom 0 s.live) where
   acts_asked r (error destination cause) named here =
       nothing r (error destination cause) (to_asked r (error destination cause) s) refl
       (dropped r (error destination cause) _ asked _ here refl refl)
-  acts_asked r (request c) named here = acts_unknown r (request c)
-  acts_asked r (disconnected destination source) named here = acts_unknown r (disconnected destination source)
-  acts_asked r (data0 end user) named here = acts_unknown r (data0 end user)
-  acts_asked r (data2 destination number end user) named here = acts_unknown r (data2 destination number end user)
-  acts_asked r (acknowledge credit destination number) named here = acts_unknown r (acknowledge credit destination number)
+  acts_asked r v named here = acts_unknown r v
 
   -- it is open
   closes_to : (r peer : ℕ) (v : Value) (units : List Value) (x : Connection) (t : Carrier) → value_at r s.live ≡ Some x →
@@ -246,8 +221,7 @@ module _ (s : Carrier) (rise : RiseFrom 0 s.live) where
   acts_breaks r peer link v fault (Some Two) here =
       puts r v (disconnect peer r 133 []) (breaks r peer fault (Some Two) s) refl refl tt
       (closes_to r peer v _ (linked peer link) _ here refl refl)
-  acts_breaks r peer link v fault (Some Zero) here = ends_it r v _ refl refl
-  acts_breaks r peer link v fault None here = ends_it r v _ refl refl
+  acts_breaks r peer link v fault _ here = ends_it r v _ refl refl
 
   acts_taking : (r peer : ℕ) (link : Standing) (v : Value) (result : Result Standing LinkFault) →
       value_at r s.live ≡ Some (linked peer link) → taken link v ≡ result → Does r v s (taking r peer result s)
@@ -258,22 +232,13 @@ module _ (s : Carrier) (rise : RiseFrom 0 s.live) where
       Does r v s (leaves r peer reason held s)
   acts_leaves r peer reason link v (Some Two) here =
       puts r v (disconnected peer r) (leaves r peer reason (Some Two) s) refl refl tt (dropped r v _ (linked peer link) _ here refl refl)
-  acts_leaves r peer reason link v (Some Zero) here = ends_it r v _ refl refl
-  acts_leaves r peer reason link v None here = ends_it r v _ refl refl
+  acts_leaves r peer reason link v _ here = ends_it r v _ refl refl
 
   acts_linked : (r peer : ℕ) (link : Standing) (v : Value) → value_at r s.live ≡ Some (linked peer link) →
       Does r v s (to_linked r peer link v s)
   acts_linked r peer link (disconnect destination source reason user) here =
       acts_leaves r peer reason link (disconnect destination source reason user) s.class here
-  acts_linked r peer link (request c) here = acts_taking r peer link (request c) _ here refl
-  acts_linked r peer link (confirm destination c) here = acts_taking r peer link (confirm destination c) _ here refl
-  acts_linked r peer link (disconnected destination source) here = acts_taking r peer link (disconnected destination source) _ here refl
-  acts_linked r peer link (data0 end user) here = acts_taking r peer link (data0 end user) _ here refl
-  acts_linked r peer link (data2 destination number end user) here =
-      acts_taking r peer link (data2 destination number end user) _ here refl
-  acts_linked r peer link (acknowledge credit destination number) here =
-      acts_taking r peer link (acknowledge credit destination number) _ here refl
-  acts_linked r peer link (error destination cause) here = acts_taking r peer link (error destination cause) _ here refl
+  acts_linked r peer link v here = acts_taking r peer link v _ here refl
 
   -- it is closing
   closing_deaf : (r peer : ℕ) (v : Value) → value_at r s.live ≡ Some (closing peer) → IsDeaf r v s
@@ -286,23 +251,9 @@ module _ (s : Carrier) (rise : RiseFrom 0 s.live) where
   acts_closing r peer (disconnect destination source reason user) here =
       nothing r (disconnect destination source reason user) (to_closing r (disconnect destination source reason user) s) refl
       (dropped r (disconnect destination source reason user) _ (closing peer) _ here refl refl)
-  acts_closing r peer (request c) here =
-      nothing r (request c) s refl (acts_none r (request c) _ s refl refl refl (closing_deaf r peer (request c) here))
-  acts_closing r peer (confirm destination c) here =
-      nothing r (confirm destination c) s refl
-      (acts_none r (confirm destination c) _ s refl refl refl (closing_deaf r peer (confirm destination c) here))
-  acts_closing r peer (data0 end user) here =
-      nothing r (data0 end user) s refl (acts_none r (data0 end user) _ s refl refl refl (closing_deaf r peer (data0 end user) here))
-  acts_closing r peer (data2 destination number end user) here =
-      nothing r (data2 destination number end user) s refl
-      (acts_none r (data2 destination number end user) _ s refl refl refl (closing_deaf r peer (data2 destination number end user) here))
-  acts_closing r peer (acknowledge credit destination number) here =
-      nothing r (acknowledge credit destination number) s refl
-      (acts_none r (acknowledge credit destination number) _ s refl refl refl
-      (closing_deaf r peer (acknowledge credit destination number) here))
-  acts_closing r peer (error destination cause) here =
-      nothing r (error destination cause) s refl
-      (acts_none r (error destination cause) _ s refl refl refl (closing_deaf r peer (error destination cause) here))
+  acts_closing r peer v here =
+      nothing r v s refl
+      (acts_none r v _ s refl refl refl (closing_deaf r peer v here))
 
   acts_connection : (r : ℕ) (o : Option Connection) (v : Value) → (o ≡ Some asked → IsNamed r v) → value_at r s.live ≡ o →
       Does r v s (to_connection r o v s)
@@ -321,19 +272,9 @@ module _ (s : Carrier) (rise : RiseFrom 0 s.live) where
   acts_before true (disconnect destination source reason user) is fits =
       acts_reference destination (disconnect destination source reason user) tt
   acts_before true (error destination cause) is fits = acts_reference destination (error destination cause) tt
-  acts_before true (request c) is fits = ends_it _ (request c) _ refl refl
-  acts_before true (disconnected destination source) is fits = ends_it _ (disconnected destination source) _ refl refl
-  acts_before true (data0 end user) is fits = ends_it _ (data0 end user) _ refl refl
-  acts_before true (data2 destination number end user) is fits = ends_it _ (data2 destination number end user) _ refl refl
-  acts_before true (acknowledge credit destination number) is fits = ends_it _ (acknowledge credit destination number) _ refl refl
+  acts_before true v is fits = ends_it _ v _ refl refl
   acts_before false (request c) is fits = acts_request c is fits
-  acts_before false (confirm destination c) is fits = ends_it _ (confirm destination c) _ refl refl
-  acts_before false (disconnect destination source reason user) is fits = ends_it _ (disconnect destination source reason user) _ refl refl
-  acts_before false (disconnected destination source) is fits = ends_it _ (disconnected destination source) _ refl refl
-  acts_before false (data0 end user) is fits = ends_it _ (data0 end user) _ refl refl
-  acts_before false (data2 destination number end user) is fits = ends_it _ (data2 destination number end user) _ refl refl
-  acts_before false (acknowledge credit destination number) is fits = ends_it _ (acknowledge credit destination number) _ refl refl
-  acts_before false (error destination cause) is fits = ends_it _ (error destination cause) _ refl refl
+  acts_before false v is fits = ends_it _ v _ refl refl
 
   first_here : (r : ℕ) (x : Connection) (rows : Rows Connection) → value_at r ((r, x) ∷ rows) ≡ Some x
   first_here r x rows = ap (λ (b : Bool). if b then Some x else value_at r rows) (eq-eqb r r refl)
@@ -349,19 +290,11 @@ module _ (s : Carrier) (rise : RiseFrom 0 s.live) where
 
     acts_zero : (b : Bool) (v : Value) → Does (only_of s.live) v s (in_zero b v s)
     acts_zero true (request c) = ends_it _ (request c) _ refl refl
-    acts_zero true (confirm destination c) = acts_only s.live (confirm destination c) refl
-    acts_zero true (disconnect destination source reason user) = acts_only s.live (disconnect destination source reason user) refl
-    acts_zero true (disconnected destination source) = acts_only s.live (disconnected destination source) refl
-    acts_zero true (data0 end user) = acts_only s.live (data0 end user) refl
-    acts_zero true (data2 destination number end user) = acts_only s.live (data2 destination number end user) refl
-    acts_zero true (acknowledge credit destination number) = acts_only s.live (acknowledge credit destination number) refl
-    acts_zero true (error destination cause) = acts_only s.live (error destination cause) refl
+    acts_zero true v = acts_only s.live v refl
     acts_zero false v = acts_only s.live v refl
 
   acts_two : (b : Bool) (v : Value) → s.is_caller ≡ b → HasFieldsInRange v → Does (connection_by (Some Two) v s) v s (in_two b v s)
-  acts_two true (request c) is fits = ends_it _ (request c) _ refl refl
   acts_two false (request c) is fits = acts_request c is fits
-  acts_two true (data0 end user) is fits = ends_it _ (data0 end user) _ refl refl
   acts_two false (data0 end user) is fits = ends_it _ (data0 end user) _ refl refl
   acts_two true (confirm destination c) is fits = acts_reference destination (confirm destination c) refl
   acts_two false (confirm destination c) is fits = acts_reference destination (confirm destination c) refl
@@ -376,6 +309,7 @@ module _ (s : Carrier) (rise : RiseFrom 0 s.live) where
   acts_two true (acknowledge credit destination number) is fits = acts_reference destination (acknowledge credit destination number) tt
   acts_two false (acknowledge credit destination number) is fits = acts_reference destination (acknowledge credit destination number) tt
   acts_two true (error destination cause) is fits = acts_reference destination (error destination cause) tt
+  acts_two true v is fits = ends_it _ v _ refl refl
   acts_two false (error destination cause) is fits = acts_reference destination (error destination cause) tt
 
   acts_class : (held : Option Class) (v : Value) → HasFieldsInRange v → (held ≡ Some Zero → (r : ℕ) → value_at r s.live ≡ Some asked → ⊥) →

@@ -1,21 +1,12 @@
 -- What happens at another connection leaves the course of this one; and at the end of the carrier the course is over.
 -- For the course of a connection.
-use Rattle.std.proofs.Common.{◌≡◌, ◌≢◌, ◌∙◌, refl, sym, ap, subst, ℕ, ◌==◌, ◌&&◌, Bool, true, false, if◌then◌else◌, nat_le, nat_lt}
-use Rattle.std.proofs.Common.{[], ◌∷◌, ◌++◌, Option, Some, None, is_some, IsSome}
-use Rattle.std.proofs.lemmas.List.{append-nil}
-use Rattle.osi_message.specs.Parting.{tsdus_sent}
-use Rattle.osi_carrier.specs.Rows.{Rows, value_at}
-use Rattle.osi_carrier.specs.State.{Connection, State as Carrier}
-use Rattle.osi_carrier.proofs.references.rows_after_a_change.{push_other, put_other}
-use Rattle.osi_session.specs.Listening.{Input, Listener, react}
-use Rattle.osi_stack.specs.Calls.{has_given}
-use Rattle.osi_stack.specs.Messages.{kept_at}
-use Rattle.osi_stack.specs.Moving.{by_line, carrier_by, limit_for, line_by, to_session}
-use Rattle.osi_stack.specs.State.{End, Line, fresh_line, joins, session_in, used_lines}
-use Rattle.osi_stack.proofs.carried.what_a_move_leaves.{used_keep, used_live}
-use Rattle.osi_honest.specs.Courses.{Course, Deeds, Gone, IsOpen, IsShut}
-use Rattle.osi_honest.specs.Courses.Course.{awaited, is_gone, is_open, unknown}
-use Rattle.osi_honest.specs.Courses.Gone.{closed, never, over}
+use Rattle.osi_honest.proofs.Vocabulary.{[], ap, Bool, false, if◌then◌else◌, is_some, IsSome, nat_le, nat_lt, None, Option, refl, Some}
+use Rattle.osi_honest.proofs.Vocabulary.{subst, sym, true, ℕ, ◌&&◌, ◌++◌, ◌==◌, ◌∙◌, ◌∷◌, ◌≡◌, ◌≢◌, append-nil, push_other, put_other, Rows}
+use Rattle.osi_honest.proofs.Vocabulary.{value_at, Connection, State as Carrier, tsdus_sent, Input, Listener, session_react as react}
+use Rattle.osi_honest.proofs.Vocabulary.{used_keep, used_live, has_given, kept_at, by_line, carrier_by, limit_for, line_by, to_session, End}
+use Rattle.osi_honest.proofs.Vocabulary.{fresh_line, joins, Line, session_in, used_lines, Course, Deeds, Gone, IsOpen, IsShut, awaited}
+use Rattle.osi_honest.proofs.Vocabulary.{is_gone, is_open, unknown, closed, never}
+use Rattle.osi_honest.specs.Courses.Gone.{over}
 use Rattle.osi_honest.proofs.courses.what_a_link_takes_and_is_handed.{Leaves, answers_leave, leaves_all, link_shut, shut_answers}
 
 -- ---- an end that leaves the connection as it is
@@ -28,7 +19,7 @@ pub record Beside (r : ℕ) (old new : End) : Type 0 where
   pub unlined : value_at r old.lines ≡ None → value_at r new.lines ≡ None
   pub kept : IsSome (value_at r old.carrier.live) → kept_at r new.lines ≡ kept_at r old.lines
 
-some_there : {X : Type 0} (o : Option X) (x : X) → o ≡ Some x → IsSome o
+pub some_there : {X : Type 0} (o : Option X) (x : X) → o ≡ Some x → IsSome o
 some_there o x e = ap is_some e
 
 module _ (is_caller : Bool) (r : ℕ) (moves : Deeds) (old new : End) where

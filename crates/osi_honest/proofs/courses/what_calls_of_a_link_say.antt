@@ -1,23 +1,12 @@
 -- Calls of a link one after the other: what they hand in and out and give, and all that is given for TSDUs that are handed in.
 -- For the course of a connection.
-use Rattle.std.proofs.Common.{◌≡◌, ◌∙◌, refl, sym, ap, subst, ℕ, suc, ◌+◌, List, [], ◌∷◌, ◌++◌, length, map, append_assoc}
-use Rattle.std.proofs.Common.{Option, arith}
+use Rattle.osi_honest.proofs.Vocabulary.{[], ap, append_assoc, arith, length, List, map, Option, refl, subst, suc, sym, ℕ, ◌++◌, ◌+◌, ◌∙◌}
+use Rattle.osi_honest.proofs.Vocabulary.{◌∷◌, ◌≡◌, append-nil, map-append, Value, drained_leaves, drained_moves, given_by, all_given, Given}
+use Rattle.osi_honest.proofs.Vocabulary.{Standing, unit_of, with_tsdu, give_out, hand_in, hand_out, Move, MovesAlong, take_in, tsdu_out}
+use Rattle.osi_honest.proofs.Vocabulary.{tsdus_in, tsdus_out, Class, Two, Zero, Local, opened_link, pumped, Deeds, IsFreshLink, no_deeds}
+use Rattle.osi_honest.proofs.Vocabulary.{said_in, taken_in, then_did, units_given, units_taken, Said, said_after}
 use Rattle.std.proofs.lemmas.Grind.{flat_map-append}
-use Rattle.std.proofs.lemmas.List.{append-nil, map-append}
-use Rattle.osi_tpdu.specs.Value.{Value}
-use Rattle.osi_class.specs.Between.{IsFresh, given_by}
-use Rattle.osi_class.specs.Giving.{all_given}
-use Rattle.osi_class.specs.Link.{Given, Standing, unit_of, with_tsdu}
-use Rattle.osi_class.specs.Runs.{Move, MovesAlong, give_out, hand_in, hand_out, take_in, tsdu_out, tsdus_in, tsdus_out}
-use Rattle.osi_class.proofs.giving.a_link_gives_finitely_many_units.{drained_leaves, drained_moves}
-use Rattle.osi_class.specs.declared.terms.Class.{Class}
-use Rattle.osi_class.specs.declared.terms.Class.TheVariants.{Two, Zero}
-use Rattle.osi_class.specs.declared.terms.Local.{Local}
-use Rattle.osi_carrier.specs.Negotiation.{opened_link}
-use Rattle.osi_carrier.specs.Pump.{pumped}
-use Rattle.osi_honest.specs.Courses.{IsFreshLink}
-use Rattle.osi_honest.specs.Courses.{Deeds, no_deeds, said_in, taken_in, then_did, units_given, units_taken}
-use Rattle.osi_honest.specs.Talking.{Said, said_after}
+use Rattle.osi_class.specs.Between.{IsFresh}
 
 -- ---- one list after another
 

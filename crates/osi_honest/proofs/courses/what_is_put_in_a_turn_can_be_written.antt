@@ -1,18 +1,11 @@
 -- All units that an end puts in a turn can be written: those of a link since its numbers stay in range from the time when its connection
 -- opened, and the others, CRs, CCs, DRs and DCs, as they are.
 -- For the law of what a session hands to its link.
-use Rattle.std.proofs.Common.{◌≡◌, refl, sym, subst, ℕ, zero, suc, ◌<◌, ◌==◌, Bool, true, false, if◌then◌else◌, nat_lt}
-use Rattle.std.proofs.Common.{List, [], ◌∷◌, ◌++◌, arith}
-use Rattle.std.specs.List.{AllByRecursion}
-use Rattle.std.proofs.lemmas.Bool.{eq-eqb}
-use Rattle.osi_tpdu.specs.Value.{Value}
-use Rattle.osi_class.specs.Link.{Standing}
-use Rattle.osi_stack.specs.State.{End}
-use Rattle.osi_honest.specs.Courses.{AreCalls, Course, Deeds, IsFreshLink, no_deeds, then_did}
-use Rattle.osi_honest.specs.Courses.Course.{awaited, is_gone, is_open, unknown}
-use Rattle.osi_honest.specs.Courses.Gone.{closed, never, over}
-use Rattle.osi_honest.specs.Marked.{Marked, all_units, if_of, is_of_link, units_at}
-use Rattle.osi_honest.specs.Writable.{CanBeWritten}
+use Rattle.osi_honest.proofs.Vocabulary.{[], arith, Bool, false, if◌then◌else◌, List, nat_lt, refl, subst, suc, sym, true, zero, ℕ, ◌++◌}
+use Rattle.osi_honest.proofs.Vocabulary.{◌<◌, ◌==◌, ◌∷◌, ◌≡◌, eq-eqb, AllByRecursion, Value, Standing, End, AreCalls, Course, Deeds}
+use Rattle.osi_honest.proofs.Vocabulary.{IsFreshLink, no_deeds, then_did, is_gone, is_open, closed, all_units, if_of, is_of_link, Marked}
+use Rattle.osi_honest.proofs.Vocabulary.{units_at, CanBeWritten, awaited, unknown, never}
+use Rattle.osi_honest.specs.Courses.Gone.{over}
 use Rattle.osi_honest.proofs.courses.units_of_each_connection.{AreAccounted}
 use Rattle.osi_honest.proofs.reading.what_a_link_gives_can_be_written.{IsNumbered, link_opens, moves_written}
 

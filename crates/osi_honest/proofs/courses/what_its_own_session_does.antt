@@ -1,38 +1,18 @@
 -- The session of an open connection makes a move: what it sends is handed in at its link, or the connection is closed.
 -- For the course of a connection.
-use Rattle.std.proofs.Common.{◌≡◌, ◌∙◌, refl, sym, ap, subst, ℕ, ◌+◌, ◌&&◌, Bool, true, false, List, [], ◌++◌, length, map, Option}
-use Rattle.std.proofs.Common.{Some, None, is_some, nat_le, nat_lt, arith}
-use Rattle.std.proofs.lemmas.List.{append-nil}
-use Rattle.osi_class.specs.Joining.{Joining}
-use Rattle.osi_class.specs.Link.{Standing, unit_of}
-use Rattle.osi_class.specs.Runs.{Move, MovesAlong, tsdus_out}
-use Rattle.osi_carrier.specs.Calls.{closed_with, open_link, send_all_error, sent_all}
-use Rattle.osi_carrier.specs.Rows.{value_at}
-use Rattle.osi_carrier.specs.State.{State as Carrier, linked}
-use Rattle.osi_carrier.specs.declared.ends.EndReason.{EndReason}
-use Rattle.osi_carrier.specs.declared.faults.SendError.{SendError}
-use Rattle.osi_message.specs.Parting.{tsdus_sent}
-use Rattle.osi_session.specs.Listening.{Input, Listener, after_input, react}
-use Rattle.osi_session.specs.Phases.{is_wait_transport}
-use Rattle.osi_judge.specs.Running.{sends}
-use Rattle.osi_stack.specs.Calls.{has_given}
-use Rattle.osi_stack.specs.Messages.{kept_at}
-use Rattle.osi_stack.specs.Moving.{limit_for, to_session}
-use Rattle.osi_stack.specs.State.{End, Line}
-use Rattle.osi_stack.specs.Transport.{answers_by, hands}
-use Rattle.osi_stack.proofs.called.tsdus_that_are_handed_together.{handed, lengths_fit}
-use Rattle.osi_stack.proofs.sound.the_invariant_is_kept.{closed_given}
-use Rattle.osi_honest.specs.Courses.{IsFreshLink}
-use Rattle.osi_honest.specs.Courses.{AreCalls, Course, Deeds, Gone, IsNew, IsShut, Speaks, said_in, units_given}
-use Rattle.osi_honest.specs.Courses.Course.{is_gone, is_open}
-use Rattle.osi_honest.specs.Courses.Gone.{closed, over}
-use Rattle.osi_honest.specs.Marked.{units_at}
-use Rattle.osi_honest.specs.Talking.{History, Said, said_after}
+use Rattle.osi_honest.proofs.Vocabulary.{[], ap, arith, Bool, false, is_some, length, List, map, nat_le, nat_lt, None, Option, refl, Some}
+use Rattle.osi_honest.proofs.Vocabulary.{subst, sym, true, ℕ, ◌&&◌, ◌++◌, ◌+◌, ◌∙◌, ◌≡◌, append-nil, Joining, Standing, unit_of, Move}
+use Rattle.osi_honest.proofs.Vocabulary.{MovesAlong, tsdus_out, closed_with, open_link, send_all_error, sent_all, value_at, linked}
+use Rattle.osi_honest.proofs.Vocabulary.{State as Carrier, EndReason, SendError, tsdus_sent, after_input, Input, Listener}
+use Rattle.osi_honest.proofs.Vocabulary.{session_react as react, is_wait_transport, handed, lengths_fit, closed_given, has_given, kept_at}
+use Rattle.osi_honest.proofs.Vocabulary.{limit_for, to_session, End, Line, answers_by, hands, sends, AreCalls, Course, Deeds, Gone}
+use Rattle.osi_honest.proofs.Vocabulary.{IsFreshLink, IsNew, IsShut, said_in, Speaks, units_given, is_gone, is_open, closed, units_at}
+use Rattle.osi_honest.proofs.Vocabulary.{History, Said, said_after}
+use Rattle.osi_honest.specs.Courses.Gone.{over}
 use Rattle.osi_honest.proofs.class_0.a_session_of_class_0_puts_what_it_sends.{HasLine, IsProper, kept_then, line_there, moved_by}
 use Rattle.osi_honest.proofs.courses.steps_of_a_course.{HasNone, StepAt, done_by, step_idle}
 use Rattle.osi_honest.proofs.courses.units_of_each_connection.{marked, marked_own, nowhere}
-use Rattle.osi_honest.proofs.courses.what_a_session_puts.{all_put, answer_puts, line_puts, move_puts, put_closing, put_unless}
-use Rattle.osi_honest.proofs.courses.what_a_session_puts.{session_puts}
+use Rattle.osi_honest.proofs.courses.what_a_session_puts.{all_put, answer_puts, line_puts, move_puts, put_closing, put_unless, session_puts}
 use Rattle.osi_honest.proofs.courses.what_a_link_takes_and_is_handed.{Sends, closed_shut, link_open, sends_all}
 use Rattle.osi_honest.proofs.courses.what_calls_of_a_link_say.{along_more, out_more, put_more, said_more}
 

@@ -1,62 +1,41 @@
 -- The events of a packet are handled: what becomes of the course of one connection, and that what its session sends is handed in.
 -- For the course of a connection.
-use Rattle.std.proofs.Common.{◌≡◌, ◌≢◌, ◌∙◌, refl, sym, ap, subst, ℕ, zero, suc, ◌+◌, ◌==◌, Bool, true, false, List, []}
-use Rattle.std.proofs.Common.{◌∷◌, ◌++◌, length, map, Option, Some, None, is_some, inl, inr, length-append}
-use Rattle.std.proofs.lemmas.Bool.{eq-eqb, eqb-true}
-use Rattle.std.proofs.lemmas.List.{append-nil}
-use Rattle.osi_class.specs.Link.{unit_of}
-use Rattle.osi_class.specs.Runs.{MovesAlong, tsdus_out}
-use Rattle.osi_carrier.specs.Calls.{open_link}
-use Rattle.osi_carrier.specs.Happenings.{Happening, opened, tsdu}
+use Rattle.osi_honest.proofs.Vocabulary.{[], ap, Bool, false, inl, inr, is_some, length, List, map, None, Option, refl, Some, subst, suc}
+use Rattle.osi_honest.proofs.Vocabulary.{sym, true, zero, ℕ, ◌++◌, ◌+◌, ◌==◌, ◌∙◌, ◌∷◌, ◌≡◌, ◌≢◌, eq-eqb, eqb-true, append-nil, unit_of}
+use Rattle.osi_honest.proofs.Vocabulary.{MovesAlong, tsdus_out, push_here, open_link, Happening, told_opened as opened, tsdu, value_at}
+use Rattle.osi_honest.proofs.Vocabulary.{EndReason, after_input, broken, came, Input, Listener, linked_up, session_react as react, awaits}
+use Rattle.osi_honest.proofs.Vocabulary.{times_quiet, first_is, rest_is, used_live, hears_keep, calls_with, terms_error, hears, hears_next}
+use Rattle.osi_honest.proofs.Vocabulary.{hears_times, opens_line as opens, with_events, kept_at, to_session, End, fresh_line, joins, Line}
+use Rattle.osi_honest.proofs.Vocabulary.{session_in, Request as Connect, sends, Course, Deeds, Gone, IsNew, IsShut, no_deeds, said_in}
+use Rattle.osi_honest.proofs.Vocabulary.{units_given, awaited, is_gone, is_open, unknown, closed, Marked, units_at, History, Said}
+use Rattle.osi_honest.proofs.Vocabulary.{said_after, State as Carrier, attends, concludes, hears_all, concluded_carrier, concludes_lasting}
+use Rattle.osi_honest.proofs.Vocabulary.{never}
+use Rattle.std.proofs.Common.{length-append}
 use Rattle.osi_carrier.specs.Happenings as told
 use Rattle.osi_carrier.specs.Orderly.{told_of}
-use Rattle.osi_carrier.specs.Rows.{value_at}
-use Rattle.osi_carrier.specs.State.{State as Carrier}
-use Rattle.osi_carrier.specs.declared.ends.EndReason.{EndReason}
-use Rattle.osi_carrier.proofs.references.what_a_change_leaves_there.{push_here}
-use Rattle.osi_session.specs.Listening.{Input, Listener, after_input, came, react}
-use Rattle.osi_session.specs.Listening.{opened as linked_up}
-use Rattle.osi_session.specs.Listening.{broken, refused}
-use Rattle.osi_session.specs.Sessions.{awaits}
-use Rattle.osi_judge.specs.Running.{sends}
-use Rattle.osi_stack.specs.Calls.{calls_with, terms_error}
-use Rattle.osi_stack.specs.Hearing.{attends, concludes, hears, hears_all, hears_next, hears_times, opens, with_events}
-use Rattle.osi_stack.specs.Messages.{kept_at}
-use Rattle.osi_stack.specs.Moving.{to_session}
-use Rattle.osi_stack.specs.State.{End, Line, fresh_line, joins, session_in}
-use Rattle.osi_stack.specs.declared.connecting.Connect.{Connect}
-use Rattle.osi_stack.proofs.carried.events_one_after_the_other.{concluded_carrier, times_quiet}
-use Rattle.osi_stack.proofs.carried.open_connections_stay_open.{first_is, rest_is}
-use Rattle.osi_stack.proofs.carried.what_a_move_leaves.{used_live}
-use Rattle.osi_stack.proofs.carried.what_sessions_leave_of_the_carrier.{hears_keep}
-use Rattle.osi_stack.proofs.sound.the_invariant_is_kept.{concludes_lasting}
-use Rattle.osi_honest.specs.Courses.{Course, Deeds, Gone, IsNew, IsShut, no_deeds, said_in, units_given}
-use Rattle.osi_honest.specs.Courses.Course.{awaited, is_gone, is_open, unknown}
-use Rattle.osi_honest.specs.Courses.Gone.{closed, never, over}
-use Rattle.osi_honest.specs.Marked.{Marked, units_at}
-use Rattle.osi_honest.specs.Talking.{History, Said, said_after}
+use Rattle.osi_session.specs.Listening.{refused}
 use Rattle.osi_honest.specs.Talking as history
 use Rattle.osi_honest.proofs.class_0.a_session_of_class_0_puts_what_it_sends.{still_begun}
 use Rattle.osi_honest.proofs.class_0.what_a_packet_does_in_class_0.{AllProper}
 use Rattle.osi_honest.proofs.class_0.what_packets_do_in_class_0.{never_lasts}
 use Rattle.osi_honest.proofs.courses.a_connection_without_a_unit.{event_life}
-use Rattle.osi_honest.proofs.courses.steps_of_a_course.{HasNone, HoldEach, StepAt, States, Steps, same_rest, step_as, step_each, step_idle}
-use Rattle.osi_honest.proofs.courses.steps_of_a_course.{step_none, step_on, step_since, step_then}
+use Rattle.osi_honest.proofs.courses.steps_of_a_course.{HasNone, HoldEach, StepAt, States, Steps, same_rest, step_each, step_idle}
+use Rattle.osi_honest.proofs.courses.steps_of_a_course.{step_none, step_on, step_since, step_then, step_as}
 use Rattle.osi_honest.proofs.courses.units_of_each_connection.{unequal}
 use Rattle.osi_honest.proofs.courses.what_a_link_takes_and_is_handed.{link_shut, over_unlinked}
 use Rattle.osi_honest.proofs.courses.what_a_session_puts.{IsGivenIfOpen, event_accounted, event_others, event_puts, event_unlinked}
 use Rattle.osi_honest.proofs.courses.what_a_session_puts.{event_written, opening_puts, session_puts}
 use Rattle.osi_honest.proofs.courses.what_a_unit_does_to_a_connection.{NoneOf}
-use Rattle.osi_honest.proofs.courses.what_another_connection_leaves.{Beside, course_over, gone_beside, gone_over, gone_same}
-use Rattle.osi_honest.proofs.courses.what_another_connection_leaves.{joins_beside, session_beside, shut_session}
-use Rattle.osi_honest.proofs.courses.how_long_a_connection_is_open.{stage_at}
+use Rattle.osi_honest.proofs.courses.what_another_connection_leaves.{Beside, gone_beside, gone_over, gone_same, joins_beside}
+use Rattle.osi_honest.proofs.courses.what_another_connection_leaves.{session_beside, shut_session, course_over}
 use Rattle.osi_honest.proofs.courses.what_calls_of_a_link_say.{fresh_of, none_said, out_more, said_more}
 use Rattle.osi_honest.proofs.courses.what_its_own_session_does.{CanSpeak, session_speaks}
 use Rattle.osi_honest.proofs.courses.what_units_do_to_a_course.{NowAll, request_new, unsaid}
-use Rattle.osi_honest.proofs.courses.what_waits_to_be_heard.{HasCome, JustOpened, Waits, waits_as, waits_beside}
-use Rattle.osi_honest.proofs.courses.what_waits_to_be_heard.{waits_none, waits_over}
+use Rattle.osi_honest.proofs.courses.what_waits_to_be_heard.{HasCome, JustOpened, Waits, waits_as, waits_beside, waits_over, waits_none}
 use Rattle.osi_honest.proofs.courses.what_waits_to_be_heard.Waits.{answered, away, called, came as has_come, still}
 use Rattle.osi_honest.proofs.opening.how_a_caller_opens.{CanBegin}
+use Rattle.osi_honest.specs.Courses.Gone.{over}
+use Rattle.osi_honest.proofs.courses.how_long_a_connection_is_open.{stage_at}
 
 -- ---- an event of another connection
 

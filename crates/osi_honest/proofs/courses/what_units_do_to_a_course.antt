@@ -1,41 +1,17 @@
 -- Units that arrive, one after the other: what becomes of the course of one connection, before the sessions hear of it.
 -- For the course of a connection.
-use Rattle.std.proofs.Common.{◌≡◌, ◌≢◌, ◌∙◌, refl, sym, ap, subst, ℕ, zero, suc, ◌+◌, ◌<◌, ◌==◌, Bool, true, false, List, [], ◌∷◌, ◌++◌}
-use Rattle.std.proofs.Common.{length, map, take, Option, Some, None, is_some, IsSome, IsTrue, Ok, inl, inr, arith}
-use Rattle.std.proofs.lemmas.Bool.{eqb-true}
-use Rattle.std.proofs.lemmas.List.{append-nil}
-use Rattle.osi_tpdu.specs.Packet.{AreUnits}
-use Rattle.osi_tpdu.specs.Value.{Value, may_be_followed}
-use Rattle.osi_tpdu.specs.Writing.{Fits}
-use Rattle.osi_tpdu.proofs.the_units_of_a_packet.{units_fit}
-use Rattle.osi_class.specs.Giving.{all_given}
-use Rattle.osi_class.specs.Link.{Standing, taken, unit_of}
-use Rattle.osi_class.specs.Runs.{Move, tsdus_in, tsdus_out}
-use Rattle.osi_carrier.specs.Happenings.{opened, tsdu}
-use Rattle.osi_class.specs.declared.terms.Class.TheVariants.{Zero}
-use Rattle.osi_class.specs.declared.terms.Local.{Local}
-use Rattle.osi_carrier.specs.Negotiation.{opened_link}
-use Rattle.osi_carrier.specs.Orderly.{RiseFrom, connection_of}
-use Rattle.osi_carrier.specs.Pump.{pumped, written_by}
-use Rattle.osi_carrier.specs.React.{handed_out, react, reacts, settles}
-use Rattle.osi_carrier.specs.Rows.{Rows, value_at}
-use Rattle.osi_carrier.specs.State.{Connection, State as Carrier, asked, linked, packets}
-use Rattle.osi_carrier.specs.declared.ends.EndReason.{EndReason}
-use Rattle.osi_carrier.proofs.effects.units_one_after_the_other.{react_over}
-use Rattle.osi_carrier.proofs.references.what_a_change_leaves_there.{absent, put_here}
-use Rattle.osi_session.specs.Listening.{Listener}
-use Rattle.osi_stack.specs.Calls.{calls_with, has_given, terms_error}
-use Rattle.osi_stack.specs.Hearing.{with_carrier}
-use Rattle.osi_stack.specs.State.{End}
-use Rattle.osi_stack.specs.declared.connecting.Connect.{Connect}
-use Rattle.osi_stack.proofs.carried.packets_without_events.{both}
-use Rattle.osi_stack.proofs.opening.connections_that_units_open.{along_units}
-use Rattle.osi_honest.specs.Courses.{IsFreshLink}
-use Rattle.osi_honest.specs.Courses.{AreCalls, Course, Deeds, Gone, IsNew, IsOpen, IsShut, Speaks, no_deeds, said_in, then_did}
-use Rattle.osi_honest.specs.Courses.{units_given, units_taken}
-use Rattle.osi_honest.specs.Courses.Course.{awaited, is_gone, is_open, unknown}
-use Rattle.osi_honest.specs.Courses.Gone.{closed, never, over}
-use Rattle.osi_honest.specs.Talking.{History, Said}
+use Rattle.osi_honest.proofs.Vocabulary.{[], ap, arith, Bool, false, inl, inr, is_some, IsSome, IsTrue, length, List, map, None, Ok, Option}
+use Rattle.osi_honest.proofs.Vocabulary.{refl, Some, subst, suc, sym, take, true, zero, ℕ, ◌++◌, ◌+◌, ◌<◌, ◌==◌, ◌∙◌, ◌∷◌, ◌≡◌, ◌≢◌}
+use Rattle.osi_honest.proofs.Vocabulary.{eqb-true, append-nil, units_fit, AreUnits, may_be_followed, Value, Fits, all_given, Standing}
+use Rattle.osi_honest.proofs.Vocabulary.{taken, unit_of, Move, tsdus_in, tsdus_out, Zero, Local, react_over, absent, put_here}
+use Rattle.osi_honest.proofs.Vocabulary.{told_opened as opened, tsdu, opened_link, connection_of, RiseFrom, pumped, written_by, handed_out}
+use Rattle.osi_honest.proofs.Vocabulary.{reacts, settles, Rows, value_at, asked, Connection, linked, packets, State as Carrier, EndReason}
+use Rattle.osi_honest.proofs.Vocabulary.{Listener, both, along_units, calls_with, has_given, terms_error, with_carrier, End}
+use Rattle.osi_honest.proofs.Vocabulary.{Request as Connect, AreCalls, Course, Deeds, Gone, IsFreshLink, IsNew, IsOpen, IsShut, no_deeds}
+use Rattle.osi_honest.proofs.Vocabulary.{said_in, Speaks, then_did, units_given, units_taken, awaited, is_gone, is_open, unknown, closed}
+use Rattle.osi_honest.proofs.Vocabulary.{never, History, Said}
+use Rattle.osi_carrier.specs.React.{react}
+use Rattle.osi_honest.specs.Courses.Gone.{over}
 use Rattle.osi_honest.specs.Talking as history
 use Rattle.osi_honest.proofs.class_0.what_packets_do_in_class_0.{never_lasts}
 use Rattle.osi_honest.proofs.courses.how_long_a_connection_is_open.{Life, life_to_past, stage_at, stage_over}
@@ -46,8 +22,7 @@ use Rattle.osi_honest.proofs.courses.units_of_each_connection.{elsewhere, given_
 use Rattle.osi_honest.proofs.courses.units_of_each_connection.{nowhere, plain_accounted, unequal}
 use Rattle.osi_honest.proofs.courses.what_a_link_takes_and_is_handed.{HasFew, has_few, takes_in}
 use Rattle.osi_honest.proofs.courses.what_a_unit_does_to_a_connection.{Acts, Does, NoneOf, acts_elsewhere, none_more, unit_does}
-use Rattle.osi_honest.proofs.courses.what_a_unit_does_to_a_connection.Acts.{answers_it, joins, leaves_it, rests}
-use Rattle.osi_honest.proofs.courses.what_a_unit_does_to_a_connection.Acts.{over as carrier_over}
+use Rattle.osi_honest.proofs.courses.what_a_unit_does_to_a_connection.Acts.{answers_it, joins, leaves_it, rests, over as carrier_over}
 use Rattle.osi_honest.proofs.courses.what_a_unit_does_to_a_connection.Does.{passes, takes}
 use Rattle.osi_honest.proofs.courses.what_another_connection_leaves.{Beside, course_beside, course_over, gone_beside, gone_over}
 use Rattle.osi_honest.proofs.courses.what_calls_of_a_link_say.{along_more, none_said, out_more, put_more, said_more}

@@ -1,25 +1,14 @@
 -- The course of a connection while events of its carrier wait to be handled: at most one of them is of this connection.
 -- For the course of a connection.
-use Rattle.std.proofs.Common.{◌≡◌, ◌≢◌, ◌∙◌, refl, ap, ℕ, Bool, true, false, List, [], ◌∷◌, ◌++◌, Option, Some, None, is_some, map}
-use Rattle.std.proofs.Common.{IsSome, inl, inr, ◌⊎◌}
-use Rattle.osi_class.specs.Link.{Standing, unit_of}
-use Rattle.osi_class.specs.Runs.{Move, MovesAlong, tsdus_in, tsdus_out}
-use Rattle.osi_carrier.specs.Happenings.{Happening, opened, tsdu}
+use Rattle.osi_honest.proofs.Vocabulary.{[], ap, Bool, false, inl, inr, IsSome, List, map, None, refl, Some, true, ℕ, ◌++◌, ◌∙◌, ◌∷◌, ◌≡◌}
+use Rattle.osi_honest.proofs.Vocabulary.{◌≢◌, ◌⊎◌, Standing, unit_of, Move, MovesAlong, tsdus_in, tsdus_out, Happening}
+use Rattle.osi_honest.proofs.Vocabulary.{told_opened as opened, tsdu, value_at, linked, Listener, is_wait_transport, calls_with, has_given}
+use Rattle.osi_honest.proofs.Vocabulary.{terms_error, kept_at, End, Request as Connect, Course, Deeds, Gone, IsFreshLink, no_deeds, Speaks}
+use Rattle.osi_honest.proofs.Vocabulary.{units_given, never, is_gone}
 use Rattle.osi_carrier.specs.Orderly.{told_of}
-use Rattle.osi_carrier.specs.Rows.{value_at}
-use Rattle.osi_carrier.specs.State.{linked}
-use Rattle.osi_session.specs.Listening.{Listener}
-use Rattle.osi_session.specs.Phases.{is_wait_transport}
-use Rattle.osi_stack.specs.Calls.{calls_with, has_given, terms_error}
-use Rattle.osi_stack.specs.Messages.{kept_at}
-use Rattle.osi_stack.specs.State.{End}
-use Rattle.osi_stack.specs.declared.connecting.Connect.{Connect}
-use Rattle.osi_honest.specs.Courses.{IsFreshLink}
-use Rattle.osi_honest.specs.Courses.{Course, Deeds, Gone, Speaks, no_deeds, units_given}
-use Rattle.osi_honest.specs.Courses.Course.{is_gone}
-use Rattle.osi_honest.specs.Courses.Gone.{never, over}
+use Rattle.osi_honest.specs.Courses.Gone.{over}
 use Rattle.osi_honest.proofs.courses.what_a_unit_does_to_a_connection.{NoneOf}
-use Rattle.osi_honest.proofs.courses.what_another_connection_leaves.{Beside, course_beside, course_over, gone_beside, gone_over}
+use Rattle.osi_honest.proofs.courses.what_another_connection_leaves.{Beside, course_beside, course_over, gone_beside, gone_over, some_there}
 
 -- ---- one event that is due
 
@@ -78,8 +67,13 @@ pub data Waits (is_caller : Bool) (r : ℕ) (events : List Happening) (moves : D
       JustOpened r moves e → Waits is_caller r events moves e
   came : (octets : List ℕ) → Due r (tsdu r octets) events → HasCome is_caller r octets moves e → Waits is_caller r events moves e
 
-some_linked : {X : Type 0} (o : Option X) (x : X) → o ≡ Some x → IsSome o
-some_linked o x e = ap is_some e
+-- no event waits
+pub waits_none : (is_caller : Bool) (r : ℕ) (moves : Deeds) (e : End) → Waits is_caller r [] moves e → Course is_caller r moves e
+waits_none is_caller r moves e (still none course) = course
+waits_none is_caller r moves e (away g) = is_gone g
+waits_none is_caller r moves e (called due side none just) = absurd due
+waits_none is_caller r moves e (answered due side c terms kept just) = absurd due
+waits_none is_caller r moves e (came octets due h) = absurd due
 
 module _ (is_caller : Bool) (r : ℕ) (moves : Deeds) (old new : End) where
   just_beside : Beside r old new → JustOpened r moves old → JustOpened r moves new
@@ -111,7 +105,7 @@ module _ (is_caller : Bool) (r : ℕ) (moves : Deeds) (old new : End) where
     along = h.along;
     put = h.put;
     handed = h.handed;
-    kept = b.kept (some_linked (value_at r old.carrier.live) _ h.here) ∙ h.kept;
+    kept = b.kept (some_there (value_at r old.carrier.live) _ h.here) ∙ h.kept;
     speaks = h.speaks;
     begun = h.begun;
   }
@@ -122,7 +116,7 @@ module _ (is_caller : Bool) (r : ℕ) (moves : Deeds) (old new : End) where
   waits_as events b (away g) = away (gone_beside is_caller r moves old new b g)
   waits_as events b (called due side none just) = called due side (b.unlined none) (just_beside b just)
   waits_as events b (answered due side c terms kept just) =
-      answered due side c terms (b.kept (some_linked (value_at r old.carrier.live) _ just.here) ∙ kept) (just_beside b just)
+      answered due side c terms (b.kept (some_there (value_at r old.carrier.live) _ just.here) ∙ kept) (just_beside b just)
   waits_as events b (came octets due h) = came octets due (come_beside octets b h)
 
   -- the first of the events is of another connection, and so is what it does
@@ -138,7 +132,7 @@ module _ (is_caller : Bool) (r : ℕ) (moves : Deeds) (old new : End) where
       called (due_later (opened r) x rest ne refl due) side (b.unlined none) (just_beside b just)
   waits_beside x rest ne b (answered due side c terms kept just) =
       answered (due_later (opened r) x rest ne refl due) side c terms
-      (b.kept (some_linked (value_at r old.carrier.live) _ just.here) ∙ kept) (just_beside b just)
+      (b.kept (some_there (value_at r old.carrier.live) _ just.here) ∙ kept) (just_beside b just)
   waits_beside x rest ne b (came octets due h) = came octets (due_later (tsdu r octets) x rest ne refl due) (come_beside octets b h)
 
   -- the carrier ends
@@ -151,11 +145,3 @@ module _ (is_caller : Bool) (r : ℕ) (moves : Deeds) (old new : End) where
       over h.peer (record { first = h.first; link = h.link; fresh = h.fresh; along = h.along; handed = h.handed; put = h.put })
       h.before h.now false h.session
       h.speaks h.parts h.into ended
-
--- no event waits
-pub waits_none : (is_caller : Bool) (r : ℕ) (moves : Deeds) (e : End) → Waits is_caller r [] moves e → Course is_caller r moves e
-waits_none is_caller r moves e (still none course) = course
-waits_none is_caller r moves e (away g) = is_gone g
-waits_none is_caller r moves e (called due side none just) = absurd due
-waits_none is_caller r moves e (answered due side c terms kept just) = absurd due
-waits_none is_caller r moves e (came octets due h) = absurd due

@@ -1,27 +1,15 @@
 -- What the session of a connection sent is explained by what it had taken by then, also if a capture shows less of it; and the units
 -- of its link carry these TSDUs.
 -- For the laws of an end and its captures.
-use Rattle.std.proofs.Common.{◌≡◌, ◌∙◌, refl, sym, ap, subst, ℕ, ◌+◌, Bool, true, false, List, [], ◌∷◌, ◌++◌, length, map, None}
-use Rattle.std.proofs.lemmas.List.{append-nil}
-use Rattle.osi_class.specs.Link.{unit_of}
-use Rattle.osi_class.specs.Runs.{Move, parts_in, parts_out, tsdus_in, tsdus_out}
-use Rattle.osi_class.specs.Tsdus.{tsdus, uncut}
-use Rattle.osi_class.proofs.bounds.what_calls_take.{all as all_taken}
-use Rattle.osi_class.proofs.giving.what_calls_send.{all as all_sent}
-use Rattle.osi_session.specs.Listening.{Listener}
-use Rattle.osi_session.specs.Sessions.{awaits, opens, refusal_of}
-use Rattle.osi_session.specs.Standing.{Seen, seen_called, seen_calling}
-use Rattle.osi_session.specs.declared.opening.Opening.{Opening}
-use Rattle.osi_judge.specs.Explaining.{IsExplained, Told}
-use Rattle.osi_judge.specs.Explaining.Explains.{done}
-use Rattle.osi_judge.specs.Running.{IsSentFrom}
+use Rattle.osi_honest.proofs.Vocabulary.{[], ap, Bool, false, length, List, map, None, refl, subst, sym, true, ℕ, ◌++◌, ◌+◌, ◌∙◌, ◌∷◌, ◌≡◌}
+use Rattle.osi_honest.proofs.Vocabulary.{append-nil, all_taken, all_sent, unit_of, Move, parts_in, parts_out, tsdus_in, tsdus_out, tsdus}
+use Rattle.osi_honest.proofs.Vocabulary.{uncut, Listener, awaits, refusal_of, Seen, seen_called, seen_calling, Opening, End, IsExplained}
+use Rattle.osi_honest.proofs.Vocabulary.{Told, done, IsSentFrom, AreCalls, Course, Deeds, Gone, IsNew, no_deeds, said_in, Speaks}
+use Rattle.osi_honest.proofs.Vocabulary.{units_given, is_gone, is_open, closed, never, AreSame, Shows, Said, awaited, unknown}
+use Rattle.osi_session.specs.Sessions.{opens}
 use Rattle.osi_judge.specs.Running as running
-use Rattle.osi_stack.specs.State.{End}
-use Rattle.osi_honest.specs.Courses.{AreCalls, Course, Deeds, Gone, IsNew, Speaks, no_deeds, said_in, units_given}
-use Rattle.osi_honest.specs.Courses.Course.{awaited, is_gone, is_open, unknown}
-use Rattle.osi_honest.specs.Courses.Gone.{closed, never, over}
-use Rattle.osi_honest.specs.Showing.{AreSame, Shows}
-use Rattle.osi_honest.specs.Talking.{Said, told_of}
+use Rattle.osi_honest.specs.Courses.Gone.{over}
+use Rattle.osi_honest.specs.Talking.{told_of}
 use Rattle.osi_honest.proofs.courses.what_calls_of_a_link_say.{fresh_of, none_said, out_more, said_more}
 use Rattle.osi_honest.proofs.courses.what_units_do_to_a_course.{no_calls}
 use Rattle.osi_honest.proofs.opening.the_session_of_a_request_is_a_caller.{opens_so}

@@ -1,30 +1,13 @@
 -- A unit that arrives, at each connection: if it is open, its link takes the unit just if this is for it, or it is open no more.
 -- For the course of a connection.
-use Rattle.std.proofs.Common.{◌≡◌, ◌≢◌, ◌∙◌, refl, sym, ap, subst, ℕ, ◌<◌, ◌==◌, ◌&&◌, Bool, true, false, List, [], ◌∷◌}
-use Rattle.std.proofs.Common.{nat_le, nat_lt, Option, Some, None, is_some, IsSome, Ok, arith}
-use Rattle.std.proofs.lemmas.Bool.{eq-eqb, eqb-true}
-use Rattle.std.proofs.lemmas.Bool.Decides.{nat_tests}
-use Rattle.std.proofs.lemmas.List.{append-nil}
-use Rattle.osi_tpdu.specs.Value.{Value, acknowledge, confirm, data0, data2, disconnect, disconnected, error, request}
-use Rattle.osi_class.specs.Ends.{Ends}
-use Rattle.osi_class.specs.Flow.{Flow}
-use Rattle.osi_class.specs.Giving.{all_given}
-use Rattle.osi_class.specs.Link.{Standing, taken, taken_by}
-use Rattle.osi_class.specs.declared.terms.Class.{Class}
-use Rattle.osi_class.specs.declared.terms.Class.TheVariants.{Two}
-use Rattle.osi_carrier.specs.Orderly.{connection_by, connection_of, only_of}
-use Rattle.osi_carrier.specs.Pump.{pumped, written_by}
-use Rattle.osi_carrier.specs.React.{handed_out, in_class, in_two, react, settles}
-use Rattle.osi_carrier.specs.Rows.{put, value_at}
-use Rattle.osi_carrier.specs.State.{Connection, State as Carrier, asked, closing, linked}
-use Rattle.osi_carrier.specs.declared.ends.EndReason.{EndReason}
-use Rattle.osi_carrier.proofs.effects.units_one_after_the_other.{react_quiet}
-use Rattle.osi_carrier.proofs.references.rows_after_a_change.{put_other}
-use Rattle.osi_carrier.proofs.references.what_a_change_leaves_there.{beyond, put_here}
-use Rattle.osi_stack.specs.Calls.{has_given}
-use Rattle.osi_honest.specs.Arriving.{AreApart, GivesTo, Opens, TakesAll, is_for}
-use Rattle.osi_honest.specs.Courses.{IsShut}
-use Rattle.osi_honest.specs.Marked.{Marked, is_of_link}
+use Rattle.osi_honest.proofs.Vocabulary.{[], ap, arith, Bool, false, is_some, IsSome, List, nat_le, nat_lt, None, Ok, Option, refl, Some}
+use Rattle.osi_honest.proofs.Vocabulary.{subst, sym, true, ℕ, ◌&&◌, ◌<◌, ◌==◌, ◌∙◌, ◌∷◌, ◌≡◌, ◌≢◌, eq-eqb, eqb-true, nat_tests, append-nil}
+use Rattle.osi_honest.proofs.Vocabulary.{acknowledge, data0, data2, request, Value, Ends, Flow, all_given, Standing, taken, taken_by, Class}
+use Rattle.osi_honest.proofs.Vocabulary.{Two, react_quiet, put_other, beyond, put_here, connection_by, connection_of, only_of, pumped}
+use Rattle.osi_honest.proofs.Vocabulary.{written_by, handed_out, in_class, in_two, settles, put, value_at, asked, Connection, linked}
+use Rattle.osi_honest.proofs.Vocabulary.{State as Carrier, EndReason, has_given, AreApart, GivesTo, is_for, Opens, TakesAll, IsShut}
+use Rattle.osi_honest.proofs.Vocabulary.{is_of_link, Marked}
+use Rattle.osi_carrier.specs.React.{react}
 use Rattle.osi_honest.proofs.class_0.what_packets_do_in_class_0.{never_lasts}
 use Rattle.osi_honest.proofs.courses.the_connections_of_each_class.{ByClass, IsSound, one_here}
 use Rattle.osi_honest.proofs.courses.the_connections_of_each_class.ByClass.{asks, none, two, zero}
@@ -52,11 +35,7 @@ module _ (v : Value) (s : Carrier) (lasted : s.ended ≡ None) (lasts : (react v
       absurd (never_lasts (react v s).ended ended lasts)
   two_deaf (data2 destination number end user) is class r ne = other_mark destination r ne
   two_deaf (acknowledge credit destination number) is class r ne = other_mark destination r ne
-  two_deaf (request c) is class r ne = refl
-  two_deaf (confirm destination c) is class r ne = refl
-  two_deaf (disconnect destination source reason user) is class r ne = refl
-  two_deaf (disconnected destination source) is class r ne = refl
-  two_deaf (error destination cause) is class r ne = refl
+  two_deaf _ is class r ne = refl
 
   pub elsewhere_deaf : (r : ℕ) → ByClass s → r ≢ connection_of v s → IsDeaf r v s
   elsewhere_deaf r (two class) ne peer link here =
@@ -79,14 +58,8 @@ plain_refused e o (data2 destination number end user) after plain is = absurd (c
 plain_refused e o (acknowledge credit destination number) after plain is = absurd (cc)
 plain_refused e None (request c) after plain is = absurd (cc)
 plain_refused e (Some f) (request c) after plain is = absurd (cc)
-plain_refused e None (confirm destination c) after plain is = absurd (cc)
-plain_refused e (Some f) (confirm destination c) after plain is = absurd (cc)
-plain_refused e None (disconnect destination source reason user) after plain is = absurd (cc)
-plain_refused e (Some f) (disconnect destination source reason user) after plain is = absurd (cc)
-plain_refused e None (disconnected destination source) after plain is = absurd (cc)
-plain_refused e (Some f) (disconnected destination source) after plain is = absurd (cc)
-plain_refused e None (error destination cause) after plain is = absurd (cc)
-plain_refused e (Some f) (error destination cause) after plain is = absurd (cc)
+plain_refused e None _ after plain is = absurd (cc)
+plain_refused e (Some f) _ after plain is = absurd (cc)
 
 -- a link of class 0 takes no unit of class 2
 no_data2 : (e : Ends) (destination number : ℕ) (end : Bool) (user : List ℕ) (after : Standing) (o : Option Flow) → o ≡ None →
@@ -122,13 +95,7 @@ module _ (s : Carrier) (q peer : ℕ) (link after : Standing) (here : value_at q
   taken_for (acknowledge credit destination number) own by_class is =
       named_for (acknowledge credit destination number) destination refl own by_class
       (λ empty. no_ack link.ends credit destination number after link.flow empty is)
-  taken_for (request c) own by_class is = plain_refused link.ends link.flow (request c) after refl is
-  taken_for (confirm destination c) own by_class is = plain_refused link.ends link.flow (confirm destination c) after refl is
-  taken_for (disconnect destination source reason user) own by_class is =
-      plain_refused link.ends link.flow (disconnect destination source reason user) after refl is
-  taken_for (disconnected destination source) own by_class is =
-      plain_refused link.ends link.flow (disconnected destination source) after refl is
-  taken_for (error destination cause) own by_class is = plain_refused link.ends link.flow (error destination cause) after refl is
+  taken_for v own by_class is = plain_refused link.ends link.flow v after refl is
 
 -- ---- the unit at one connection
 
@@ -137,15 +104,13 @@ amid_linked : (b given : Bool) (o : Option Connection) (p : ℕ) → stage_by b 
 amid_linked true given o p is = absurd (cc)
 amid_linked false true None p is = absurd (cc)
 amid_linked false false None p is = absurd (cc)
-amid_linked false given (Some asked) p is = absurd (cc)
 amid_linked false given (Some (linked peer link)) p is = (peer, link, refl)
-amid_linked false given (Some (closing peer)) p is = absurd (cc)
+amid_linked false given _ p is = absurd (cc)
 
 past_shut : (o : Option Connection) → IsShut o → stage_there true o ≡ past
-past_shut None shut = refl
 past_shut (Some asked) shut = absurd shut
 past_shut (Some (linked peer link)) shut = absurd shut
-past_shut (Some (closing peer)) shut = refl
+past_shut _ shut = refl
 
 above_given : (r n : ℕ) → 0 < r → (nat_lt 0 r && nat_le r n) ≡ false → n < r
 above_given r n some free = grind (arith, nat_tests)

@@ -1,28 +1,15 @@
 -- What each unit that arrives and each TSDU of a session leave true of a carrier, a turn of an end leaves true, whatever
 -- arrives and however much memory there is.
 -- For what an end puts that has no connection of class 0.
-use Rattle.std.proofs.Common.{◌≡◌, refl, sym, ap, subst, ℕ, Bool, true, false, if◌then◌else◌, List, [], ◌∷◌, length, Option, Some, None}
-use Rattle.std.proofs.Common.{is_some, Result, Ok, Err, inl, inr, ◌⊎◌}
-use Rattle.osi_tpdu.specs.Packet.{units_of}
-use Rattle.osi_tpdu.specs.Value.{Value}
-use Rattle.osi_tpdu.specs.declared.faults.TpduFault.{TpduFault}
-use Rattle.osi_carrier.specs.Happenings.{Happening}
+use Rattle.osi_honest.proofs.Vocabulary.{[], ap, Bool, Err, false, if◌then◌else◌, inl, inr, is_some, length, List, None, Ok, Option, refl}
+use Rattle.osi_honest.proofs.Vocabulary.{Result, Some, subst, sym, true, ℕ, ◌∷◌, ◌≡◌, ◌⊎◌, ArePackets, Fed, units_of, Value, TpduFault}
+use Rattle.osi_honest.proofs.Vocabulary.{Happening, reacts, State as Carrier, EndReason, NoMemory, concluded_carrier, packet_is}
+use Rattle.osi_honest.proofs.Vocabulary.{quiet_stops, Carries, events_heard, session_carried, found_how, Feeds, Goes as GoesThrough}
+use Rattle.osi_honest.proofs.Vocabulary.{TakesPackets, after_packet, attends, ends, hears_all, hears_times, RunsOut, Starves, with_carrier}
+use Rattle.osi_honest.proofs.Vocabulary.{with_events, End, Holding, waits}
 use Rattle.osi_carrier.specs.Packets as carriers
-use Rattle.osi_carrier.specs.React.{react, reacts}
-use Rattle.osi_carrier.specs.State.{State as Carrier}
+use Rattle.osi_carrier.specs.React.{react}
 use Rattle.osi_carrier.specs.State as states
-use Rattle.osi_carrier.specs.declared.ends.EndReason.{EndReason}
-use Rattle.osi_carrier.specs.declared.ends.EndReason.TheVariants.{NoMemory}
-use Rattle.osi_tpkt.specs.Stream.{ArePackets}
-use Rattle.osi_tpkt.specs.declared.cutting.Fed.{Fed}
-use Rattle.osi_stack.specs.Feeding.{Feeds, TakesPackets}
-use Rattle.osi_stack.specs.Feeding.{Goes as GoesThrough}
-use Rattle.osi_stack.specs.Hearing.{RunsOut, Starves, after_packet, attends, ends, hears_all, hears_times, with_carrier, with_events}
-use Rattle.osi_stack.specs.State.{End, Holding, waits}
-use Rattle.osi_stack.proofs.carried.events_one_after_the_other.{concluded_carrier}
-use Rattle.osi_stack.proofs.carried.packets_without_events.{packet_is, quiet_stops}
-use Rattle.osi_stack.proofs.stream.the_room_for_a_packet.{found_how}
-use Rattle.osi_stack.proofs.carried.what_each_step_preserves.{Carries, events_heard, session_carried}
 
 -- what a carrier keeps as units arrive and sessions speak, whatever events are queued, and at its end
 pub record IsKept (P : Carrier → Type 0) : Type 0 where

@@ -1,46 +1,20 @@
 -- What each packet and each TSDU of a session leave true of a carrier and of the packets that it used so far, a turn of an end
 -- leaves true, whatever arrives and however much memory there is.
 -- For what the transport of an end puts.
-use Rattle.std.proofs.Common.{◌≡◌, ◌∙◌, refl, sym, ap, subst, ℕ, Bool, true, false, if◌then◌else◌, List, [], ◌∷◌, ◌++◌, length, take}
-use Rattle.std.proofs.Common.{drop, Option, Some, None, is_some, IsSome, option_map, inl, inr, ◌⊎◌, append_assoc, arith}
-use Rattle.std.specs.List.{AllByRecursion}
-use Rattle.std.proofs.lemmas.List.{append-nil, take-append-drop, take_all}
-use Rattle.osi_tpkt.specs.Octets.{IsOctets}
-use Rattle.osi_tpkt.specs.Stream.{ArePackets}
-use Rattle.osi_tpkt.specs.declared.cutting.Fed.{Fed}
-use Rattle.osi_tpdu.specs.Limits.{tsap_octets}
-use Rattle.osi_tpdu.specs.declared.tsaps.Tsap.{Tsap}
-use Rattle.osi_carrier.specs.Calls.{asks, may_connect}
-use Rattle.osi_carrier.specs.Happenings.{Happening}
+use Rattle.osi_honest.proofs.Vocabulary.{[], ap, append_assoc, arith, Bool, drop, false, if◌then◌else◌, inl, inr, is_some, IsSome, length}
+use Rattle.osi_honest.proofs.Vocabulary.{List, None, Option, option_map, refl, Some, subst, sym, take, true, ℕ, ◌++◌, ◌∙◌, ◌∷◌, ◌≡◌, ◌⊎◌}
+use Rattle.osi_honest.proofs.Vocabulary.{append-nil, take-append-drop, take_all, AllByRecursion, IsOctets, ArePackets, Fed, tsap_octets}
+use Rattle.osi_honest.proofs.Vocabulary.{Tsap, acts_cases, may_connect, Happening, State as Carrier, EndReason, Broken, NoMemory, OpenError}
+use Rattle.osi_honest.proofs.Vocabulary.{called, awaits, concluded_carrier, packet_is, quiet_stops, Carries, events_heard, session_carried}
+use Rattle.osi_honest.proofs.Vocabulary.{disconnect_carrier, none_ended, found_how, after_open, terms_error, Feeds, Goes as GoesThrough}
+use Rattle.osi_honest.proofs.Vocabulary.{TakesPackets, uses_all, after_packet, attends, ends, hears_all, hears_times, RunsOut, Starves}
+use Rattle.osi_honest.proofs.Vocabulary.{with_carrier, with_events, IsAccepted, user_does, UserCall, breaking, calling, connecting}
+use Rattle.osi_honest.proofs.Vocabulary.{disconnecting, Call, Calls, carried_in, used_in, carrying, feeding, telling, End, Holding, waits}
+use Rattle.osi_honest.proofs.Vocabulary.{ConnectError, Act, Acts, carried_by, Takes, Turn, used_by, serving, using}
+use Rattle.osi_carrier.specs.Calls.{asks}
 use Rattle.osi_carrier.specs.Packets as carriers
-use Rattle.osi_carrier.specs.State.{State as Carrier}
 use Rattle.osi_carrier.specs.State as states
-use Rattle.osi_carrier.specs.declared.ends.EndReason.{EndReason}
-use Rattle.osi_carrier.specs.declared.ends.EndReason.TheVariants.{Broken, NoMemory}
-use Rattle.osi_carrier.specs.declared.faults.OpenError.{OpenError}
-use Rattle.osi_carrier.proofs.stream.a_piece_is_read_packet_by_packet.{acts_cases}
-use Rattle.osi_session.specs.Listening.{called}
-use Rattle.osi_session.specs.Sessions.{awaits}
-use Rattle.osi_stack.specs.Calls.{after_open, terms_error}
-use Rattle.osi_stack.specs.Feeding.{Feeds, TakesPackets, uses_all}
-use Rattle.osi_stack.specs.Feeding.{Goes as GoesThrough}
-use Rattle.osi_stack.specs.Hearing.{RunsOut, Starves, after_packet, attends, ends, hears_all, hears_times, with_carrier, with_events}
-use Rattle.osi_stack.specs.Inputs.{IsAccepted}
-use Rattle.osi_stack.specs.Rounds.{UserCall, user_does}
-use Rattle.osi_stack.specs.Rounds.UserCall.{breaking, calling, connecting, disconnecting}
-use Rattle.osi_stack.specs.Runs.{Call, Calls, carried_in, used_in}
-use Rattle.osi_stack.specs.Runs.Call.{carrying, feeding, telling}
-use Rattle.osi_stack.specs.State.{End, Holding, waits}
-use Rattle.osi_stack.specs.declared.connecting.ConnectError.{ConnectError}
-use Rattle.osi_stack.proofs.given_up.the_invariant_stays.{disconnect_carrier}
-use Rattle.osi_stack.proofs.carried.events_one_after_the_other.{concluded_carrier}
-use Rattle.osi_stack.proofs.carried.packets_without_events.{packet_is, quiet_stops}
-use Rattle.osi_stack.proofs.stream.the_room_for_a_packet.{found_how}
-use Rattle.osi_stack.proofs.stream.an_end_is_what_its_packets_make.{none_ended}
-use Rattle.osi_stack.proofs.carried.what_each_step_preserves.{Carries, events_heard, session_carried}
 use Rattle.osi_honest.specs.Talking as history
-use Rattle.osi_honest.specs.Turns.{Act, Acts, Takes, Turn, carried_by, used_by}
-use Rattle.osi_honest.specs.Turns.Act.{serving, using}
 use Rattle.osi_honest.proofs.reading.two_readings_of_a_stream_agree.{packets_on, packets_then}
 use Rattle.osi_honest.proofs.class_0.what_a_packet_does_in_class_0.{AllProper}
 use Rattle.osi_honest.proofs.class_0.what_a_turn_does_in_class_0.{all_octets, more_used, stopped_within}

@@ -1,8 +1,7 @@
 -- What holds of each live connection of a carrier holds still after one of them is replaced, dropped or added.
 -- For what the transport of an end puts.
-use Rattle.std.proofs.Common.{◌≡◌, subst, ℕ, ◌==◌, Bool, true, false, if◌then◌else◌, [], ◌∷◌, ◌++◌, Some}
-use Rattle.osi_carrier.specs.Rows.{Rows, put, value_at, without}
-use Rattle.osi_carrier.specs.State.{Connection}
+use Rattle.osi_honest.proofs.Vocabulary.{[], Bool, false, if◌then◌else◌, Some, subst, true, ℕ, ◌++◌, ◌==◌, ◌∷◌, ◌≡◌, put, Rows, value_at}
+use Rattle.osi_honest.proofs.Vocabulary.{without, Connection}
 
 abbrev pub AllRows : (Connection → Type 0) → Rows Connection → Type 0
 AllRows Q [] = Unit {0}

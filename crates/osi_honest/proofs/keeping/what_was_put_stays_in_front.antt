@@ -1,27 +1,16 @@
 -- What an end put stays in front of all that it puts later, whatever arrives and however much memory there is.
 -- For what an end puts first.
-use Rattle.std.proofs.Common.{◌∙◌, sym, ap, ℕ, ◌+◌, Bool, true, false, if◌then◌else◌, List, [], ◌∷◌, ◌++◌}
-use Rattle.std.proofs.Common.{Option, Some, None, is_some, Result, Ok, Err, append_assoc}
-use Rattle.osi_tpdu.specs.Value.{Connect, Value, confirm, data0, disconnect, disconnected, error, request}
-use Rattle.osi_class.specs.Link.{Standing, taken, with_tsdu}
-use Rattle.osi_class.specs.Negotiation.{Selection, accept, refuse, selected_by}
-use Rattle.osi_class.specs.declared.faults.LinkFault.{LinkFault}
-use Rattle.osi_class.specs.declared.terms.Class.{Class}
-use Rattle.osi_class.specs.declared.terms.Class.TheVariants.{Two, Zero}
-use Rattle.osi_carrier.specs.Calls.{closed_on, closes, open_link, sent_on}
-use Rattle.osi_carrier.specs.Negotiation.{acceptance, confirmed}
-use Rattle.osi_carrier.specs.Orderly.{connection_by}
-use Rattle.osi_carrier.specs.Pump.{written_by}
-use Rattle.osi_carrier.specs.React.{answers, before_class, breaks, handed_out, has_peer, in_class, in_two, in_zero}
-use Rattle.osi_carrier.specs.React.{is_full, leaves, opens, react, react_by, reacts, taking, to_asked, to_closing}
-use Rattle.osi_carrier.specs.React.{to_connection, to_linked, to_only, to_reference, to_unknown}
-use Rattle.osi_carrier.specs.Rows.{Rows, value_at}
-use Rattle.osi_carrier.specs.State.{Connection, State as Carrier, asked, closing, linked, packets, writes}
-use Rattle.osi_stack.specs.Feeding.{TakesPackets}
-use Rattle.osi_stack.specs.Hearing.{RunsOut, Starves, attends, with_carrier}
-use Rattle.osi_stack.specs.State.{End}
-use Rattle.osi_stack.proofs.carried.what_each_step_preserves.{Carries}
-use Rattle.osi_honest.specs.Seeing.{IsPrefix}
+use Rattle.osi_honest.proofs.Vocabulary.{[], ap, append_assoc, Bool, Err, false, if◌then◌else◌, is_some, List, None, Ok, Option, Result}
+use Rattle.osi_honest.proofs.Vocabulary.{Some, sym, true, ℕ, ◌++◌, ◌+◌, ◌∙◌, ◌∷◌, confirm, data0, disconnect, disconnected, error, request}
+use Rattle.osi_honest.proofs.Vocabulary.{Value, Standing, taken, with_tsdu, accept, refuse, selected_by, Selection, LinkFault, Class, Two}
+use Rattle.osi_honest.proofs.Vocabulary.{Zero, closed_on, closes, open_link, sent_on, acceptance, confirmed, connection_by, written_by}
+use Rattle.osi_honest.proofs.Vocabulary.{answers, before_class, handed_out, has_peer, in_class, in_two, in_zero, is_full, leaves}
+use Rattle.osi_honest.proofs.Vocabulary.{opens_by as opens, react_by, reacts, taking, to_asked, to_closing, to_connection, to_linked}
+use Rattle.osi_honest.proofs.Vocabulary.{to_only, to_reference, to_unknown, Rows, value_at, asked, closing, Connection, linked, packets}
+use Rattle.osi_honest.proofs.Vocabulary.{State as Carrier, writes, Carries, TakesPackets, attends, RunsOut, Starves, with_carrier, End}
+use Rattle.osi_honest.proofs.Vocabulary.{IsPrefix}
+use Rattle.osi_tpdu.specs.Value.{Connect}
+use Rattle.osi_carrier.specs.React.{breaks, react}
 use Rattle.osi_honest.proofs.keeping.what_a_unit_keeps_a_turn_keeps.{IsKept, kept_attends, kept_runs_out, kept_starves, kept_takes}
 use Rattle.osi_honest.proofs.keeping.what_a_unit_keeps_a_turn_keeps.{kept_units}
 

@@ -1,43 +1,19 @@
 -- A packet at a called end that waits for the first CR, and packets one after the other.
 -- For the turns of a called end.
-use Rattle.std.proofs.Common.{◌≡◌, ◌∙◌, refl, sym, ap, subst, ℕ, ◌+◌, ◌-◌, ◌^◌, ◌<◌, ◌≤◌, min, ◌&&◌, Bool, true, false, if◌then◌else◌}
-use Rattle.std.proofs.Common.{List, [], ◌∷◌, ◌++◌, Option, Some, None, IsSome, option_map, Result, Ok, Err, arith}
-use Rattle.std.specs.Prelude.{IfSome}
-use Rattle.std.specs.List.{AllByRecursion}
-use Rattle.std.proofs.Math.Pow.{pow_mono}
-use Rattle.std.proofs.lemmas.Bool.{eq-eqb}
-use Rattle.std.proofs.lemmas.List.{append-nil}
-use Rattle.osi_tpkt.specs.Octets.{IsOctets}
-use Rattle.osi_tpdu.specs.Limits.{size_code}
-use Rattle.osi_tpdu.specs.Packet.{AreUnits, units_of}
-use Rattle.osi_tpdu.specs.Value.{Connect, Value, acknowledge, confirm, data0, data2, disconnect, disconnected, error, may_be_followed}
-use Rattle.osi_tpdu.specs.Value.{request}
-use Rattle.osi_tpdu.specs.declared.faults.TpduFault.{TpduFault}
-use Rattle.osi_tpdu.proofs.the_units_of_a_packet.{units_found}
-use Rattle.osi_class.specs.Negotiation.{Selection, accept, keeps_flow_control, proposes, proposes_zero_alone, refuse, selected_by}
-use Rattle.osi_class.specs.Negotiation.{selected_size}
-use Rattle.osi_class.specs.declared.terms.Class.{Class}
-use Rattle.osi_class.specs.declared.terms.Class.TheVariants.{Two, Zero}
-use Rattle.osi_class.specs.declared.terms.Local.{Local}
-use Rattle.osi_carrier.specs.Happenings.{Happening, opened}
-use Rattle.osi_carrier.specs.Negotiation.{acceptance, opened_link, unit_octets}
+use Rattle.osi_honest.proofs.Vocabulary.{[], ap, arith, Bool, Err, false, if◌then◌else◌, IsSome, List, min, None, Ok, Option, option_map}
+use Rattle.osi_honest.proofs.Vocabulary.{refl, Result, Some, subst, sym, true, ℕ, ◌&&◌, ◌++◌, ◌+◌, ◌-◌, ◌<◌, ◌^◌, ◌∙◌, ◌∷◌, ◌≡◌, ◌≤◌}
+use Rattle.osi_honest.proofs.Vocabulary.{pow_mono, eq-eqb, append-nil, AllByRecursion, IfSome, IsOctets, units_found, size_code, AreUnits}
+use Rattle.osi_honest.proofs.Vocabulary.{units_of, confirm, disconnect, may_be_followed, request, Value, TpduFault, accept}
+use Rattle.osi_honest.proofs.Vocabulary.{keeps_flow_control, proposes, proposes_zero_alone, refuse, selected_by, selected_size, Selection}
+use Rattle.osi_honest.proofs.Vocabulary.{Class, Two, Zero, Local, react_quiet, reacts_over, Happening, told_opened as opened, acceptance}
+use Rattle.osi_honest.proofs.Vocabulary.{opened_link, unit_octets, accepts, answers, before_class, denies, has_peer, in_class, is_full}
+use Rattle.osi_honest.proofs.Vocabulary.{reacts, Rows, value_at, Connection, linked, packets, State as Carrier, awaits, packet_is}
+use Rattle.osi_honest.proofs.Vocabulary.{one_heard, TakesPackets, after_packet, attends, concludes, hears, opens_line as opens}
+use Rattle.osi_honest.proofs.Vocabulary.{with_carrier, with_events, kept_at, End, fresh_line, joins, Line, used_lines, IsOtherAnswer, Waits}
+use Rattle.osi_honest.proofs.Vocabulary.{one_open, IsPrefix, Extends, Talks}
+use Rattle.osi_tpdu.specs.Value.{Connect}
 use Rattle.osi_carrier.specs.Packets as carriers
-use Rattle.osi_carrier.specs.React.{accepts, answers, before_class, denies, has_peer, in_class, is_full, react, reacts}
-use Rattle.osi_carrier.specs.Rows.{Rows, value_at}
-use Rattle.osi_carrier.specs.State.{Connection, State as Carrier, linked, packets}
-use Rattle.osi_carrier.proofs.effects.units_one_after_the_other.{react_quiet, reacts_over}
-use Rattle.osi_session.specs.Sessions.{awaits}
-use Rattle.osi_stack.specs.Feeding.{TakesPackets}
-use Rattle.osi_stack.specs.Hearing.{after_packet, attends, concludes, hears, opens, with_carrier, with_events}
-use Rattle.osi_stack.specs.Messages.{kept_at}
-use Rattle.osi_stack.specs.State.{End, Line, fresh_line, joins, used_lines}
-use Rattle.osi_stack.proofs.carried.packets_without_events.{packet_is}
-use Rattle.osi_stack.proofs.carried.what_a_move_leaves.{one_heard}
-use Rattle.osi_honest.specs.Openings.{IsOtherAnswer, Waits}
-use Rattle.osi_honest.specs.Parts.{one_open}
-use Rattle.osi_honest.specs.Seeing.{IsPrefix}
-use Rattle.osi_honest.specs.Stretches.{Extends}
-use Rattle.osi_honest.specs.Talking.{Talks}
+use Rattle.osi_carrier.specs.React.{react}
 use Rattle.osi_honest.specs.Talking as history
 use Rattle.osi_honest.proofs.class_0.what_a_packet_does_in_class_0.{AllProper, Over, alone, attends_over, lasting}
 use Rattle.osi_honest.proofs.class_0.what_packets_do_in_class_0.{over_takes, packets_act}
@@ -144,13 +120,7 @@ module _ (c : Carrier) (lasts : c.ended ≡ None) (live : c.live ≡ []) (quiet 
 
   called_first : (v : Value) → HasSize v → FirstUnit v c (before_class false v c)
   called_first (request cr) range = by_room cr (has_peer cr.source c.live) (is_full c) (sized cr range)
-  called_first (confirm destination cr) range = at_an_end (refl, refl)
-  called_first (disconnect destination source reason user) range = at_an_end (refl, refl)
-  called_first (disconnected destination source) range = at_an_end (refl, refl)
-  called_first (data0 end octets) range = at_an_end (refl, refl)
-  called_first (data2 destination number end octets) range = at_an_end (refl, refl)
-  called_first (acknowledge credit destination number) range = at_an_end (refl, refl)
-  called_first (error destination cause) range = at_an_end (refl, refl)
+  called_first _ range = at_an_end (refl, refl)
 
   pub unit_first : c.is_caller ≡ false → c.class ≡ None → (v : Value) → HasSize v → FirstUnit v c (react v c)
   unit_first side none v range =
@@ -170,12 +140,7 @@ pub first_range : (v : Value) (vs : List Value) (u : List ℕ) → AreUnits (v �
 first_range (request cr) [] u us = us.in_range.parameters.size
 first_range (request cr) (w ∷ vs) u us = absurd (let followed : false ≡ true = us.0 in cc)
 first_range (confirm destination cr) vs u us = tt
-first_range (disconnect destination source reason user) vs u us = tt
-first_range (disconnected destination source) vs u us = tt
-first_range (data0 end octets) vs u us = tt
-first_range (data2 destination number end octets) vs u us = tt
-first_range (acknowledge credit destination number) vs u us = tt
-first_range (error destination cause) vs u us = tt
+first_range _ vs u us = tt
 
 then_units : (u : List ℕ) (c : Carrier) (v : Value) (vs : List Value) → units_of u ≡ Ok (v ∷ vs) → AreUnits (v ∷ vs) u →
     FirstUnit v c (react v c) → FirstActed u c (reacts (v ∷ vs) c)

@@ -1,41 +1,20 @@
 -- A packet at a calling end whose CR is not answered yet, and packets one after the other.
 -- For the turns of a calling end.
-use Rattle.std.proofs.Common.{◌≡◌, ◌∙◌, refl, sym, ap, subst, ℕ, ◌-◌, ◌≤◌, ◌==◌, ◌&&◌, Bool, true, false, if◌then◌else◌, List, [], ◌∷◌}
-use Rattle.std.proofs.Common.{◌++◌, map, Option, Some, None, IsSome, Result, Ok, Err, inl, inr}
-use Rattle.std.specs.Prelude.{IfSome}
-use Rattle.std.specs.List.{AllByRecursion}
-use Rattle.std.proofs.lemmas.Bool.{eqb-true}
-use Rattle.osi_tpkt.specs.Octets.{IsOctets}
-use Rattle.osi_tpdu.specs.Packet.{AreUnits, units_of}
-use Rattle.osi_tpdu.specs.Value.{Connect, Value, acknowledge, confirm, data0, data2, disconnect, disconnected, error, may_be_followed}
-use Rattle.osi_tpdu.specs.Value.{request}
-use Rattle.osi_tpdu.specs.declared.faults.TpduFault.{TpduFault}
-use Rattle.osi_tpdu.proofs.the_units_of_a_packet.{units_found}
-use Rattle.osi_class.specs.declared.terms.Class.{Class}
-use Rattle.osi_class.specs.declared.terms.Class.TheVariants.{Two, Zero}
-use Rattle.osi_carrier.specs.Happenings.{Happening, opened as told_opened}
-use Rattle.osi_carrier.specs.Negotiation.{agreed_size, confirmed, opened_link, unit_octets}
+use Rattle.osi_honest.proofs.Vocabulary.{[], ap, Bool, Err, false, if◌then◌else◌, inl, inr, IsSome, List, map, None, Ok, Option, refl}
+use Rattle.osi_honest.proofs.Vocabulary.{Result, Some, subst, sym, true, ℕ, ◌&&◌, ◌++◌, ◌-◌, ◌==◌, ◌∙◌, ◌∷◌, ◌≡◌, ◌≤◌, eqb-true}
+use Rattle.osi_honest.proofs.Vocabulary.{AllByRecursion, IfSome, IsOctets, units_found, AreUnits, units_of, confirm, disconnect}
+use Rattle.osi_honest.proofs.Vocabulary.{disconnected, error, may_be_followed, request, Value, TpduFault, Class, Two, Zero, react_quiet}
+use Rattle.osi_honest.proofs.Vocabulary.{reacts_over, Happening, told_opened, agreed_size, confirmed, opened_link, unit_octets}
+use Rattle.osi_honest.proofs.Vocabulary.{before_class, in_class, opens_by, reacts, to_asked, to_connection, to_reference, to_unknown, put}
+use Rattle.osi_honest.proofs.Vocabulary.{Rows, value_at, without, asked, Connection, linked, packets, State as Carrier, after_input}
+use Rattle.osi_honest.proofs.Vocabulary.{Listener, linked_up as opened, session_react, is_wait_transport, packet_is, one_heard}
+use Rattle.osi_honest.proofs.Vocabulary.{TakesPackets, after_packet, attends, concludes, hears, opens_line, with_carrier, with_events}
+use Rattle.osi_honest.proofs.Vocabulary.{to_session, End, Line, session_in, sends, AllHaveFlow, Asks, has_none, has_two, dt, IsOpenZero}
+use Rattle.osi_honest.proofs.Vocabulary.{Extends, Moves, Puts, Said, said_after, Talks}
+use Rattle.osi_tpdu.specs.Value.{Connect}
 use Rattle.osi_carrier.specs.Packets as carriers
-use Rattle.osi_carrier.specs.React.{before_class, in_class, react, reacts, to_asked, to_connection, to_reference, to_unknown}
-use Rattle.osi_carrier.specs.React.{opens as opens_by}
-use Rattle.osi_carrier.specs.Rows.{Rows, put, value_at, without}
-use Rattle.osi_carrier.specs.State.{Connection, State as Carrier, asked, linked, packets}
-use Rattle.osi_carrier.proofs.effects.units_one_after_the_other.{react_quiet, reacts_over}
-use Rattle.osi_session.specs.Listening.{Listener, after_input, opened}
-use Rattle.osi_session.specs.Listening.{react as session_react}
-use Rattle.osi_session.specs.Phases.{is_wait_transport}
-use Rattle.osi_judge.specs.Running.{sends}
-use Rattle.osi_stack.specs.Feeding.{TakesPackets}
-use Rattle.osi_stack.specs.Hearing.{after_packet, attends, concludes, hears, with_carrier, with_events}
-use Rattle.osi_stack.specs.Hearing.{opens as opens_line}
-use Rattle.osi_stack.specs.Moving.{to_session}
-use Rattle.osi_stack.specs.State.{End, Line, session_in}
-use Rattle.osi_stack.proofs.carried.packets_without_events.{packet_is}
-use Rattle.osi_stack.proofs.carried.what_a_move_leaves.{one_heard}
-use Rattle.osi_honest.specs.Openings.{AllHaveFlow, Asks, has_none, has_two, over}
-use Rattle.osi_honest.specs.Parts.{IsOpenZero, dt}
-use Rattle.osi_honest.specs.Stretches.{Extends}
-use Rattle.osi_honest.specs.Talking.{History, Moves, Puts, Said, Talks, said_after}
+use Rattle.osi_carrier.specs.React.{react}
+use Rattle.osi_honest.specs.Openings.{over}
 use Rattle.osi_honest.specs.Talking as history
 use Rattle.osi_honest.proofs.class_0.a_session_of_class_0_puts_what_it_sends.{IsProper, moves_from}
 use Rattle.osi_honest.proofs.opening.how_a_called_end_opens.{enough}
@@ -130,11 +109,7 @@ module _ (r : ℕ) (c : Carrier) (lasts : c.ended ≡ None) (live : c.live ≡ (
   caller_first (error destination cause) range =
       elsewhere (refused (error destination cause) destination (r == destination) refl
       (λ e. inr (has_none lasts side none e, refl)) (inr (over refl, refl)))
-  caller_first (request cr) range = at_an_end (refl, refl)
-  caller_first (disconnected destination source) range = at_an_end (refl, refl)
-  caller_first (data0 end octets) range = at_an_end (refl, refl)
-  caller_first (data2 destination number end octets) range = at_an_end (refl, refl)
-  caller_first (acknowledge credit destination number) range = at_an_end (refl, refl)
+  caller_first _ range = at_an_end (refl, refl)
 
   pub unit_first : (v : Value) → HasSize v → FirstUnit r v c (react v c)
   unit_first v range =
@@ -154,12 +129,7 @@ pub first_range : (v : Value) (vs : List Value) (u : List ℕ) → AreUnits (v �
 first_range (confirm destination answer) [] u us = us.in_range.1.parameters.size
 first_range (confirm destination answer) (w ∷ vs) u us = absurd (let followed : false ≡ true = us.0 in cc)
 first_range (request cr) vs u us = tt
-first_range (disconnect destination source reason user) vs u us = tt
-first_range (disconnected destination source) vs u us = tt
-first_range (data0 end octets) vs u us = tt
-first_range (data2 destination number end octets) vs u us = tt
-first_range (acknowledge credit destination number) vs u us = tt
-first_range (error destination cause) vs u us = tt
+first_range _ vs u us = tt
 
 then_units : (r : ℕ) (u : List ℕ) (c : Carrier) (v : Value) (vs : List Value) → units_of u ≡ Ok (v ∷ vs) → AreUnits (v ∷ vs) u →
     FirstUnit r v c (react v c) → FirstActed r u c (reacts (v ∷ vs) c)

@@ -1,20 +1,10 @@
 -- The session of a request that is accepted begins as a caller does, with the CN of some opening that osi_session accepts.
 -- For the law that a calling end is not blamed.
-use Rattle.std.proofs.Common.{◌≡◌, refl, ℕ, ◌||◌, Bool, true, false, not, if◌then◌else◌, List, length, nat_le}
-use Rattle.std.proofs.Common.{Option, Some, None, option_map}
-use Rattle.std.proofs.lemmas.Bool.{ltb-false}
-use Rattle.osi_spdu.specs.Fields.{unit_bits}
-use Rattle.osi_spdu.specs.Sizes.{named_by}
-use Rattle.osi_spdu.specs.declared.selectors.Selector.{Selector}
-use Rattle.osi_message.specs.Meanings.{CN, selector_octets}
-use Rattle.osi_session.specs.Allowed.{most_user_data, serial_for}
-use Rattle.osi_session.specs.Listening.{Listener}
-use Rattle.osi_session.specs.Sessions.{opens, refusal_of}
-use Rattle.osi_session.specs.Sides.{offered}
-use Rattle.osi_session.specs.Units.{functional_units, is_profile}
-use Rattle.osi_session.specs.declared.opening.Opening.{Opening}
-use Rattle.osi_stack.specs.Calls.{called_octets, calling_octets, calls_with, is_long, is_long_address, opening_of, terms_error}
-use Rattle.osi_stack.specs.declared.connecting.Connect.{Connect}
+use Rattle.osi_honest.proofs.Vocabulary.{Bool, false, if◌then◌else◌, length, List, nat_le, None, not, Option, option_map, refl, Some, true}
+use Rattle.osi_honest.proofs.Vocabulary.{ℕ, ◌||◌, ◌≡◌, ltb-false, unit_bits, named_by, Selector, CN, selector_octets, most_user_data}
+use Rattle.osi_honest.proofs.Vocabulary.{serial_for, Listener, refusal_of, offered, functional_units, is_profile, Opening, called_octets}
+use Rattle.osi_honest.proofs.Vocabulary.{calling_octets, calls_with, is_long, is_long_address, opening_of, terms_error, Request as Connect}
+use Rattle.osi_session.specs.Sessions.{opens}
 
 -- a selector of these octets
 record Named (octets : Option (List ℕ)) : Type 0 where

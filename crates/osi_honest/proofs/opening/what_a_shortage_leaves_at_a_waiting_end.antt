@@ -1,25 +1,15 @@
 -- If memory runs out for the first packet at a called end that waits: nothing was put, or one answer, or first another
 -- answer to a CR than a CC of class 0.
 -- For the turns of a called end.
-use Rattle.std.proofs.Common.{◌≡◌, ◌∙◌, sym, ap, subst, ℕ, ◌+◌, true, List, [], ◌∷◌, ◌++◌, None, is_some, IsSome, inl, inr}
-use Rattle.std.proofs.Common.{◌⊎◌}
-use Rattle.osi_tpkt.specs.Octets.{IsOctets}
-use Rattle.osi_tpdu.specs.Packet.{AreUnits}
-use Rattle.osi_tpdu.specs.Value.{Value, may_be_followed}
-use Rattle.osi_tpdu.proofs.the_units_of_a_packet.{units_found}
-use Rattle.osi_carrier.specs.Happenings.{opened}
+use Rattle.osi_honest.proofs.Vocabulary.{[], ap, inl, inr, is_some, IsSome, List, None, subst, sym, true, ℕ, ◌++◌, ◌+◌, ◌∙◌, ◌∷◌, ◌≡◌, ◌⊎◌}
+use Rattle.osi_honest.proofs.Vocabulary.{IsOctets, units_found, AreUnits, may_be_followed, Value, reacts_over, acts_cases}
+use Rattle.osi_honest.proofs.Vocabulary.{told_opened as opened, reacts, State as Carrier, NoMemory, attends, hears_times, RunsOut, Starves}
+use Rattle.osi_honest.proofs.Vocabulary.{with_carrier, End, Waits}
 use Rattle.osi_carrier.specs.Packets as carriers
-use Rattle.osi_carrier.specs.React.{react, reacts}
-use Rattle.osi_carrier.specs.State.{State as Carrier, ends}
-use Rattle.osi_carrier.specs.declared.ends.EndReason.TheVariants.{NoMemory}
-use Rattle.osi_carrier.proofs.effects.units_one_after_the_other.{reacts_over}
-use Rattle.osi_carrier.proofs.stream.a_piece_is_read_packet_by_packet.{acts_cases}
-use Rattle.osi_stack.specs.Hearing.{RunsOut, Starves, attends, hears_times, with_carrier}
-use Rattle.osi_stack.specs.State.{End}
-use Rattle.osi_honest.specs.Openings.{Waits}
+use Rattle.osi_carrier.specs.React.{react}
+use Rattle.osi_carrier.specs.State.{ends}
 use Rattle.osi_honest.proofs.opening.how_a_called_end_opens.{FirstActed, FirstStretch, FirstUnit, TurnsAway, acted_first, answer_to}
-use Rattle.osi_honest.proofs.opening.how_a_called_end_opens.{first_range}
-use Rattle.osi_honest.proofs.opening.how_a_called_end_opens.{turned_on, unit_first}
+use Rattle.osi_honest.proofs.opening.how_a_called_end_opens.{first_range, turned_on, unit_first}
 use Rattle.osi_honest.proofs.opening.how_a_called_end_opens.FirstActed.{accepted_in, elsewhere_in, over_in}
 use Rattle.osi_honest.proofs.opening.how_a_called_end_opens.FirstStretch.{another_way, answered_last, ended_by}
 use Rattle.osi_honest.proofs.opening.how_a_called_end_opens.FirstUnit.{accepted, at_an_end, elsewhere}

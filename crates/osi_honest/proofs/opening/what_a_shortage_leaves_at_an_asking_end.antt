@@ -1,22 +1,14 @@
 -- If memory runs out for the first packet at a calling end whose CR is not answered yet: nothing was put, or first what is no
 -- DT of class 0.
 -- For the turns of a calling end.
-use Rattle.std.proofs.Common.{◌≡◌, ◌∙◌, sym, ap, subst, ℕ, true, List, [], ◌∷◌, ◌++◌, None, is_some, IsSome, inl, inr}
-use Rattle.osi_tpkt.specs.Octets.{IsOctets}
-use Rattle.osi_tpdu.specs.Packet.{AreUnits}
-use Rattle.osi_tpdu.specs.Value.{Value, may_be_followed}
-use Rattle.osi_tpdu.proofs.the_units_of_a_packet.{units_found}
-use Rattle.osi_carrier.specs.Happenings.{opened}
+use Rattle.osi_honest.proofs.Vocabulary.{[], ap, inl, inr, is_some, IsSome, List, None, subst, sym, true, ℕ, ◌++◌, ◌∙◌, ◌∷◌, ◌≡◌, IsOctets}
+use Rattle.osi_honest.proofs.Vocabulary.{units_found, AreUnits, may_be_followed, Value, reacts_over, acts_cases, told_opened as opened}
+use Rattle.osi_honest.proofs.Vocabulary.{reacts, State as Carrier, NoMemory, Listener, hears_times, RunsOut, Starves, with_carrier, End}
+use Rattle.osi_honest.proofs.Vocabulary.{Asks}
 use Rattle.osi_carrier.specs.Packets as carriers
-use Rattle.osi_carrier.specs.React.{react, reacts}
-use Rattle.osi_carrier.specs.State.{State as Carrier, ends}
-use Rattle.osi_carrier.specs.declared.ends.EndReason.TheVariants.{NoMemory}
-use Rattle.osi_carrier.proofs.effects.units_one_after_the_other.{reacts_over}
-use Rattle.osi_carrier.proofs.stream.a_piece_is_read_packet_by_packet.{acts_cases}
-use Rattle.osi_session.specs.Listening.{Listener}
-use Rattle.osi_stack.specs.Hearing.{RunsOut, Starves, hears_times, with_carrier}
-use Rattle.osi_stack.specs.State.{End}
-use Rattle.osi_honest.specs.Openings.{Asks, over}
+use Rattle.osi_carrier.specs.React.{react}
+use Rattle.osi_carrier.specs.State.{ends}
+use Rattle.osi_honest.specs.Openings.{over}
 use Rattle.osi_honest.proofs.opening.how_a_caller_opens.{FirstActed, FirstUnit, acted_first, first_range, unit_first}
 use Rattle.osi_honest.proofs.opening.how_a_caller_opens.FirstActed.{confirms_in, elsewhere_in, over_in}
 use Rattle.osi_honest.proofs.opening.how_a_caller_opens.FirstUnit.{at_an_end, confirms, elsewhere}

@@ -1,48 +1,24 @@
 -- Each turn of a called end that waits for the first CR, and runs of it.
 -- For the laws of an end and its captures.
-use Rattle.std.proofs.Common.{◌≡◌, ◌∙◌, refl, sym, ap, subst, ℕ, ◌+◌, Bool, true, false, if◌then◌else◌, List, [], ◌∷◌, ◌++◌, length, take}
-use Rattle.std.proofs.Common.{drop, map, Option, Some, None, is_some, IsSome, inl, inr, ◌⊎◌, append_assoc, arith}
-use Rattle.std.proofs.lemmas.List.{append-nil, append_cancel_left, take_all}
-use Rattle.osi_tpkt.specs.Packet.{packet_of}
-use Rattle.osi_tpkt.specs.Stream.{ArePackets}
-use Rattle.osi_tpdu.specs.Writing.{written}
-use Rattle.osi_class.specs.Link.{Standing}
-use Rattle.osi_carrier.specs.Calls.{closed_on, closed_with, link_of, open_link}
-use Rattle.osi_carrier.specs.Rows.{Rows, value_at}
-use Rattle.osi_carrier.specs.State.{Connection, State as Carrier, packets}
-use Rattle.osi_carrier.specs.declared.ends.EndReason.TheVariants.{Broken, NoMemory}
-use Rattle.osi_session.specs.Sessions.{awaits}
-use Rattle.osi_stack.specs.Calls.{connect_error, without_first}
-use Rattle.osi_stack.specs.Disconnecting.{disconnects, gives_up, gives_up_by}
-use Rattle.osi_stack.specs.Feeding.{uses_all}
-use Rattle.osi_stack.specs.Feeding.{Goes as GoesThrough}
-use Rattle.osi_stack.specs.Hearing.{Starves, ends}
-use Rattle.osi_stack.specs.Rounds.{UserCall, user_does}
-use Rattle.osi_stack.specs.Inputs.{IsAccepted}
-use Rattle.osi_stack.specs.Rounds.UserCall.{breaking, calling, connecting, disconnecting}
-use Rattle.osi_stack.specs.Runs.{Call, Calls, carried_in, put_back, used_in}
-use Rattle.osi_stack.specs.Runs.Call.{carrying, feeding, telling}
-use Rattle.osi_stack.specs.State.{End, Holding, Line, waits}
-use Rattle.osi_stack.proofs.given_up.the_invariant_stays.{disconnect_carrier, disconnect_is}
-use Rattle.osi_stack.proofs.carried.packets_without_events.{lasting_of, quiet_stops}
-use Rattle.osi_stack.proofs.carried.what_a_move_leaves.{says_is}
-use Rattle.osi_stack.proofs.stream.the_room_for_a_packet.{found_how}
-use Rattle.osi_stack.proofs.stream.an_end_is_what_its_packets_make.{none_ended}
-use Rattle.osi_honest.specs.Openings.{Waits, WaitingTurn}
-use Rattle.osi_honest.specs.Openings.WaitingTurn.{answers_last, is_over, opens, turns_away, waits_on}
-use Rattle.osi_honest.specs.Parts.{dt}
-use Rattle.osi_honest.specs.Seeing.{IsPrefix}
+use Rattle.osi_honest.proofs.Vocabulary.{[], ap, append_assoc, arith, Bool, drop, false, if◌then◌else◌, inl, inr, is_some, IsSome, length}
+use Rattle.osi_honest.proofs.Vocabulary.{List, map, None, Option, refl, Some, subst, sym, take, true, ℕ, ◌++◌, ◌+◌, ◌∙◌, ◌∷◌, ◌≡◌, ◌⊎◌}
+use Rattle.osi_honest.proofs.Vocabulary.{append-nil, append_cancel_left, take_all, packet_of, ArePackets, written, Standing, closed_on}
+use Rattle.osi_honest.proofs.Vocabulary.{closed_with, link_of, open_link, Rows, value_at, Connection, packets, State as Carrier, Broken}
+use Rattle.osi_honest.proofs.Vocabulary.{NoMemory, awaits, lasting_of, quiet_stops, says_is, disconnect_carrier, disconnect_is, none_ended}
+use Rattle.osi_honest.proofs.Vocabulary.{found_how, connect_error, without_first, disconnects, gives_up, gives_up_by, Goes as GoesThrough}
+use Rattle.osi_honest.proofs.Vocabulary.{uses_all, ends, Starves, IsAccepted, user_does, UserCall, breaking, calling, connecting}
+use Rattle.osi_honest.proofs.Vocabulary.{disconnecting, Call, Calls, carried_in, put_back, used_in, carrying, feeding, telling, End}
+use Rattle.osi_honest.proofs.Vocabulary.{Holding, Line, waits, WaitingTurn, Waits, answers_last, is_over, turns_away, waits_on, dt}
+use Rattle.osi_honest.proofs.Vocabulary.{IsPrefix, Act, Acts, carried_by, Takes, Turn, used_by, serving, using}
+use Rattle.osi_honest.specs.Openings.WaitingTurn.{opens}
 use Rattle.osi_honest.specs.Talking as history
-use Rattle.osi_honest.specs.Turns.{Act, Acts, Takes, Turn, carried_by, used_by}
-use Rattle.osi_honest.specs.Turns.Act.{serving, using}
 use Rattle.osi_honest.proofs.opening.how_a_called_end_opens.{FirstStretch, answer_to, first_packets, turned_on}
 use Rattle.osi_honest.proofs.opening.how_a_called_end_opens.FirstStretch.{another_way, answered_last, ended_by, nothing_came, opened_by}
 use Rattle.osi_honest.proofs.class_0.what_a_packet_does_in_class_0.{AllProper}
 use Rattle.osi_honest.proofs.opening.what_a_shortage_leaves_at_a_waiting_end.{starved_waiting}
 use Rattle.osi_honest.proofs.class_0.what_packets_do_in_class_0.{never_lasts}
 use Rattle.osi_honest.proofs.class_0.what_a_turn_does_in_class_0.{all_octets, extends_over, front_packets, more_used, nothing_put}
-use Rattle.osi_honest.proofs.class_0.what_a_turn_does_in_class_0.{starved_by}
-use Rattle.osi_honest.proofs.class_0.what_a_turn_does_in_class_0.{stopped_within}
+use Rattle.osi_honest.proofs.class_0.what_a_turn_does_in_class_0.{starved_by, stopped_within}
 use Rattle.osi_honest.proofs.keeping.what_was_put_stays_in_front.{ahead_starves}
 
 none_put : (old new : Holding) (put : List ℕ) → new.end.carrier.outgoing ≡ old.end.carrier.outgoing ++ put →
@@ -212,7 +188,7 @@ no_links q e w =
     ap (λ (x : Bool). if x then None else link_of (value_at q e.carrier.live)) (ap is_some w.lasts)
     ∙ ap (λ (rows : Rows Connection). link_of (value_at q rows)) w.live
 
-not_open : (o : Option (ℕ × Standing)) → IsSome o → o ≡ None → ⊥
+pub not_open : (o : Option (ℕ × Standing)) → IsSome o → o ≡ None → ⊥
 not_open None some none = cc
 not_open (Some x) some none = cc
 

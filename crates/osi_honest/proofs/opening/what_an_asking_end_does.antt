@@ -1,65 +1,27 @@
 -- Each turn of a calling end whose CR is not answered yet.
 -- For the laws of an end and its captures.
-use Rattle.std.proofs.Common.{◌≡◌, ◌≢◌, ◌∙◌, refl, sym, ap, subst, ℕ, ◌≤◌, ◌==◌, Bool, true, false, if◌then◌else◌, not, List, [], ◌∷◌}
-use Rattle.std.proofs.Common.{◌++◌, length, take, drop, map, Option, Some, None, is_some, IsSome, inl, inr, ◌⊎◌, arith}
-use Rattle.std.proofs.lemmas.Bool.{eq-eqb, eqb-true, leb-true, ltb-false, not-false}
-use Rattle.std.proofs.lemmas.List.{append-nil, append_cancel_left, map-append, take_all}
-use Rattle.osi_tpkt.specs.Stream.{ArePackets}
-use Rattle.osi_tpkt.specs.declared.cutting.Fed.{Fed}
-use Rattle.osi_class.specs.Link.{Standing}
-use Rattle.osi_class.specs.declared.terms.Class.{Class}
-use Rattle.osi_carrier.specs.Calls.{class_error, closed_on, closed_with, link_of, open_link, or_else, room_error}
-use Rattle.osi_carrier.specs.Rows.{Rows, value_at}
-use Rattle.osi_carrier.specs.State.{Connection, State as Carrier, asked, packets}
-use Rattle.osi_carrier.specs.declared.ends.EndReason.{EndReason}
-use Rattle.osi_carrier.specs.declared.ends.EndReason.TheVariants.{Broken, NoMemory}
-use Rattle.osi_carrier.specs.declared.faults.OpenError.{OpenError}
-use Rattle.osi_carrier.specs.declared.faults.OpenError.TheVariants.{Ended, Negotiating, NotCaller}
-use Rattle.osi_message.specs.Sendable.{IsAddress, IsSendable}
+use Rattle.osi_honest.proofs.Vocabulary.{[], ap, arith, Bool, drop, false, if◌then◌else◌, inl, inr, is_some, IsSome, length, List, map}
+use Rattle.osi_honest.proofs.Vocabulary.{None, not, Option, refl, Some, subst, sym, take, true, ℕ, ◌++◌, ◌==◌, ◌∙◌, ◌∷◌, ◌≡◌, ◌≢◌, ◌≤◌, ◌⊎◌}
+use Rattle.osi_honest.proofs.Vocabulary.{eq-eqb, eqb-true, leb-true, ltb-false, not-false, append-nil, append_cancel_left, map-append}
+use Rattle.osi_honest.proofs.Vocabulary.{take_all, ArePackets, Fed, Standing, Class, class_error, closed_on, closed_with, link_of}
+use Rattle.osi_honest.proofs.Vocabulary.{open_link, or_else, room_error, Rows, value_at, asked, Connection, packets, State as Carrier}
+use Rattle.osi_honest.proofs.Vocabulary.{EndReason, Broken, NoMemory, OpenError, Ended, Negotiating, NotCaller, unit_bits, sent_alone}
+use Rattle.osi_honest.proofs.Vocabulary.{IsAddress, IsSendable, asked_sendable, most_user_data, Listener, linked_up as opened}
+use Rattle.osi_honest.proofs.Vocabulary.{is_wait_transport, limit_of, is_profile, BadState, NoSuchConnection, sent_short, SpduLaws}
+use Rattle.osi_honest.proofs.Vocabulary.{lasting_of, or_first, or_second, quiet_stops, kept_first, says_is, disconnect_carrier}
+use Rattle.osi_honest.proofs.Vocabulary.{disconnect_is, given_other, none_ended, found_how, after_open, asked_for, called_octets}
+use Rattle.osi_honest.proofs.Vocabulary.{calling_octets, calls_with, connect_error, has_given, is_long, is_long_address, opening_of}
+use Rattle.osi_honest.proofs.Vocabulary.{terms_error, without_first, awaits_transport, disconnect_error, disconnects, gives_up, Feeds}
+use Rattle.osi_honest.proofs.Vocabulary.{Goes as GoesThrough, uses_all, ends, Starves, IsAccepted, AreShort, user_does, UserCall, breaking}
+use Rattle.osi_honest.proofs.Vocabulary.{calling, connecting, disconnecting, Call, Calls, carried_in, put_back, used_in, carrying, feeding}
+use Rattle.osi_honest.proofs.Vocabulary.{telling, End, Holding, session_at, session_in, waits, Request as Connect, ConnectError}
+use Rattle.osi_honest.proofs.Vocabulary.{NotSelected, TooLong, sends, AskingTurn, Asks, asks_on, goes_away, is_answered, turns_aside, Carry}
+use Rattle.osi_honest.proofs.Vocabulary.{dt, IsPrefix, octets_said, Act, Acts, carried_by, Takes, Turn, used_by, serving, using}
 unfoldable use Rattle.osi_message.specs.Written.{unit_of, user_data_of}
 use Rattle.osi_message.specs.Written.{written}
-use Rattle.osi_message.proofs.the_tsdus_of_a_message.{sent_alone}
 unfoldable use Rattle.osi_session.specs.Listening.{react}
-use Rattle.osi_session.specs.Listening.{Listener, opened}
-use Rattle.osi_session.specs.Allowed.{most_user_data}
-use Rattle.osi_session.specs.Phases.{is_wait_transport}
-use Rattle.osi_session.specs.Sizes.{limit_of}
-use Rattle.osi_session.specs.declared.faults.CallError.TheVariants.{BadState, NoSuchConnection}
-use Rattle.osi_session.proofs.sent.what_is_sent_can_be_written.{asked_sendable}
-use Rattle.osi_spdu.specs.Fields.{unit_bits}
-use Rattle.osi_session.specs.Units.{is_profile}
-use Rattle.osi_judge.specs.Running.{sends}
-use Rattle.osi_stack.specs.Calls.{after_open, asked_for, called_octets, calling_octets, calls_with, connect_error, has_given, is_long}
-use Rattle.osi_stack.specs.Calls.{is_long_address, opening_of, terms_error, without_first}
-use Rattle.osi_stack.specs.Disconnecting.{awaits_transport, disconnect_error, disconnects, gives_up}
-use Rattle.osi_stack.specs.Feeding.{Feeds, uses_all}
-use Rattle.osi_stack.specs.Feeding.{Goes as GoesThrough}
-use Rattle.osi_stack.specs.Hearing.{Starves, ends}
-use Rattle.osi_stack.specs.Inputs.{IsAccepted}
-use Rattle.osi_stack.specs.Messages.{AreShort}
-use Rattle.osi_stack.specs.Rounds.{UserCall, user_does}
-use Rattle.osi_stack.specs.Rounds.UserCall.{breaking, calling, connecting, disconnecting}
-use Rattle.osi_stack.specs.Runs.{Call, Calls, carried_in, put_back, used_in}
-use Rattle.osi_stack.specs.Runs.Call.{carrying, feeding, telling}
-use Rattle.osi_stack.specs.State.{End, Holding, session_at, session_in, waits}
-use Rattle.osi_stack.specs.declared.connecting.Connect.{Connect}
-use Rattle.osi_stack.specs.declared.connecting.ConnectError.{ConnectError}
-use Rattle.osi_stack.specs.declared.connecting.ConnectError.TheVariants.{NotSelected, TooLong}
-use Rattle.osi_stack.proofs.given_up.the_invariant_stays.{disconnect_carrier, disconnect_is, given_other}
-use Rattle.osi_stack.proofs.carried.packets_without_events.{lasting_of, or_first, or_second, quiet_stops}
-use Rattle.osi_stack.proofs.carried.what_a_move_leaves.{kept_first, says_is}
-use Rattle.osi_stack.proofs.stream.the_room_for_a_packet.{found_how}
-use Rattle.osi_stack.proofs.stream.an_end_is_what_its_packets_make.{none_ended}
-use Rattle.osi_stack.proofs.called.what_is_sent_is_short.{SpduLaws, sent_short}
-use Rattle.osi_honest.specs.Openings.{Asks, AskingTurn, over}
-use Rattle.osi_honest.specs.Openings.AskingTurn.{asks_on, goes_away, is_answered, turns_aside}
-use Rattle.osi_honest.specs.Parts.{Carry, dt}
-use Rattle.osi_honest.specs.Seeing.{IsPrefix}
-use Rattle.osi_honest.specs.Stretches.{octets_said}
-use Rattle.osi_honest.specs.Talking.{Said}
+use Rattle.osi_honest.specs.Openings.{over}
 use Rattle.osi_honest.specs.Talking as history
-use Rattle.osi_honest.specs.Turns.{Act, Acts, Takes, Turn, carried_by, used_by}
-use Rattle.osi_honest.specs.Turns.Act.{serving, using}
 use Rattle.osi_honest.proofs.opening.how_a_caller_opens.{CanBegin, FirstStretch, caller_packets, cn_said}
 use Rattle.osi_honest.proofs.opening.how_a_caller_opens.FirstStretch.{another_way, ended_by, nothing_came, opened_by}
 use Rattle.osi_honest.proofs.class_0.what_a_packet_does_in_class_0.{AllProper}

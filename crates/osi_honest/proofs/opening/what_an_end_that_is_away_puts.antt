@@ -1,27 +1,12 @@
 -- The turns of a calling end that has no connection of class 0: it puts nothing, or first what is no DT of class 0.
 -- For what a calling end did in all.
-use Rattle.std.proofs.Common.{◌≡◌, ◌∙◌, refl, sym, ap, subst, ℕ, ◌+◌, Bool, true, false, if◌then◌else◌, List, [], ◌∷◌, ◌++◌}
-use Rattle.std.proofs.Common.{is_some, option_map, inl, inr, ◌⊎◌, append_assoc}
-use Rattle.osi_tpkt.specs.Packet.{packet_of}
-use Rattle.osi_tpdu.specs.Limits.{tsap_octets}
-use Rattle.osi_tpdu.specs.Value.{Value, request}
-use Rattle.osi_tpdu.specs.Writing.{written}
-use Rattle.osi_carrier.specs.Negotiation.{proposal}
-use Rattle.osi_carrier.specs.declared.ends.EndReason.TheVariants.{Broken}
-use Rattle.osi_session.specs.Listening.{called}
-use Rattle.osi_stack.specs.Calls.{connects}
-use Rattle.osi_stack.specs.Hearing.{ends}
-use Rattle.osi_stack.specs.Rounds.{UserCall, user_does}
-use Rattle.osi_stack.specs.Rounds.UserCall.{breaking, calling, connecting, disconnecting}
-use Rattle.osi_stack.specs.Runs.{Call, Calls, carried_in, put_back}
-use Rattle.osi_stack.specs.Runs.Call.{carrying, feeding, telling}
-use Rattle.osi_stack.specs.State.{End, Holding}
-use Rattle.osi_stack.proofs.given_up.the_invariant_stays.{disconnect_carrier}
-use Rattle.osi_stack.proofs.carried.what_each_step_preserves.{session_carried}
-use Rattle.osi_honest.specs.Openings.{IsAway, IsNoData, has_none, has_two, over}
-use Rattle.osi_honest.specs.Seeing.{put_along}
-use Rattle.osi_honest.specs.Turns.{Act, Acts, Run, Takes, Turn, carried_by}
-use Rattle.osi_honest.specs.Turns.Act.{serving, using}
+use Rattle.osi_honest.proofs.Vocabulary.{[], ap, append_assoc, Bool, false, if◌then◌else◌, inl, inr, is_some, List, option_map, refl, subst}
+use Rattle.osi_honest.proofs.Vocabulary.{sym, true, ℕ, ◌++◌, ◌+◌, ◌∙◌, ◌∷◌, ◌≡◌, ◌⊎◌, packet_of, tsap_octets, request, Value, written}
+use Rattle.osi_honest.proofs.Vocabulary.{proposal, Broken, called, session_carried, disconnect_carrier, connects, ends, user_does, UserCall}
+use Rattle.osi_honest.proofs.Vocabulary.{breaking, calling, connecting, disconnecting, Call, Calls, carried_in, put_back, carrying, feeding}
+use Rattle.osi_honest.proofs.Vocabulary.{telling, End, Holding, has_none, has_two, IsAway, IsNoData, put_along, Act, Acts, carried_by, Run}
+use Rattle.osi_honest.proofs.Vocabulary.{Takes, Turn, serving, using}
+use Rattle.osi_honest.specs.Openings.{over}
 use Rattle.osi_honest.proofs.keeping.what_a_unit_keeps_a_turn_keeps.{kept_feeds}
 use Rattle.osi_honest.proofs.opening.what_an_asking_end_does.{none_put}
 use Rattle.osi_honest.proofs.opening.what_an_end_without_class_0_puts.{Elsewhere, elsewhere_kept, put_first, put_now}

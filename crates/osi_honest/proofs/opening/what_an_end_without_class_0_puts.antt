@@ -1,31 +1,20 @@
 -- A calling end that has no connection of class 0, and asks for none, puts nothing, or first what is no DT of class 0.
 -- For what a calling end puts whose request was refused, or accepted in class 2.
-use Rattle.std.proofs.Common.{◌≡◌, ◌∙◌, refl, sym, ap, subst, ℕ, ◌==◌, ◌&&◌, ◌||◌, not, Bool, true, false, if◌then◌else◌, List, [], ◌∷◌}
-use Rattle.std.proofs.Common.{◌++◌, map, Option, Some, None, is_some, IsSome, Ok, Err, inl, inr, ◌⊎◌}
-use Rattle.std.proofs.Common.{append_assoc}
-use Rattle.std.proofs.lemmas.List.{append-nil, append_cancel_left}
-use Rattle.osi_tpkt.specs.Packet.{packet_of}
-use Rattle.osi_tpdu.specs.Writing.{written}
-use Rattle.osi_tpdu.specs.Value.{Connect, Value, acknowledge, confirm, data0, data2, disconnect, disconnected, error, request}
-use Rattle.osi_class.specs.Giving.{all_given}
-use Rattle.osi_class.specs.Link.{Given, Standing, ack, is_of_two, part0, part2, taken, unit_of, with_tsdu}
-use Rattle.osi_class.specs.Runs.{MovesAlong, give_out, take_in}
-use Rattle.osi_class.specs.declared.faults.LinkFault.{LinkFault}
-use Rattle.osi_class.specs.declared.terms.Class.{Class}
-use Rattle.osi_class.specs.declared.terms.Class.TheVariants.{Two, Zero}
-use Rattle.osi_class.proofs.giving.a_link_gives_finitely_many_units.{drained_leaves, drained_moves, giving_leaves}
-use Rattle.osi_class.proofs.bounds.every_link_keeps_its_bounds.{move_same}
-use Rattle.osi_carrier.specs.Calls.{closed_on, closes, link_of, open_link, sent_on}
-use Rattle.osi_carrier.specs.Happenings.{Happening}
-use Rattle.osi_carrier.specs.Negotiation.{confirmed, opened_link, agreed_size, proposes_two, selects_expedited}
-use Rattle.osi_carrier.specs.Pump.{pumped, written_by}
-use Rattle.osi_carrier.specs.React.{before_class, breaks, handed_out, in_class, in_two, leaves, opens, pumps, react, settles, taking}
-use Rattle.osi_carrier.specs.React.{to_asked, to_closing, to_connection, to_linked, to_reference, to_unknown}
-use Rattle.osi_carrier.specs.Rows.{Rows, put, value_at, without}
-use Rattle.osi_carrier.specs.State.{Connection, State as Carrier, asked, closing, ends, linked, packets}
-use Rattle.osi_carrier.specs.declared.ends.EndReason.{EndReason}
-use Rattle.osi_carrier.proofs.effects.units_one_after_the_other.{react_quiet, reacts_over}
-use Rattle.osi_honest.specs.Openings.{AllHaveFlow, HasFlow, IsAway, IsNoData, has_none, has_two, over}
+use Rattle.osi_honest.proofs.Vocabulary.{[], ap, append_assoc, Bool, Err, false, if◌then◌else◌, inl, inr, is_some, IsSome, List, map, None}
+use Rattle.osi_honest.proofs.Vocabulary.{not, Ok, Option, refl, Some, subst, sym, true, ℕ, ◌&&◌, ◌++◌, ◌==◌, ◌||◌, ◌∙◌, ◌∷◌, ◌≡◌, ◌⊎◌}
+use Rattle.osi_honest.proofs.Vocabulary.{append-nil, append_cancel_left, packet_of, acknowledge, confirm, data0, data2, disconnect}
+use Rattle.osi_honest.proofs.Vocabulary.{disconnected, error, request, Value, written, move_same, drained_leaves, drained_moves}
+use Rattle.osi_honest.proofs.Vocabulary.{giving_leaves, all_given, Given, is_of_two, part0, Standing, taken, unit_of, with_tsdu, give_out}
+use Rattle.osi_honest.proofs.Vocabulary.{MovesAlong, take_in, LinkFault, Class, Two, Zero, react_quiet, reacts_over, closed_on, closes}
+use Rattle.osi_honest.proofs.Vocabulary.{link_of, open_link, sent_on, Happening, agreed_size, confirmed, opened_link, proposes_two}
+use Rattle.osi_honest.proofs.Vocabulary.{selects_expedited, pumped, written_by, before_class, handed_out, in_class, in_two, leaves}
+use Rattle.osi_honest.proofs.Vocabulary.{opens_by as opens, pumps, settles, taking, to_asked, to_closing, to_connection, to_linked}
+use Rattle.osi_honest.proofs.Vocabulary.{to_reference, to_unknown, put, Rows, value_at, without, asked, closing, Connection, linked}
+use Rattle.osi_honest.proofs.Vocabulary.{packets, State as Carrier, EndReason, AllHaveFlow, has_none, has_two, HasFlow, IsAway, IsNoData}
+use Rattle.osi_tpdu.specs.Value.{Connect}
+use Rattle.osi_carrier.specs.React.{breaks, react}
+use Rattle.osi_carrier.specs.State.{ends}
+use Rattle.osi_honest.specs.Openings.{over}
 use Rattle.osi_honest.proofs.class_0.what_a_packet_does_in_class_0.{no_link}
 use Rattle.osi_honest.proofs.keeping.what_a_unit_keeps_a_turn_keeps.{IsKept}
 use Rattle.osi_honest.proofs.class_0.what_class_0_writes_of_a_tsdu.{packets_joined}
@@ -75,8 +64,7 @@ NoneOfZero (v ∷ vs) = IsNoData v
 
 given_two : (peer : ℕ) (g : Given) → is_of_two g ≡ true → IsNoData (unit_of peer g)
 given_two peer (part0 end octets) e = cc
-given_two peer (part2 number end octets) e = tt
-given_two peer (ack number credit) e = tt
+given_two peer _ e = tt
 
 gives_two : (peer : ℕ) (units : List Given) (s t : Standing) → is_some s.flow ≡ true → MovesAlong s (map give_out units) t →
     NoneOfZero (map (unit_of peer) units)
@@ -126,11 +114,7 @@ module _ (octets : List ℕ) where
         none_known destination (disconnect destination source reason user)
         (put_now (disconnected source destination) [] c _ tt same refl)
     by_side (error destination cause) = none_known destination (error destination cause) (gone c _ refl refl same)
-    by_side (request cr) = gone c _ refl refl same
-    by_side (disconnected destination source) = gone c _ refl refl same
-    by_side (data0 end user) = gone c _ refl refl same
-    by_side (data2 destination number end user) = gone c _ refl refl same
-    by_side (acknowledge credit destination number) = gone c _ refl refl same
+    by_side _ = gone c _ refl refl same
 
     none_reacts : (v : Value) → Elsewhere octets (react v c)
     none_reacts v =
@@ -160,12 +144,7 @@ module _ (octets : List ℕ) where
     two_unknown : (v : Value) → Elsewhere octets (to_unknown v c)
     two_unknown (disconnect destination source reason user) = put_now (disconnected source destination) [] c _ tt same refl
     two_unknown (disconnected destination source) = still
-    two_unknown (request cr) = two_fails _ refl refl
-    two_unknown (confirm destination cr) = two_fails _ refl refl
-    two_unknown (data0 end user) = two_fails _ refl refl
-    two_unknown (data2 destination number end user) = two_fails _ refl refl
-    two_unknown (acknowledge credit destination number) = two_fails _ refl refl
-    two_unknown (error destination cause) = two_fails _ refl refl
+    two_unknown _ = two_fails _ refl refl
 
     two_opens : (r : ℕ) (cr : Connect) (o : Option Class) → (o ≡ Some Zero → ⊥) → Elsewhere octets (opens r cr o c)
     two_opens r cr None never = two_fails _ refl refl
@@ -234,25 +213,12 @@ module _ (octets : List ℕ) where
 
     two_linked : (r peer : ℕ) (link : Standing) (v : Value) → is_some link.flow ≡ true → Elsewhere octets (to_linked r peer link v c)
     two_linked r peer link (disconnect destination source reason user) flow = two_leaves r peer reason
-    two_linked r peer link (request cr) flow = two_taking r peer link (request cr) flow _ refl
-    two_linked r peer link (confirm destination cr) flow = two_taking r peer link (confirm destination cr) flow _ refl
-    two_linked r peer link (disconnected destination source) flow = two_taking r peer link (disconnected destination source) flow _ refl
-    two_linked r peer link (data0 end user) flow = two_taking r peer link (data0 end user) flow _ refl
-    two_linked r peer link (data2 destination number end user) flow =
-        two_taking r peer link (data2 destination number end user) flow _ refl
-    two_linked r peer link (acknowledge credit destination number) flow =
-        two_taking r peer link (acknowledge credit destination number) flow _ refl
-    two_linked r peer link (error destination cause) flow = two_taking r peer link (error destination cause) flow _ refl
+    two_linked r peer link v flow = two_taking r peer link v flow _ refl
 
     two_closing : (r : ℕ) (v : Value) → Elsewhere octets (to_closing r v c)
     two_closing r (disconnected destination source) = two_drops r _ refl refl refl refl refl
     two_closing r (disconnect destination source reason user) = two_drops r _ refl refl refl refl refl
-    two_closing r (request cr) = still
-    two_closing r (confirm destination cr) = still
-    two_closing r (data0 end user) = still
-    two_closing r (data2 destination number end user) = still
-    two_closing r (acknowledge credit destination number) = still
-    two_closing r (error destination cause) = still
+    two_closing r _ = still
 
     two_connection : (r : ℕ) (at : Option Connection) → value_at r c.live ≡ at → (v : Value) → Elsewhere octets (to_connection r at v c)
     two_connection r None e v = two_unknown v
@@ -264,14 +230,13 @@ module _ (octets : List ℕ) where
     two_reference r v = two_connection r (value_at r c.live) refl v
 
     by_two : (v : Value) → Elsewhere octets (in_two true v c)
-    by_two (request cr) = two_fails _ refl refl
     by_two (confirm destination cr) = two_reference destination (confirm destination cr)
     by_two (disconnect destination source reason user) = two_reference destination (disconnect destination source reason user)
     by_two (disconnected destination source) = two_reference destination (disconnected destination source)
-    by_two (data0 end user) = two_fails _ refl refl
     by_two (data2 destination number end user) = two_reference destination (data2 destination number end user)
     by_two (acknowledge credit destination number) = two_reference destination (acknowledge credit destination number)
     by_two (error destination cause) = two_reference destination (error destination cause)
+    by_two _ = two_fails _ refl refl
 
     two_reacts : (v : Value) → Elsewhere octets (react v c)
     two_reacts v =
@@ -280,20 +245,16 @@ module _ (octets : List ℕ) where
         (by_two v)
 
     two_sends : (r : ℕ) (tsdu : List ℕ) (at : Option Connection) → value_at r c.live ≡ at → Elsewhere octets (sent_on r tsdu (link_of at) c)
-    two_sends r tsdu None e = still
-    two_sends r tsdu (Some asked) e = still
     two_sends r tsdu (Some (linked peer link)) e =
         two_pumps r peer (with_tsdu link tsdu) (flow_at r (linked peer link) c.live all e) (pumps r peer (with_tsdu link tsdu) c)
         refl refl refl refl refl
-    two_sends r tsdu (Some (closing peer)) e = still
+    two_sends r tsdu _ e = still
 
     two_closes : (r : ℕ) (at : Option Connection) → Elsewhere octets (closed_on r 128 (link_of at) c)
-    two_closes r None = still
-    two_closes r (Some asked) = still
     two_closes r (Some (linked peer link)) =
         subst (λ (x : Option Class). Elsewhere octets (closes r peer 128 x c)) (sym class)
         (put_now (disconnect peer r 128 []) [] c _ tt same refl)
-    two_closes r (Some (closing peer)) = still
+    two_closes r _ = still
 
     open_by : (r : ℕ) → open_link r c ≡ link_of (value_at r c.live)
     open_by r = ap (λ (x : Bool). if x then None else link_of (value_at r c.live)) (ap is_some lasts)

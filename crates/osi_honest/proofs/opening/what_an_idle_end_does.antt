@@ -1,55 +1,23 @@
 -- Each turn of a calling end that has requested nothing yet.
 -- For what a calling end did in all.
-use Rattle.std.proofs.Common.{◌≡◌, ◌∙◌, refl, sym, ap, subst, ℕ, ◌+◌, Bool, true, false, if◌then◌else◌, List, [], ◌∷◌, ◌++◌, length}
-use Rattle.std.proofs.Common.{take, Option, Some, None, is_some, IsSome, option_map, Result, Ok, Err, inl, inr, ◌⊎◌}
-use Rattle.std.proofs.Common.{arith}
-use Rattle.std.specs.List.{AllByRecursion}
-use Rattle.std.proofs.lemmas.Bool.{eq-eqb}
-use Rattle.std.proofs.lemmas.List.{append-nil, append_cancel_left, take_all}
-use Rattle.osi_tpkt.specs.Octets.{IsOctets}
-use Rattle.osi_tpkt.specs.Stream.{ArePackets}
-use Rattle.osi_tpdu.specs.Limits.{tsap_octets}
-use Rattle.osi_tpdu.specs.Packet.{units_of}
-use Rattle.osi_tpdu.specs.Value.{Value, acknowledge, confirm, data0, data2, disconnect, disconnected, error, request}
-use Rattle.osi_tpdu.specs.declared.faults.TpduFault.{TpduFault}
-use Rattle.osi_tpdu.proofs.the_units_of_a_packet.{units_found}
-use Rattle.osi_class.specs.Link.{Standing}
-use Rattle.osi_class.specs.declared.terms.Class.{Class}
-use Rattle.osi_carrier.specs.Calls.{closed_on, closed_with, link_of, may_connect, open_link, sent}
-use Rattle.osi_carrier.specs.Happenings.{Happening}
-use Rattle.osi_carrier.specs.Negotiation.{proposal}
+use Rattle.osi_honest.proofs.Vocabulary.{[], ap, arith, Bool, Err, false, if◌then◌else◌, inl, inr, is_some, length, List, None, Ok, Option}
+use Rattle.osi_honest.proofs.Vocabulary.{option_map, refl, Result, Some, subst, sym, take, true, ℕ, ◌++◌, ◌+◌, ◌∙◌, ◌∷◌, ◌≡◌, ◌⊎◌, eq-eqb}
+use Rattle.osi_honest.proofs.Vocabulary.{append-nil, append_cancel_left, take_all, AllByRecursion, IsOctets, ArePackets, units_found}
+use Rattle.osi_honest.proofs.Vocabulary.{tsap_octets, units_of, confirm, disconnect, disconnected, error, Value, TpduFault, Class}
+use Rattle.osi_honest.proofs.Vocabulary.{react_quiet, reacts_over, closed_on, closed_with, link_of, may_connect, open_link, sent, Happening}
+use Rattle.osi_honest.proofs.Vocabulary.{proposal, before_class, in_class, reacts, to_connection, to_reference, to_unknown, Rows, value_at}
+use Rattle.osi_honest.proofs.Vocabulary.{asked, Connection, packets, State as Carrier, EndReason, Broken, NoMemory, OpenError, Listener}
+use Rattle.osi_honest.proofs.Vocabulary.{packet_is, quiet_stops, says_is, disconnect_carrier, disconnect_is, found_how, after_open}
+use Rattle.osi_honest.proofs.Vocabulary.{calls_with, connects, terms_error, without_first, disconnects, gives_up, gives_up_by}
+use Rattle.osi_honest.proofs.Vocabulary.{Goes as GoesThrough, TakesPackets, after_packet, ends, Starves, with_carrier, IsAccepted, kept_at}
+use Rattle.osi_honest.proofs.Vocabulary.{user_does, UserCall, breaking, calling, connecting, disconnecting, Call, Calls, carried_in}
+use Rattle.osi_honest.proofs.Vocabulary.{put_back, used_in, carrying, feeding, telling, End, fresh_line, Holding, Line, used_lines, waits}
+use Rattle.osi_honest.proofs.Vocabulary.{Request, ConnectError, Asks, Idles, IdleTurn, idle_over, idles_on, puts_a_dc, requests, Act, Acts}
+use Rattle.osi_honest.proofs.Vocabulary.{carried_by, Takes, Turn, used_by, serving, using}
 use Rattle.osi_carrier.specs.Packets as carriers
-use Rattle.osi_carrier.specs.React.{before_class, in_class, react, reacts, to_connection, to_reference, to_unknown}
-use Rattle.osi_carrier.specs.Rows.{Rows, value_at}
-use Rattle.osi_carrier.specs.State.{Connection, State as Carrier, asked, packets}
+use Rattle.osi_carrier.specs.React.{react}
 use Rattle.osi_carrier.specs.State as states
-use Rattle.osi_carrier.specs.declared.ends.EndReason.{EndReason}
-use Rattle.osi_carrier.specs.declared.ends.EndReason.TheVariants.{Broken, NoMemory}
-use Rattle.osi_carrier.specs.declared.faults.OpenError.{OpenError}
-use Rattle.osi_carrier.proofs.effects.units_one_after_the_other.{react_quiet, reacts_over}
-use Rattle.osi_session.specs.Listening.{Listener}
-use Rattle.osi_stack.specs.Calls.{after_open, calls_with, connects, terms_error, without_first}
-use Rattle.osi_stack.specs.Disconnecting.{disconnects, gives_up, gives_up_by}
-use Rattle.osi_stack.specs.Feeding.{TakesPackets, stops}
-use Rattle.osi_stack.specs.Feeding.{Goes as GoesThrough}
-use Rattle.osi_stack.specs.Hearing.{Starves, after_packet, ends, with_carrier}
-use Rattle.osi_stack.specs.Inputs.{IsAccepted}
-use Rattle.osi_stack.specs.Messages.{kept_at}
-use Rattle.osi_stack.specs.Rounds.{UserCall, user_does}
-use Rattle.osi_stack.specs.Rounds.UserCall.{breaking, calling, connecting, disconnecting}
-use Rattle.osi_stack.specs.Runs.{Call, Calls, carried_in, put_back, used_in}
-use Rattle.osi_stack.specs.Runs.Call.{carrying, feeding, telling}
-use Rattle.osi_stack.specs.State.{End, Holding, Line, fresh_line, used_lines, waits}
-use Rattle.osi_stack.specs.declared.connecting.Connect.{Connect as Request}
-use Rattle.osi_stack.specs.declared.connecting.ConnectError.{ConnectError}
-use Rattle.osi_stack.proofs.given_up.the_invariant_stays.{disconnect_carrier, disconnect_is}
-use Rattle.osi_stack.proofs.carried.packets_without_events.{packet_is, quiet_stops}
-use Rattle.osi_stack.proofs.carried.what_a_move_leaves.{says_is}
-use Rattle.osi_stack.proofs.stream.the_room_for_a_packet.{found_how}
-use Rattle.osi_honest.specs.Openings.{Asks, Idles, IdleTurn}
-use Rattle.osi_honest.specs.Openings.IdleTurn.{idle_over, idles_on, puts_a_dc, requests}
-use Rattle.osi_honest.specs.Turns.{Act, Acts, Takes, Turn, carried_by, used_by}
-use Rattle.osi_honest.specs.Turns.Act.{serving, using}
+use Rattle.osi_stack.specs.Feeding.{stops}
 use Rattle.osi_honest.proofs.class_0.what_a_packet_does_in_class_0.{Over, over_carries}
 use Rattle.osi_honest.proofs.class_0.what_a_turn_does_in_class_0.{all_octets}
 use Rattle.osi_honest.proofs.keeping.what_a_unit_keeps_a_turn_keeps.{IsKept, kept_attends, kept_runs_out, kept_takes, kept_starves}
@@ -57,6 +25,7 @@ use Rattle.osi_honest.proofs.keeping.what_a_unit_keeps_a_turn_keeps.{kept_units}
 use Rattle.osi_honest.proofs.opening.what_an_asking_end_does.{none_put}
 use Rattle.osi_honest.proofs.opening.what_an_end_without_class_0_puts.{put_first}
 use Rattle.osi_honest.proofs.keeping.what_was_put_stays_in_front.{Ahead, ahead_kept}
+use Rattle.osi_honest.proofs.opening.what_a_waiting_end_does.{not_open}
 
 -- ---- it is over with nothing put, or a DC was put first
 
@@ -126,11 +95,7 @@ module _ (e : End) (w : Idles e) where
   by_side (disconnect destination source reason user) =
       unknown_at destination (disconnect destination source reason user) (dc_now source destination _ refl)
   by_side (error destination cause) = unknown_at destination (error destination cause) (inr (refl, refl))
-  by_side (request cr) = inr (refl, refl)
-  by_side (disconnected destination source) = inr (refl, refl)
-  by_side (data0 end user) = inr (refl, refl)
-  by_side (data2 destination number end user) = inr (refl, refl)
-  by_side (acknowledge credit destination number) = inr (refl, refl)
+  by_side _ = inr (refl, refl)
 
   first_unit : (v : Value) → Settled e.carrier.outgoing (react v e.carrier)
   first_unit v =
@@ -328,10 +293,6 @@ no_links : (q : ℕ) (e : End) → Idles e → open_link q e.carrier ≡ None
 no_links q e w =
     ap (λ (x : Bool). if x then None else link_of (value_at q e.carrier.live)) (ap is_some w.lasts)
     ∙ ap (λ (rows : Rows Connection). link_of (value_at q rows)) w.live
-
-not_open : (o : Option (ℕ × Standing)) → IsSome o → o ≡ None → ⊥
-not_open None some none = cc
-not_open (Some x) some none = cc
 
 given_none : (q : ℕ) (e : End) → Idles e → gives_up q e.lines ≡ []
 given_none q e w = ap (λ (rows : Rows Line). gives_up_by q (value_at q rows) rows) w.lines

@@ -1,20 +1,10 @@
 -- A CR that an end puts can be written, and so can a CC, if the CR that it answers was in range.
 -- For what the transport of an end puts, and for the course of a connection.
-use Rattle.std.proofs.Common.{refl, ℕ, ◌&&◌, ◌≤◌, min, Bool, true, false, if◌then◌else◌, List, length, take}
-use Rattle.std.proofs.Common.{Option, Some, None, option_map, arith}
-use Rattle.std.specs.Prelude.{IfSome}
-use Rattle.std.proofs.lemmas.List.{length-take}
-use Rattle.osi_tpkt.specs.Octets.{IsOctets}
-use Rattle.osi_tpdu.specs.Limits.{size_code, tsap_octets}
-use Rattle.osi_tpdu.specs.Value.{Connect, IsConnect}
-use Rattle.osi_tpdu.specs.declared.tsaps.Tsap.{Tsap}
-use Rattle.osi_class.specs.Negotiation.{Selection, accept, keeps_flow_control, proposes, proposes_zero_alone, refuse, selected_by}
-use Rattle.osi_class.specs.Negotiation.{selected_size}
-use Rattle.osi_class.specs.declared.terms.Class.{Class}
-use Rattle.osi_class.specs.declared.terms.Class.TheVariants.{Two, Zero}
-use Rattle.osi_class.specs.declared.terms.Local.{Local}
-use Rattle.osi_carrier.specs.Negotiation.{acceptance, alternatives, proposal_by, proposes_zero}
-use Rattle.osi_honest.specs.Writable.{IsPlain}
+use Rattle.osi_honest.proofs.Vocabulary.{arith, Bool, false, if◌then◌else◌, length, List, min, None, Option, option_map, refl, Some, take}
+use Rattle.osi_honest.proofs.Vocabulary.{true, ℕ, ◌&&◌, ◌≤◌, length-take, IfSome, IsOctets, size_code, tsap_octets, IsConnect, Tsap, accept}
+use Rattle.osi_honest.proofs.Vocabulary.{keeps_flow_control, proposes, proposes_zero_alone, refuse, selected_by, selected_size, Selection}
+use Rattle.osi_honest.proofs.Vocabulary.{Class, Two, Zero, Local, acceptance, alternatives, proposal_by, proposes_zero, IsPlain}
+use Rattle.osi_tpdu.specs.Value.{Connect}
 
 -- ---- a CC
 

@@ -1,51 +1,24 @@
 -- Whatever arrives, whatever its user calls and however much memory there is, each unit that an end puts can be written, so that
 -- it is read again.
 -- For what the transport of an end puts.
-use Rattle.std.proofs.Common.{◌≡◌, ◌∙◌, refl, sym, ap, subst, ℕ, ◌+◌, ◌&&◌, ◌≤◌, Bool, true, false, if◌then◌else◌}
-use Rattle.std.proofs.Common.{map, List, [], ◌∷◌, ◌++◌, Option, Some, None, is_some, option_map, Result, Ok, Err}
-use Rattle.std.proofs.Common.{append_assoc}
-use Rattle.std.specs.Prelude.{IfSome}
-use Rattle.std.specs.List.{AllByRecursion}
-use Rattle.std.proofs.lemmas.List.{append-nil, append_cancel_left}
-use Rattle.osi_tpkt.specs.Octets.{IsOctets}
-use Rattle.osi_tpkt.specs.Stream.{Cuts, Ending}
-use Rattle.osi_tpdu.specs.Limits.{tsap_octets}
-use Rattle.osi_tpdu.specs.Packet.{units_of}
-use Rattle.osi_tpdu.specs.Value.{Connect, HasFieldsInRange, IsConnect, Value, acknowledge, confirm, data0, data2, disconnect, disconnected}
-use Rattle.osi_tpdu.specs.Value.{error, request}
-use Rattle.osi_tpdu.specs.Writing.{Fits, written}
-use Rattle.osi_tpdu.specs.declared.faults.TpduFault.{TpduFault}
-use Rattle.osi_tpdu.specs.declared.tsaps.Tsap.{Tsap}
-use Rattle.osi_tpdu.proofs.the_units_of_a_packet.{units_fit, units_found}
-use Rattle.osi_class.specs.Link.{Standing, taken, with_tsdu}
-use Rattle.osi_class.specs.Negotiation.{accept, keeps_flow_control, proposes, proposes_zero_alone, refuse, selected_by}
-use Rattle.osi_class.specs.Negotiation.{selected_size}
-use Rattle.osi_class.specs.declared.faults.LinkFault.{LinkFault}
-use Rattle.osi_class.specs.declared.terms.Class.{Class}
-use Rattle.osi_class.specs.declared.terms.Class.TheVariants.{Two, Zero}
-use Rattle.osi_class.specs.declared.terms.Local.{Local}
-use Rattle.osi_carrier.specs.Calls.{asks, closed_on, closes, link_of, sent_on}
-use Rattle.osi_carrier.specs.Negotiation.{acceptance, agreed_size, confirmed, opened_link, proposal}
-use Rattle.osi_carrier.specs.Negotiation.{proposes_two}
-use Rattle.osi_carrier.specs.Orderly.{connection_by}
+use Rattle.osi_honest.proofs.Vocabulary.{[], ap, append_assoc, Bool, Err, false, if◌then◌else◌, is_some, List, map, None, Ok, Option}
+use Rattle.osi_honest.proofs.Vocabulary.{option_map, refl, Result, Some, subst, sym, true, ℕ, ◌&&◌, ◌++◌, ◌+◌, ◌∙◌, ◌∷◌, ◌≡◌, ◌≤◌}
+use Rattle.osi_honest.proofs.Vocabulary.{append-nil, append_cancel_left, AllByRecursion, IfSome, IsOctets, Cuts, Ending, units_fit}
+use Rattle.osi_honest.proofs.Vocabulary.{units_found, tsap_octets, units_of, confirm, data0, disconnect, disconnected, error}
+use Rattle.osi_honest.proofs.Vocabulary.{HasFieldsInRange, IsConnect, request, Value, Fits, written, TpduFault, Tsap, Standing, taken}
+use Rattle.osi_honest.proofs.Vocabulary.{with_tsdu, accept, keeps_flow_control, proposes, proposes_zero_alone, refuse, selected_by}
+use Rattle.osi_honest.proofs.Vocabulary.{selected_size, LinkFault, Class, Two, Zero, Local, closed_on, closes, link_of, sent_on, acceptance}
+use Rattle.osi_honest.proofs.Vocabulary.{agreed_size, confirmed, opened_link, proposal, proposes_two, connection_by, pumped, written_by}
+use Rattle.osi_honest.proofs.Vocabulary.{accepts, answers, before_class, denies, handed_out, has_peer, in_class, in_two, in_zero, is_full}
+use Rattle.osi_honest.proofs.Vocabulary.{leaves, opens_by as opens, pumps, react_by, reacts, settles, taking, to_asked, to_closing}
+use Rattle.osi_honest.proofs.Vocabulary.{to_connection, to_linked, to_only, to_reference, to_unknown, put, Rows, value_at, asked, closing}
+use Rattle.osi_honest.proofs.Vocabulary.{Connection, linked, packets, State as Carrier, EndReason, NoMemory, Carries, End, Holding, Capture}
+use Rattle.osi_honest.proofs.Vocabulary.{stream, Direction, HasOneUnit, IsFresh, IsSeen, put_along, Run, Turn, CanBeWritten}
+use Rattle.osi_tpdu.specs.Value.{Connect}
+use Rattle.osi_carrier.specs.Calls.{asks}
 use Rattle.osi_carrier.specs.Packets as carriers
-use Rattle.osi_carrier.specs.Pump.{pumped, written_by}
-use Rattle.osi_carrier.specs.React.{accepts, answers, before_class, breaks, denies, handed_out, has_peer, in_class, in_two, in_zero}
-use Rattle.osi_carrier.specs.React.{is_full}
-use Rattle.osi_carrier.specs.React.{leaves, opens, pumps, react, react_by, reacts, settles, taking, to_asked, to_closing, to_connection}
-use Rattle.osi_carrier.specs.React.{to_linked, to_only, to_reference, to_unknown}
-use Rattle.osi_carrier.specs.Rows.{Rows, put, value_at}
-use Rattle.osi_carrier.specs.State.{Connection, State as Carrier, asked, closing, linked, packets}
+use Rattle.osi_carrier.specs.React.{breaks, react}
 use Rattle.osi_carrier.specs.State as states
-use Rattle.osi_carrier.specs.declared.ends.EndReason.{EndReason}
-use Rattle.osi_carrier.specs.declared.ends.EndReason.TheVariants.{NoMemory}
-use Rattle.osi_stack.specs.State.{End, Holding}
-use Rattle.osi_stack.proofs.carried.what_each_step_preserves.{Carries}
-use Rattle.osi_judge.specs.declared.directions.Direction.{Direction}
-use Rattle.osi_judge.specs.Captures.{Capture, stream}
-use Rattle.osi_honest.specs.Seeing.{HasOneUnit, IsFresh, IsSeen, put_along}
-use Rattle.osi_honest.specs.Turns.{Run, Turn}
-use Rattle.osi_honest.specs.Writable.{CanBeWritten}
 use Rattle.osi_honest.proofs.reading.a_cr_and_a_cc_can_be_written.{cc_plain, cr_by, size_in_range}
 use Rattle.osi_honest.proofs.reading.what_a_link_gives_can_be_written.{IsNumbered, gives_written, link_opens, taken_numbered}
 use Rattle.osi_honest.proofs.class_0.what_a_packet_does_in_class_0.{AllProper}
@@ -59,9 +32,8 @@ use Rattle.osi_honest.proofs.reading.two_readings_of_a_stream_agree.{shown_packe
 -- ---- rows of links
 
 abbrev IsNumberedRow : Connection → Type 0
-IsNumberedRow asked = Unit {0}
 IsNumberedRow (linked peer link) = IsNumbered link.flow
-IsNumberedRow (closing peer) = Unit {0}
+IsNumberedRow _ = Unit {0}
 
 abbrev pub AreNumbered : Rows Connection → Type 0
 AreNumbered rows = AllRows IsNumberedRow rows
@@ -131,12 +103,7 @@ module _ (octets : List ℕ) where
     by_unknown (disconnect destination source reason user) =
         writes_more s _ (disconnected source destination ∷ []) p (tt, tt) refl p.links
     by_unknown (disconnected destination source) = p
-    by_unknown (request c) = writes_none s _ p refl tt
-    by_unknown (confirm destination c) = writes_none s _ p refl tt
-    by_unknown (data0 end user) = writes_none s _ p refl tt
-    by_unknown (data2 destination number end user) = writes_none s _ p refl tt
-    by_unknown (acknowledge credit destination number) = writes_none s _ p refl tt
-    by_unknown (error destination cause) = writes_none s _ p refl tt
+    by_unknown _ = writes_none s _ p refl tt
 
     by_opens : (r : ℕ) (c : Connect) (class : Option Class) → CanBeRead octets (opens r c class s)
     by_opens r c None = writes_none s _ p refl tt
@@ -150,17 +117,12 @@ module _ (octets : List ℕ) where
     by_asked r (confirm destination c) = by_opens r c (confirmed c s.local s.class)
     by_asked r (disconnect destination source reason user) = writes_none s _ p refl (row_without IsNumberedRow r s.live p.links)
     by_asked r (error destination cause) = writes_none s _ p refl (row_without IsNumberedRow r s.live p.links)
-    by_asked r (request c) = by_unknown (request c)
-    by_asked r (disconnected destination source) = by_unknown (disconnected destination source)
-    by_asked r (data0 end user) = by_unknown (data0 end user)
-    by_asked r (data2 destination number end user) = by_unknown (data2 destination number end user)
-    by_asked r (acknowledge credit destination number) = by_unknown (acknowledge credit destination number)
+    by_asked r v = by_unknown v
 
     by_breaks : (r peer : ℕ) (fault : LinkFault) (held : Option Class) → CanBeRead octets (breaks r peer fault held s)
     by_breaks r peer fault (Some Two) =
         writes_more s _ (disconnect peer r 133 [] ∷ []) p (tt, tt) refl (row_put IsNumberedRow r (closing peer) s.live p.links tt)
-    by_breaks r peer fault (Some Zero) = writes_none s _ p refl tt
-    by_breaks r peer fault None = writes_none s _ p refl tt
+    by_breaks r peer fault _ = writes_none s _ p refl tt
 
     pumps_so : (r peer : ℕ) (link : Standing) (d : Carrier) → IsNumbered link.flow →
         d.outgoing ≡ s.outgoing ++ packets (written_by peer link) → d.live ≡ put r (linked peer (pumped link)) s.live → CanBeRead octets d
@@ -178,31 +140,16 @@ module _ (octets : List ℕ) where
     by_leaves : (r peer reason : ℕ) (held : Option Class) → CanBeRead octets (leaves r peer reason held s)
     by_leaves r peer reason (Some Two) =
         writes_more s _ (disconnected peer r ∷ []) p (tt, tt) refl (row_without IsNumberedRow r s.live p.links)
-    by_leaves r peer reason (Some Zero) = writes_none s _ p refl tt
-    by_leaves r peer reason None = writes_none s _ p refl tt
+    by_leaves r peer reason _ = writes_none s _ p refl tt
 
     by_linked : (r peer : ℕ) (link : Standing) (unit : Value) → IsNumbered link.flow → CanBeRead octets (to_linked r peer link unit s)
     by_linked r peer link (disconnect destination source reason user) numbered = by_leaves r peer reason s.class
-    by_linked r peer link (request c) numbered = by_taking r peer link (request c) _ numbered refl
-    by_linked r peer link (confirm destination c) numbered = by_taking r peer link (confirm destination c) _ numbered refl
-    by_linked r peer link (disconnected destination source) numbered =
-        by_taking r peer link (disconnected destination source) _ numbered refl
-    by_linked r peer link (data0 end user) numbered = by_taking r peer link (data0 end user) _ numbered refl
-    by_linked r peer link (data2 destination number end user) numbered =
-        by_taking r peer link (data2 destination number end user) _ numbered refl
-    by_linked r peer link (acknowledge credit destination number) numbered =
-        by_taking r peer link (acknowledge credit destination number) _ numbered refl
-    by_linked r peer link (error destination cause) numbered = by_taking r peer link (error destination cause) _ numbered refl
+    by_linked r peer link v numbered = by_taking r peer link v _ numbered refl
 
     by_closing : (r : ℕ) (unit : Value) → CanBeRead octets (to_closing r unit s)
     by_closing r (disconnected destination source) = writes_none s _ p refl (row_without IsNumberedRow r s.live p.links)
     by_closing r (disconnect destination source reason user) = writes_none s _ p refl (row_without IsNumberedRow r s.live p.links)
-    by_closing r (request c) = p
-    by_closing r (confirm destination c) = p
-    by_closing r (data0 end user) = p
-    by_closing r (data2 destination number end user) = p
-    by_closing r (acknowledge credit destination number) = p
-    by_closing r (error destination cause) = p
+    by_closing r _ = p
 
     by_connection : (r : ℕ) (at : Option Connection) (unit : Value) → ((x : Connection) → at ≡ Some x → IsNumberedRow x) →
         CanBeRead octets (to_connection r at unit s)
@@ -258,25 +205,19 @@ module _ (octets : List ℕ) where
     sent_by : (r : ℕ) (tsdu : List ℕ) (over : Bool) (at : Option Connection) → ((x : Connection) → at ≡ Some x → IsNumberedRow x) →
         CanBeRead octets (sent_on r tsdu (if over then None else link_of at) s)
     sent_by r tsdu true at here = p
-    sent_by r tsdu false None here = p
-    sent_by r tsdu false (Some asked) here = p
     sent_by r tsdu false (Some (linked peer link)) here =
         pumps_so r peer (with_tsdu link tsdu) (pumps r peer (with_tsdu link tsdu) s) (here (linked peer link) refl) refl refl
-    sent_by r tsdu false (Some (closing peer)) here = p
+    sent_by r tsdu false _ here = p
 
     closes_by : (r peer : ℕ) (held : Option Class) → CanBeRead octets (closes r peer 128 held s)
     closes_by r peer (Some Zero) = writes_none s _ p refl tt
-    closes_by r peer (Some Two) =
-        writes_more s _ (disconnect peer r 128 [] ∷ []) p (tt, tt) refl (row_put IsNumberedRow r (closing peer) s.live p.links tt)
-    closes_by r peer None =
+    closes_by r peer _ =
         writes_more s _ (disconnect peer r 128 [] ∷ []) p (tt, tt) refl (row_put IsNumberedRow r (closing peer) s.live p.links tt)
 
     closed_by : (r : ℕ) (over : Bool) (at : Option Connection) → CanBeRead octets (closed_on r 128 (if over then None else link_of at) s)
     closed_by r true at = p
-    closed_by r false None = p
-    closed_by r false (Some asked) = p
     closed_by r false (Some (linked peer link)) = closes_by r peer s.class
-    closed_by r false (Some (closing peer)) = p
+    closed_by r false _ = p
 
     asks_so : (calling called : Option Tsap) → CanBeRead octets (asks (option_map tsap_octets calling) (option_map tsap_octets called) s)
     asks_so calling called =

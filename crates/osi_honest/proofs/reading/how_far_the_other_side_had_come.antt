@@ -1,18 +1,12 @@
 -- How far a side had come with opening the connection before an octet of the other: what the judge knows of it never goes back.
 -- For what a capture shows of an end.
-use Rattle.std.proofs.Common.{◌≡◌, ◌∙◌, refl, sym, subst, ℕ, zero, suc, ◌-◌, ◌==◌, ◌<◌, ◌≤◌, ◌⊎◌, inl, inr, Bool, true, false, cond}
-use Rattle.std.proofs.Common.{if◌then◌else◌, leb, List, [], ◌∷◌, Some, None, Ok, Err, arith}
-use Rattle.std.proofs.lemmas.Bool.{le-leb}
-use Rattle.std.proofs.lemmas.Bool.Decides.{leb_tells}
-use Rattle.osi_tpdu.specs.Packet.{units_of}
-use Rattle.osi_tpdu.specs.Value.{Value, acknowledge, confirm, data0, data2, disconnect, disconnected, error, request}
-use Rattle.osi_judge.specs.declared.directions.Direction.{Direction}
-use Rattle.osi_judge.specs.declared.directions.Direction.TheVariants.{Left, Right}
-use Rattle.osi_judge.specs.declared.stops.Stop.TheVariants.{NoOpening, OtherClass}
-use Rattle.osi_judge.specs.Captures.{Capture, of, passed_before}
-use Rattle.osi_judge.specs.Transport.{Handshake, agreed, asked, asked_again, astray, complete_in, denied, first_unit, handshake_from}
-use Rattle.osi_judge.specs.Transport.{has_asked, is_request, met_before, packet_length, shaken, shaken_first, silent}
-use Rattle.osi_judge.specs.Transport.{Move, answering_step, opening, opens, refuses, step_of, stops}
+use Rattle.osi_honest.proofs.Vocabulary.{[], arith, Bool, cond, Err, false, if◌then◌else◌, inl, inr, leb, List, None, Ok, refl, Some, subst}
+use Rattle.osi_honest.proofs.Vocabulary.{suc, sym, true, zero, ℕ, ◌-◌, ◌<◌, ◌==◌, ◌∙◌, ◌∷◌, ◌≡◌, ◌≤◌, ◌⊎◌, le-leb, leb_tells, units_of}
+use Rattle.osi_honest.proofs.Vocabulary.{acknowledge, confirm, data0, data2, disconnect, disconnected, error, request, Value, Capture, of}
+use Rattle.osi_honest.proofs.Vocabulary.{passed_before, agreed, answering_step, asked_again, astray, complete_in, first_unit, Handshake}
+use Rattle.osi_honest.proofs.Vocabulary.{handshake_from, has_asked, is_request, met_before, opening, packet_length, refuses, shaken}
+use Rattle.osi_honest.proofs.Vocabulary.{shaken_first, silent, step_of, stops, Direction, Left, Right, NoOpening, OtherClass}
+use Rattle.osi_judge.specs.Transport.{asked, Move, opens}
 use Rattle.osi_honest.proofs.reading.what_the_judge_reads_of_a_side.{Closes, FirstUnit, IsCalm, IsStrayed, StaysStrayed, Starts}
 use Rattle.osi_honest.proofs.reading.what_the_judge_reads_of_a_side.{no_cc_closes}
 
@@ -70,12 +64,10 @@ strayed_again true = tt
 strayed_again false = tt
 
 strayed_more : (h : Handshake) (unit : FirstUnit) → IsStrayed h → IsStrayed (shaken h unit)
-strayed_more silent unit strayed = absurd strayed
 strayed_more asked unit strayed = strayed_again (is_request unit)
 strayed_more asked_again unit strayed = tt
-strayed_more agreed unit strayed = absurd strayed
-strayed_more (denied destination source) unit strayed = absurd strayed
 strayed_more astray unit strayed = tt
+strayed_more _ unit strayed = absurd strayed
 
 pub strayed_from : (h : Handshake) (us : List (List ℕ)) → IsStrayed h → IsStrayed (handshake_from h us)
 strayed_from h [] strayed = strayed

@@ -1,15 +1,8 @@
 -- Two readings of the front of one stream as packets: one goes on where the other ends. And what is written is read again.
 -- For what a capture shows of an end.
-use Rattle.std.proofs.Common.{◌≡◌, ◌∙◌, refl, sym, ap, subst, ℕ, ◌+◌, ◌*◌, ◌/◌, ◌%◌, List, [], ◌∷◌, ◌++◌, length, map}
-use Rattle.std.proofs.Common.{append_assoc, arith}
-use Rattle.std.proofs.lemmas.List.{append-nil, append_cancel_left}
-use Rattle.osi_tpkt.specs.Packet.{IsPacket, packet_of}
-use Rattle.osi_tpkt.specs.Stream.{ArePackets, Cuts, Ending, EndsAt}
-use Rattle.osi_tpkt.proofs.no_packet_is_a_prefix_of_another.{one_packet}
-use Rattle.osi_tpkt.proofs.a_stream_is_cut_in_one_way.{end_no_packet}
-use Rattle.osi_tpdu.specs.Value.{Value}
-use Rattle.osi_tpdu.specs.Writing.{written}
-use Rattle.osi_carrier.specs.State.{packets}
+use Rattle.osi_honest.proofs.Vocabulary.{[], ap, append_assoc, arith, length, List, map, refl, subst, sym, ℕ, ◌%◌, ◌*◌, ◌++◌, ◌+◌, ◌/◌, ◌∙◌}
+use Rattle.osi_honest.proofs.Vocabulary.{◌∷◌, ◌≡◌, append-nil, append_cancel_left, end_no_packet, one_packet, IsPacket, packet_of}
+use Rattle.osi_honest.proofs.Vocabulary.{ArePackets, Cuts, Ending, EndsAt, Value, written, packets}
 
 -- ---- packets of a stream that goes on
 

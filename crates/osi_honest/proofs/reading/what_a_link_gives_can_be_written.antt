@@ -1,28 +1,15 @@
 -- The numbers of the units that a link gives are in the range of their fields, whatever it takes.
 -- For what the transport of an end puts.
-use Rattle.std.proofs.Common.{◌≡◌, refl, sym, subst, ℕ, zero, suc, ◌+◌, ◌-◌, ◌%◌, ◌<◌, Bool, true, false, if◌then◌else◌, nat_lt, List, []}
-use Rattle.std.proofs.Common.{◌∷◌, ◌++◌, map, Option, Some, None, Result, Ok, Err, arith}
-use Rattle.std.specs.Prelude.{IfOk, IfSome}
-use Rattle.std.specs.List.{AllByRecursion, flat_map}
-use Rattle.osi_tpdu.specs.Value.{Value, acknowledge, confirm, data0, data2, disconnect, disconnected, error, request}
-use Rattle.osi_class.specs.Between.{given_by}
-use Rattle.osi_class.specs.Ends.{Ends}
-use Rattle.osi_class.specs.Flow.{Flow, Sender, ack_number, acknowledged, after_acked, is_awaited, steps_before}
-use Rattle.osi_class.specs.Giving.{Drained, drained_by, drained_within, left_to_give}
+use Rattle.osi_honest.proofs.Vocabulary.{[], arith, Bool, Err, false, if◌then◌else◌, List, map, nat_lt, None, Ok, Option, refl, Result}
+use Rattle.osi_honest.proofs.Vocabulary.{Some, subst, suc, sym, true, zero, ℕ, ◌%◌, ◌++◌, ◌+◌, ◌-◌, ◌<◌, ◌∷◌, ◌≡◌, AllByRecursion, flat_map}
+use Rattle.osi_honest.proofs.Vocabulary.{IfOk, IfSome, acknowledge, data0, data2, Value, at_ok, choose_ok, choose_some, given_by, Ends}
+use Rattle.osi_honest.proofs.Vocabulary.{ack_number, acknowledged, after_acked, Flow, is_awaited, Sender, steps_before, Drained, drained_by}
+use Rattle.osi_honest.proofs.Vocabulary.{drained_within, left_to_give, joined, Joining, ack, Given, given_part, next, next_by, part0, part2}
+use Rattle.osi_honest.proofs.Vocabulary.{sent_flow, Standing, taken, taken_by, taken_flow, two_standing, unit_of, with_joined, with_sender}
+use Rattle.osi_honest.proofs.Vocabulary.{give_out, hand_in, hand_out, Move, MovesAlong, take_in, give, Part, LinkFault, CreditReduced}
+use Rattle.osi_honest.proofs.Vocabulary.{OutOfSequence, Class, Two, Zero, Local, opened_link, CanBeWritten}
 unfoldable use Rattle.osi_class.specs.Giving.{drained}
-use Rattle.osi_class.specs.Joining.{Joining, joined}
-use Rattle.osi_class.specs.Link.{Given, Standing, ack, given_part, next, next_by, part0, part2, sent_flow, taken, taken_by, taken_flow}
-use Rattle.osi_class.specs.Link.{two_standing, unit_of, with_joined, with_sender}
-use Rattle.osi_class.specs.Runs.{Move, Moves, MovesAlong, give_out, hand_in, hand_out, take_in}
-use Rattle.osi_class.specs.Tsdus.{Part, give}
-use Rattle.osi_class.specs.declared.faults.LinkFault.{LinkFault}
-use Rattle.osi_class.specs.declared.faults.LinkFault.TheVariants.{CreditReduced, OutOfSequence}
-use Rattle.osi_class.specs.declared.terms.Class.{Class}
-use Rattle.osi_class.specs.declared.terms.Class.TheVariants.{Two, Zero}
-use Rattle.osi_class.specs.declared.terms.Local.{Local}
-use Rattle.osi_class.proofs.between.parts_stay_in_order.{at_ok, choose_ok, choose_some}
-use Rattle.osi_carrier.specs.Negotiation.{opened_link}
-use Rattle.osi_honest.specs.Writable.{CanBeWritten}
+use Rattle.osi_class.specs.Runs.{Moves}
 
 -- the next number and the credit are in range
 abbrev pub IsNumbered : Option Flow → Type 0
@@ -135,12 +122,7 @@ takes_so e (Some f) (data2 destination number end octets) numbered =
     (λ _. tt)
 takes_so e (Some f) (acknowledge credit destination number) numbered =
     sender_so e f (acknowledged f.sender number credit) numbered.1 (next_stays f.sender number credit numbered.0)
-takes_so e (Some f) (data0 end octets) numbered = tt
-takes_so e (Some f) (request c) numbered = tt
-takes_so e (Some f) (confirm destination c) numbered = tt
-takes_so e (Some f) (disconnect destination source reason user) numbered = tt
-takes_so e (Some f) (disconnected destination source) numbered = tt
-takes_so e (Some f) (error destination cause) numbered = tt
+takes_so e (Some f) _ numbered = tt
 takes_so e None _ numbered = tt
 
 pub taken_numbered : (s t : Standing) (v : Value) → IsNumbered s.flow → taken s v ≡ Ok t → IsNumbered t.flow
@@ -221,13 +203,7 @@ stays_zero e flow v none =
 
     by : (v : Value) → IfOk (taken_by e None v) (λ (t : Standing). t.flow ≡ None)
     by (data0 end octets) = joins (joined e.joining end octets)
-    by (request c) = tt
-    by (confirm destination c) = tt
-    by (disconnect destination source reason user) = tt
-    by (disconnected destination source) = tt
-    by (data2 destination number end octets) = tt
-    by (acknowledge credit destination number) = tt
-    by (error destination cause) = tt
+    by _ = tt
 
 pub taken_zero : (s t : Standing) (v : Value) → s.flow ≡ None → taken s v ≡ Ok t → t.flow ≡ None
 taken_zero s t v none e = at_ok (λ (x : Standing). x.flow ≡ None) (taken s v) t (stays_zero s.ends s.flow v none) e

@@ -1,34 +1,14 @@
 -- Whatever arrives, whatever its user calls and however much memory there is, an end puts packets, whole and in order; so the
 -- judge reads of any prefix of them packets, and then perhaps the beginning of one.
 -- For the law that an end puts packets.
-use Rattle.std.proofs.Common.{◌≡◌, ◌∙◌, refl, sym, ap, subst, ℕ, suc, ◌+◌, ◌*◌, ◌/◌, ◌%◌, ◌<◌, ◌≤◌, Bool, true, false, if◌then◌else◌}
-use Rattle.std.proofs.Common.{List, [], ◌∷◌, ◌++◌, length, is_some, option_map, append_assoc, arith}
-use Rattle.std.proofs.lemmas.List.{append-nil, append_cancel_left, length-append}
-use Rattle.osi_tpkt.specs.Packet.{IsBadLength, IsBadVersion, IsFaultOf}
-use Rattle.osi_tpkt.specs.Stream.{ArePackets, Cuts, Ending}
-use Rattle.osi_tpkt.specs.Stream.Ending.{Faulty, Rest}
-use Rattle.osi_tpkt.specs.declared.faults.TpktFault.{TpktFault}
-use Rattle.osi_tpkt.specs.declared.faults.TpktFault.TheVariants.{BadLength, BadVersion, OutOfMemory}
-use Rattle.osi_tpdu.specs.Limits.{tsap_octets}
-use Rattle.osi_tpdu.specs.Value.{Value, acknowledge, confirm, data0, data2, disconnect, disconnected, error, request, user_data}
-use Rattle.osi_tpdu.specs.Writing.{written, written_header}
-use Rattle.osi_carrier.specs.Negotiation.{proposal}
-use Rattle.osi_carrier.specs.State.{State as Carrier, packets}
-use Rattle.osi_carrier.specs.declared.ends.EndReason.TheVariants.{Broken}
-use Rattle.osi_session.specs.Listening.{called}
-use Rattle.osi_stack.specs.Hearing.{ends}
-use Rattle.osi_stack.specs.Rounds.{UserCall, user_does}
-use Rattle.osi_stack.specs.Rounds.UserCall.{breaking, calling, connecting, disconnecting}
-use Rattle.osi_stack.specs.Runs.{Call, Calls, carried_in}
-use Rattle.osi_stack.specs.Runs.Call.{carrying, feeding, telling}
-use Rattle.osi_stack.specs.State.{End, Holding}
-use Rattle.osi_stack.proofs.given_up.the_invariant_stays.{disconnect_carrier}
-use Rattle.osi_stack.proofs.carried.what_each_step_preserves.{session_carried}
-use Rattle.osi_judge.specs.declared.directions.Direction.{Direction}
-use Rattle.osi_judge.specs.Captures.{Capture, stream}
-use Rattle.osi_honest.specs.Seeing.{EndsWithin, IsSeen, put_along}
-use Rattle.osi_honest.specs.Turns.{Act, Acts, Run, Takes, Turn, carried_by}
-use Rattle.osi_honest.specs.Turns.Act.{serving, using}
+use Rattle.osi_honest.proofs.Vocabulary.{[], ap, append_assoc, arith, Bool, false, if◌then◌else◌, is_some, length, List, option_map, refl}
+use Rattle.osi_honest.proofs.Vocabulary.{subst, suc, sym, true, ℕ, ◌%◌, ◌*◌, ◌++◌, ◌+◌, ◌/◌, ◌<◌, ◌∙◌, ◌∷◌, ◌≡◌, ◌≤◌, append-nil}
+use Rattle.osi_honest.proofs.Vocabulary.{append_cancel_left, length-append, IsBadLength, IsBadVersion, IsFaultOf, ArePackets, Cuts, Ending}
+use Rattle.osi_honest.proofs.Vocabulary.{Faulty, Rest, TpktFault, BadLength, BadVersion, OutOfMemory, tsap_octets, request, user_data}
+use Rattle.osi_honest.proofs.Vocabulary.{Value, written, written_header, proposal, packets, State as Carrier, Broken, called}
+use Rattle.osi_honest.proofs.Vocabulary.{session_carried, disconnect_carrier, ends, user_does, UserCall, breaking, calling, connecting}
+use Rattle.osi_honest.proofs.Vocabulary.{disconnecting, Call, Calls, carried_in, carrying, feeding, telling, End, Holding, Capture, stream}
+use Rattle.osi_honest.proofs.Vocabulary.{Direction, EndsWithin, IsSeen, put_along, Act, Acts, carried_by, Run, Takes, Turn, serving, using}
 use Rattle.osi_honest.proofs.reading.two_readings_of_a_stream_agree.{no_packet_in, packet_again}
 use Rattle.osi_honest.proofs.keeping.what_a_unit_keeps_a_turn_keeps.{IsKept, kept_feeds}
 use Rattle.osi_honest.proofs.class_0.what_class_0_writes_of_a_tsdu.{packets_joined}
@@ -130,13 +110,7 @@ left_packets (u ∷ us) (v ∷ vs) s r later (b, t, p, is, h) e =
 
 some_header : (v : Value) → 2 ≤ length (written_header v)
 some_header (request c) = omega arith
-some_header (confirm destination c) = omega arith
-some_header (disconnect destination source reason user) = omega arith
-some_header (disconnected destination source) = omega arith
-some_header (data0 last octets) = omega arith
-some_header (data2 destination number last octets) = omega arith
-some_header (acknowledge credit destination number) = omega arith
-some_header (error destination cause) = omega arith
+some_header _ = omega arith
 
 some_octets : (v : Value) → 3 ≤ length (written v)
 some_octets v =

@@ -1,27 +1,15 @@
 -- The judge reads from packets of class 0 the TSDUs that they bring, and the parts of TSDUs that an end puts bring these TSDUs.
 -- For the laws of an end and its captures.
-use Rattle.std.proofs.Common.{◌≡◌, ◌∙◌, refl, sym, ap, subst, ℕ, ◌+◌, ◌<◌, ◌≤◌, Bool, true, false, if◌then◌else◌, nat_lt, leb, List, []}
-use Rattle.std.proofs.Common.{◌∷◌, ◌++◌, length, map, Ok, Result, inl, inr, length-append, arith}
-use Rattle.std.proofs.lemmas.Bool.{eq-eqb, ltb-true}
-use Rattle.std.proofs.lemmas.List.{append-nil}
+use Rattle.osi_honest.proofs.Vocabulary.{[], ap, arith, Bool, false, inl, inr, leb, length, List, map, nat_lt, Ok, refl, Result, subst, sym}
+use Rattle.osi_honest.proofs.Vocabulary.{true, ℕ, ◌++◌, ◌+◌, ◌<◌, ◌∙◌, ◌∷◌, ◌≡◌, ◌≤◌, eq-eqb, ltb-true, append-nil, header_again, data0}
+use Rattle.osi_honest.proofs.Vocabulary.{Value, written, TpduFault, longest_tsdu, Part, tsdus_after, AreShort, octets_of, added, begun}
+use Rattle.osi_honest.proofs.Vocabulary.{between, brought, ended, first_unit, Handshake, moved, packet_length, Sent, sent_by, sent_from}
+use Rattle.osi_honest.proofs.Vocabulary.{Stage, stage_behind, stage_from, step_of, within, Direction, Carry, ends_whole, units_put}
+use Rattle.osi_honest.proofs.Vocabulary.{between_two, in_one, IsReading, Brings, IsPart}
 use Rattle.osi_tpdu.specs.Packet.{units_of}
+use Rattle.std.proofs.Common.{length-append}
 unfoldable use Rattle.osi_tpdu.specs.Packet.{units_at}
 unfoldable use Rattle.osi_tpdu.specs.Reading.{header_at, transfer_of, unit_at, value_of}
-use Rattle.osi_tpdu.specs.Value.{Value, data0}
-use Rattle.osi_tpdu.specs.Writing.{written}
-use Rattle.osi_tpdu.specs.declared.faults.TpduFault.{TpduFault}
-use Rattle.osi_tpdu.proofs.one_unit_is_read.{header_again}
-use Rattle.osi_class.specs.Limits.{longest_tsdu}
-use Rattle.osi_class.specs.Tsdus.{Part, tsdus_after}
-use Rattle.osi_judge.specs.declared.directions.Direction.{Direction}
-use Rattle.osi_judge.specs.Tapping.{octets_of}
-use Rattle.osi_judge.specs.Transport.{Handshake, Sent, Stage, added, begun, between, brought, ended, first_unit, moved, sent_by, sent_from}
-use Rattle.osi_judge.specs.Transport.{stage_behind, stage_from, step_of, within, packet_length}
-use Rattle.osi_stack.specs.Messages.{AreShort}
-use Rattle.osi_honest.specs.Parts.{Carry, ends_whole, units_put}
-use Rattle.osi_honest.specs.Stretches.{Brings}
-use Rattle.osi_honest.specs.Reading.{IsReading, between_two, in_one}
-use Rattle.osi_honest.specs.Talking.{IsPart}
 
 -- ---- one packet
 
@@ -88,10 +76,6 @@ brings_read d met stage b at (u ∷ units) tsdus later r (octets, inr (p, (other
 only_unit : (unit : Value) (octets : List ℕ) → unit_at 0 octets ≡ Ok (unit, length octets) → units_of octets ≡ Ok (unit ∷ [])
 unfolding units_of units_at
 only_unit unit octets e = grind (arith, eq-eqb)
-
-bit_read : (last : Bool) → leb 128 (if last then 128 else 0) ≡ last
-bit_read true = refl
-bit_read false = refl
 
 dt_by : (octet : ℕ) (octets : List ℕ) → units_of (2 ∷ 240 ∷ octet ∷ octets) ≡ Ok (data0 (leb 128 octet) octets ∷ [])
 unfolding unit_at value_of transfer_of

@@ -1,20 +1,13 @@
 -- A unit in whose written form each number is an octet is read again as this unit, if the few numbers that share an octet are
 -- in range: credit, class and options, and the numbers of class 2.
 -- For what the transport of an end puts.
-use Rattle.std.proofs.Common.{◌≡◌, sym, subst, ℕ, ◌+◌, ◌/◌, ◌<◌, ◌≤◌, List, [], ◌∷◌, ◌++◌, length, Option, Some, None, Ok, arith}
-use Rattle.std.specs.Prelude.{IfSome}
-use Rattle.std.specs.List.{flat_map}
-use Rattle.std.proofs.lemmas.List.{length-append}
+use Rattle.osi_honest.proofs.Vocabulary.{[], arith, length, List, None, Ok, Option, Some, subst, sym, ℕ, ◌++◌, ◌+◌, ◌/◌, ◌<◌, ◌∷◌, ◌≡◌, ◌≤◌}
+use Rattle.osi_honest.proofs.Vocabulary.{length-append, flat_map, IfSome, octets_left, octets_nil, octets_right, IsOctets, units_only}
+use Rattle.osi_honest.proofs.Vocabulary.{written_spells, units_of, connect_part, Item, item_octets, single, acknowledge, AreParameters}
+use Rattle.osi_honest.proofs.Vocabulary.{confirm, data0, data2, disconnect, disconnected, error, HasFieldsInRange, IsConnect, request}
+use Rattle.osi_honest.proofs.Vocabulary.{Value, HasRoom, items_of, written, written_items}
 use Rattle.std.proofs.lemmas.List.Concat.{flat_map-append}
-use Rattle.osi_tpkt.specs.Octets.{IsOctets}
-use Rattle.osi_tpkt.proofs.lists_of_octets_stay_octets.{octets_left, octets_nil, octets_right}
-use Rattle.osi_tpdu.specs.Packet.{units_of}
-use Rattle.osi_tpdu.specs.Spelling.{Item, connect_part, item_octets, single}
-use Rattle.osi_tpdu.specs.Value.{AreParameters, Connect, HasFieldsInRange, IsConnect, Value, acknowledge, confirm, data0, data2}
-use Rattle.osi_tpdu.specs.Value.{disconnect, disconnected, error, request}
-use Rattle.osi_tpdu.specs.Writing.{HasRoom, items_of, written, written_items}
-use Rattle.osi_tpdu.proofs.the_units_of_a_packet.{units_only}
-use Rattle.osi_tpdu.proofs.the_written_form_spells_its_value.{written_spells}
+use Rattle.osi_tpdu.specs.Value.{Connect}
 pub use Rattle.osi_honest.specs.Writable.{CanBeWritten, IsPlain}
 
 -- ---- the octets of parameters
@@ -137,12 +130,8 @@ fields_are (error destination cause) can octets = absurd can
 has_room : (v : Value) → CanBeWritten v → HasRoom v
 has_room (request c) can = let most = items_most c can in omega arith
 has_room (confirm destination c) can = let most = items_most c can in omega arith
-has_room (disconnect destination source reason user) can = omega arith
-has_room (disconnected destination source) can = omega arith
-has_room (data0 end user) can = omega arith
-has_room (data2 destination number end user) can = omega arith
-has_room (acknowledge credit destination number) can = omega arith
 has_room (error destination cause) can = absurd can
+has_room _ can = omega arith
 
 pub read_again : (v : Value) → CanBeWritten v → IsOctets (written v) → units_of (written v) ≡ Ok (v ∷ [])
 read_again v can octets =

@@ -1,32 +1,18 @@
 -- The TSDUs that the judge reads of a side, packet by packet: where they lie, how many of them had passed, and after which
 -- packets there are none.
 -- For what a capture shows of an end.
-use Rattle.std.proofs.Common.{◌≡◌, ◌∙◌, refl, sym, ap, subst, ℕ, suc, ◌+◌, ◌==◌, ◌&&◌, ◌<◌, ◌≤◌, ◌⊎◌, inl, inr, Bool, true, false, cond}
-use Rattle.std.proofs.Common.{if◌then◌else◌, nat_le, List, [], ◌∷◌, ◌++◌, length, map, Option, Some, None, Result, Ok, Err, append_assoc}
-use Rattle.std.proofs.Common.{arith}
-use Rattle.std.specs.List.{filter}
-use Rattle.std.proofs.lemmas.Bool.{le-leb}
-use Rattle.std.proofs.lemmas.List.{length-append}
-use Rattle.osi_tpkt.specs.Packet.{packet_of}
-use Rattle.osi_tpkt.specs.Stream.{ArePackets}
-use Rattle.osi_tpdu.specs.Packet.{units_of}
-use Rattle.osi_tpdu.specs.Value.{Value, acknowledge, confirm, data0, data2, disconnect, disconnected, error, request}
-use Rattle.osi_tpdu.specs.Writing.{written}
-use Rattle.osi_tpdu.specs.declared.faults.TpduFault.{TpduFault}
-use Rattle.osi_class.specs.Negotiation.{proposes}
-use Rattle.osi_class.specs.Tsdus.{Part}
-use Rattle.osi_carrier.specs.State.{packets}
-use Rattle.osi_judge.specs.declared.directions.Direction.{Direction}
-use Rattle.osi_judge.specs.declared.directions.Direction.TheVariants.{Left, Right}
-use Rattle.osi_judge.specs.declared.stops.Stop.{Stop}
-use Rattle.osi_judge.specs.declared.stops.Stop.TheVariants.{BadUnit, MoreConnections, NoOpening, NothingToAnswer, OtherClass, TsduTooLong}
-use Rattle.osi_judge.specs.declared.stops.Stop.TheVariants.{UnexpectedUnit, WrongForm}
-use Rattle.osi_judge.specs.Transport.{Handshake, agreed, asked, asked_again, astray, denied, first_unit, has_asked, silent}
-use Rattle.osi_judge.specs.Transport.{Move, adds, asks, hurries, ignores, opens, refuses, stops}
-use Rattle.osi_judge.specs.Transport.{Sent, Stage, added, answering_step, asking, between, brought, closing_step, ended, first_of}
-use Rattle.osi_judge.specs.Transport.{first_step, hasty_step, is_too_long, misplaced, moved, next_step, opening, packet_length}
-use Rattle.osi_judge.specs.Transport.{packets_length, refused, sent_by, sent_from, stage_behind, stage_from, step_of, stopped, within}
-use Rattle.osi_honest.specs.Parts.{dt, units_put}
+use Rattle.osi_honest.proofs.Vocabulary.{[], ap, append_assoc, arith, Bool, cond, Err, false, if◌then◌else◌, inl, inr, length, List, map}
+use Rattle.osi_honest.proofs.Vocabulary.{nat_le, None, Ok, Option, refl, Result, Some, subst, suc, sym, true, ℕ, ◌&&◌, ◌++◌, ◌+◌, ◌<◌, ◌==◌}
+use Rattle.osi_honest.proofs.Vocabulary.{◌∙◌, ◌∷◌, ◌≡◌, ◌≤◌, ◌⊎◌, le-leb, length-append, filter, packet_of, ArePackets, units_of, confirm}
+use Rattle.osi_honest.proofs.Vocabulary.{data0, disconnect, disconnected, error, request, Value, written, TpduFault, proposes, Part}
+use Rattle.osi_honest.proofs.Vocabulary.{packets, added, agreed, answering_step, asked_again, asking, astray, between, brought}
+use Rattle.osi_honest.proofs.Vocabulary.{closing_step, denied, ended, first_of, first_step, first_unit, Handshake, has_asked, hasty_step}
+use Rattle.osi_honest.proofs.Vocabulary.{hurries, ignores, is_too_long, misplaced, moved, next_step, opening, packet_length, packets_length}
+use Rattle.osi_honest.proofs.Vocabulary.{refuses, Sent, sent_by, sent_from, silent, Stage, stage_behind, stage_from, step_of, stopped}
+use Rattle.osi_honest.proofs.Vocabulary.{stops, within, Direction, Left, Right, Stop, BadUnit, MoreConnections, NoOpening, NothingToAnswer}
+use Rattle.osi_honest.proofs.Vocabulary.{OtherClass, UnexpectedUnit, dt, units_put, acknowledge, data2}
+use Rattle.osi_judge.specs.declared.stops.Stop.TheVariants.{TsduTooLong, WrongForm}
+use Rattle.osi_judge.specs.Transport.{asked, Move, adds, asks, opens, refused}
 
 -- what the first unit of a packet is, or why it has none
 abbrev pub FirstUnit : Type 0
@@ -82,27 +68,21 @@ added_in s at u false false octets low a b = record { stands = (a, b); lie = tt 
 
 moved_in : (s : Stage) (at : ℕ) (u : List ℕ) (m : Move) (low : ℕ) → low ≤ first_of s at → first_of s at < at + packet_length u →
     BegunIn low (at + packet_length u) s → LiesIn low (at + packet_length u) (moved s at m) (brought s at u m)
-moved_in s at u (asks reference) low a b h = record { stands = tt; lie = tt }
-moved_in s at u (opens reference) low a b h = record { stands = tt; lie = tt }
 moved_in s at u (adds end octets) low a b h = added_in s at u (is_too_long s octets) end octets low a b
 moved_in s at u (hurries end octets) low a b h = added_in s at u (is_too_long s octets) end octets low a b
-moved_in s at u refuses low a b h = record { stands = tt; lie = tt }
 moved_in s at u ignores low a b h = record { stands = h; lie = tt }
-moved_in s at u (stops stop) low a b h = record { stands = tt; lie = tt }
+moved_in s at u _ low a b h = record { stands = tt; lie = tt }
 
 step_in : (d : Direction) (h : Handshake) (s : Stage) (at : ℕ) (u : List ℕ) (low : ℕ) → low ≤ at → BegunIn low at s →
     LiesIn low (at + packet_length u) (stage_behind d h s at u) (sent_by d h s at u)
-step_in d h opening at u low l b = moved_in opening at u (step_of d opening h (first_unit (units_of u))) low l (omega arith) tt
-step_in d h asking at u low l b = moved_in asking at u (step_of d asking h (first_unit (units_of u))) low l (omega arith) tt
-step_in d h between at u low l b = moved_in between at u (step_of d between h (first_unit (units_of u))) low l (omega arith) tt
 step_in d h (within first octets) at u low l b =
     let after : low ≤ first = b.0 in
     let before : first < at = b.1 in
     moved_in (within first octets) at u (step_of d (within first octets) h (first_unit (units_of u))) low after (omega arith)
     (after, omega arith)
-step_in d h (refused place) at u low l b =
-    moved_in (refused place) at u (step_of d (refused place) h (first_unit (units_of u))) low l (omega arith) tt
 step_in d h (stopped stop place) at u low l b = record { stands = tt; lie = tt }
+step_in d h v at u low l b =
+    moved_in v at u (step_of d v h (first_unit (units_of u))) low l (omega arith) tt
 
 pub lie_later : (low high later : ℕ) (sent : List Sent) → high ≤ later → LieIn low high sent → LieIn low later sent
 lie_later low high later [] l h = tt
@@ -195,13 +175,10 @@ answers_by false m c = inr (NoOpening, refl)
 
 answer_closes : (v : Value) → Closes (answering_step v)
 answer_closes (request c) = inr (MoreConnections, refl)
-answer_closes (confirm destination c) = inr (UnexpectedUnit, refl)
 answer_closes (disconnect destination source reason user) = inl refl
 answer_closes (disconnected destination source) = inr (NothingToAnswer, refl)
-answer_closes (data0 end octets) = inr (UnexpectedUnit, refl)
-answer_closes (data2 destination number end octets) = inr (UnexpectedUnit, refl)
-answer_closes (acknowledge credit destination number) = inr (UnexpectedUnit, refl)
 answer_closes (error destination cause) = inl refl
+answer_closes _ = inr (UnexpectedUnit, refl)
 
 -- what right sends first, if it is no CC
 pub no_cc_closes : (h : Handshake) (v : Value) → Closes (if has_asked h then answering_step v else stops NoOpening)
@@ -209,21 +186,9 @@ no_cc_closes h v = answers_by (has_asked h) (answering_step v) (answer_closes v)
 
 first_value : (d : Direction) (h : Handshake) (v : Value) → StartsOrCloses d (first_step d h v)
 first_value Left h (request c) = asks_by (proposes c 0) c.source
-first_value Left h (confirm destination c) = inr (inr (NoOpening, refl))
-first_value Left h (disconnect destination source reason user) = inr (inr (NoOpening, refl))
-first_value Left h (disconnected destination source) = inr (inr (NoOpening, refl))
-first_value Left h (data0 end octets) = inr (inr (NoOpening, refl))
-first_value Left h (data2 destination number end octets) = inr (inr (NoOpening, refl))
-first_value Left h (acknowledge credit destination number) = inr (inr (NoOpening, refl))
-first_value Left h (error destination cause) = inr (inr (NoOpening, refl))
+first_value Left h _ = inr (inr (NoOpening, refl))
 first_value Right h (confirm destination c) = opens_by (c.class == 0) c.source
-first_value Right h (request c) = inr (no_cc_closes h (request c))
-first_value Right h (disconnect destination source reason user) = inr (no_cc_closes h (disconnect destination source reason user))
-first_value Right h (disconnected destination source) = inr (no_cc_closes h (disconnected destination source))
-first_value Right h (data0 end octets) = inr (no_cc_closes h (data0 end octets))
-first_value Right h (data2 destination number end octets) = inr (no_cc_closes h (data2 destination number end octets))
-first_value Right h (acknowledge credit destination number) = inr (no_cc_closes h (acknowledge credit destination number))
-first_value Right h (error destination cause) = inr (no_cc_closes h (error destination cause))
+first_value Right h v = inr (no_cc_closes h v)
 
 pub first_starts : (d : Direction) (h : Handshake) (unit : FirstUnit) → StartsOrCloses d (step_of d opening h unit)
 first_starts d h (Err fault) = inr (inr (BadUnit fault, refl))
@@ -234,24 +199,17 @@ first_starts d h (Ok (Some v)) = first_value d h v
 
 misplaced_closes : (v : Value) → Closes (misplaced v)
 misplaced_closes (request c) = inr (MoreConnections, refl)
-misplaced_closes (confirm destination c) = inr (UnexpectedUnit, refl)
 misplaced_closes (disconnect destination source reason user) = inr (WrongForm, refl)
 misplaced_closes (disconnected destination source) = inr (NothingToAnswer, refl)
-misplaced_closes (data0 end octets) = inr (UnexpectedUnit, refl)
-misplaced_closes (data2 destination number end octets) = inr (UnexpectedUnit, refl)
-misplaced_closes (acknowledge credit destination number) = inr (UnexpectedUnit, refl)
-misplaced_closes (error destination cause) = inr (UnexpectedUnit, refl)
+misplaced_closes _ = inr (UnexpectedUnit, refl)
 
 refused_closes : (d : Direction) (h : Handshake) (place : ℕ) (unit : FirstUnit) →
     Closes (step_of d (refused place) h unit) ⊎ (step_of d (refused place) h unit ≡ ignores)
 refused_closes d h place (Err fault) = inl (inr (BadUnit fault, refl))
 refused_closes d h place (Ok None) = inl (inr (UnexpectedUnit, refl))
-refused_closes d silent place (Ok (Some v)) = inr refl
 refused_closes d asked place (Ok (Some v)) = inl (misplaced_closes v)
-refused_closes d asked_again place (Ok (Some v)) = inr refl
-refused_closes d agreed place (Ok (Some v)) = inr refl
 refused_closes d (denied destination source) place (Ok (Some v)) = inl (misplaced_closes v)
-refused_closes d astray place (Ok (Some v)) = inr refl
+refused_closes d _ place (Ok (Some v)) = inr refl
 
 -- what is read after a packet, by what it means
 abbrev after_move : (d : Direction) (met : ℕ → Handshake) (s : Stage) (at : ℕ) (u : List ℕ) (us : List (List ℕ)) → Move → List Sent
@@ -327,11 +285,8 @@ calm_same : (d : Direction) (h : Handshake) (at : ℕ) (u : List ℕ) (unit : Fi
 calm_same d h at u (Err fault) calm = record { stage_is = refl; sent_is = refl }
 calm_same d h at u (Ok None) calm = record { stage_is = refl; sent_is = refl }
 calm_same d silent at u (Ok (Some v)) calm = hasty_same at u v
-calm_same d asked at u (Ok (Some v)) calm = absurd calm
-calm_same d asked_again at u (Ok (Some v)) calm = absurd calm
 calm_same d agreed at u (Ok (Some v)) calm = next_same at u v
-calm_same d (denied destination source) at u (Ok (Some v)) calm = absurd calm
-calm_same d astray at u (Ok (Some v)) calm = absurd calm
+calm_same d _ at u (Ok (Some v)) calm = absurd calm
 
 asking_read : (d : Direction) (met : ℕ → Handshake) (at : ℕ) (us : List (List ℕ)) → ((k : ℕ) → IsCalm (met k)) →
     sent_from d met asking at us ≡ sent_from d met between at us
@@ -358,23 +313,17 @@ HasNoData unit = Unit {0}
 
 next_closes : (v : Value) → HasNoData (Ok (Some v)) → Closes (next_step v)
 next_closes (request c) none = inr (MoreConnections, refl)
-next_closes (confirm destination c) none = inr (UnexpectedUnit, refl)
 next_closes (disconnect destination source reason user) none = inr (WrongForm, refl)
 next_closes (disconnected destination source) none = inr (NothingToAnswer, refl)
 next_closes (data0 end octets) none = absurd none
-next_closes (data2 destination number end octets) none = inr (UnexpectedUnit, refl)
-next_closes (acknowledge credit destination number) none = inr (UnexpectedUnit, refl)
-next_closes (error destination cause) none = inr (UnexpectedUnit, refl)
+next_closes _ none = inr (UnexpectedUnit, refl)
 
 hasty_closes : (v : Value) → HasNoData (Ok (Some v)) → Closes (hasty_step v)
 hasty_closes (request c) none = inr (MoreConnections, refl)
-hasty_closes (confirm destination c) none = inr (UnexpectedUnit, refl)
 hasty_closes (disconnect destination source reason user) none = inr (WrongForm, refl)
 hasty_closes (disconnected destination source) none = inr (NothingToAnswer, refl)
 hasty_closes (data0 end octets) none = absurd none
-hasty_closes (data2 destination number end octets) none = inr (UnexpectedUnit, refl)
-hasty_closes (acknowledge credit destination number) none = inr (UnexpectedUnit, refl)
-hasty_closes (error destination cause) none = inr (UnexpectedUnit, refl)
+hasty_closes _ none = inr (UnexpectedUnit, refl)
 
 by_references : (b : Bool) → Closes (if b then refuses else stops NothingToAnswer)
 by_references true = inl refl
@@ -382,13 +331,9 @@ by_references false = inr (NothingToAnswer, refl)
 
 closing_closes : (destination source : ℕ) (v : Value) → Closes (closing_step destination source v)
 closing_closes destination source (request c) = inr (MoreConnections, refl)
-closing_closes destination source (confirm d c) = inr (UnexpectedUnit, refl)
 closing_closes destination source (disconnect d s reason user) = inr (WrongForm, refl)
 closing_closes destination source (disconnected d s) = by_references ((d == source) && (s == destination))
-closing_closes destination source (data0 end octets) = inr (UnexpectedUnit, refl)
-closing_closes destination source (data2 d number end octets) = inr (UnexpectedUnit, refl)
-closing_closes destination source (acknowledge credit d number) = inr (UnexpectedUnit, refl)
-closing_closes destination source (error d cause) = inr (UnexpectedUnit, refl)
+closing_closes destination source _ = inr (UnexpectedUnit, refl)
 
 between_closes : (d : Direction) (h : Handshake) (unit : FirstUnit) → HasNoData unit → Closes (step_of d between h unit)
 between_closes d h (Err fault) none = inr (BadUnit fault, refl)
@@ -400,22 +345,18 @@ asking_closes : (d : Direction) (h : Handshake) (unit : FirstUnit) → HasNoData
 asking_closes d h (Err fault) none = inl (inr (BadUnit fault, refl))
 asking_closes d h (Ok None) none = inl (inr (UnexpectedUnit, refl))
 asking_closes d silent (Ok (Some v)) none = inl (hasty_closes v none)
-asking_closes d asked (Ok (Some v)) none = inr tt
-asking_closes d asked_again (Ok (Some v)) none = inr tt
 asking_closes d agreed (Ok (Some v)) none = inl (next_closes v none)
 asking_closes d (denied destination source) (Ok (Some v)) none = inl (closing_closes destination source v)
-asking_closes d astray (Ok (Some v)) none = inr tt
+asking_closes d _ (Ok (Some v)) none = inr tt
 
 strayed_ignores : (d : Direction) (h : Handshake) (unit : FirstUnit) → IsStrayed h →
     Closes (step_of d asking h unit) ⊎ (step_of d asking h unit ≡ ignores)
 strayed_ignores d h (Err fault) strayed = inl (inr (BadUnit fault, refl))
 strayed_ignores d h (Ok None) strayed = inl (inr (UnexpectedUnit, refl))
-strayed_ignores d silent (Ok (Some v)) strayed = absurd strayed
 strayed_ignores d asked (Ok (Some v)) strayed = inr refl
 strayed_ignores d asked_again (Ok (Some v)) strayed = inr refl
-strayed_ignores d agreed (Ok (Some v)) strayed = absurd strayed
-strayed_ignores d (denied destination source) (Ok (Some v)) strayed = absurd strayed
 strayed_ignores d astray (Ok (Some v)) strayed = inr refl
+strayed_ignores d _ (Ok (Some v)) strayed = absurd strayed
 
 -- a side that has strayed stays so
 abbrev pub StaysStrayed : (ℕ → Handshake) → Type 0

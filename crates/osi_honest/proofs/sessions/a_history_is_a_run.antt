@@ -1,13 +1,12 @@
 -- What a session took and sent is a run of it as the judge has it, so what it sent is explained by what it took.
 -- For the laws of an end and its captures.
-use Rattle.std.proofs.Common.{◌≡◌, ◌∙◌, refl, sym, ap, subst, ℕ, ◌+◌, Bool, false, List, [], ◌∷◌, ◌++◌, length, map, get_or, append_assoc}
-use Rattle.std.proofs.Common.{length-append, arith}
-use Rattle.std.proofs.lemmas.List.{append-nil, map-append}
-use Rattle.osi_session.specs.Listening.{Listener, after_input, called, came, opened, react}
-use Rattle.osi_judge.specs.Explaining.{Told}
-use Rattle.osi_judge.specs.Running.{IsSentFrom, Pass, Runs, sends}
+use Rattle.osi_honest.proofs.Vocabulary.{[], ap, append_assoc, arith, Bool, false, get_or, length, List, map, refl, subst, sym, ℕ, ◌++◌}
+use Rattle.osi_honest.proofs.Vocabulary.{◌+◌, ◌∙◌, ◌∷◌, ◌≡◌, append-nil, map-append, after_input, called, came, Listener}
+use Rattle.osi_honest.proofs.Vocabulary.{linked_up as opened, session_react as react, Told, IsSentFrom, Pass, Runs, sends, History, Said}
+use Rattle.osi_honest.proofs.Vocabulary.{said_after}
+use Rattle.std.proofs.Common.{length-append}
 use Rattle.osi_judge.specs.Running as running
-use Rattle.osi_honest.specs.Talking.{History, Said, said_after, told_of}
+use Rattle.osi_honest.specs.Talking.{told_of}
 use Rattle.osi_honest.specs.Talking as history
 
 at_place : (took rest : List (List ℕ)) (tsdu : List ℕ) → get_or (took ++ tsdu ∷ rest) (length took) [] ≡ tsdu

@@ -1,49 +1,25 @@
 -- What a called end did in all, from its first turn on: for each run of its turns.
 -- For the law that a called end is not blamed.
-use Rattle.std.proofs.Common.{◌≡◌, ◌∙◌, refl, sym, ap, subst, ℕ, ◌+◌, ◌*◌, ◌==◌, ◌<◌, Bool, true, false, if◌then◌else◌, List, []}
-use Rattle.std.proofs.Common.{◌∷◌, ◌++◌, length, map, Some, Result, Ok, Err, inl, inr, append_assoc, arith}
-use Rattle.std.specs.List.{flat_map}
-use Rattle.std.proofs.lemmas.Bool.{eqb-true}
-use Rattle.std.proofs.lemmas.List.{append-nil, length-append}
-use Rattle.osi_tpkt.specs.Octets.{IsOctets}
-use Rattle.osi_tpkt.specs.Packet.{packet_of}
-use Rattle.osi_tpkt.specs.Stream.{ArePackets}
-use Rattle.osi_tpdu.specs.Packet.{AreUnits, units_of}
-use Rattle.osi_tpdu.specs.Spelling.{Spells, connect_part, item_octets}
-use Rattle.osi_tpdu.specs.Value.{Connect, Value, acknowledge, confirm, data0, data2, disconnect, disconnected, error, request}
-use Rattle.osi_tpdu.specs.Writing.{written}
-use Rattle.osi_tpdu.proofs.the_units_of_a_packet.{units_found}
-use Rattle.osi_tpdu.specs.declared.faults.TpduFault.{TpduFault}
-use Rattle.osi_class.specs.Negotiation.{proposes}
-use Rattle.osi_class.specs.Tsdus.{Part}
-use Rattle.osi_class.specs.declared.terms.Class.TheVariants.{Zero}
-use Rattle.osi_class.specs.declared.terms.Local.{Local}
-use Rattle.osi_carrier.specs.Negotiation.{acceptance}
-use Rattle.osi_carrier.specs.State.{packets}
-use Rattle.osi_session.specs.Listening.{Listener}
-use Rattle.osi_session.specs.Sessions.{awaits}
-use Rattle.osi_stack.specs.State.{Holding}
-use Rattle.osi_judge.specs.declared.directions.Direction.{Direction}
-use Rattle.osi_judge.specs.declared.directions.Direction.TheVariants.{Left, Right}
-use Rattle.osi_judge.specs.declared.stops.Stop.TheVariants.{OtherClass}
-use Rattle.osi_judge.specs.Captures.{Capture, other, passed_before}
-use Rattle.osi_judge.specs.Running.{IsSentFrom}
-use Rattle.osi_judge.specs.Tapping.{heard, told}
-use Rattle.osi_judge.specs.Transport.{Handshake, Sent, agreed, asks, astray, between, first_unit, met_before, opening, packet_length}
-use Rattle.osi_judge.specs.Transport.{packets_length, sent_from, shaken_first, stage_from, step_of, stops}
-use Rattle.osi_honest.specs.Openings.{IsOtherAnswer, Opens, Waits, WaitingTurn}
+use Rattle.osi_honest.proofs.Vocabulary.{[], ap, append_assoc, arith, Bool, false, if◌then◌else◌, inl, inr, length, List, map, Ok, refl}
+use Rattle.osi_honest.proofs.Vocabulary.{Result, Some, subst, sym, true, ℕ, ◌*◌, ◌++◌, ◌+◌, ◌<◌, ◌==◌, ◌∙◌, ◌∷◌, ◌≡◌, eqb-true, append-nil}
+use Rattle.osi_honest.proofs.Vocabulary.{length-append, flat_map, IsOctets, packet_of, ArePackets, units_found, AreUnits, units_of}
+use Rattle.osi_honest.proofs.Vocabulary.{connect_part, item_octets, Spells, acknowledge, confirm, data0, data2, disconnect, disconnected}
+use Rattle.osi_honest.proofs.Vocabulary.{error, request, Value, written, TpduFault, proposes, Part, Zero, Local, acceptance, packets}
+use Rattle.osi_honest.proofs.Vocabulary.{Listener, awaits, Holding, Capture, other, passed_before, IsSentFrom, heard, told, agreed, astray}
+use Rattle.osi_honest.proofs.Vocabulary.{between, first_unit, Handshake, met_before, opening, packet_length, packets_length, Sent}
+use Rattle.osi_honest.proofs.Vocabulary.{sent_from, shaken_first, stage_from, step_of, stops, Direction, Left, Right, OtherClass}
+use Rattle.osi_honest.proofs.Vocabulary.{IsOtherAnswer, WaitingTurn, Waits, dt, units_put, IsFresh, IsPrefix, IsSeen, PassAfter, put_along}
+use Rattle.osi_honest.proofs.Vocabulary.{used_along, octets_said, Said, Run, Turn}
+use Rattle.osi_tpdu.specs.Value.{Connect}
+use Rattle.osi_judge.specs.Transport.{asks}
+use Rattle.osi_honest.specs.Openings.{Opens}
 use Rattle.osi_honest.specs.Openings as turned
-use Rattle.osi_honest.specs.Parts.{dt, units_put}
-use Rattle.osi_honest.specs.Seeing.{IsFresh, IsPrefix, IsSeen, PassAfter, put_along, used_along}
-use Rattle.osi_honest.specs.Stretches.{octets_said}
-use Rattle.osi_honest.specs.Talking.{Said}
-use Rattle.osi_honest.specs.Turns.{Run, Turn}
 use Rattle.osi_honest.proofs.class_0.what_a_packet_does_in_class_0.{AllProper}
 use Rattle.osi_honest.proofs.opening.what_a_waiting_end_does.{turn_waits}
 use Rattle.osi_honest.proofs.reading.what_is_put_and_taken_is_read.{parts_read}
 use Rattle.osi_honest.proofs.sessions.what_an_end_put_was_caused.{AreCaused, Came, Counts, PassBetween, Spoke, prefix_front, run_spoke}
-use Rattle.osi_honest.proofs.class_0.what_a_call_does_in_class_0.{over_run}
 use Rattle.osi_honest.proofs.sessions.what_an_end_put_was_caused.{then_spoke, turn_caused}
+use Rattle.osi_honest.proofs.class_0.what_a_call_does_in_class_0.{over_run}
 use Rattle.osi_honest.proofs.sessions.what_a_capture_shows_of_an_end.{AreRead, Did, alone, aside, beside, capture_counts, end_is_honest}
 use Rattle.osi_honest.proofs.sessions.what_a_capture_shows_of_an_end.{none_sent, nothing, spoke}
 use Rattle.osi_honest.proofs.reading.how_far_the_other_side_had_come.{agrees, calm_after}
@@ -145,20 +121,14 @@ no_class_zero (confirm d answer) destination c other s zero =
     let few : c.options < 16 = s.in_range.1.options in
     let two : answer.class ≡ 2 = other in
     omega arith
-no_class_zero (request cr) destination c other s zero = other
-no_class_zero (disconnected d source) destination c other s zero = other
-no_class_zero (data0 end octets) destination c other s zero = other
-no_class_zero (data2 d number end octets) destination c other s zero = other
-no_class_zero (acknowledge credit d number) destination c other s zero = other
-no_class_zero (error d cause) destination c other s zero = other
+no_class_zero _ destination c other s zero = other
 
 never_opened : (answer : Value) (units : Result (List Value) TpduFault) → IsOtherAnswer answer → IsOctets (written answer) →
     units_of (written answer) ≡ units → shaken_first (first_unit units) ≡ agreed → ⊥
-never_opened answer (Err fault) other octets e is = cc
-never_opened answer (Ok []) other octets e is = cc
 never_opened answer (Ok (v ∷ vs)) other octets e is =
     let found = opened_by_cc v vs (written answer) is (units_found (written answer) (v ∷ vs) octets e) in
     no_class_zero answer found.0 found.1 other found.2 found.3
+never_opened answer _ other octets e is = cc
 
 other_closes : (answer : Value) → IsOtherAnswer answer → IsOctets (written answer) → (h : Handshake) →
     Closes (step_of Right opening h (first_unit (units_of (written answer))))

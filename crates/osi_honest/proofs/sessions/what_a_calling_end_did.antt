@@ -1,45 +1,19 @@
 -- What a calling end did in all, from its request on: for each run of its turns.
 -- For the law that a calling end is not blamed.
-use Rattle.std.proofs.Common.{◌≡◌, ◌∙◌, refl, sym, ap, subst, ℕ, ◌+◌, ◌==◌, ◌<◌, ◌≤◌, Bool, true, false, if◌then◌else◌, List, [], ◌∷◌}
-use Rattle.std.proofs.Common.{◌++◌, length, map, Result, Ok, Err, None, inl, inr, append_assoc, arith}
-use Rattle.std.specs.List.{flat_map}
-use Rattle.std.proofs.lemmas.List.{append-nil, length-append}
-use Rattle.osi_tpkt.specs.Octets.{IsOctets}
-use Rattle.osi_tpkt.specs.Packet.{packet_of}
-use Rattle.osi_tpkt.specs.Stream.{ArePackets}
-use Rattle.osi_tpdu.specs.Packet.{units_of}
-use Rattle.osi_tpdu.specs.Spelling.{Spells, connect_part, item_octets}
-use Rattle.osi_tpdu.specs.Value.{Connect, Value, acknowledge, confirm, data0, data2, disconnect, disconnected, error, request}
-use Rattle.osi_tpdu.specs.Writing.{written, written_header}
-use Rattle.osi_tpdu.specs.declared.faults.TpduFault.{TpduFault}
-use Rattle.osi_tpdu.proofs.the_units_of_a_packet.{units_found}
-use Rattle.osi_class.specs.declared.terms.Local.{Local}
-use Rattle.osi_carrier.specs.State.{packets}
-use Rattle.osi_session.specs.Listening.{Listener}
-use Rattle.osi_session.specs.Phases.{is_wait_transport}
-use Rattle.osi_session.specs.Standing.{Seen}
-use Rattle.osi_stack.specs.Calls.{calls_with, terms_error}
-use Rattle.osi_stack.specs.State.{Holding}
-use Rattle.osi_stack.specs.declared.connecting.Connect.{Connect as Request}
-use Rattle.osi_judge.specs.declared.directions.Direction.{Direction}
-use Rattle.osi_judge.specs.declared.directions.Direction.TheVariants.{Left, Right}
-use Rattle.osi_judge.specs.declared.stops.Stop.TheVariants.{OtherClass}
-use Rattle.osi_judge.specs.Captures.{Capture, other}
-use Rattle.osi_judge.specs.declared.findings.Finding.{Finding}
+use Rattle.osi_honest.proofs.Vocabulary.{[], ap, append_assoc, arith, Bool, false, if◌then◌else◌, inl, inr, length, List, map, None, Ok}
+use Rattle.osi_honest.proofs.Vocabulary.{refl, Result, subst, sym, true, ℕ, ◌++◌, ◌+◌, ◌<◌, ◌==◌, ◌∙◌, ◌∷◌, ◌≡◌, ◌≤◌, append-nil}
+use Rattle.osi_honest.proofs.Vocabulary.{length-append, flat_map, IsOctets, packet_of, ArePackets, units_found, units_of, connect_part}
+use Rattle.osi_honest.proofs.Vocabulary.{item_octets, Spells, confirm, data0, disconnected, request, Value, written, written_header}
+use Rattle.osi_honest.proofs.Vocabulary.{TpduFault, Local, packets, Listener, is_wait_transport, Seen, calls_with, terms_error, Holding}
+use Rattle.osi_honest.proofs.Vocabulary.{Request, Capture, other, Told, IsFound, IsHonestIn, IsSentFrom, broke_session, begin_of, heard}
+use Rattle.osi_honest.proofs.Vocabulary.{IsFoundIn, told, between, first_unit, Handshake, met_before, opening, packet_length}
+use Rattle.osi_honest.proofs.Vocabulary.{packets_length, Sent, sent_from, step_of, stops, Direction, Left, Right, Finding, OtherClass}
+use Rattle.osi_honest.proofs.Vocabulary.{AskingTurn, Asks, Idles, IdleTurn, IsAnswered, IsNoData, dt, units_put, IsFresh, IsPrefix, IsSeen}
+use Rattle.osi_honest.proofs.Vocabulary.{PassAfter, put_along, used_along, octets_said, Run, Turn}
+use Rattle.osi_tpdu.specs.Value.{Connect}
 use Rattle.osi_judge.specs.declared.findings.Finding.TheVariants as outcome
-use Rattle.osi_judge.specs.Explaining.{Told}
-use Rattle.osi_judge.specs.Judging.{IsFound}
-use Rattle.osi_judge.specs.Running.{IsHonestIn, IsSentFrom}
-use Rattle.osi_judge.specs.Stops.{broke_session}
-use Rattle.osi_judge.specs.Tapping.{IsFoundIn, begin_of, heard, told}
-use Rattle.osi_judge.specs.Transport.{Handshake, Sent, between, first_unit, met_before, opening, opens, packet_length, packets_length}
-use Rattle.osi_judge.specs.Transport.{sent_from, step_of, stops}
-use Rattle.osi_honest.specs.Openings.{Asks, AskingTurn, Idles, IdleTurn, IsAnswered, IsAway, IsNoData}
+use Rattle.osi_judge.specs.Transport.{opens}
 use Rattle.osi_honest.specs.Openings as turned
-use Rattle.osi_honest.specs.Parts.{dt, units_put}
-use Rattle.osi_honest.specs.Seeing.{IsFresh, IsPrefix, IsSeen, PassAfter, put_along, used_along}
-use Rattle.osi_honest.specs.Stretches.{octets_said}
-use Rattle.osi_honest.specs.Turns.{Run, Turn}
 use Rattle.osi_honest.proofs.opening.how_a_caller_opens.{CanBegin}
 use Rattle.osi_honest.proofs.opening.the_session_of_a_request_is_a_caller.{opens_so}
 use Rattle.osi_honest.proofs.class_0.what_a_packet_does_in_class_0.{AllProper}
@@ -49,11 +23,10 @@ use Rattle.osi_honest.proofs.opening.what_an_idle_end_does.{idle_turn}
 use Rattle.osi_honest.proofs.sessions.what_a_called_end_did.{after_none, did_later}
 use Rattle.osi_honest.proofs.reading.what_is_put_and_taken_is_read.{parts_read}
 use Rattle.osi_honest.proofs.sessions.what_an_end_put_was_caused.{AreCaused, Came, Counts, PassBetween, Spoke, prefix_front, run_spoke}
-use Rattle.osi_honest.proofs.class_0.what_a_call_does_in_class_0.{over_run}
 use Rattle.osi_honest.proofs.sessions.what_an_end_put_was_caused.{then_spoke, turn_caused}
+use Rattle.osi_honest.proofs.class_0.what_a_call_does_in_class_0.{over_run}
 use Rattle.osi_honest.proofs.sessions.what_a_capture_shows_of_an_end.{AreRead, Did, Steadies, Unread, alone, beside, end_is_honest}
-use Rattle.osi_honest.proofs.sessions.what_a_capture_shows_of_an_end.{first_aside}
-use Rattle.osi_honest.proofs.sessions.what_a_capture_shows_of_an_end.{none_of_it, nothing_put, spoke}
+use Rattle.osi_honest.proofs.sessions.what_a_capture_shows_of_an_end.{first_aside, none_of_it, nothing_put, spoke}
 use Rattle.osi_honest.proofs.reading.how_far_the_other_side_had_come.{agrees}
 use Rattle.osi_honest.proofs.reading.what_the_judge_reads_of_a_side.{Begins, Closes, HasNoData, IsSteady, Starts, first_starts, size_put}
 
@@ -61,14 +34,8 @@ use Rattle.osi_honest.proofs.reading.what_the_judge_reads_of_a_side.{Begins, Clo
 
 -- its header has more than two octets
 pub long_header : (v : Value) → IsNoData v → 4 ≤ length (written_header v)
-long_header (request c) other = omega arith
-long_header (confirm destination c) other = omega arith
-long_header (disconnect destination source reason user) other = omega arith
-long_header (disconnected destination source) other = omega arith
 long_header (data0 last octets) other = absurd other
-long_header (data2 destination number last octets) other = omega arith
-long_header (acknowledge credit destination number) other = omega arith
-long_header (error destination cause) other = omega arith
+long_header _ other = omega arith
 
 first_octet : (v : Value) (header octets : List ℕ) → written v ≡ length header ∷ header ++ octets →
     length (written_header v) ≡ length header
@@ -83,20 +50,12 @@ spelled_data v last octets other s =
 
 read_other : (v : Value) (units : Result (List Value) TpduFault) → IsNoData v → IsOctets (written v) →
     units_of (written v) ≡ units → HasNoData (first_unit units)
-read_other v (Err fault) other octets e = tt
-read_other v (Ok []) other octets e = tt
 read_other v (Ok (data0 last user ∷ [])) other octets e =
     absurd (spelled_data v last user other (units_found (written v) (data0 last user ∷ []) octets e))
 read_other v (Ok (data0 last user ∷ w ∷ vs)) other octets e =
     let us = units_found (written v) (data0 last user ∷ w ∷ vs) octets e in
     absurd (let followed : false ≡ true = us.0 in cc)
-read_other v (Ok (request c ∷ vs)) other octets e = tt
-read_other v (Ok (confirm destination c ∷ vs)) other octets e = tt
-read_other v (Ok (disconnect destination source reason user ∷ vs)) other octets e = tt
-read_other v (Ok (disconnected destination source ∷ vs)) other octets e = tt
-read_other v (Ok (data2 destination number last user ∷ vs)) other octets e = tt
-read_other v (Ok (acknowledge credit destination number ∷ vs)) other octets e = tt
-read_other v (Ok (error destination cause ∷ vs)) other octets e = tt
+read_other v _ other octets e = tt
 
 no_data : (v : Value) → IsNoData v → IsOctets (written v) → HasNoData (first_unit (units_of (written v)))
 no_data v other octets = read_other v (units_of (written v)) other octets refl
@@ -214,20 +173,12 @@ code_of_dc destination source c s =
 dc_starts : (destination source : ℕ) (h : Handshake) (units : Result (List Value) TpduFault) →
     IsOctets (written (disconnected destination source)) →
     units_of (written (disconnected destination source)) ≡ units → Starts Left (step_of Left opening h (first_unit units)) → ⊥
-dc_starts destination source h (Err fault) octets e (reference, is) = cc
-dc_starts destination source h (Ok []) octets e (reference, is) = cc
 dc_starts destination source h (Ok (request c ∷ [])) octets e (reference, is) =
     code_of_dc destination source c (units_found (written (disconnected destination source)) (request c ∷ []) octets e)
 dc_starts destination source h (Ok (request c ∷ w ∷ vs)) octets e (reference, is) =
     let us = units_found (written (disconnected destination source)) (request c ∷ w ∷ vs) octets e in
     absurd (let followed : false ≡ true = us.0 in cc)
-dc_starts destination source h (Ok (confirm d c ∷ vs)) octets e (reference, is) = cc
-dc_starts destination source h (Ok (disconnect d s reason user ∷ vs)) octets e (reference, is) = cc
-dc_starts destination source h (Ok (disconnected d s ∷ vs)) octets e (reference, is) = cc
-dc_starts destination source h (Ok (data0 last user ∷ vs)) octets e (reference, is) = cc
-dc_starts destination source h (Ok (data2 d number last user ∷ vs)) octets e (reference, is) = cc
-dc_starts destination source h (Ok (acknowledge credit d number ∷ vs)) octets e (reference, is) = cc
-dc_starts destination source h (Ok (error d cause ∷ vs)) octets e (reference, is) = cc
+dc_starts destination source h _ octets e (reference, is) = cc
 
 dc_closes : (destination source : ℕ) → IsOctets (written (disconnected destination source)) → (h : Handshake) →
     Closes (step_of Left opening h (first_unit (units_of (written (disconnected destination source)))))
@@ -309,7 +260,6 @@ calling_did proper begins local begin end turns capture seen others met back cou
 -- of a side without TSDUs no break is found
 none_found : (begin : Seen) (us : List (List ℕ)) (told : List Told) (finding : Finding) → told ≡ [] → IsFound begin us told finding →
     broke_session finding ≡ false
-none_found begin us told outcome.Kept none f = refl
 none_found begin us told (outcome.Broke i) none f =
     let n = ap (λ (x : List Told). length x) none in
     let l : i < length told = f.0.there in
@@ -318,7 +268,7 @@ none_found begin us told (outcome.Left i) none f =
     let n = ap (λ (x : List Told). length x) none in
     let l : i < length told = f.0 in
     absurd (omega arith)
-none_found begin us told outcome.TooMany none f = refl
+none_found begin us told _ none f = refl
 
 abbrev pub HonestLaw : Type 0
 HonestLaw = (d : Direction) (capture : Capture) (finding : Finding) → IsHonestIn d capture → IsFoundIn d capture finding →

@@ -1,12 +1,10 @@
 -- A capture that shows what a session sent, up to some place, with at least as many TSDUs before each as the session had
 -- taken by then, shows a run of it as the judge has it.
 -- For the laws of an end and its captures.
-use Rattle.std.proofs.Common.{◌≡◌, ◌∙◌, refl, sym, ap, subst, ℕ, ◌+◌, ◌<◌, ◌≤◌, Bool, false, List, [], ◌∷◌, ◌++◌, length, get_or, arith}
-use Rattle.osi_session.specs.Listening.{Listener, after_input, came, react}
-use Rattle.osi_judge.specs.Explaining.{Told}
-use Rattle.osi_judge.specs.Running.{IsSentFrom, Pass, Runs, sends}
+use Rattle.osi_honest.proofs.Vocabulary.{[], ap, arith, Bool, false, get_or, length, List, refl, subst, sym, ℕ, ◌++◌, ◌+◌, ◌<◌, ◌∙◌, ◌∷◌}
+use Rattle.osi_honest.proofs.Vocabulary.{◌≡◌, ◌≤◌, after_input, came, Listener, session_react as react, Told, IsSentFrom, Pass, Runs, sends}
+use Rattle.osi_honest.proofs.Vocabulary.{AreSame, Shows}
 use Rattle.osi_judge.specs.Running as running
-use Rattle.osi_honest.specs.Showing.{AreSame, Shows}
 
 -- ---- how many had been taken
 

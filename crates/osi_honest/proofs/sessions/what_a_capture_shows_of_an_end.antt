@@ -1,32 +1,14 @@
 -- What the judge reads of both sides of a capture of an end is an honest side: what the end put, by what had passed.
 -- For the laws that an end is not blamed.
-use Rattle.std.proofs.Common.{◌≡◌, ◌∙◌, refl, sym, ap, subst, ℕ, ◌+◌, ◌≤◌, inl, inr, Bool, false, List, [], ◌∷◌, ◌++◌}
-use Rattle.std.proofs.Common.{length, map, append_assoc, arith}
-use Rattle.std.proofs.lemmas.List.{get_or_append_left, map-append}
-use Rattle.osi_tpkt.specs.Octets.{IsOctets}
-use Rattle.osi_tpkt.specs.Packet.{packet_of}
-use Rattle.osi_tpkt.specs.Stream.{ArePackets}
-use Rattle.osi_tpdu.specs.Packet.{units_of}
-use Rattle.osi_tpdu.specs.Value.{Value}
-use Rattle.osi_tpdu.specs.Writing.{written}
-use Rattle.osi_class.specs.Tsdus.{Part}
-use Rattle.osi_carrier.specs.State.{packets}
-use Rattle.osi_session.specs.Listening.{Listener}
-use Rattle.osi_judge.specs.declared.directions.Direction.{Direction}
-use Rattle.osi_judge.specs.declared.directions.Direction.TheVariants.{Left, Right}
-use Rattle.osi_judge.specs.Captures.{Capture, other, passed_before, stream}
-use Rattle.osi_judge.specs.Explaining.{Told}
-use Rattle.osi_judge.specs.Running.{IsSentFrom, Runs}
+use Rattle.osi_honest.proofs.Vocabulary.{[], ap, append_assoc, arith, Bool, false, inl, inr, length, List, map, refl, subst, sym, ℕ, ◌++◌}
+use Rattle.osi_honest.proofs.Vocabulary.{◌+◌, ◌∙◌, ◌∷◌, ◌≡◌, ◌≤◌, get_or_append_left, map-append, IsOctets, packet_of, ArePackets, units_of}
+use Rattle.osi_honest.proofs.Vocabulary.{Value, written, Part, packets, Listener, one_reading, packets_of, Capture, other, passed_before}
+use Rattle.osi_honest.proofs.Vocabulary.{stream, Told, IsSentFrom, had_passed, heard, octets_of, told, agreed, ArePacketsOf, between}
+use Rattle.osi_honest.proofs.Vocabulary.{first_unit, Handshake, IsSent, met_before, opening, packet_length, packets_length, Sent, sent_from}
+use Rattle.osi_honest.proofs.Vocabulary.{shaken_first, stage_from, step_of, Direction, Left, Right, dt, units_put, IsPrefix, IsSeen}
+use Rattle.osi_honest.proofs.Vocabulary.{put_along, AreSame, Shows, History, Said, Turn}
 use Rattle.osi_judge.specs.Running as running
-use Rattle.osi_judge.specs.Tapping.{had_passed, heard, octets_of, told}
-use Rattle.osi_judge.specs.Transport.{ArePacketsOf, Handshake, IsSent, Sent, agreed, between, first_unit, met_before, opening}
-use Rattle.osi_judge.specs.Transport.{packet_length, packets_length, sent_from, shaken_first, stage_from, step_of}
-use Rattle.osi_judge.proofs.captured.what_was_found_of_a_capture.{one_reading, packets_of}
-use Rattle.osi_honest.specs.Parts.{dt, units_put}
-use Rattle.osi_honest.specs.Seeing.{IsPrefix, IsSeen, put_along}
-use Rattle.osi_honest.specs.Showing.{AreSame, Shows}
-use Rattle.osi_honest.specs.Talking.{History, Said, told_of}
-use Rattle.osi_honest.specs.Turns.{Turn}
+use Rattle.osi_honest.specs.Talking.{told_of}
 use Rattle.osi_honest.proofs.sessions.a_history_is_a_run.{history_runs, is_sent}
 use Rattle.osi_honest.proofs.sessions.what_a_capture_shows_is_a_run.{shown_sent}
 use Rattle.osi_honest.proofs.reading.two_readings_of_a_stream_agree.{GoesBeyond, first, first_shown, packet_again, packets_on, second}
@@ -35,10 +17,8 @@ use Rattle.osi_honest.proofs.class_0.what_a_turn_does_in_class_0.{all_octets}
 use Rattle.osi_honest.proofs.sessions.what_an_end_put_was_caused.{AreCaused, Counts, Reached, had_passed_by}
 use Rattle.osi_honest.proofs.reading.how_far_the_other_side_had_come.{calm_after, stays_strayed}
 use Rattle.osi_honest.proofs.reading.what_the_judge_reads_of_a_side.{Closes, HasNoData, IsCalm, IsSteady, LieIn, StartsOrCloses}
-use Rattle.osi_honest.proofs.reading.what_the_judge_reads_of_a_side.{StaysStrayed}
-use Rattle.osi_honest.proofs.reading.what_the_judge_reads_of_a_side.{all_lie, all_read, first_starts, lie_later, most_count, none_first}
-use Rattle.osi_honest.proofs.reading.what_the_judge_reads_of_a_side.{none_read}
-use Rattle.osi_honest.proofs.reading.what_the_judge_reads_of_a_side.{none_second, sent_then, size_read}
+use Rattle.osi_honest.proofs.reading.what_the_judge_reads_of_a_side.{StaysStrayed, all_lie, all_read, first_starts, lie_later, most_count}
+use Rattle.osi_honest.proofs.reading.what_the_judge_reads_of_a_side.{none_first, none_read, none_second, sent_then, size_read}
 
 -- ---- what an end did in all
 

@@ -1,27 +1,12 @@
 -- What an end of class 0 put from some turn on, TSDU by TSDU, as the judge reads it: and of each TSDU that the capture
 -- shows, that the TSDUs that the session had taken before it had passed before it.
 -- For what a capture shows of an end.
-use Rattle.std.proofs.Common.{◌≡◌, ◌∙◌, refl, sym, ap, subst, ℕ, ◌+◌, ◌<◌, ◌≤◌, Bool, false, List, [], ◌∷◌, ◌++◌, length, map, None}
-use Rattle.std.proofs.Common.{append_assoc, arith}
-use Rattle.std.proofs.lemmas.List.{append-nil, length-append, map-append}
-use Rattle.osi_tpkt.specs.Stream.{ArePackets, Cuts, Ending}
-use Rattle.osi_class.specs.Tsdus.{Part}
-use Rattle.osi_carrier.specs.State.{packets}
-use Rattle.osi_session.specs.Listening.{Listener}
-use Rattle.osi_stack.specs.Messages.{AreShort}
-use Rattle.osi_stack.specs.State.{Holding}
-use Rattle.osi_judge.specs.declared.directions.Direction.{Direction}
-use Rattle.osi_judge.specs.Captures.{Capture, other, passed_before, stream}
-use Rattle.osi_judge.specs.Tapping.{had_passed, octets_of}
-use Rattle.osi_judge.specs.Transport.{Handshake, Sent, between, opening, packets_length, packet_length, sent_from, stage_from}
-use Rattle.osi_judge.proofs.captured.a_capture_goes_on.{passed_within}
-use Rattle.osi_honest.specs.Parts.{Carry, dt, units_put}
-use Rattle.osi_honest.specs.Reading.{between_two}
-use Rattle.osi_honest.specs.Seeing.{IsPrefix, PassAfter, put_along, used_along}
-use Rattle.osi_honest.specs.Stretches.{AllSaidBy, Brings, Stands, octets_said}
-use Rattle.osi_honest.specs.Stretches.Stands.{gone, talking}
-use Rattle.osi_honest.specs.Talking.{History, Said}
-use Rattle.osi_honest.specs.Turns.{Run, Turn}
+use Rattle.osi_honest.proofs.Vocabulary.{[], ap, append_assoc, arith, Bool, false, length, List, map, None, refl, subst, sym, ℕ, ◌++◌, ◌+◌}
+use Rattle.osi_honest.proofs.Vocabulary.{◌<◌, ◌∙◌, ◌∷◌, ◌≡◌, ◌≤◌, append-nil, length-append, map-append, ArePackets, Cuts, Ending, Part}
+use Rattle.osi_honest.proofs.Vocabulary.{packets, Listener, AreShort, Holding, passed_within, Capture, other, passed_before, stream}
+use Rattle.osi_honest.proofs.Vocabulary.{had_passed, octets_of, between, Handshake, opening, packet_length, packets_length, Sent, sent_from}
+use Rattle.osi_honest.proofs.Vocabulary.{stage_from, Direction, Carry, dt, units_put, between_two, IsPrefix, PassAfter, put_along}
+use Rattle.osi_honest.proofs.Vocabulary.{used_along, AllSaidBy, Brings, octets_said, Stands, gone, talking, History, Said, Run, Turn}
 use Rattle.osi_honest.proofs.class_0.what_a_packet_does_in_class_0.{AllProper}
 use Rattle.osi_honest.proofs.class_0.what_a_call_does_in_class_0.{over_run, turn_goes}
 use Rattle.osi_honest.proofs.class_0.what_class_0_writes_of_a_tsdu.{packets_joined}

@@ -1,24 +1,15 @@
 -- If the judge blames neither the session nor the transport of an end in any capture of it, it never says that this side broke the
 -- protocol first.
 -- For the laws that an end is never blamed.
-use Rattle.std.proofs.Common.{◌≡◌, ◌∙◌, refl, sym, ap, subst, ℕ, zero, suc, ◌+◌, ◌<◌, ◌≤◌, ◌||◌, Bool, true, false, List, [], ◌∷◌, ◌++◌}
-use Rattle.std.proofs.Common.{length, Option, Some, None, option_map, append_assoc, arith}
-use Rattle.std.proofs.lemmas.List.{length-append}
+use Rattle.osi_honest.proofs.Vocabulary.{[], ap, append_assoc, arith, Bool, false, length, List, None, Option, option_map, refl, Some}
+use Rattle.osi_honest.proofs.Vocabulary.{subst, suc, sym, true, zero, ℕ, ◌++◌, ◌+◌, ◌<◌, ◌||◌, ◌∙◌, ◌∷◌, ◌≡◌, ◌≤◌, length-append, Ending}
+use Rattle.osi_honest.proofs.Vocabulary.{offset_of, Faulty, Rest, Local, Holding, Capture, of, other, own, passed_before, stream}
+use Rattle.osi_honest.proofs.Vocabulary.{broke_session, FirstBreak, IsFirstIn, IsFoundIn, IsStoppedIn, or_hasty, StandsIn, stop_in}
+use Rattle.osi_honest.proofs.Vocabulary.{met_before, opening, Stage, stage_from, stopped, Direction, Left, Right, Finding, Stopped}
+use Rattle.osi_honest.proofs.Vocabulary.{EndsWithin, IsFresh, IsPrefix, IsSeen, PassAfter, put_along, Run, Turn}
 use Rattle.std.proofs.lemmas.List.Concat.{flat_map-append}
-use Rattle.osi_tpkt.specs.Stream.{Ending, offset_of}
-use Rattle.osi_tpkt.specs.Stream.Ending.{Faulty, Rest}
-use Rattle.osi_judge.specs.declared.directions.Direction.{Direction}
-use Rattle.osi_judge.specs.declared.directions.Direction.TheVariants.{Left, Right}
-use Rattle.osi_judge.specs.declared.findings.Finding.{Finding}
-use Rattle.osi_judge.specs.declared.stops.Stopped.{Stopped}
-use Rattle.osi_judge.specs.Captures.{Capture, of, other, own, passed_before, stream}
-use Rattle.osi_judge.specs.Stops.{breaks, broke_session}
-use Rattle.osi_judge.specs.Tapping.{FirstBreak, IsFirstIn, IsFoundIn, IsStoppedIn, StandsIn, or_hasty, stop_in}
-use Rattle.osi_judge.specs.Transport.{Stage, asking, between, met_before, opening, refused, stage_from, stopped, within}
-use Rattle.osi_class.specs.declared.terms.Local.{Local}
-use Rattle.osi_stack.specs.State.{Holding}
-use Rattle.osi_honest.specs.Seeing.{EndsWithin, IsFresh, IsPrefix, IsSeen, PassAfter, put_along}
-use Rattle.osi_honest.specs.Turns.{Run, Turn}
+use Rattle.osi_judge.specs.Stops.{breaks}
+use Rattle.osi_judge.specs.Transport.{refused}
 use Rattle.osi_honest.proofs.transport.when_the_judge_blames_no_transport.{IsClear, IsInnocent}
 
 -- ---- the transport
@@ -27,13 +18,9 @@ stop_by : (stage : Stage) (ending : Ending) → IsInnocent stage → EndsWithin 
 stop_by (stopped stop at) ending innocent ends = innocent
 stop_by (refused at) ending innocent ends = refl
 stop_by opening (Rest n) innocent ends = refl
-stop_by asking (Rest n) innocent ends = refl
-stop_by between (Rest n) innocent ends = refl
-stop_by (within first octets) (Rest n) innocent ends = refl
+stop_by _ (Rest n) innocent ends = refl
 stop_by opening (Faulty fault) innocent ends = absurd ends
-stop_by asking (Faulty fault) innocent ends = absurd ends
-stop_by between (Faulty fault) innocent ends = absurd ends
-stop_by (within first octets) (Faulty fault) innocent ends = absurd ends
+stop_by _ (Faulty fault) innocent ends = absurd ends
 
 -- no break is found in its packets, and it puts packets
 pub clear_stop : (d : Direction) (capture : Capture) (stop : Option Stopped) (s : IsStoppedIn d capture stop) →

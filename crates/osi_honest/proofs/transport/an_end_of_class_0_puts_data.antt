@@ -1,27 +1,15 @@
 -- Once class 0 holds, a carrier puts nothing but DTs of class 0, whatever arrives.
 -- For what the transport of a calling end puts.
-use Rattle.std.proofs.Common.{◌≡◌, ◌∙◌, refl, sym, ap, subst, ℕ, Bool, true, false, if◌then◌else◌, List, [], ◌∷◌, ◌++◌}
-use Rattle.std.proofs.Common.{Option, Some, None, is_some, IsSome, Result, Ok, Err, inl, inr, ◌⊎◌, append_assoc}
-use Rattle.std.specs.List.{AllByRecursion}
-use Rattle.osi_tpdu.specs.Packet.{units_of}
-use Rattle.osi_tpdu.specs.Value.{Value, acknowledge, confirm, data0, data2, disconnect, disconnected, error, request}
-use Rattle.osi_tpdu.specs.declared.faults.TpduFault.{TpduFault}
-use Rattle.osi_class.specs.Link.{Standing, taken, with_tsdu}
-use Rattle.osi_class.specs.declared.faults.LinkFault.{LinkFault}
-use Rattle.osi_class.specs.declared.terms.Class.{Class}
-use Rattle.osi_class.specs.declared.terms.Class.TheVariants.{Zero}
-use Rattle.osi_carrier.specs.Calls.{closed_on, closes, link_of, open_link, sent_on}
-use Rattle.osi_carrier.specs.Happenings.{Happening}
+use Rattle.osi_honest.proofs.Vocabulary.{[], ap, append_assoc, Bool, Err, false, if◌then◌else◌, inl, inr, is_some, IsSome, List, None, Ok}
+use Rattle.osi_honest.proofs.Vocabulary.{Option, refl, Result, Some, subst, sym, true, ℕ, ◌++◌, ◌∙◌, ◌∷◌, ◌≡◌, ◌⊎◌, AllByRecursion}
+use Rattle.osi_honest.proofs.Vocabulary.{units_of, disconnect, request, Value, TpduFault, Standing, taken, with_tsdu, LinkFault, Class}
+use Rattle.osi_honest.proofs.Vocabulary.{Zero, react_quiet, reacts_over, closed_on, closes, link_of, open_link, sent_on, Happening, pumped}
+use Rattle.osi_honest.proofs.Vocabulary.{written_by, handed_out, in_class, in_zero, leaves, pumps, reacts, settles, taking, to_linked}
+use Rattle.osi_honest.proofs.Vocabulary.{to_only, put, Rows, value_at, asked, closing, Connection, linked, packets, State as Carrier}
+use Rattle.osi_honest.proofs.Vocabulary.{EndReason, Carries}
 use Rattle.osi_carrier.specs.Packets as carriers
-use Rattle.osi_carrier.specs.Pump.{pumped, written_by}
-use Rattle.osi_carrier.specs.React.{breaks, handed_out, in_class, in_zero, leaves, pumps, react, reacts, settles, taking, to_linked}
-use Rattle.osi_carrier.specs.React.{to_only}
-use Rattle.osi_carrier.specs.Rows.{Rows, put, value_at}
-use Rattle.osi_carrier.specs.State.{Connection, State as Carrier, asked, closing, linked, packets}
+use Rattle.osi_carrier.specs.React.{breaks, react}
 use Rattle.osi_carrier.specs.State as states
-use Rattle.osi_carrier.specs.declared.ends.EndReason.{EndReason}
-use Rattle.osi_carrier.proofs.effects.units_one_after_the_other.{react_quiet, reacts_over}
-use Rattle.osi_stack.proofs.carried.what_each_step_preserves.{Carries}
 use Rattle.osi_honest.proofs.reading.what_a_link_gives_can_be_written.{IsData, gives_data, taken_zero}
 use Rattle.osi_honest.proofs.class_0.what_class_0_writes_of_a_tsdu.{packets_joined}
 use Rattle.osi_honest.proofs.keeping.what_holds_of_each_connection_stays.{AllRows, row_at, row_put}
@@ -29,9 +17,8 @@ use Rattle.osi_honest.proofs.keeping.what_holds_of_each_connection_stays.{AllRow
 -- ---- rows of links of class 0
 
 abbrev IsZeroRow : Connection → Type 0
-IsZeroRow asked = ⊥
 IsZeroRow (linked peer link) = link.flow ≡ None
-IsZeroRow (closing peer) = ⊥
+IsZeroRow _ = ⊥
 
 abbrev pub AreZero : Rows Connection → Type 0
 AreZero rows = AllRows IsZeroRow rows
@@ -85,15 +72,7 @@ module _ (octets : List ℕ) where
     linked_data : (r peer : ℕ) (link : Standing) (unit : Value) → link.flow ≡ None → PutsData octets (to_linked r peer link unit c)
     linked_data r peer link (disconnect destination source reason user) none =
         subst (λ (x : Option Class). PutsData octets (leaves r peer reason x c)) (sym class) (data_over c _ p refl refl)
-    linked_data r peer link (request cr) none = taking_data r peer link (request cr) _ none refl
-    linked_data r peer link (confirm destination cr) none = taking_data r peer link (confirm destination cr) _ none refl
-    linked_data r peer link (disconnected destination source) none = taking_data r peer link (disconnected destination source) _ none refl
-    linked_data r peer link (data0 end user) none = taking_data r peer link (data0 end user) _ none refl
-    linked_data r peer link (data2 destination number end user) none =
-        taking_data r peer link (data2 destination number end user) _ none refl
-    linked_data r peer link (acknowledge credit destination number) none =
-        taking_data r peer link (acknowledge credit destination number) _ none refl
-    linked_data r peer link (error destination cause) none = taking_data r peer link (error destination cause) _ none refl
+    linked_data r peer link v none = taking_data r peer link v _ none refl
 
     only_data : (rows : Rows Connection) (unit : Value) → AreZero rows → PutsData octets (to_only rows unit c)
     only_data [] unit all = p
@@ -113,20 +92,16 @@ module _ (octets : List ℕ) where
     sent_data : (r : ℕ) (tsdu : List ℕ) (over : Bool) (at : Option Connection) → ((x : Connection) → at ≡ Some x → IsZeroRow x) →
         PutsData octets (sent_on r tsdu (if over then None else link_of at) c)
     sent_data r tsdu true at here = p
-    sent_data r tsdu false None here = p
-    sent_data r tsdu false (Some asked) here = p
     sent_data r tsdu false (Some (linked peer link)) here =
         pumps_data r peer (with_tsdu link tsdu) (pumps r peer (with_tsdu link tsdu) c) (here (linked peer link) refl) refl refl refl
-    sent_data r tsdu false (Some (closing peer)) here = p
+    sent_data r tsdu false _ here = p
 
     closed_data : (r : ℕ) (over : Bool) (at : Option Connection) →
         PutsData octets (closed_on r 128 (if over then None else link_of at) c)
     closed_data r true at = p
-    closed_data r false None = p
-    closed_data r false (Some asked) = p
     closed_data r false (Some (linked peer link)) =
         subst (λ (x : Option Class). PutsData octets (closes r peer 128 x c)) (sym class) (data_over c _ p refl refl)
-    closed_data r false (Some (closing peer)) = p
+    closed_data r false _ = p
 
   -- ---- whatever arrives
 

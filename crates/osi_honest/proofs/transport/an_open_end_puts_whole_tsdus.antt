@@ -1,24 +1,13 @@
 -- From the time at which its connection is open in class 0, an end puts whole TSDUs and nothing else: after what it put, the judge
 -- stands between two TSDUs.
 -- For what the transport of an end puts.
-use Rattle.std.proofs.Common.{◌≡◌, ◌∙◌, refl, sym, ap, ℕ, ◌+◌, List, [], ◌∷◌, ◌++◌, map, append_assoc, arith}
-use Rattle.std.proofs.lemmas.List.{map-append}
-use Rattle.osi_class.specs.Tsdus.{Part}
-use Rattle.osi_carrier.specs.State.{packets}
-use Rattle.osi_session.specs.Listening.{Listener}
-use Rattle.osi_stack.specs.State.{Holding}
-use Rattle.osi_judge.specs.declared.directions.Direction.{Direction}
-use Rattle.osi_judge.specs.Transport.{Handshake, Stage, between, packet_length, packets_length, stage_behind, stage_from}
-use Rattle.osi_honest.specs.Parts.{dt, units_put}
-use Rattle.osi_honest.specs.Seeing.{put_along}
-use Rattle.osi_honest.specs.Stretches.{Stands, octets_said}
-use Rattle.osi_honest.specs.Stretches.Stands.{gone, talking}
-use Rattle.osi_honest.specs.Talking.{Said}
-use Rattle.osi_honest.specs.Turns.{Run, Turn}
-use Rattle.osi_honest.proofs.class_0.what_a_call_does_in_class_0.{turn_goes}
+use Rattle.osi_honest.proofs.Vocabulary.{[], ap, append_assoc, arith, List, map, refl, sym, ℕ, ◌++◌, ◌+◌, ◌∙◌, ◌∷◌, ◌≡◌, map-append, Part}
+use Rattle.osi_honest.proofs.Vocabulary.{packets, Listener, Holding, between, Handshake, packet_length, packets_length, Stage, stage_behind}
+use Rattle.osi_honest.proofs.Vocabulary.{stage_from, Direction, dt, units_put, put_along, octets_said, Stands, gone, talking, Said, Run}
+use Rattle.osi_honest.proofs.Vocabulary.{Turn}
+use Rattle.osi_honest.proofs.class_0.what_a_call_does_in_class_0.{turn_goes, over_run}
 use Rattle.osi_honest.proofs.class_0.what_a_packet_does_in_class_0.{AllProper}
 use Rattle.osi_honest.proofs.class_0.what_class_0_writes_of_a_tsdu.{packets_joined}
-use Rattle.osi_honest.proofs.class_0.what_a_call_does_in_class_0.{over_run}
 use Rattle.osi_honest.proofs.reading.what_is_put_and_taken_is_read.{parts_read}
 
 -- after these parts the judge stands between two TSDUs

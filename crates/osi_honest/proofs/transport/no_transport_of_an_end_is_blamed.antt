@@ -1,20 +1,9 @@
 -- The judge blames the transport of no end, called or calling, in no capture of it.
 -- For the laws that an end is never blamed.
-use Rattle.std.proofs.Common.{◌≡◌, sym, ap, subst, refl, ℕ, ◌+◌, ◌≤◌, false, true, List, [], length, Option, None, arith}
-use Rattle.std.proofs.lemmas.List.{length-append}
-use Rattle.osi_class.specs.declared.terms.Local.{Local}
-use Rattle.osi_stack.specs.Calls.{calls_with, terms_error}
-use Rattle.osi_stack.specs.State.{Holding}
-use Rattle.osi_stack.specs.declared.connecting.Connect.{Connect as Request}
-use Rattle.osi_judge.specs.declared.directions.Direction.{Direction}
-use Rattle.osi_judge.specs.declared.directions.Direction.TheVariants.{Left, Right}
-use Rattle.osi_judge.specs.declared.stops.Stopped.{Stopped}
-use Rattle.osi_judge.specs.Captures.{Capture, stream}
+use Rattle.osi_honest.proofs.Vocabulary.{[], ap, arith, false, length, List, None, Option, refl, subst, sym, true, ℕ, ◌+◌, ◌≡◌, ◌≤◌}
+use Rattle.osi_honest.proofs.Vocabulary.{length-append, Local, calls_with, terms_error, Holding, Request, Capture, stream, IsStoppedIn}
+use Rattle.osi_honest.proofs.Vocabulary.{Direction, Left, Right, Stopped, Idles, Waits, IsFresh, IsSeen, put_along, Run, Turn}
 use Rattle.osi_judge.specs.Stops.{breaks}
-use Rattle.osi_judge.specs.Tapping.{IsStoppedIn}
-use Rattle.osi_honest.specs.Openings.{Idles, Waits}
-use Rattle.osi_honest.specs.Seeing.{IsFresh, IsSeen, put_along}
-use Rattle.osi_honest.specs.Turns.{Run, Turn}
 use Rattle.osi_honest.proofs.reading.all_that_an_end_puts_can_be_read.{run_to_read}
 use Rattle.osi_honest.proofs.transport.an_end_is_never_blamed.{clear_stop}
 use Rattle.osi_honest.proofs.opening.how_a_caller_opens.{CanBegin}

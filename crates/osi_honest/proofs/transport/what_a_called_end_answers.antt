@@ -1,43 +1,26 @@
 -- What a called end puts in answer to CRs: a CC, alone, or of class 2 and then anything, or of class 0 and then TSDUs; or a DR, and
 -- after it nothing but what comes after a second CR.
 -- For the law that a called end is never blamed.
-use Rattle.std.proofs.Common.{◌≡◌, ◌∙◌, refl, sym, ap, subst, ℕ, ◌+◌, ◌<◌, ◌⊎◌, inl, inr, Bool, true, false, if◌then◌else◌, not}
-use Rattle.std.proofs.Common.{List, [], ◌∷◌, ◌++◌, Option, Some, None, is_some, option_map, Result, Ok, Err}
-use Rattle.std.proofs.Common.{arith}
-use Rattle.osi_tpkt.specs.Octets.{IsOctets}
-use Rattle.osi_tpdu.specs.Limits.{tsap_octets}
-use Rattle.osi_tpdu.specs.Packet.{AreUnits, units_of}
-use Rattle.osi_tpdu.specs.Value.{Connect, Value, acknowledge, confirm, data0, data2, disconnect, disconnected, error, may_be_followed}
-use Rattle.osi_tpdu.specs.Value.{request}
-use Rattle.osi_tpdu.specs.declared.faults.TpduFault.{TpduFault}
-use Rattle.osi_tpdu.proofs.the_units_of_a_packet.{units_found}
-use Rattle.osi_class.specs.Link.{Standing}
-use Rattle.osi_class.specs.Negotiation.{Selection, accept, refuse, selected_by}
-use Rattle.osi_class.specs.declared.terms.Class.{Class}
-use Rattle.osi_class.specs.declared.terms.Class.TheVariants.{Two, Zero}
-use Rattle.osi_carrier.specs.Calls.{asks, closed_on, link_of, may_connect, open_link, sent_on}
-use Rattle.osi_carrier.specs.Happenings.{Happening}
-use Rattle.osi_carrier.specs.Negotiation.{acceptance, proposal}
+use Rattle.osi_honest.proofs.Vocabulary.{[], ap, arith, Bool, Err, false, if◌then◌else◌, inl, inr, is_some, List, None, not, Ok, Option}
+use Rattle.osi_honest.proofs.Vocabulary.{option_map, refl, Result, Some, subst, sym, true, ℕ, ◌++◌, ◌+◌, ◌<◌, ◌∙◌, ◌∷◌, ◌≡◌, ◌⊎◌, IsOctets}
+use Rattle.osi_honest.proofs.Vocabulary.{units_found, tsap_octets, AreUnits, units_of, confirm, disconnect, may_be_followed, request, Value}
+use Rattle.osi_honest.proofs.Vocabulary.{TpduFault, Standing, accept, refuse, selected_by, Selection, Class, Two, Zero, react_quiet}
+use Rattle.osi_honest.proofs.Vocabulary.{reacts_over, closed_on, link_of, may_connect, open_link, sent_on, Happening, acceptance, proposal}
+use Rattle.osi_honest.proofs.Vocabulary.{answers, before_class, denies, has_peer, in_class, is_full, reacts, Rows, value_at, Connection}
+use Rattle.osi_honest.proofs.Vocabulary.{packets, State as Carrier, EndReason, NoMemory, OpenError, NotCaller, End, asked_again, first_unit}
+use Rattle.osi_honest.proofs.Vocabulary.{Handshake, handshake_from, is_request, shaken, silent, Waits}
+use Rattle.osi_tpdu.specs.Value.{Connect}
+use Rattle.osi_carrier.specs.Calls.{asks}
 use Rattle.osi_carrier.specs.Packets as carriers
-use Rattle.osi_carrier.specs.React.{answers, before_class, denies, has_peer, in_class, is_full, react, reacts}
-use Rattle.osi_carrier.specs.Rows.{Rows, value_at}
-use Rattle.osi_carrier.specs.State.{Connection, State as Carrier, packets}
+use Rattle.osi_carrier.specs.React.{react}
 use Rattle.osi_carrier.specs.State as states
-use Rattle.osi_carrier.specs.declared.ends.EndReason.{EndReason}
-use Rattle.osi_carrier.specs.declared.ends.EndReason.TheVariants.{NoMemory}
-use Rattle.osi_carrier.specs.declared.faults.OpenError.{OpenError}
-use Rattle.osi_carrier.specs.declared.faults.OpenError.TheVariants.{NotCaller}
-use Rattle.osi_carrier.proofs.effects.units_one_after_the_other.{react_quiet, reacts_over}
-use Rattle.osi_judge.specs.Transport.{Handshake, asked, asked_again, first_unit, handshake_from, is_request, shaken, silent}
-use Rattle.osi_stack.specs.State.{End}
-use Rattle.osi_honest.specs.Openings.{Waits}
+use Rattle.osi_judge.specs.Transport.{asked}
 use Rattle.osi_honest.proofs.class_0.what_a_packet_does_in_class_0.{Over, alone, over_carries}
 use Rattle.osi_honest.proofs.opening.what_a_shortage_leaves_at_a_waiting_end.{never_empty}
 use Rattle.osi_honest.proofs.keeping.what_each_packet_keeps_a_turn_keeps.{AsksToo, IsTracked}
 use Rattle.osi_honest.proofs.transport.what_had_passed_goes_on.{IsLost}
 use Rattle.osi_honest.proofs.transport.what_is_put_after_one_packet.{Settles, ahead_packet, ahead_shortage, lost_more, over_asks_nothing}
-use Rattle.osi_honest.proofs.transport.what_is_put_after_one_packet.{over_packet}
-use Rattle.osi_honest.proofs.transport.what_is_put_after_one_packet.{over_shortage, put_more, put_now}
+use Rattle.osi_honest.proofs.transport.what_is_put_after_one_packet.{over_packet, over_shortage, put_more, put_now}
 use Rattle.osi_honest.proofs.keeping.what_was_put_stays_in_front.{Ahead, ahead_kept}
 
 -- ---- a carrier that waits for a CR
@@ -85,13 +68,7 @@ module _ (c : Carrier) (idle : IsIdle c) where
 
   called_first : (v : Value) → AnsweredUnit v c (before_class false v c)
   called_first (request cr) = by_room cr (has_peer cr.source c.live) (is_full c)
-  called_first (confirm destination cr) = over_it (refl, refl)
-  called_first (disconnect destination source reason user) = over_it (refl, refl)
-  called_first (disconnected destination source) = over_it (refl, refl)
-  called_first (data0 end octets) = over_it (refl, refl)
-  called_first (data2 destination number end octets) = over_it (refl, refl)
-  called_first (acknowledge credit destination number) = over_it (refl, refl)
-  called_first (error destination cause) = over_it (refl, refl)
+  called_first _ = over_it (refl, refl)
 
   unit_answered : (v : Value) → AnsweredUnit v c (react v c)
   unit_answered v =
@@ -175,15 +152,7 @@ asked_first u is = by (first_unit (units_of u)) is
   where
     by : (unit : Result (Option Value) TpduFault) → is_request unit ≡ true → shaken silent unit ≡ asked
     by (Ok (Some (request c))) is = refl
-    by (Ok (Some (confirm destination c))) is = absurd (cc)
-    by (Ok (Some (disconnect destination source reason user))) is = absurd (cc)
-    by (Ok (Some (disconnected destination source))) is = absurd (cc)
-    by (Ok (Some (data0 end octets))) is = absurd (cc)
-    by (Ok (Some (data2 destination number end octets))) is = absurd (cc)
-    by (Ok (Some (acknowledge credit destination number))) is = absurd (cc)
-    by (Ok (Some (error destination cause))) is = absurd (cc)
-    by (Ok None) is = absurd (cc)
-    by (Err fault) is = absurd (cc)
+    by _ is = absurd (cc)
 
 asked_twice : (u next : List ℕ) → is_request (first_unit (units_of u)) ≡ true → is_request (first_unit (units_of next)) ≡ true →
     IsLost (handshake_from silent (u ∷ next ∷ []))

@@ -1,36 +1,20 @@
 -- What a called end puts in all, turn by turn, and that the judge blames no transport for it.
 -- For the law that a called end is never blamed.
-use Rattle.std.proofs.Common.{◌≡◌, ◌∙◌, refl, sym, ap, subst, ℕ, ◌+◌, ◌*◌, ◌==◌, ◌<◌, ◌≤◌, ◌⊎◌, inl, inr, Bool, true, false}
-use Rattle.std.proofs.Common.{if◌then◌else◌, List, [], ◌∷◌}
-use Rattle.std.proofs.Common.{◌++◌, length, map, Some, is_some, IsSome, Ok, append_assoc, arith}
-use Rattle.std.specs.List.{AllByRecursion}
-use Rattle.std.proofs.lemmas.Bool.{eq-eqb, eqb-true}
-use Rattle.std.proofs.lemmas.List.{append-nil, append_cancel_left, length-append}
-use Rattle.osi_tpkt.specs.Octets.{IsOctets}
-use Rattle.osi_tpkt.specs.Packet.{packet_of}
-use Rattle.osi_tpkt.specs.Stream.{ArePackets, Cuts, Ending}
-use Rattle.osi_tpdu.specs.Packet.{units_of}
-use Rattle.osi_tpdu.specs.Value.{Connect, Value, acknowledge, confirm, data0, data2, disconnect, disconnected, error, request}
-use Rattle.osi_tpdu.specs.Writing.{written}
-use Rattle.osi_class.specs.Tsdus.{Part}
-use Rattle.osi_class.specs.declared.terms.Class.TheVariants.{Zero}
-use Rattle.osi_carrier.specs.Negotiation.{acceptance}
-use Rattle.osi_carrier.specs.State.{State as Carrier, packets}
-use Rattle.osi_session.specs.Sessions.{awaits}
-use Rattle.osi_stack.specs.State.{Holding}
-use Rattle.osi_judge.specs.declared.directions.Direction.TheVariants.{Left, Right}
-use Rattle.osi_judge.specs.Captures.{Capture, other, stream}
-use Rattle.osi_judge.specs.Transport.{Handshake, agreed, asked, asked_again, astray, between, denied, first_unit, handshake_from, has_asked}
-use Rattle.osi_judge.specs.Transport.{is_request, met_before, opening, packet_length, silent, stage_from}
-use Rattle.osi_honest.specs.Openings.{IsOtherAnswer, Opens, Waits, WaitingTurn}
+use Rattle.osi_honest.proofs.Vocabulary.{[], ap, append_assoc, arith, Bool, false, if◌then◌else◌, inl, inr, is_some, IsSome, length, List}
+use Rattle.osi_honest.proofs.Vocabulary.{map, Ok, refl, Some, subst, sym, true, ℕ, ◌*◌, ◌++◌, ◌+◌, ◌<◌, ◌==◌, ◌∙◌, ◌∷◌, ◌≡◌, ◌≤◌, ◌⊎◌}
+use Rattle.osi_honest.proofs.Vocabulary.{eq-eqb, eqb-true, append-nil, append_cancel_left, length-append, AllByRecursion, IsOctets}
+use Rattle.osi_honest.proofs.Vocabulary.{packet_of, ArePackets, Cuts, Ending, units_of, acknowledge, confirm, disconnect, disconnected}
+use Rattle.osi_honest.proofs.Vocabulary.{error, request, Value, written, Part, Zero, acceptance, packets, State as Carrier, awaits, Holding}
+use Rattle.osi_honest.proofs.Vocabulary.{Capture, other, stream, agreed, asked_again, astray, between, denied, first_unit, Handshake}
+use Rattle.osi_honest.proofs.Vocabulary.{handshake_from, has_asked, is_request, met_before, opening, packet_length, silent, stage_from}
+use Rattle.osi_honest.proofs.Vocabulary.{Left, Right, IsOtherAnswer, WaitingTurn, Waits, dt, IsPrefix, PassAfter, put_along, used_along}
+use Rattle.osi_honest.proofs.Vocabulary.{octets_said, Run, Turn, CanBeWritten, IsPlain, data0, data2}
+use Rattle.osi_tpdu.specs.Value.{Connect}
+use Rattle.osi_judge.specs.Transport.{asked}
 use Rattle.osi_honest.specs.Openings as turned
-use Rattle.osi_honest.specs.Parts.{dt}
-use Rattle.osi_honest.specs.Seeing.{IsPrefix, PassAfter, put_along, used_along}
-use Rattle.osi_honest.specs.Stretches.{octets_said}
-use Rattle.osi_honest.specs.Turns.{Run, Turn}
-use Rattle.osi_honest.specs.Writable.{CanBeWritten, IsPlain}
 use Rattle.osi_honest.proofs.reading.all_that_an_end_puts_can_be_read.{ArePutToRead, all_one_unit}
-use Rattle.osi_honest.proofs.transport.when_the_judge_blames_no_transport.{are_read}
+use Rattle.osi_honest.proofs.transport.when_the_judge_blames_no_transport.{are_read, IsClear, KnownBefore, denies_clear, none_clear}
+use Rattle.osi_honest.proofs.transport.when_the_judge_blames_no_transport.{other_clear, speaks_clear}
 use Rattle.osi_honest.proofs.transport.an_open_end_puts_whole_tsdus.{AreWhole, run_speaks, speaks_then, whole_more}
 use Rattle.osi_honest.proofs.reading.two_readings_of_a_stream_agree.{first_shown, shown_packets}
 use Rattle.osi_honest.proofs.transport.what_a_called_end_answers.{CalledPut, IsIdle, called_asks, called_tracked, idle_settles, refusal}
@@ -43,16 +27,13 @@ use Rattle.osi_honest.proofs.class_0.what_a_turn_does_in_class_0.{all_octets}
 use Rattle.osi_honest.proofs.opening.what_a_waiting_end_does.{turn_waits}
 use Rattle.osi_honest.proofs.opening.what_an_end_without_class_0_puts.{put_first}
 use Rattle.osi_honest.proofs.keeping.what_each_packet_keeps_a_turn_keeps.{Tracks, turn_tracked}
-use Rattle.osi_honest.proofs.transport.what_had_passed_goes_on.{GoesOn, IsBeyond, IsLost, lost_beyond, met_after}
-use Rattle.osi_honest.proofs.transport.what_had_passed_goes_on.{met_goes_on, passed_by}
+use Rattle.osi_honest.proofs.transport.what_had_passed_goes_on.{GoesOn, IsBeyond, IsLost, lost_beyond, met_after, met_goes_on, passed_by}
 use Rattle.osi_honest.proofs.reading.what_the_judge_reads_of_a_side.{size_read}
-use Rattle.osi_honest.proofs.transport.what_is_put_after_one_packet.{AfterOne, lost_then, never_none, none_put_in, one_run}
-use Rattle.osi_honest.proofs.transport.what_is_put_after_one_packet.{requests, silence}
+use Rattle.osi_honest.proofs.transport.what_is_put_after_one_packet.{AfterOne, lost_then, never_none, none_put_in, one_run, requests}
+use Rattle.osi_honest.proofs.transport.what_is_put_after_one_packet.{silence}
 use Rattle.osi_honest.proofs.class_0.what_a_call_does_in_class_0.{over_run}
 use Rattle.osi_honest.proofs.reading.what_is_put_and_taken_is_read.{parts_read}
 use Rattle.osi_honest.proofs.reading.what_is_written_is_read_again.{read_again}
-use Rattle.osi_honest.proofs.transport.when_the_judge_blames_no_transport.{IsClear, KnownBefore, denies_clear}
-use Rattle.osi_honest.proofs.transport.when_the_judge_blames_no_transport.{none_clear, other_clear, speaks_clear}
 
 -- ---- what it put
 

@@ -1,35 +1,20 @@
 -- What a calling end puts after its CR: nothing, until a packet comes; DTs alone, if it was a CC of class 0; a DC, if it was a DR for
 -- another reference; or, if the other side has strayed, anything.
 -- For the law that a calling end is never blamed.
-use Rattle.std.proofs.Common.{◌≡◌, ◌∙◌, refl, sym, ap, subst, ℕ, ◌==◌, ◌&&◌, ◌⊎◌, inl, inr, Bool, true, false, if◌then◌else◌, not}
-use Rattle.std.proofs.Common.{List, [], ◌∷◌, ◌++◌, Option, Some, None, is_some, IsSome, Result, Ok, Err}
-use Rattle.std.proofs.lemmas.Bool.{eq-eqb, eqb-true}
-use Rattle.std.proofs.lemmas.List.{append-nil}
-use Rattle.osi_tpkt.specs.Octets.{IsOctets}
-use Rattle.osi_tpdu.specs.Packet.{AreUnits, units_of}
-use Rattle.osi_tpdu.specs.Value.{Connect, Value, acknowledge, confirm, data0, data2, disconnect, disconnected, error}
-use Rattle.osi_tpdu.specs.Value.{request}
-use Rattle.osi_tpdu.specs.declared.faults.TpduFault.{TpduFault}
-use Rattle.osi_tpdu.proofs.the_units_of_a_packet.{units_found}
-use Rattle.osi_class.specs.Link.{Standing}
-use Rattle.osi_class.specs.declared.terms.Class.{Class}
-use Rattle.osi_class.specs.declared.terms.Class.TheVariants.{Two, Zero}
-use Rattle.osi_carrier.specs.Calls.{class_error, closed_on, link_of, may_connect, open_link, or_else, room_error, sent_on}
-use Rattle.osi_carrier.specs.Happenings.{Happening}
-use Rattle.osi_carrier.specs.Negotiation.{agreed_size, confirmed, opened_link, proposes_two, proposes_zero, selects_expedited}
+use Rattle.osi_honest.proofs.Vocabulary.{[], ap, Bool, Err, false, if◌then◌else◌, inl, inr, is_some, IsSome, List, None, not, Ok, Option}
+use Rattle.osi_honest.proofs.Vocabulary.{refl, Result, Some, subst, sym, true, ℕ, ◌&&◌, ◌++◌, ◌==◌, ◌∙◌, ◌∷◌, ◌≡◌, ◌⊎◌, eq-eqb, eqb-true}
+use Rattle.osi_honest.proofs.Vocabulary.{append-nil, IsOctets, units_found, AreUnits, units_of, acknowledge, confirm, data0, data2}
+use Rattle.osi_honest.proofs.Vocabulary.{disconnect, disconnected, error, request, Value, TpduFault, Standing, Class, Two, Zero}
+use Rattle.osi_honest.proofs.Vocabulary.{react_quiet, class_error, closed_on, link_of, may_connect, open_link, or_else, room_error, sent_on}
+use Rattle.osi_honest.proofs.Vocabulary.{Happening, agreed_size, confirmed, opened_link, proposes_two, proposes_zero, selects_expedited}
+use Rattle.osi_honest.proofs.Vocabulary.{before_class, in_class, opens_by as opens, reacts, to_connection, to_reference, put, Rows}
+use Rattle.osi_honest.proofs.Vocabulary.{value_at, without, asked, Connection, linked, packets, State as Carrier, EndReason, NoMemory}
+use Rattle.osi_honest.proofs.Vocabulary.{OpenError, Ended, Negotiating, NotCaller, End, agreed, astray, denied, first_unit, Handshake}
+use Rattle.osi_honest.proofs.Vocabulary.{handshake_from, shaken, shaken_first, silent, Asks}
+use Rattle.osi_tpdu.specs.Value.{Connect}
 use Rattle.osi_carrier.specs.Packets as carriers
-use Rattle.osi_carrier.specs.React.{before_class, in_class, opens, react, reacts, to_connection, to_reference}
-use Rattle.osi_carrier.specs.Rows.{Rows, put, value_at, without}
-use Rattle.osi_carrier.specs.State.{Connection, State as Carrier, asked, linked, packets, writes}
+use Rattle.osi_carrier.specs.React.{react}
 use Rattle.osi_carrier.specs.State as states
-use Rattle.osi_carrier.specs.declared.ends.EndReason.{EndReason}
-use Rattle.osi_carrier.specs.declared.ends.EndReason.TheVariants.{NoMemory}
-use Rattle.osi_carrier.specs.declared.faults.OpenError.{OpenError}
-use Rattle.osi_carrier.specs.declared.faults.OpenError.TheVariants.{Ended, Negotiating, NotCaller}
-use Rattle.osi_carrier.proofs.effects.units_one_after_the_other.{react_quiet}
-use Rattle.osi_judge.specs.Transport.{Handshake, agreed, astray, denied, first_unit, handshake_from, shaken, shaken_first, silent}
-use Rattle.osi_stack.specs.State.{End}
-use Rattle.osi_honest.specs.Openings.{Asks}
 use Rattle.osi_honest.proofs.transport.an_end_of_class_0_puts_data.{AreZero, PutsData, data_carries, data_ends, data_packet, data_shortage}
 use Rattle.osi_honest.proofs.transport.an_end_of_class_0_puts_data.{data_untold}
 use Rattle.osi_honest.proofs.class_0.what_a_packet_does_in_class_0.{Over, alone, over_carries}
@@ -232,18 +217,8 @@ module _ (r : ℕ) (octets : List ℕ) where
       denied_first us u c (reacts (disconnect q source reason user ∷ vs) c) a q source reason user vs none same e
       (subst (λ (l : List Value). Denied r c a q source (reacts l (react (disconnect q source reason user) c)))
       (sym (alone (disconnect q source reason user) vs u refl are)) (unit_denies r c a q source reason user))
-  first_units us u c (request cr) vs none a same e are =
-      strays_first us u _ none (subst IsStrayed (sym (known_by u (request cr) vs e)) tt)
-  first_units us u c (disconnected q source) vs none a same e are =
-      strays_first us u _ none (subst IsStrayed (sym (known_by u (disconnected q source) vs e)) tt)
-  first_units us u c (data0 end user) vs none a same e are =
-      strays_first us u _ none (subst IsStrayed (sym (known_by u (data0 end user) vs e)) tt)
-  first_units us u c (data2 q number end user) vs none a same e are =
-      strays_first us u _ none (subst IsStrayed (sym (known_by u (data2 q number end user) vs e)) tt)
-  first_units us u c (acknowledge credit q number) vs none a same e are =
-      strays_first us u _ none (subst IsStrayed (sym (known_by u (acknowledge credit q number) vs e)) tt)
-  first_units us u c (error q cause) vs none a same e are =
-      strays_first us u _ none (subst IsStrayed (sym (known_by u (error q cause) vs e)) tt)
+  first_units us u c v vs none a same e are =
+      strays_first us u _ none (subst IsStrayed (sym (known_by u v vs e)) tt)
 
   first_acts : (us : List (List ℕ)) (u : List ℕ) (c : Carrier) (units : Result (List Value) TpduFault) → us ≡ [] → AsksIn r c →
       c.outgoing ≡ octets → units_of u ≡ units → IsOctets u → Put (us ++ u ∷ []) (carriers.acts_by units c)

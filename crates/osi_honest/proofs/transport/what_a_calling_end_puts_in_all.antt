@@ -1,44 +1,23 @@
 -- What a calling end puts after its CR, turn by turn, and that the judge blames no transport for it.
 -- For the law that a calling end is never blamed.
-use Rattle.std.proofs.Common.{◌≡◌, ◌∙◌, refl, sym, ap, subst, ℕ, ◌+◌, ◌<◌, ◌≤◌, ◌⊎◌, inl, inr, Bool, true, if◌then◌else◌, List}
-use Rattle.std.proofs.Common.{[], ◌∷◌, ◌++◌, length, map}
-use Rattle.std.proofs.Common.{Some, is_some, IsSome, Result, append_assoc, arith}
-use Rattle.std.specs.List.{AllByRecursion}
-use Rattle.std.proofs.lemmas.List.{append-nil, append_cancel_left, length-append}
-use Rattle.osi_tpkt.specs.Octets.{IsOctets}
-use Rattle.osi_tpkt.specs.Packet.{packet_of}
-use Rattle.osi_tpkt.specs.Stream.{ArePackets, Cuts, Ending}
-use Rattle.osi_tpdu.specs.Packet.{units_of}
-use Rattle.osi_tpdu.specs.Value.{Connect, Value, acknowledge, confirm, data0, data2, disconnect, disconnected, error, request}
-use Rattle.osi_tpdu.specs.Writing.{written, written_header}
-use Rattle.osi_tpdu.specs.declared.faults.TpduFault.{TpduFault}
-use Rattle.osi_class.specs.Tsdus.{Part}
-use Rattle.osi_class.specs.declared.terms.Class.TheVariants.{Zero}
-use Rattle.osi_carrier.specs.Rows.{Rows}
-use Rattle.osi_carrier.specs.State.{Connection, State as Carrier, packets}
-use Rattle.osi_session.specs.Listening.{Listener}
-use Rattle.osi_session.specs.Phases.{is_wait_transport}
-use Rattle.osi_stack.specs.State.{Holding}
-use Rattle.osi_judge.specs.declared.directions.Direction.TheVariants.{Left, Right}
-use Rattle.osi_judge.specs.Captures.{Capture, other, stream}
-use Rattle.osi_judge.specs.Transport.{Handshake, agreed, asked_again, astray, denied, first_unit, handshake_from, met_before, opening}
-use Rattle.osi_judge.specs.Transport.{packet_length, packets_length, shaken_first, silent}
-use Rattle.osi_judge.specs.Transport as judged
-use Rattle.osi_honest.specs.Openings.{Asks, AskingTurn, IsAnswered, IsAway, IsNoData}
+use Rattle.osi_honest.proofs.Vocabulary.{[], ap, append_assoc, arith, Bool, if◌then◌else◌, inl, inr, is_some, IsSome, length, List, map}
+use Rattle.osi_honest.proofs.Vocabulary.{refl, Result, Some, subst, sym, true, ℕ, ◌++◌, ◌+◌, ◌<◌, ◌∙◌, ◌∷◌, ◌≡◌, ◌≤◌, ◌⊎◌, append-nil}
+use Rattle.osi_honest.proofs.Vocabulary.{append_cancel_left, length-append, AllByRecursion, IsOctets, packet_of, ArePackets, Cuts, Ending}
+use Rattle.osi_honest.proofs.Vocabulary.{units_of, data0, disconnected, request, Value, written, written_header, TpduFault, Part, Zero}
+use Rattle.osi_honest.proofs.Vocabulary.{Rows, Connection, packets, State as Carrier, Listener, is_wait_transport, Holding, Capture, other}
+use Rattle.osi_honest.proofs.Vocabulary.{stream, agreed, asked_again, astray, denied, first_unit, Handshake, handshake_from, met_before}
+use Rattle.osi_honest.proofs.Vocabulary.{opening, packet_length, packets_length, shaken_first, silent, Left, Right, AskingTurn, Asks}
+use Rattle.osi_honest.proofs.Vocabulary.{IsAnswered, IsAway, IsNoData, dt, IsPrefix, PassAfter, put_along, used_along, octets_said, Run}
+use Rattle.osi_honest.proofs.Vocabulary.{Turn, IsPlain}
+use Rattle.osi_tpdu.specs.Value.{Connect}
 use Rattle.osi_honest.specs.Openings as turned
-use Rattle.osi_honest.specs.Parts.{dt}
-use Rattle.osi_honest.specs.Seeing.{IsPrefix, PassAfter, put_along, used_along}
-use Rattle.osi_honest.specs.Stretches.{octets_said}
-use Rattle.osi_honest.specs.Turns.{Run, Turn}
-use Rattle.osi_honest.specs.Writable.{IsPlain}
 use Rattle.osi_honest.proofs.transport.an_end_of_class_0_puts_data.{AreZero}
 use Rattle.osi_honest.proofs.transport.an_open_end_puts_whole_tsdus.{AreWhole, run_speaks, speaks_then, whole_more}
 use Rattle.osi_honest.proofs.opening.how_a_caller_opens.{CanBegin}
 use Rattle.osi_honest.proofs.reading.how_far_the_other_side_had_come.{agreed_from}
 use Rattle.osi_honest.proofs.reading.two_readings_of_a_stream_agree.{first_shown, shown_packets}
 use Rattle.osi_honest.proofs.transport.what_a_calling_end_asks.{AskingPut, AsksIn, HasNone, asking_asks, asking_settles, asking_tracked}
-use Rattle.osi_honest.proofs.transport.what_a_calling_end_asks.{asks_in}
-use Rattle.osi_honest.proofs.transport.what_a_calling_end_asks.{none_settles}
+use Rattle.osi_honest.proofs.transport.what_a_calling_end_asks.{asks_in, none_settles}
 use Rattle.osi_honest.proofs.transport.what_a_calling_end_asks as asks
 use Rattle.osi_honest.proofs.sessions.what_a_calling_end_did.{long_header}
 use Rattle.osi_honest.proofs.sessions.what_a_capture_shows_of_an_end.{units_are}
@@ -47,14 +26,14 @@ use Rattle.osi_honest.proofs.class_0.what_a_packet_does_in_class_0.{AllProper}
 use Rattle.osi_honest.proofs.opening.what_an_asking_end_does.{turn_asks}
 use Rattle.osi_honest.proofs.keeping.what_each_packet_keeps_a_turn_keeps.{Tracks, turn_tracked}
 use Rattle.osi_honest.proofs.transport.what_had_passed_goes_on.{IsBeyond, IsLost, lost_beyond, met_after, passed_by, strayed_beyond}
-use Rattle.osi_honest.proofs.transport.what_is_put_after_one_packet.{AfterOne, lost_then, never_none, none_put_in, one_run}
-use Rattle.osi_honest.proofs.transport.what_is_put_after_one_packet.{requests, silence}
+use Rattle.osi_honest.proofs.transport.what_is_put_after_one_packet.{AfterOne, lost_then, never_none, none_put_in, one_run, requests}
+use Rattle.osi_honest.proofs.transport.what_is_put_after_one_packet.{silence}
 use Rattle.osi_honest.proofs.class_0.what_a_call_does_in_class_0.{over_run}
 use Rattle.osi_honest.proofs.reading.what_is_put_and_taken_is_read.{parts_read}
 use Rattle.osi_honest.proofs.reading.what_is_written_is_read_again.{read_again}
 use Rattle.osi_honest.proofs.reading.what_the_judge_reads_of_a_side.{IsStrayed}
-use Rattle.osi_honest.proofs.transport.when_the_judge_blames_no_transport.{AreAllRead, FollowsCr, KnownBefore}
-use Rattle.osi_honest.proofs.transport.when_the_judge_blames_no_transport.{closes, asks_more, speaks, strays}
+use Rattle.osi_honest.proofs.transport.when_the_judge_blames_no_transport.{AreAllRead, FollowsCr, KnownBefore, closes, asks_more, speaks}
+use Rattle.osi_honest.proofs.transport.when_the_judge_blames_no_transport.{strays}
 
 -- ---- what it knows of the other side
 
@@ -73,10 +52,7 @@ agreed_beyond h now is (more, e) = e ∙ ap (λ (x : Handshake). handshake_from 
 lost_strays : (h : Handshake) → IsLost h → IsStrayed h
 lost_strays asked_again l = tt
 lost_strays astray l = tt
-lost_strays silent l = absurd l
-lost_strays judged.asked l = absurd l
-lost_strays agreed l = absurd l
-lost_strays (denied q source) l = absurd l
+lost_strays _ l = absurd l
 
 -- ---- what it put after its CR
 
@@ -101,13 +77,7 @@ no_data_first v (data0 end octets) x y other data_is is =
     let long = long_header v other in
     let same : length (written_header v) ≡ 2 = cc in
     omega arith
-no_data_first v (request c) x y other data_is is = data_is
-no_data_first v (confirm destination c) x y other data_is is = data_is
-no_data_first v (disconnect destination source reason user) x y other data_is is = data_is
-no_data_first v (disconnected destination source) x y other data_is is = data_is
-no_data_first v (data2 destination number end octets) x y other data_is is = data_is
-no_data_first v (acknowledge credit destination number) x y other data_is is = data_is
-no_data_first v (error destination cause) x y other data_is is = data_is
+no_data_first v _ x y other data_is is = data_is
 
 none_of_data : (units : List Value) (v : Value) (put later : List ℕ) → IsNoData v → AllByRecursion IsData units → put ≡ packets units →
     put ≡ packet_of (written v) ++ later → ⊥

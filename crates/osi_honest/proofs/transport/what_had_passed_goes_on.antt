@@ -1,20 +1,11 @@
 -- What the judge knows of a side before an octet of the other it still knows before a later one; and it knows all packets of it that
 -- an end had used by then.
 -- For what the judge says of the transport of an end.
-use Rattle.std.proofs.Common.{◌≡◌, ◌∙◌, refl, sym, ap, subst, ℕ, ◌+◌, ◌-◌, ◌<◌, ◌≤◌, ◌⊎◌, inl, inr, Bool, true, false, cond, leb}
-use Rattle.std.proofs.Common.{List, [], ◌∷◌, ◌++◌, length, arith}
-use Rattle.std.proofs.lemmas.Bool.{le-leb}
-use Rattle.std.proofs.lemmas.Bool.Decides.{leb_tells}
-use Rattle.std.proofs.lemmas.List.{length-append}
-use Rattle.osi_tpkt.specs.Stream.{ArePackets, Cuts, Ending}
-use Rattle.osi_tpdu.specs.Packet.{units_of}
-use Rattle.osi_judge.specs.declared.directions.Direction.{Direction}
-use Rattle.osi_judge.specs.Captures.{Capture, other, passed_before, stream}
-use Rattle.osi_judge.specs.Transport.{Handshake, agreed, asked, asked_again, astray, complete_in, denied, first_unit, handshake_from}
-use Rattle.osi_judge.specs.Transport.{met_before, packet_length, packets_length, shaken, silent}
-use Rattle.osi_judge.proofs.captured.a_capture_goes_on.{passed_within}
-use Rattle.osi_honest.specs.Seeing.{IsPrefix, PassAfter, put_along}
-use Rattle.osi_honest.specs.Turns.{Turn}
+use Rattle.osi_honest.proofs.Vocabulary.{[], ap, arith, Bool, cond, false, inl, inr, leb, length, List, refl, subst, sym, true, ℕ, ◌++◌}
+use Rattle.osi_honest.proofs.Vocabulary.{◌+◌, ◌-◌, ◌<◌, ◌∙◌, ◌∷◌, ◌≡◌, ◌≤◌, ◌⊎◌, le-leb, leb_tells, length-append, ArePackets, Cuts, Ending}
+use Rattle.osi_honest.proofs.Vocabulary.{units_of, passed_within, Capture, other, passed_before, stream, asked_again, astray, complete_in}
+use Rattle.osi_honest.proofs.Vocabulary.{first_unit, Handshake, handshake_from, met_before, packet_length, packets_length, shaken, silent}
+use Rattle.osi_honest.proofs.Vocabulary.{Direction, IsPrefix, PassAfter, put_along, Turn}
 use Rattle.osi_honest.proofs.reading.how_far_the_other_side_had_come.{passed_later, strayed_from}
 use Rattle.osi_honest.proofs.reading.two_readings_of_a_stream_agree.{read_within}
 use Rattle.osi_honest.proofs.sessions.what_an_end_put_was_caused.{front_of}
@@ -114,10 +105,7 @@ lost_from : (h : Handshake) (us : List (List ℕ)) → IsLost h → IsLost (hand
 lost_from h [] lost = lost
 lost_from asked_again (u ∷ us) lost = lost_from asked_again us tt
 lost_from astray (u ∷ us) lost = lost_from astray us tt
-lost_from silent (u ∷ us) lost = absurd lost
-lost_from asked (u ∷ us) lost = absurd lost
-lost_from agreed (u ∷ us) lost = absurd lost
-lost_from (denied destination source) (u ∷ us) lost = absurd lost
+lost_from _ (u ∷ us) lost = absurd lost
 
 pub lost_beyond : (h now : Handshake) → IsLost h → IsBeyond h now → IsLost now
 lost_beyond h now lost (more, is) = subst IsLost (sym is) (lost_from h more lost)

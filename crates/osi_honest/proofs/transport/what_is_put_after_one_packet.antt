@@ -1,34 +1,18 @@
 -- What an end puts that has used one packet and has no open connection: nothing, until a second packet comes, after which the judge
 -- ignores what it puts; or another request.
 -- For what the transport of an end puts.
-use Rattle.std.proofs.Common.{◌≡◌, ◌∙◌, refl, sym, ap, subst, ℕ, ◌+◌, ◌<◌, ◌≤◌, ◌⊎◌, inl, inr, Bool, true, false, if◌then◌else◌, not}
-use Rattle.std.proofs.Common.{List, [], ◌∷◌, ◌++◌, length, Option, Some, None, is_some, option_map, Result, Ok, Err, append_assoc, arith}
-use Rattle.std.proofs.lemmas.List.{append-nil, append_cancel_left, length-append}
-use Rattle.osi_tpkt.specs.Octets.{IsOctets}
-use Rattle.osi_tpkt.specs.Packet.{packet_of}
-use Rattle.osi_tpkt.specs.Stream.{ArePackets, Cuts, Ending}
-use Rattle.osi_tpdu.specs.Limits.{tsap_octets}
-use Rattle.osi_tpdu.specs.Packet.{units_of}
-use Rattle.osi_tpdu.specs.Value.{Connect, Value, request}
-use Rattle.osi_tpdu.specs.Writing.{written}
-use Rattle.osi_tpdu.specs.declared.faults.TpduFault.{TpduFault}
-use Rattle.osi_class.specs.Link.{Standing}
-use Rattle.osi_carrier.specs.Calls.{asks, closed_on, may_connect, open_link, sent_on}
-use Rattle.osi_carrier.specs.Negotiation.{proposal, proposes_two}
-use Rattle.osi_carrier.specs.Happenings.{Happening}
+use Rattle.osi_honest.proofs.Vocabulary.{[], ap, append_assoc, arith, Bool, Err, false, if◌then◌else◌, inl, inr, is_some, length, List}
+use Rattle.osi_honest.proofs.Vocabulary.{None, not, Ok, Option, option_map, refl, Result, Some, subst, sym, true, ℕ, ◌++◌, ◌+◌, ◌<◌, ◌∙◌}
+use Rattle.osi_honest.proofs.Vocabulary.{◌∷◌, ◌≡◌, ◌≤◌, ◌⊎◌, append-nil, append_cancel_left, length-append, IsOctets, packet_of, ArePackets}
+use Rattle.osi_honest.proofs.Vocabulary.{Cuts, Ending, tsap_octets, units_of, request, Value, written, TpduFault, Standing, reacts_over}
+use Rattle.osi_honest.proofs.Vocabulary.{closed_on, may_connect, open_link, sent_on, Happening, proposal, proposes_two, packets}
+use Rattle.osi_honest.proofs.Vocabulary.{State as Carrier, OpenError, Ended, NotCaller, Holding, Capture, other, passed_before, stream}
+use Rattle.osi_honest.proofs.Vocabulary.{handshake_from, met_before, silent, Direction, IsPrefix, PassAfter, put_along, used_along, Run}
+use Rattle.osi_honest.proofs.Vocabulary.{Turn, IsPlain}
+use Rattle.osi_tpdu.specs.Value.{Connect}
+use Rattle.osi_carrier.specs.Calls.{asks}
 use Rattle.osi_carrier.specs.Packets as carriers
-use Rattle.osi_carrier.specs.State.{State as Carrier, packets}
 use Rattle.osi_carrier.specs.State as states
-use Rattle.osi_carrier.specs.declared.faults.OpenError.{OpenError}
-use Rattle.osi_carrier.specs.declared.faults.OpenError.TheVariants.{Ended, NotCaller}
-use Rattle.osi_carrier.proofs.effects.units_one_after_the_other.{reacts_over}
-use Rattle.osi_judge.specs.declared.directions.Direction.{Direction}
-use Rattle.osi_judge.specs.Captures.{Capture, other, passed_before, stream}
-use Rattle.osi_judge.specs.Transport.{handshake_from, met_before, silent}
-use Rattle.osi_stack.specs.State.{Holding}
-use Rattle.osi_honest.specs.Seeing.{IsPrefix, PassAfter, put_along, used_along}
-use Rattle.osi_honest.specs.Turns.{Run, Turn}
-use Rattle.osi_honest.specs.Writable.{IsPlain}
 use Rattle.osi_honest.proofs.reading.a_cr_and_a_cc_can_be_written.{cr_by}
 use Rattle.osi_honest.proofs.reading.two_readings_of_a_stream_agree.{packets_then}
 use Rattle.osi_honest.proofs.class_0.what_a_call_does_in_class_0.{over_run}

@@ -1,28 +1,15 @@
 -- What a calling end puts in all, from its beginning on: nothing; a DC first; or a CR, and what follows it. The judge blames no
 -- transport for it.
 -- For the law that a calling end is never blamed.
-use Rattle.std.proofs.Common.{◌≡◌, ◌∙◌, refl, sym, ap, subst, ℕ, ◌+◌, ◌≤◌, List, [], ◌∷◌, ◌++◌, length, None}
-use Rattle.std.proofs.Common.{append_assoc, arith}
-use Rattle.std.proofs.lemmas.List.{append-nil, length-append}
-use Rattle.osi_tpkt.specs.Octets.{IsOctets}
-use Rattle.osi_tpkt.specs.Packet.{packet_of}
-use Rattle.osi_tpkt.specs.Stream.{ArePackets, Cuts, Ending}
-use Rattle.osi_tpdu.specs.Packet.{units_of}
-use Rattle.osi_tpdu.specs.Value.{Connect, disconnected, request}
-use Rattle.osi_tpdu.specs.Writing.{written}
-use Rattle.osi_carrier.specs.State.{packets}
-use Rattle.osi_stack.specs.Calls.{calls_with, terms_error}
-use Rattle.osi_stack.specs.State.{Holding}
-use Rattle.osi_stack.specs.declared.connecting.Connect.{Connect as Request}
-use Rattle.osi_judge.specs.declared.directions.Direction.TheVariants.{Left, Right}
-use Rattle.osi_judge.specs.Captures.{Capture, stream}
-use Rattle.osi_judge.specs.Transport.{Handshake, first_unit, met_before, opening, packet_length}
-use Rattle.osi_honest.specs.Openings.{Asks, Idles, IdleTurn}
+use Rattle.osi_honest.proofs.Vocabulary.{[], ap, append_assoc, arith, length, List, None, refl, subst, sym, ℕ, ◌++◌, ◌+◌, ◌∙◌, ◌∷◌, ◌≡◌}
+use Rattle.osi_honest.proofs.Vocabulary.{◌≤◌, append-nil, length-append, IsOctets, packet_of, ArePackets, Cuts, Ending, units_of}
+use Rattle.osi_honest.proofs.Vocabulary.{disconnected, request, written, packets, calls_with, terms_error, Holding, Request, Capture}
+use Rattle.osi_honest.proofs.Vocabulary.{stream, first_unit, Handshake, met_before, opening, packet_length, Left, Right, Asks, Idles}
+use Rattle.osi_honest.proofs.Vocabulary.{IdleTurn, IsPrefix, PassAfter, put_along, used_along, Run, Turn}
+use Rattle.osi_tpdu.specs.Value.{Connect}
 use Rattle.osi_honest.specs.Openings as turned
-use Rattle.osi_honest.specs.Seeing.{IsPrefix, PassAfter, put_along, used_along}
-use Rattle.osi_honest.specs.Turns.{Run, Turn}
 use Rattle.osi_honest.proofs.reading.all_that_an_end_puts_can_be_read.{ArePutToRead, all_one_unit}
-use Rattle.osi_honest.proofs.transport.when_the_judge_blames_no_transport.{are_read}
+use Rattle.osi_honest.proofs.transport.when_the_judge_blames_no_transport.{are_read, IsClear, caller_clear, none_clear}
 use Rattle.osi_honest.proofs.opening.how_a_caller_opens.{CanBegin}
 use Rattle.osi_honest.proofs.reading.two_readings_of_a_stream_agree.{packet_again, shown_packets}
 use Rattle.osi_honest.proofs.sessions.what_a_called_end_did.{after_none}
@@ -34,7 +21,6 @@ use Rattle.osi_honest.proofs.transport.what_had_passed_goes_on.{met_goes_on}
 use Rattle.osi_honest.proofs.class_0.what_a_call_does_in_class_0.{over_run}
 use Rattle.osi_honest.proofs.reading.what_is_written_is_read_again.{read_again}
 use Rattle.osi_honest.proofs.reading.what_the_judge_reads_of_a_side.{size_read}
-use Rattle.osi_honest.proofs.transport.when_the_judge_blames_no_transport.{IsClear, caller_clear, none_clear}
 
 -- ---- what it put
 

@@ -1,26 +1,16 @@
 -- Which packets of a side the judge blames no transport for, by what it knows of the other side before each of them.
 -- For the laws that an end is never blamed.
-use Rattle.std.proofs.Common.{◌≡◌, ◌∙◌, refl, sym, ap, subst, ℕ, ◌+◌, ◌==◌, ◌&&◌, Bool, true, false, if◌then◌else◌, List, []}
-use Rattle.std.proofs.Common.{◌∷◌, ◌++◌, Option, Some, None, Ok, Err, arith}
-use Rattle.std.specs.List.{AllByRecursion}
-use Rattle.std.proofs.lemmas.Bool.{eq-eqb}
-use Rattle.osi_tpdu.specs.Packet.{units_of}
-use Rattle.osi_tpdu.specs.Value.{Connect, Value, acknowledge, confirm, data0, data2, disconnect, disconnected, error, request}
-use Rattle.osi_tpdu.specs.Writing.{written}
-use Rattle.osi_class.specs.Negotiation.{proposes}
-use Rattle.osi_class.specs.Tsdus.{Part}
-use Rattle.osi_judge.specs.declared.directions.Direction.{Direction}
-use Rattle.osi_judge.specs.declared.directions.Direction.TheVariants.{Left, Right}
-use Rattle.osi_judge.specs.declared.stops.Stop.{Stop}
-use Rattle.osi_judge.specs.declared.stops.Stop.TheVariants.{MoreConnections, NoOpening, NothingToAnswer, OtherClass, TsduTooLong}
-use Rattle.osi_judge.specs.Stops.{is_break}
-use Rattle.osi_judge.specs.Transport.{Handshake, agreed, asked, asked_again, astray, denied, first_unit, has_asked, silent}
-use Rattle.osi_judge.specs.Transport.{Move, adds, answering_step, asks, hurries, ignores, opens, refuses, stops}
-use Rattle.osi_judge.specs.Transport.{Stage, added, asking, asking_step, between, hasty_behind, hasty_from, is_too_long, moved}
-use Rattle.osi_judge.specs.Transport.{next_step, noted, opening, packet_length, refused, stage_behind, stage_from, step_of}
-use Rattle.osi_judge.specs.Transport.{stopped, within}
-use Rattle.osi_honest.specs.Parts.{dt, units_put}
-use Rattle.osi_honest.specs.Seeing.{HasOneUnit}
+use Rattle.osi_honest.proofs.Vocabulary.{[], ap, arith, Bool, false, if◌then◌else◌, List, None, Ok, Option, refl, Some, subst, sym, true, ℕ}
+use Rattle.osi_honest.proofs.Vocabulary.{◌&&◌, ◌++◌, ◌+◌, ◌==◌, ◌∙◌, ◌∷◌, ◌≡◌, eq-eqb, AllByRecursion, units_of, confirm, data0, disconnect}
+use Rattle.osi_honest.proofs.Vocabulary.{disconnected, request, Value, written, proposes, Part, is_break, added, agreed, answering_step}
+use Rattle.osi_honest.proofs.Vocabulary.{asked_again, asking, asking_step, astray, between, denied, first_unit, Handshake, has_asked}
+use Rattle.osi_honest.proofs.Vocabulary.{hasty_behind, hasty_from, hurries, ignores, is_too_long, moved, next_step, noted, opening}
+use Rattle.osi_honest.proofs.Vocabulary.{packet_length, refuses, silent, Stage, stage_behind, stage_from, step_of, stopped, stops, within}
+use Rattle.osi_honest.proofs.Vocabulary.{Direction, Left, Right, Stop, MoreConnections, NoOpening, NothingToAnswer, OtherClass, dt}
+use Rattle.osi_honest.proofs.Vocabulary.{units_put, HasOneUnit}
+use Rattle.osi_tpdu.specs.Value.{Connect}
+use Rattle.osi_judge.specs.declared.stops.Stop.TheVariants.{TsduTooLong}
+use Rattle.osi_judge.specs.Transport.{Move, asks, opens, refused}
 use Rattle.osi_honest.proofs.transport.what_had_passed_goes_on.{GoesOn, IsLost, lost_beyond, strayed_beyond}
 use Rattle.osi_honest.proofs.reading.what_is_put_and_taken_is_read.{dt_read}
 use Rattle.osi_honest.proofs.reading.what_the_judge_reads_of_a_side.{FirstUnit, IsStrayed, next_same}
@@ -48,30 +38,17 @@ IsHarmless move = Unit {0}
 
 behind_is : (d : Direction) (h : Handshake) (s : Stage) (at : ℕ) (u : List ℕ) → IsStanding s →
     stage_behind d h s at u ≡ moved s at (step_of d s h (first_unit (units_of u)))
-behind_is d h opening at u standing = refl
-behind_is d h asking at u standing = refl
-behind_is d h between at u standing = refl
-behind_is d h (within first octets) at u standing = refl
-behind_is d h (refused place) at u standing = refl
 behind_is d h (stopped stop place) at u standing = absurd standing
+behind_is d h _ at u standing = refl
 
 haste_is : (d : Direction) (h : Handshake) (s : Stage) (at : ℕ) (u : List ℕ) → IsStanding s →
     hasty_behind d h s None at u ≡ noted None at (step_of d s h (first_unit (units_of u)))
-haste_is d h opening at u standing = refl
-haste_is d h asking at u standing = refl
-haste_is d h between at u standing = refl
-haste_is d h (within first octets) at u standing = refl
-haste_is d h (refused place) at u standing = refl
 haste_is d h (stopped stop place) at u standing = absurd standing
+haste_is d h _ at u standing = refl
 
 none_noted : (at : ℕ) (m : Move) → IsHarmless m → noted None at m ≡ None
-none_noted at (asks reference) harmless = refl
-none_noted at (opens reference) harmless = refl
-none_noted at (adds end octets) harmless = refl
 none_noted at (hurries end octets) harmless = absurd harmless
-none_noted at refuses harmless = refl
-none_noted at ignores harmless = refl
-none_noted at (stops stop) harmless = refl
+none_noted at _ harmless = refl
 
 module _ (d : Direction) (met : ℕ → Handshake) where
   then_clear : (s : Stage) (at : ℕ) (u : List ℕ) (us : List (List ℕ)) (m : Move) → IsStanding s →
@@ -102,22 +79,15 @@ module _ (d : Direction) (met : ℕ → Handshake) where
   Ignores s h = ⊥
 
   ignored : (s : Stage) (h : Handshake) (v : Value) → Ignores s h → step_of d s h (Ok (Some v)) ≡ ignores
-  ignored asking asked v h = refl
-  ignored asking asked_again v h = refl
-  ignored asking astray v h = refl
   ignored asking silent v h = absurd h
   ignored asking agreed v h = absurd h
   ignored asking (denied destination source) v h = absurd h
+  ignored asking _ v h = refl
   ignored (refused place) asked_again v h = refl
   ignored (refused place) astray v h = refl
-  ignored (refused place) asked v h = absurd h
-  ignored (refused place) silent v h = absurd h
-  ignored (refused place) agreed v h = absurd h
-  ignored (refused place) (denied destination source) v h = absurd h
+  ignored (refused place) _ v h = absurd h
   ignored opening h v never = absurd never
-  ignored between h v never = absurd never
-  ignored (within first octets) h v never = absurd never
-  ignored (stopped stop place) h v never = absurd never
+  ignored _ h v never = absurd never
 
 -- each packet has a unit that can be read
 abbrev pub IsRead : List ℕ → Type 0
@@ -179,24 +149,16 @@ record Continues (s : Stage) (at : ℕ) (m : Move) : Type 0 where
 
 next_opened : (s : Stage) (at : ℕ) (v : Value) → Continues s at (next_step v)
 next_opened s at (data0 end octets) = record { harmless = tt; opened = added_opened s at (is_too_long s octets) end octets }
-next_opened s at (request c) = record { harmless = tt; opened = tt }
-next_opened s at (confirm destination c) = record { harmless = tt; opened = tt }
-next_opened s at (disconnect destination source reason user) = record { harmless = tt; opened = tt }
-next_opened s at (disconnected destination source) = record { harmless = tt; opened = tt }
-next_opened s at (data2 destination number end octets) = record { harmless = tt; opened = tt }
-next_opened s at (acknowledge credit destination number) = record { harmless = tt; opened = tt }
-next_opened s at (error destination cause) = record { harmless = tt; opened = tt }
+next_opened s at _ = record { harmless = tt; opened = tt }
 
 between_opened : (d : Direction) (h : Handshake) (at : ℕ) (unit : FirstUnit) → Continues between at (step_of d between h unit)
-between_opened d h at (Err fault) = record { harmless = tt; opened = tt }
-between_opened d h at (Ok None) = record { harmless = tt; opened = tt }
 between_opened d h at (Ok (Some v)) = next_opened between at v
+between_opened d h at _ = record { harmless = tt; opened = tt }
 
 within_opened : (d : Direction) (h : Handshake) (first : ℕ) (octets : List ℕ) (at : ℕ) (unit : FirstUnit) →
     Continues (within first octets) at (step_of d (within first octets) h unit)
-within_opened d h first octets at (Err fault) = record { harmless = tt; opened = tt }
-within_opened d h first octets at (Ok None) = record { harmless = tt; opened = tt }
 within_opened d h first octets at (Ok (Some v)) = next_opened (within first octets) at v
+within_opened d h first octets at _ = record { harmless = tt; opened = tt }
 
 module _ (d : Direction) (met : ℕ → Handshake) where
   no_haste : (s : Stage) (at : ℕ) (us : List (List ℕ)) → IsOpened s → hasty_from d met s None at us ≡ None
@@ -212,9 +174,7 @@ module _ (d : Direction) (met : ℕ → Handshake) where
       (none_noted at (step_of d (within first octets) (met at) (first_unit (units_of u))) k.harmless)
       ∙ no_haste (stage_behind d (met at) (within first octets) at u) (at + packet_length u) us k.opened
   no_haste (stopped stop place) at (u ∷ us) opened = no_haste (stopped stop place) (at + packet_length u) us tt
-  no_haste opening at (u ∷ us) opened = absurd opened
-  no_haste asking at (u ∷ us) opened = absurd opened
-  no_haste (refused place) at (u ∷ us) opened = absurd opened
+  no_haste _ at (u ∷ us) opened = absurd opened
 
   stays_stopped : (stop : Stop) (place at : ℕ) (us : List (List ℕ)) → stage_from d met (stopped stop place) at us ≡ stopped stop place
   stays_stopped stop place at [] = refl
@@ -223,11 +183,7 @@ module _ (d : Direction) (met : ℕ → Handshake) where
   innocent_front : (s : Stage) (at : ℕ) (back : List (List ℕ)) → stage_from d met s at back ≡ between → IsInnocent s
   innocent_front (stopped stop place) at back is =
       let both : stopped stop place ≡ between = sym (stays_stopped stop place at back) ∙ is in absurd (cc)
-  innocent_front opening at back is = tt
-  innocent_front asking at back is = tt
-  innocent_front between at back is = tt
-  innocent_front (within first octets) at back is = tt
-  innocent_front (refused place) at back is = tt
+  innocent_front _ at back is = tt
 
   front_innocent : (s : Stage) (at : ℕ) (us back : List (List ℕ)) → stage_from d met s at (us ++ back) ≡ between →
       IsInnocent (stage_from d met s at us)
@@ -345,13 +301,7 @@ module _ (met : ℕ → Handshake) (on : GoesOn met) where
 
   first_of : (v : Value) → FirstOfCaller v
   first_of (request c) = by_proposal c (proposes c 0) refl
-  first_of (confirm destination c) = stops_now NoOpening refl refl
-  first_of (disconnect destination source reason user) = stops_now NoOpening refl refl
-  first_of (disconnected destination source) = stops_now NoOpening refl refl
-  first_of (data0 end octets) = stops_now NoOpening refl refl
-  first_of (data2 destination number end octets) = stops_now NoOpening refl refl
-  first_of (acknowledge credit destination number) = stops_now NoOpening refl refl
-  first_of (error destination cause) = stops_now NoOpening refl refl
+  first_of _ = stops_now NoOpening refl refl
 
   pub caller_clear : (v : Value) (u : List ℕ) (us : List (List ℕ)) → first_unit (units_of u) ≡ Ok (Some v) →
       ((c : Connect) → v ≡ request c → FollowsCr met (0 + packet_length u) us) → IsClear Left met opening 0 (u ∷ us)

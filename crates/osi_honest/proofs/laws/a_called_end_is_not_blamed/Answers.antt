@@ -1,4 +1,4 @@
-use Rattle.osi_judge.specs.declared.directions.Direction.TheVariants.{Right}
+use Rattle.osi_honest.proofs.Vocabulary.{Right}
 use Rattle.osi_honest.proofs.class_0.what_a_session_answers_fits.{all_proper}
 use Rattle.osi_honest.proofs.sessions.what_a_called_end_did.{called_sent}
 use Rattle.osi_honest.proofs.sessions.what_a_capture_shows_of_an_end.{are_read}

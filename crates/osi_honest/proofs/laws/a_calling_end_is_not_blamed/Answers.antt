@@ -1,9 +1,6 @@
-use Rattle.osi_judge.specs.declared.directions.Direction.TheVariants.{Left}
-use Rattle.osi_stack.proofs.called.what_is_sent_is_short.{SpduLaws}
+use Rattle.osi_honest.proofs.Vocabulary.{SpduLaws, met_before, Left, Right}
 use Rattle.osi_honest.proofs.class_0.what_a_session_answers_fits.{all_proper}
 use Rattle.osi_honest.proofs.opening.what_an_asking_end_does.{can_begin}
-use Rattle.osi_judge.specs.Transport.{met_before}
-use Rattle.osi_judge.specs.declared.directions.Direction.TheVariants.{Right}
 use Rattle.osi_honest.proofs.sessions.what_a_calling_end_did.{caller_found, calling_did}
 use Rattle.osi_honest.proofs.sessions.what_a_capture_shows_of_an_end.{are_read, capture_counts, capture_steadies}
 use Rattle.osi_honest.proofs.laws.a_calling_end_is_not_blamed.Goals as goal

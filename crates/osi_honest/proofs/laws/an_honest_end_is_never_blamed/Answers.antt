@@ -1,5 +1,4 @@
-use Rattle.std.proofs.Common.{false, true}
-use Rattle.osi_judge.specs.declared.directions.Direction.TheVariants.{Left, Right}
+use Rattle.osi_honest.proofs.Vocabulary.{false, true, Left, Right}
 use Rattle.osi_honest.proofs.transport.an_end_is_never_blamed.{blameless, neither_first, never_first, side_stands}
 use Rattle.osi_honest.proofs.laws.an_honest_end_is_never_blamed.Goals as goal
 

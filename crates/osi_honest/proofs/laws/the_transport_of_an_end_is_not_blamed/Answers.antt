@@ -1,4 +1,4 @@
-use Rattle.osi_stack.proofs.called.what_is_sent_is_short.{SpduLaws}
+use Rattle.osi_honest.proofs.Vocabulary.{SpduLaws}
 use Rattle.osi_honest.proofs.class_0.what_a_session_answers_fits.{all_proper}
 use Rattle.osi_honest.proofs.opening.what_an_asking_end_does.{can_begin}
 use Rattle.osi_honest.proofs.transport.no_transport_of_an_end_is_blamed.{called_transport, calling_transport}

@@ -1,6 +1,4 @@
-use Rattle.std.proofs.Common.{false, map, true}
-use Rattle.osi_class.specs.Runs.{tsdus_out}
-use Rattle.osi_honest.specs.Courses.{said_in}
+use Rattle.osi_honest.proofs.Vocabulary.{false, map, true, tsdus_out, said_in}
 use Rattle.osi_honest.specs.Talking.{told_of}
 use Rattle.osi_honest.proofs.courses.what_was_said_is_explained.{called_explained, caller_explained, course_said, shown_said}
 use Rattle.osi_honest.proofs.laws.what_a_connection_said_is_explained.Goals as goal

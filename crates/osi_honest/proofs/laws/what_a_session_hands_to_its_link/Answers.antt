@@ -1,6 +1,4 @@
-use Rattle.std.proofs.Common.{[]}
-use Rattle.osi_stack.proofs.called.what_is_sent_is_short.{SpduLaws}
-use Rattle.osi_honest.specs.Courses.{no_deeds}
+use Rattle.osi_honest.proofs.Vocabulary.{[], SpduLaws, no_deeds}
 use Rattle.osi_honest.proofs.class_0.what_a_session_answers_fits.{all_proper}
 use Rattle.osi_honest.proofs.courses.what_a_run_does_to_it.{fresh_course, fresh_turns, nothing_since, turns_continue}
 use Rattle.osi_honest.proofs.courses.what_sessions_hear_of_it.{Known}

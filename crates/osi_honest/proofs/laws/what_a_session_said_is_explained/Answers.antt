@@ -1,7 +1,7 @@
-use Rattle.osi_session.specs.Sessions.{awaits, opens}
+use Rattle.osi_honest.proofs.Vocabulary.{map, awaits}
+use Rattle.osi_session.specs.Sessions.{opens}
 use Rattle.osi_honest.proofs.sessions.a_history_is_a_run.{is_sent}
 use Rattle.osi_honest.specs.Talking.{told_of}
-use Rattle.std.proofs.Common.{map}
 use Rattle.osi_honest.proofs.laws.what_a_session_said_is_explained.Goals as goal
 
 pub returns-clause-called : goal.returns-clause-called

@@ -1,4 +1,4 @@
-use Rattle.std.proofs.Common.{refl}
+use Rattle.osi_honest.proofs.Vocabulary.{refl}
 use Rattle.osi_honest.proofs.class_0.what_a_session_answers_fits.{all_proper}
 use Rattle.osi_honest.proofs.opening.what_a_waiting_end_does.{turn_waits}
 use Rattle.osi_honest.proofs.laws.what_a_waiting_end_puts.Goals as goal

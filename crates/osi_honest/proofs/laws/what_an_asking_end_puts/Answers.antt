@@ -1,6 +1,4 @@
-use Rattle.std.proofs.Common.{refl}
-use Rattle.osi_stack.specs.Calls.{calls_with}
-use Rattle.osi_stack.proofs.called.what_is_sent_is_short.{SpduLaws}
+use Rattle.osi_honest.proofs.Vocabulary.{refl, SpduLaws, calls_with}
 use Rattle.osi_honest.proofs.class_0.what_a_session_answers_fits.{all_proper}
 use Rattle.osi_honest.proofs.opening.what_an_asking_end_does.{can_begin, turn_asks}
 use Rattle.osi_honest.proofs.opening.what_an_idle_end_does.{idle_turn}

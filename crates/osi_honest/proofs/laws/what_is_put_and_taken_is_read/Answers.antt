@@ -1,7 +1,4 @@
-use Rattle.std.proofs.Common.{[]}
-use Rattle.osi_judge.specs.Transport.{between}
-use Rattle.osi_honest.specs.Parts.{units_put}
-use Rattle.osi_honest.specs.Reading.{between_two}
+use Rattle.osi_honest.proofs.Vocabulary.{[], between, units_put, between_two}
 use Rattle.osi_honest.proofs.reading.what_is_put_and_taken_is_read.{brings_read, carried_bring}
 use Rattle.osi_honest.proofs.laws.what_is_put_and_taken_is_read.Goals as goal
 
