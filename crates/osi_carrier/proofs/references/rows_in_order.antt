@@ -41,15 +41,6 @@ place_here key r rows i d h within here =
     (λ inside. eq-eqb (key (get_or rows i d)) r here) in
     grind (arith, common_steps)
 
--- a key that the first row has
-pub first_here : {X : Type 0} (key : X → ℕ) (r : ℕ) (rows : List X) (d : X) → 0 < length rows → key (get_or rows 0 d) ≡ r →
-    place_by key r rows ≡ Some 0
-first_here key r rows d some here =
-    let at : position_or_len (λ row. key row == r) rows ≡ 0 =
-    position_or_len_is (λ row. key row == r) rows 0 d (omega arith) (λ k less. absurd (omega arith))
-    (λ inside. eq-eqb (key (get_or rows 0 d)) r here) in
-    grind (arith, common_steps)
-
 -- ---- a key found by binary search
 
 -- a row's key is at most that of a row after it, or its own
