@@ -58,7 +58,8 @@ returns-then-end c =
     start (omega arith) (c.in-Some.ensures.given tsdu) put none in
     let longer = put_length c.args.out.now.items c.put_part.new.out.items
     (packets (unit_of c.args.peer
-    (part_under (number_in c.in-Some.slot) c.is_empty-end.result (c.args.head.now ++ c.split_at.result.0.now)) ∷ [])) c.put_part.ensures.items in
+    (part_under (number_in c.in-Some.slot) c.is_empty-end.result (c.args.head.now ++ c.split_at.result.0.now)) ∷ []))
+    c.put_part.ensures.items in
     let took_room = c.put_part.ensures.spare in
     record {
       link = all.link;
@@ -225,7 +226,8 @@ returns c =
     parting c.write_parts.ensures.link c.write_parts.ensures.written in
     let longer = put_length c.args.out.now.items c.put_part.new.out.items
     (packets (unit_of c.args.peer
-    (part_under (number_in c.in-Some.slot) c.is_empty-end.result (c.args.head.now ++ c.split_at.result.0.now)) ∷ [])) c.put_part.ensures.items in
+    (part_under (number_in c.in-Some.slot) c.is_empty-end.result (c.args.head.now ++ c.split_at.result.0.now)) ∷ []))
+    c.put_part.ensures.items in
     let took_room = c.put_part.ensures.spare in
     let more = c.write_parts.ensures.spare in
     record {
