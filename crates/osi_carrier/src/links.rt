@@ -96,9 +96,7 @@ pub fn send_whole(
     let Some(slot) = link.give_slot() else {
         return false;
     };
-    let Ok(()) = put_part(out, peer, slot, true, head, body) else {
-        unreachable!()
-    };
+    put_part(out, peer, slot, true, head, body);
     true
 }
 
@@ -241,9 +239,7 @@ fn write_parts(link: &mut AnyLink, peer: u16, tsdu: &[u8], kept: Vec<u8>, out: &
         };
         let (part, behind) = rest.split_at(carried);
         let end = behind.is_empty();
-        let Ok(()) = put_part(out, peer, slot, end, &[], part) else {
-            unreachable!()
-        };
+        put_part(out, peer, slot, end, &[], part);
         if end {
             return;
         }
@@ -276,9 +272,7 @@ fn write_headed(
     };
     let (part, rest) = body.split_at(carried);
     let end = rest.is_empty();
-    let Ok(()) = put_part(out, peer, slot, end, head, part) else {
-        unreachable!()
-    };
+    put_part(out, peer, slot, end, head, part);
     if end {
         return;
     }

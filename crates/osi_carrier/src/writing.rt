@@ -195,26 +195,19 @@ pub fn put_given(out: &mut BytesMut, peer: u16, unit: &Out<'_>) -> Result<(), Al
     }
 }
 
-/// Appends the data unit of a slot, to this reference of the peer, with octets that are given in two pieces.
+/// Appends the data unit of a slot, to this reference of the peer, with octets that are given in two pieces. There is
+/// room for it.
 #[inline(always)]
 #[tactic(auto, using(crate::proofs::written::the_length_of_a_unit::one_packet_of, crate::proofs::written::the_length_of_a_unit::given_size))]
-pub fn put_part(
-    out: &mut BytesMut,
-    peer: u16,
-    slot: Slot,
-    end: bool,
-    head: &[u8],
-    body: &[u8],
-) -> Result<(), AllocError>
+pub fn put_part(out: &mut BytesMut, peer: u16, slot: Slot, end: bool, head: &[u8], body: &[u8])
     requires number { IsNumbered slot }
     requires fits { length head.now + length body.now ≤ 8189 }
-    ensures ok { OnOk result (out.new.items ≡ out.old.items ++ packets (unit_of peer (part_under (number_in slot) end (head.now ++ body.now)) ∷ [])) }
-    ensures err { OnErr result (out.new.items ≡ out.old.items) }
-    ensures spare { OnOk result (out.old.spare ≤ out.new.spare + length (packets (unit_of peer (part_under (number_in slot) end (head.now ++ body.now)) ∷ []))) }
-    ensures full { OnErr result (out.old.spare < length (packets (unit_of peer (part_under (number_in slot) end (head.now ++ body.now)) ∷ []))) }
+    requires room { length (packets (unit_of peer (part_under (number_in slot) end (head.now ++ body.now)) ∷ [])) ≤ out.old.spare }
+    ensures items { out.new.items ≡ out.old.items ++ packets (unit_of peer (part_under (number_in slot) end (head.now ++ body.now)) ∷ []) }
+    ensures spare { out.old.spare ≤ out.new.spare + length (packets (unit_of peer (part_under (number_in slot) end (head.now ++ body.now)) ∷ [])) }
 {
     match slot {
-        Slot::Data0 => DataClass0 { end, user: body }.write_packet_behind(head, out),
+        Slot::Data0 => DataClass0 { end, user: body }.put_packet_behind(head, out),
         Slot::Data2(number) => {
             let data = DataClass2 {
                 destination: peer,
@@ -222,7 +215,7 @@ pub fn put_part(
                 end,
                 user: body,
             };
-            data.write_packet_behind(head, out)
+            data.put_packet_behind(head, out);
         }
     }
 }

@@ -66,23 +66,20 @@ impl<'a> DataClass0<'a> {
     }
 
     /// Appends a unit as [`DataClass0::write_packet`] does, with these octets before its user data: together at most
-    /// 65,528 octets.
+    /// 65,528 octets. There is room for them, and for 7 octets of headers.
     #[inline(always)]
-    pub fn write_packet_behind(&self, head: &[u8], out: &mut BytesMut) -> Result<(), AllocError>
-        requires { length head.now + length self.now.user.now ≤ 65528 }
-        ensures ok { OnOk result (out.new.items ≡ out.old.items ++ packet_of (written (data0 self.now.end (head.now ++ self.now.user.now)))) }
-        ensures err { OnErr result (out.new.items ≡ out.old.items) }
-        ensures full { OnErr result (out.old.spare < length (written (data0 self.now.end (head.now ++ self.now.user.now))) + 4) }
-        ensures spare { UsesSpare result out.old.spare out.new.spare (length (written (data0 self.now.end (head.now ++ self.now.user.now))) + 4) }
+    pub fn put_packet_behind(&self, head: &[u8], out: &mut BytesMut)
+        requires short { length head.now + length self.now.user.now ≤ 65528 }
+        requires room { 7 + length head.now + length self.now.user.now ≤ out.old.spare }
+        ensures items { out.new.items ≡ out.old.items ++ packet_of (written (data0 self.now.end (head.now ++ self.now.user.now))) }
+        ensures spare { out.new.spare + (7 + length head.now + length self.now.user.now) ≡ out.old.spare }
     {
         let size = 7 + head.len() + self.user.len();
-        out.reserve(size)?;
         let [high, low] = (size as u16).to_be_bytes();
         let last = with_bit(self.end, 0);
         out.extend_reserved(&[3, 0, high, low, 2, 0xF0, last]);
         out.extend_reserved(head);
         out.extend_reserved(self.user);
-        Ok(())
     }
 }
 
@@ -135,24 +132,21 @@ impl<'a> DataClass2<'a> {
     }
 
     /// Appends a unit as [`DataClass2::write_packet`] does, with these octets before its user data: together at most
-    /// 65,526 octets.
+    /// 65,526 octets. There is room for them, and for 9 octets of headers.
     #[inline(always)]
-    pub fn write_packet_behind(&self, head: &[u8], out: &mut BytesMut) -> Result<(), AllocError>
-        requires { length head.now + length self.now.user.now ≤ 65526 }
-        ensures ok { OnOk result (out.new.items ≡ out.old.items ++ packet_of (written (data2 self.now.destination self.now.number self.now.end (head.now ++ self.now.user.now)))) }
-        ensures err { OnErr result (out.new.items ≡ out.old.items) }
-        ensures full { OnErr result (out.old.spare < length (written (data2 self.now.destination self.now.number self.now.end (head.now ++ self.now.user.now))) + 4) }
-        ensures spare { UsesSpare result out.old.spare out.new.spare (length (written (data2 self.now.destination self.now.number self.now.end (head.now ++ self.now.user.now))) + 4) }
+    pub fn put_packet_behind(&self, head: &[u8], out: &mut BytesMut)
+        requires short { length head.now + length self.now.user.now ≤ 65526 }
+        requires room { 9 + length head.now + length self.now.user.now ≤ out.old.spare }
+        ensures items { out.new.items ≡ out.old.items ++ packet_of (written (data2 self.now.destination self.now.number self.now.end (head.now ++ self.now.user.now))) }
+        ensures spare { out.new.spare + (9 + length head.now + length self.now.user.now) ≡ out.old.spare }
     {
         let size = 9 + head.len() + self.user.len();
-        out.reserve(size)?;
         let [high, low] = (size as u16).to_be_bytes();
         let [to_high, to_low] = self.destination.to_be_bytes();
         let last = with_bit(self.end, self.number);
         out.extend_reserved(&[3, 0, high, low, 4, 0xF0, to_high, to_low, last]);
         out.extend_reserved(head);
         out.extend_reserved(self.user);
-        Ok(())
     }
 }
 

@@ -8,6 +8,8 @@ ghost use Rattle.osi_carrier.specs.Opened.{link_in, peer_in};
 ghost use Rattle.osi_carrier.specs.Packets.{Act, Acts, after_refusal};
 ghost use Rattle.osi_carrier.specs.React.{in_class, taking};
 ghost use Rattle.osi_carrier.specs.Rows.{value_at};
+ghost use Rattle.osi_carrier.specs.State.{ends};
+ghost use Rattle.osi_carrier.specs.declared.ends.EndReason.TheVariants.{NoMemory};
 
 use super::Switch;
 use crate::ends::{CarrierFault, EndReason};
@@ -85,10 +87,18 @@ impl Switch {
         match self.hand_to_link(reference, unit) {
             Ok(known) => known,
             Err(_) => {
-                self.end(EndReason::NoMemory);
+                self.run_out();
                 true
             }
         }
+    }
+
+    /// Ends because memory ran out. It stands apart, so that no room for the reason is cleared on the data path.
+    #[inline(never)]
+    fn run_out(&mut self)
+        ensures { self.new ≡ ends NoMemory self.old }
+    {
+        self.end(EndReason::NoMemory);
     }
 
     /// A packet that may hold any units.

@@ -6,8 +6,8 @@ use Rattle.osi_carrier.proofs.written.a_part_in_its_data_unit.{part_octets, whol
 use Rattle.osi_carrier.proofs.written.the_length_of_a_unit.{given_size, header_most}
 use Rattle.osi_carrier.proofs.links.send_whole.Goals as goal
 
-pub unreachable-requires : goal.unreachable-requires
-unreachable-requires c =
+pub put_part-requires-clause-room : goal.put_part-requires-clause-room
+put_part-requires-clause-room c =
     let tsdu = c.args.head.now ++ c.args.body.now in
     let unit = part_under (number_in c.in-Some.slot) true tsdu in
     let size = given_size c.args.peer unit in
@@ -15,7 +15,6 @@ unreachable-requires c =
     let octets = part_octets (number_in c.in-Some.slot) true tsdu in
     let long = length-append c.args.head.now c.args.body.now in
     let room = c.in-Ok.ensures.spare.1 in
-    let full = c.in_default-put_part.ensures.full in
     omega arith
 
 pub returns : goal.returns
@@ -37,7 +36,7 @@ returns c =
     let last = c.all_is_given.ensures.none new sent.last in
     record {
       link = λ _. whole_link old new unit first last;
-      written = λ _. c.in-Ok-put_part.ensures.ok ∙ ap (λ l. l ++ packets (unit_of c.args.peer unit ∷ [])) c.in-Ok.ensures.items ∙
+      written = λ _. c.put_part.ensures.items ∙ ap (λ l. l ++ packets (unit_of c.args.peer unit ∷ [])) c.in-Ok.ensures.items ∙
           ap (λ us. c.args.out.now.items ++ packets us) (whole_written c.args.peer old new unit first last);
       pumped = λ _. sent.last;
       none = λ e. cc;

@@ -12,8 +12,8 @@ unreachable-requires c =
     let given = c.in_default.ensures.at_once (part_goes (any_standing c.args.link.now) tsdu c.requires.quiet c.requires.some) in
     cc
 
-pub unreachable-requires-in_default-put_part : goal.unreachable-requires-in_default-put_part
-unreachable-requires-in_default-put_part c =
+pub put_part-requires-clause-room : goal.put_part-requires-clause-room
+put_part-requires-clause-room c =
     let tsdu = c.args.head.now ++ c.args.body.now in
     let limit = (any_standing c.args.link.now).ends.limit in
     let value = c.limit.ensures.value in
@@ -27,7 +27,6 @@ unreachable-requires-in_default-put_part c =
     let room = part_room c.args.peer (any_standing c.args.link.now) (any_standing c.give_slot.new.self) tsdu unit (omega arith)
     (c.in-Some.ensures.given tsdu) in
     let enough = c.requires.room in
-    let full = c.in_default-put_part.ensures.full in
     omega arith
 
 pub returns-then-end : goal.returns-then-end
@@ -43,7 +42,7 @@ returns-then-end c =
     c.split_at.result.1.now c.is_empty-end.result (omega arith) (omega (arith, c.min-carried.ensures))
     c.split_at.ensures.front c.split_at.ensures.back c.is_empty-end.ensures in
     let unit = first_in c.in-Some.slot limit tsdu in
-    let put = c.in-Ok.ensures.ok ∙ ap (λ (u : Given). c.args.out.now.items ++ packets (unit_of c.args.peer u ∷ [])) cut.unit in
+    let put = c.put_part.ensures.items ∙ ap (λ (u : Given). c.args.out.now.items ++ packets (unit_of c.args.peer u ∷ [])) cut.unit in
     let goes : Goes (any_standing c.args.link.now) tsdu c.args.kept.items =
     record {
       quiet = c.requires.quiet;
@@ -59,8 +58,9 @@ returns-then-end c =
     start (omega arith) (c.in-Some.ensures.given tsdu) put none in
     let longer = put_length c.args.out.now.items c.put_part.new.out.items
     (packets (unit_of c.args.peer
-    (part_under (number_in c.in-Some.slot) c.is_empty-end.result (c.args.head.now ++ c.split_at.result.0.now)) ∷ [])) c.in-Ok.ensures.ok in
-    let took_room = c.in-Ok.ensures.spare in
+    (part_under (number_in c.in-Some.slot) c.is_empty-end.result (c.args.head.now ++ c.split_at.result.0.now)) ∷ []))
+    c.put_part.ensures.items in
+    let took_room = c.put_part.ensures.spare in
     record {
       link = all.link;
       written = all.written;
@@ -81,7 +81,7 @@ write_parts-requires-clause-quiet c =
     c.split_at.result.1.now c.is_empty-end.result (omega arith) (omega (arith, c.min-carried.ensures))
     c.split_at.ensures.front c.split_at.ensures.back c.is_empty-end.ensures in
     let unit = first_in c.in-Some.slot limit tsdu in
-    let put = c.in-Ok.ensures.ok ∙ ap (λ (u : Given). c.args.out.now.items ++ packets (unit_of c.args.peer u ∷ [])) cut.unit in
+    let put = c.put_part.ensures.items ∙ ap (λ (u : Given). c.args.out.now.items ++ packets (unit_of c.args.peer u ∷ [])) cut.unit in
     let goes : Goes (any_standing c.args.link.now) tsdu c.args.kept.items =
     record {
       quiet = c.requires.quiet;
@@ -90,7 +90,7 @@ write_parts-requires-clause-quiet c =
     } in
     let took : c.args.out.now.spare ≤ c.put_part.new.out.spare + length (packets (unit_of c.args.peer unit ∷ [])) =
     subst (λ (u : Given). c.args.out.now.spare ≤ c.put_part.new.out.spare + length (packets (unit_of c.args.peer u ∷ []))) cut.unit
-    c.in-Ok.ensures.spare in
+    c.put_part.ensures.spare in
     let something : length c.split_at.result.1.now ≡ 0 →
     ⊥ = eqb-false (length c.split_at.result.1.now) 0 (sym c.is_empty-end.ensures ∙ c.if-end.false) in
     let parting = parting_then c.args.peer (any_standing c.args.link.now) then
@@ -112,7 +112,7 @@ write_parts-requires-clause-alone c =
     c.split_at.result.1.now c.is_empty-end.result (omega arith) (omega (arith, c.min-carried.ensures))
     c.split_at.ensures.front c.split_at.ensures.back c.is_empty-end.ensures in
     let unit = first_in c.in-Some.slot limit tsdu in
-    let put = c.in-Ok.ensures.ok ∙ ap (λ (u : Given). c.args.out.now.items ++ packets (unit_of c.args.peer u ∷ [])) cut.unit in
+    let put = c.put_part.ensures.items ∙ ap (λ (u : Given). c.args.out.now.items ++ packets (unit_of c.args.peer u ∷ [])) cut.unit in
     let goes : Goes (any_standing c.args.link.now) tsdu c.args.kept.items =
     record {
       quiet = c.requires.quiet;
@@ -121,7 +121,7 @@ write_parts-requires-clause-alone c =
     } in
     let took : c.args.out.now.spare ≤ c.put_part.new.out.spare + length (packets (unit_of c.args.peer unit ∷ [])) =
     subst (λ (u : Given). c.args.out.now.spare ≤ c.put_part.new.out.spare + length (packets (unit_of c.args.peer u ∷ []))) cut.unit
-    c.in-Ok.ensures.spare in
+    c.put_part.ensures.spare in
     let something : length c.split_at.result.1.now ≡ 0 →
     ⊥ = eqb-false (length c.split_at.result.1.now) 0 (sym c.is_empty-end.ensures ∙ c.if-end.false) in
     let parting = parting_then c.args.peer (any_standing c.args.link.now) then
@@ -143,7 +143,7 @@ write_parts-requires-clause-kept c =
     c.split_at.result.1.now c.is_empty-end.result (omega arith) (omega (arith, c.min-carried.ensures))
     c.split_at.ensures.front c.split_at.ensures.back c.is_empty-end.ensures in
     let unit = first_in c.in-Some.slot limit tsdu in
-    let put = c.in-Ok.ensures.ok ∙ ap (λ (u : Given). c.args.out.now.items ++ packets (unit_of c.args.peer u ∷ [])) cut.unit in
+    let put = c.put_part.ensures.items ∙ ap (λ (u : Given). c.args.out.now.items ++ packets (unit_of c.args.peer u ∷ [])) cut.unit in
     let goes : Goes (any_standing c.args.link.now) tsdu c.args.kept.items =
     record {
       quiet = c.requires.quiet;
@@ -152,7 +152,7 @@ write_parts-requires-clause-kept c =
     } in
     let took : c.args.out.now.spare ≤ c.put_part.new.out.spare + length (packets (unit_of c.args.peer unit ∷ [])) =
     subst (λ (u : Given). c.args.out.now.spare ≤ c.put_part.new.out.spare + length (packets (unit_of c.args.peer u ∷ []))) cut.unit
-    c.in-Ok.ensures.spare in
+    c.put_part.ensures.spare in
     let something : length c.split_at.result.1.now ≡ 0 →
     ⊥ = eqb-false (length c.split_at.result.1.now) 0 (sym c.is_empty-end.ensures ∙ c.if-end.false) in
     let parting = parting_then c.args.peer (any_standing c.args.link.now) then
@@ -174,7 +174,7 @@ write_parts-requires-clause-room c =
     c.split_at.result.1.now c.is_empty-end.result (omega arith) (omega (arith, c.min-carried.ensures))
     c.split_at.ensures.front c.split_at.ensures.back c.is_empty-end.ensures in
     let unit = first_in c.in-Some.slot limit tsdu in
-    let put = c.in-Ok.ensures.ok ∙ ap (λ (u : Given). c.args.out.now.items ++ packets (unit_of c.args.peer u ∷ [])) cut.unit in
+    let put = c.put_part.ensures.items ∙ ap (λ (u : Given). c.args.out.now.items ++ packets (unit_of c.args.peer u ∷ [])) cut.unit in
     let goes : Goes (any_standing c.args.link.now) tsdu c.args.kept.items =
     record {
       quiet = c.requires.quiet;
@@ -183,7 +183,7 @@ write_parts-requires-clause-room c =
     } in
     let took : c.args.out.now.spare ≤ c.put_part.new.out.spare + length (packets (unit_of c.args.peer unit ∷ [])) =
     subst (λ (u : Given). c.args.out.now.spare ≤ c.put_part.new.out.spare + length (packets (unit_of c.args.peer u ∷ []))) cut.unit
-    c.in-Ok.ensures.spare in
+    c.put_part.ensures.spare in
     let something : length c.split_at.result.1.now ≡ 0 →
     ⊥ = eqb-false (length c.split_at.result.1.now) 0 (sym c.is_empty-end.ensures ∙ c.if-end.false) in
     let parting = parting_then c.args.peer (any_standing c.args.link.now) then
@@ -205,7 +205,7 @@ returns c =
     c.split_at.result.1.now c.is_empty-end.result (omega arith) (omega (arith, c.min-carried.ensures))
     c.split_at.ensures.front c.split_at.ensures.back c.is_empty-end.ensures in
     let unit = first_in c.in-Some.slot limit tsdu in
-    let put = c.in-Ok.ensures.ok ∙ ap (λ (u : Given). c.args.out.now.items ++ packets (unit_of c.args.peer u ∷ [])) cut.unit in
+    let put = c.put_part.ensures.items ∙ ap (λ (u : Given). c.args.out.now.items ++ packets (unit_of c.args.peer u ∷ [])) cut.unit in
     let goes : Goes (any_standing c.args.link.now) tsdu c.args.kept.items =
     record {
       quiet = c.requires.quiet;
@@ -214,7 +214,7 @@ returns c =
     } in
     let took : c.args.out.now.spare ≤ c.put_part.new.out.spare + length (packets (unit_of c.args.peer unit ∷ [])) =
     subst (λ (u : Given). c.args.out.now.spare ≤ c.put_part.new.out.spare + length (packets (unit_of c.args.peer u ∷ []))) cut.unit
-    c.in-Ok.ensures.spare in
+    c.put_part.ensures.spare in
     let something : length c.split_at.result.1.now ≡ 0 →
     ⊥ = eqb-false (length c.split_at.result.1.now) 0 (sym c.is_empty-end.ensures ∙ c.if-end.false) in
     let parting = parting_then c.args.peer (any_standing c.args.link.now) then
@@ -226,8 +226,9 @@ returns c =
     parting c.write_parts.ensures.link c.write_parts.ensures.written in
     let longer = put_length c.args.out.now.items c.put_part.new.out.items
     (packets (unit_of c.args.peer
-    (part_under (number_in c.in-Some.slot) c.is_empty-end.result (c.args.head.now ++ c.split_at.result.0.now)) ∷ [])) c.in-Ok.ensures.ok in
-    let took_room = c.in-Ok.ensures.spare in
+    (part_under (number_in c.in-Some.slot) c.is_empty-end.result (c.args.head.now ++ c.split_at.result.0.now)) ∷ []))
+    c.put_part.ensures.items in
+    let took_room = c.put_part.ensures.spare in
     let more = c.write_parts.ensures.spare in
     record {
       link = all.link;

@@ -32,8 +32,8 @@ returns-in_default-clause-written c =
     c.args.out.now.items c.parts.rest.now c.args.kept.items c.parts.out.items c.parts.out.spare c.parts.invariant.0 never is in
     all.whole.written
 
-pub unreachable-requires-in_default-put_part : goal.unreachable-requires-in_default-put_part
-unreachable-requires-in_default-put_part c =
+pub put_part-requires-clause-room : goal.put_part-requires-clause-room
+put_part-requires-clause-room c =
     let rest = c.parts.rest.now in
     let limit = (any_standing c.parts.link).ends.limit in
     let value = c.limit.ensures.value in
@@ -46,7 +46,6 @@ unreachable-requires-in_default-put_part c =
     let room = part_room c.args.peer (any_standing c.parts.link) (any_standing c.give_slot.new.self) rest unit (omega arith)
     (c.in-Some.ensures.given rest) in
     let enough = c.parts.invariant.0.room in
-    let full = c.in_default-put_part.ensures.full in
     omega arith
 
 pub returns-then-end : goal.returns-then-end
@@ -60,7 +59,7 @@ returns-then-end c =
     c.split_at.ensures.front c.split_at.ensures.back c.is_empty-end.ensures in
     let unit = first_in c.in-Some.slot limit rest in
     let part = c.in-Some.ensures.given rest in
-    let put = c.in-Ok-put_part.ensures.ok ∙ ap (λ (u : Given). c.parts.out.items ++ packets (unit_of c.args.peer u ∷ [])) cut.unit in
+    let put = c.put_part.ensures.items ∙ ap (λ (u : Given). c.parts.out.items ++ packets (unit_of c.args.peer u ∷ [])) cut.unit in
     let nothing = eqb-true (length c.split_at.result.1.now) 0 (sym c.is_empty-end.ensures ∙ c.if-end.true) in
     let none : drop (octets_of unit) rest ≡ [] = cut.left ∙ empty_list c.split_at.result.1.now nothing in
     let all = parting_last c.args.peer (with_tsdu (any_standing c.args.link.now) c.args.tsdu.now) (any_standing c.parts.link)
@@ -69,8 +68,8 @@ returns-then-end c =
     (omega arith) part put none in
     let longer = put_length c.parts.out.items c.put_part.new.out.items
     (packets (unit_of c.args.peer (part_under (number_in c.in-Some.slot) c.is_empty-end.result ([] ++ c.split_at.result.0.now)) ∷ []))
-    c.in-Ok-put_part.ensures.ok in
-    let room = c.in-Ok-put_part.ensures.spare in
+    c.put_part.ensures.items in
+    let room = c.put_part.ensures.spare in
     let kept = c.parts.invariant.1 in
     record { link = all.link; written = all.written; pumped = part.last; spare = omega (arith, longer, room, kept) }
 
@@ -86,18 +85,18 @@ parts-preserved c =
     c.is_empty-end.result (omega arith) (omega (arith, c.min-carried.ensures))
     c.split_at.ensures.front c.split_at.ensures.back c.is_empty-end.ensures in
     let unit = first_in c.in-Some.slot limit rest in
-    let put = c.in-Ok-put_part.ensures.ok ∙ ap (λ (u : Given). c.parts.out.items ++ packets (unit_of c.args.peer u ∷ [])) cut.unit in
+    let put = c.put_part.ensures.items ∙ ap (λ (u : Given). c.parts.out.items ++ packets (unit_of c.args.peer u ∷ [])) cut.unit in
     let took : c.parts.out.spare ≤ c.put_part.new.out.spare + length (packets (unit_of c.args.peer unit ∷ [])) =
     subst (λ (u : Given). c.parts.out.spare ≤ c.put_part.new.out.spare + length (packets (unit_of c.args.peer u ∷ []))) cut.unit
-    c.in-Ok-put_part.ensures.spare in
+    c.put_part.ensures.spare in
     let left = ap length cut.left in
     let something : length c.split_at.result.1.now ≡ 0 →
     ⊥ = eqb-false (length c.split_at.result.1.now) 0 (sym c.is_empty-end.ensures ∙ c.if-end.false) in
     let some : 0 < length (drop (octets_of unit) rest) = omega arith in
     let longer = put_length c.parts.out.items c.put_part.new.out.items
     (packets (unit_of c.args.peer (part_under (number_in c.in-Some.slot) c.is_empty-end.result ([] ++ c.split_at.result.0.now)) ∷ []))
-    c.in-Ok-put_part.ensures.ok in
-    let room = c.in-Ok-put_part.ensures.spare in
+    c.put_part.ensures.items in
+    let room = c.put_part.ensures.spare in
     let kept = c.parts.invariant.1 in
     let parting = subst (λ (r : List ℕ). IsParting c.args.peer first c.args.out.now.items then r c.args.kept.items
     c.put_part.new.out.items c.put_part.new.out.spare) cut.left
