@@ -6,13 +6,14 @@ import json
 import os
 import re
 import shutil
+import struct
 import subprocess
 import sys
 import tempfile
 import unittest
 from unittest import mock
 
-from . import columns, listing, program, streams, texts, tshark
+from . import columns, listing, pcap, program, streams, texts, tshark
 
 TOP = os.path.dirname(os.path.dirname(os.path.dirname(os.path.abspath(__file__))))
 TUTORIAL = os.path.join(TOP, "examples", "tutorial")
@@ -139,6 +140,28 @@ class Captures(unittest.TestCase):
         self.assertIn("left out: lost segments: ", call("list", cut)[1])
         self.assertIn("lost segments", self.refused("split", cut, "-o", self.path("out")))
 
+    def test_what_the_far_end_acknowledged_and_what_was_cut_off_is_lost(self):
+        self.run_tool("editcap", "-s", "70", self.capture(), self.path("cut.pcapng"))
+        for cut in (self.without(7), self.path("cut.pcapng")):
+            self.assertIn("left out: lost segments: ", call("list", cut)[1])
+
+    def test_a_file_that_ends_within_a_packet_is_read_up_to_there(self):
+        with open(self.capture(), "rb") as whole, open(self.path("short.pcapng"), "wb") as short:
+            short.write(whole.read()[:-40])
+        status, out, err = call("list", self.path("short.pcapng"))
+        self.assertEqual((status, err.count("\n")), (0, 1))
+        self.assertIn("ends within a packet", err)
+        self.assertIn("left 209 octets right 155 octets", out)
+
+    def test_a_message_of_icmp_that_quotes_a_segment_is_none(self):
+        left, right = (pcap.ADDRESSES[side] for side in streams.SIDES)
+        whole = pcap.written([(1.0, {"O": "left", "I": "right"}[direction], octets) for direction, octets in association()])
+        quoted = struct.pack(">BBHI", 3, 1, 0, 0) + pcap.datagram("left", 19, 19, pcap.ACK, b"quoted")
+        other = struct.pack(">BBHHHBBH4s4s", 0x45, 0, 20 + len(quoted), 0, 0, 64, 1, 0, right, left) + quoted
+        with open(self.path("icmp.pcap"), "wb") as file:
+            file.write(whole + struct.pack(">IIII", 1, 0, len(other), len(other)) + other)
+        self.assertEqual(self.sides(self.path("icmp.pcap")), self.wanted())
+
     def test_a_stream_that_begins_in_the_middle_is_named(self):
         self.assertIn("left out: begins in the middle", call("list", self.without(1, 2))[1])
 
@@ -237,6 +260,16 @@ class Texts(unittest.TestCase):
         found = [(side, piece.frame, piece.time) for side, piece in texts.read(self.both()).by_side()]
         self.assertEqual(found[:3], [("left", 1, 0.5), ("right", 1, 0.5), ("left", 2, 1.5)])
         self.assertEqual(len(found), 8)
+
+    def test_without_times_the_order_is_that_of_the_lines(self):
+        found = texts.Text([(None, None, side, b"x") for side in ("left", "right", "left")])
+        shown = mock.patch.object(listing, "shown", lambda osi, octets: [f"packet {at} length 1 code e0" for at in range(len(octets))])
+        with shown:
+            self.assertEqual([line.side for line in listing.lines(found, "osi")], ["left", "right", "left"])
+
+    def test_an_octet_may_lie_on_two_lines(self):
+        found = texts.read(self.write("half.left", "# 5 frame 2\n03 0\n0\n# 6.5 frame 3\n01\n"))
+        self.assertEqual([(piece.octets, piece.frame, piece.time) for _, piece in found.by_side()], [(b"\3\0", 2, 5.0), (b"\1", 3, 6.5)])
 
     def test_what_is_no_text_is_left_to_tshark(self):
         for name, begin in (("a.pcap", "d4c3b2a102000400"), ("a.pcapng", "0a0d0d0a6c0000004d3c2b1a01000000"), ("a.gz", "1f8b0800")):

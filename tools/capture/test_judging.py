@@ -69,6 +69,12 @@ class Texts(Room):
     def test_osi_capture_takes_the_name_of_the_files_that_split_wrote(self):
         self.assertEqual(call("judge", os.path.join(DISPUTES, "restart"), main=program.main), call(self.follow()))
 
+    def test_files_that_do_not_say_the_order_are_not_judged(self):
+        for side in streams.SIDES:
+            with open(self.path(f"run.{side}"), "w", encoding="ascii") as file:
+                file.write("0300000e09e00000000100c0010a\n")
+        self.assertIn("don't say when octets passed", self.refused(self.path("run")))
+
     def test_both_directions_are_listed_with_frames_and_times(self):
         rows = call(self.follow(), "--show")[1].splitlines()
         self.assertIn("    16    0.005600 left  packet 143 length 19 code f0", rows)

@@ -37,7 +37,7 @@ class Segment:
 
 
 def segments(path):
-    """The TCP segments of a capture, one by one. Of a capture that ends within a packet, those before it: that is said on standard error."""
+    """The TCP segments of a capture, one by one; of a capture that ends within a packet those before it, which is said."""
     if not os.path.isfile(path):
         raise BadInput(f"{path}: {'it is no file' if os.path.exists(path) else 'there is no such file'}")
     if not shutil.which("tshark"):
