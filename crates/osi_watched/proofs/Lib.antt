@@ -18,4 +18,8 @@ pub mod steps_are_events
 -- so the end has not broken a rule first
 pub mod the_first_break_is_not_of_an_end
 pub mod no_unit_of_a_whole_end_is_a_break
+pub mod what_a_taker_passes_over
 pub mod sessions
+-- nor any rule later, as long as all is judged
+pub mod a_break_ends_no_judging_or_all
+pub mod no_unit_of_an_end_breaks_a_rule

@@ -89,3 +89,5 @@ pub mod a_called_end_puts_its_cc_of_class_0
 pub mod a_called_end_stands_until_class_2
 pub mod no_called_end_is_blamed_first_in_class_0
 pub mod no_called_end_is_blamed_first
+pub mod no_session_of_an_end_is_to_blame
+pub mod no_end_is_to_blame_in_class_2

@@ -1,4 +1,5 @@
 pub mod Joint
+pub mod Judging
 pub mod Passing
 pub mod Shown
 pub mod ShownPlaces

@@ -10,6 +10,8 @@ ghost use Rattle.osi_honest.specs.Seeing.{IsFresh, IsSeen};
 ghost use Rattle.osi_honest.specs.Turns.{Run, Turn};
 ghost use Rattle.osi_tap.specs.declared.marks.First.{First};
 ghost use Rattle.osi_tap.specs.Tapping.{comes_to};
+ghost use Rattle.osi_class.specs.declared.terms.Class.{Class};
+ghost use Rattle.osi_watched.specs.Judging.{ClosesLast, IsJudgedWhole};
 ghost use Rattle.osi_watched.specs.Passing.{AreOctets, ComesBySteps};
 ghost use Rattle.osi_class.specs.Runs.{parts_in, unit_parts};
 ghost use Rattle.osi_class.specs.Tsdus.{Part};
@@ -70,6 +72,27 @@ pub fn the_transport_of_an_end_is_never_blamed_first()
         (capture : Capture) → AreOctets capture → IsFresh true mine begin → Run begin turns end → IsSeen Direction.Left turns capture →
         IsFresh false theirs called_begin → Run called_begin called_turns called_end → IsSeen Direction.Right called_turns capture →
         (comes_to capture).course.first ≡ None }
+{
+    few_octets_fit();
+    serial_digits();
+    what_closes_sends_nothing();
+    a_capture_of_an_end_is_steps();
+}
+
+/// The transport of an end is blamed nowhere. Take any run of an end of this library from its beginning, and any capture of it, as in
+/// [`the_transport_of_an_end_is_never_blamed_first`]. As long as no break of the other side has ended the judging of a part
+/// ([`IsJudgedWhole`]), the tap has found of no unit of the end that it breaks a rule, be the end the called one (`called`) or the
+/// calling one (`calling`): not before a break of the other side that a taker passes over, not after it, and not after one with which
+/// all judging ends.
+///
+/// [`IsJudgedWhole`]: ../specs/Judging.antt
+pub fn the_transport_of_an_end_is_blamed_nowhere()
+    ensures called { (local : Local) (begin end : Holding) (turns : List Turn) (capture : Capture) →
+        IsFresh false local begin → Run begin turns end → AreOctets capture → IsSeen Direction.Right turns capture →
+        IsJudgedWhole Direction.Right (comes_to capture).course → (comes_to capture).course.right.broke ≡ None }
+    ensures calling { (local : Local) (begin end : Holding) (turns : List Turn) (capture : Capture) →
+        IsFresh true local begin → Run begin turns end → AreOctets capture → IsSeen Direction.Left turns capture →
+        IsJudgedWhole Direction.Left (comes_to capture).course → (comes_to capture).course.left.broke ≡ None }
 {
     few_octets_fit();
     serial_digits();
@@ -219,4 +242,39 @@ pub fn no_session_of_an_end_is_blamed_first()
     osi_message::laws::what_leaves_in_parts();
     an_honest_session_is_explained();
     the_first_break_is_the_earliest();
+}
+
+/// No session of an end is to blame after breaks of the other side that a taker passes over. Take any run of an end of this library from
+/// its beginning, and any capture of it, as in [`no_session_of_an_end_is_blamed_first`]; class 0 is not selected. As long as no break of
+/// the other side has ended the judging of one connection alone ([`IsJudgedWhole`]), no session of the end is to blame for what has
+/// passed, on any of its connections, open or over, be the end the called one (`called`) or the calling one (`calling`). So it is after
+/// DTs beyond the credit or longer than the size, after a CC with a larger size, and after a second DR; and so it is after a break with
+/// which all judging ends.
+///
+/// It is assumed that no DT and no AK has passed on a connection that its sender had closed ([`ClosesLast`]), and that fewer than 2^64
+/// units have passed.
+///
+/// [`IsJudgedWhole`]: ../specs/Judging.antt
+/// [`ClosesLast`]: ../specs/Judging.antt
+pub fn no_session_of_an_end_is_to_blame_after_a_break()
+    ensures called { (local : Local) (begin end : Holding) (turns : List Turn) (capture : Capture) (i : ℕ) (j : Joined) →
+        IsFresh false local begin → Run begin turns end → AreOctets capture → IsSeen Direction.Right turns capture →
+        length (comes_to capture).course.past < 2 ^ 64 → (comes_to capture).course.traffic.course.class ≢ Some Class.Zero →
+        (slice_get (comes_to capture).course.sessions.live i ≡ Some j)
+        ⊎ (slice_get (comes_to capture).course.sessions.done i ≡ Some j) → IsJudgedWhole Direction.Right (comes_to capture).course →
+        AllByRecursion (λ (m : Moment). ClosesLast m.mark) (comes_to capture).course.past → ¬ (IsToBlame Direction.Right j) }
+    ensures calling { (local : Local) (begin end : Holding) (turns : List Turn) (capture : Capture) (i : ℕ) (j : Joined) →
+        IsFresh true local begin → Run begin turns end → AreOctets capture → IsSeen Direction.Left turns capture →
+        length (comes_to capture).course.past < 2 ^ 64 → (comes_to capture).course.traffic.course.class ≢ Some Class.Zero →
+        (slice_get (comes_to capture).course.sessions.live i ≡ Some j)
+        ⊎ (slice_get (comes_to capture).course.sessions.done i ≡ Some j) → IsJudgedWhole Direction.Left (comes_to capture).course →
+        AllByRecursion (λ (m : Moment). ClosesLast m.mark) (comes_to capture).course.past → ¬ (IsToBlame Direction.Left j) }
+{
+    few_octets_fit();
+    serial_digits();
+    what_closes_sends_nothing();
+    osi_message::laws::what_is_sent_is_read();
+    osi_message::laws::what_a_part_says();
+    osi_message::laws::what_leaves_in_parts();
+    an_honest_session_is_explained();
 }

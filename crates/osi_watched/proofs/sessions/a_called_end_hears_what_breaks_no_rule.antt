@@ -20,8 +20,8 @@ use Rattle.osi_tap.specs.declared.rooms.Room.TheVariants.{All}
 use Rattle.osi_tap.specs.Connections.{Joined, Sessions}
 use Rattle.osi_tap.specs.Courses.{Course, unit_passes, units_pass}
 use Rattle.osi_watched.proofs.what_a_unit_leaves_at_a_tap.{IsCalm}
-use Rattle.osi_watched.proofs.the_first_break_is_not_of_an_end.{IsNoBreak}
-use Rattle.osi_watched.proofs.sessions.a_dt_that_is_no_break_is_right.{dt_right}
+use Rattle.osi_watched.proofs.what_a_taker_passes_over.{applied_of}
+use Rattle.osi_watched.proofs.sessions.a_dt_that_is_no_break_is_right.{dt_clear}
 use Rattle.osi_watched.proofs.sessions.a_right_dt_has_one_place.{two_placed}
 use Rattle.osi_watched.proofs.sessions.a_unit_is_joined_where_it_is_named.{joined_named}
 use Rattle.osi_watched.proofs.sessions.after_too_many_nobody_is_to_blame.{IsSilenced, too_many_silenced, units_silenced}
@@ -31,25 +31,25 @@ use Rattle.osi_watched.proofs.sessions.each_cr_that_passes_gives_a_new_reference
 use Rattle.osi_watched.proofs.sessions.nothing_comes_before_a_cc_passes.{IsBelow, left_below, left_up_to, no_cc_of_left}
 use Rattle.osi_watched.proofs.sessions.nothing_is_done_before_a_cr_passes.{known_from}
 use Rattle.osi_watched.proofs.sessions.references_of_an_end_are_distinct.{AreDistinct, GivesNew, stays_so, unit_distinct}
-use Rattle.osi_watched.proofs.sessions.steps_leave_all_standing.{IsFine}
+use Rattle.osi_watched.proofs.sessions.steps_leave_all_standing.{IsTakeable}
 use Rattle.osi_watched.proofs.sessions.steps_of_either_class_leave_all_standing.{stand_none}
 use Rattle.osi_watched.proofs.sessions.what_is_in_flight_to_an_end.{flight_grows, flight_same, known_of}
 use Rattle.osi_watched.proofs.sessions.what_passes_leaves_all_standing.{IsHeard, other_stands}
 use Rattle.osi_watched.proofs.sessions.what_stands_of_a_connection.{Known, Stands, lives, past, unnamed}
 
--- ---- units that are no break
+-- ---- units that are no break, or a break that is passed over
 
--- each, as it passes, while the rules have been kept
+-- each, as it passes, while all is judged
 abbrev pub AreFine : ℕ → List Value → Course → Type 0
 AreFine at [] c = Unit {0}
-AreFine at (v ∷ vs) c = IsFine Left v c × IsClear c.traffic.course × AreFine at vs (unit_passes Left at v c)
+AreFine at (v ∷ vs) c = IsTakeable Left v c × IsClear c.traffic.course × AreFine at vs (unit_passes Left at v c)
 
 -- each, up to a CR that is one connection too many
 abbrev pub AreTooMany : ℕ → List Value → Course → Type 0
 AreTooMany at [] c = ⊥
 AreTooMany at (v ∷ vs) c =
     (IsCalm c × ((takes way.Left v c.traffic).told.finding ≡ TooMany))
-    ⊎ (IsFine Left v c × IsClear c.traffic.course × AreTooMany at vs (unit_passes Left at v c))
+    ⊎ (IsTakeable Left v c × IsClear c.traffic.course × AreTooMany at vs (unit_passes Left at v c))
 
 pub room_of : (deeds : ℕ → Deeds) (known : Known) (put : List Value) (b : Bool) (c : Connection) (j : Joined) →
     Stands Right deeds known put b c j → j.room ≡ All
@@ -64,12 +64,13 @@ module _ (deeds : ℕ → Deeds) (is_live : ℕ → Bool) (put : List Value) (be
     pub distinct : AreDistinct Right c.sessions
     pub up : AreUpTo Right b c.sessions
 
-  unit_heard : (coming : List Value) (v : Value) (c : Course) → IsFine Left v c → AreHeard coming c →
+  unit_heard : (coming : List Value) (v : Value) (c : Course) → IsTakeable Left v c → AreHeard coming c →
       IsHeard Right (known_of is_live coming) (known_of is_live (coming ++ v ∷ [])) v put c.traffic c.sessions
   unit_heard coming (data2 n number end user) c fine h =
       let v : Value = data2 n number end user in
       let a = h.stand in
-      let kept = dt_right way.Left v end c.traffic refl fine.goes fine.firm a.judged (λ r e. subst IsNoBreak e fine.none) in
+      let kept = applied_of v (takes way.Left v c.traffic).told.finding (λ dr. dr)
+      (dt_clear way.Left v end c.traffic refl fine.goes fine.firm a.judged) fine.none in
       let p = two_placed way.Left n number end user c.traffic kept in
       let (k, here, one) = at_same c.traffic.connections c.sessions.live p.place p.connection a.places p.there in
       let named = joined_named Left v c n p.place p.connection k a.places refl p.told p.there p.judged here in (
@@ -106,7 +107,7 @@ module _ (deeds : ℕ → Deeds) (is_live : ℕ → Bool) (put : List Value) (be
   heard_from coming (error n cause) s t h = λ r later sure. (sure.0, h r later sure.1)
 
   -- the other side gives no reference of this one
-  gives_none : (v : Value) (c : Course) (coming : List Value) → IsFine Left v c → AreHeard coming c → GivesNew Right v c.sessions
+  gives_none : (v : Value) (c : Course) (coming : List Value) → IsTakeable Left v c → AreHeard coming c → GivesNew Right v c.sessions
   gives_none (confirm n x) c coming fine h = no_cc_of_left b at c h.stand.judged h.stand.places h.up n x fine
   gives_none (request x) c coming fine h = tt
   gives_none (disconnect n source reason user) c coming fine h = tt
@@ -116,7 +117,7 @@ module _ (deeds : ℕ → Deeds) (is_live : ℕ → Bool) (put : List Value) (be
   gives_none (acknowledge credit n number) c coming fine h = tt
   gives_none (error n cause) c coming fine h = tt
 
-  one_heard : (coming : List Value) (v : Value) (c : Course) → IsFine Left v c → AreHeard coming c →
+  one_heard : (coming : List Value) (v : Value) (c : Course) → IsTakeable Left v c → AreHeard coming c →
       AreHeard (coming ++ v ∷ []) (unit_passes Left at v c)
   one_heard coming v c fine h =
       let a = h.stand in

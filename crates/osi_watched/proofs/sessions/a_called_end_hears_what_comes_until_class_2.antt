@@ -24,6 +24,7 @@ use Rattle.osi_honest.specs.Courses.{Deeds}
 use Rattle.osi_tap.specs.Connections.{Sessions, taken}
 use Rattle.osi_tap.specs.Courses.{Course, unit_passes, units_pass}
 use Rattle.osi_watched.proofs.the_first_break_is_not_of_an_end.{IsNoBreak}
+use Rattle.osi_watched.proofs.what_a_taker_passes_over.{mild_of}
 use Rattle.osi_watched.proofs.sessions.a_calling_end_hears_what_comes_until_class_2.{IsNotTwo}
 use Rattle.osi_watched.proofs.sessions.a_dt_of_class_0_has_one_place.{is_live_there}
 use Rattle.osi_watched.proofs.sessions.a_dt_of_class_0_leaves_all_standing as in_zero
@@ -242,7 +243,8 @@ module _ (deeds : ℕ → Deeds) (r : ℕ) (end : Carrier) (put : List Value) (b
       unseen_early = record {
         sure = sure_claim.passes Left at v c h.sure;
         all = in_two.other_stands Right deeds (known coming) (known (coming ++ v ∷ [])) at v put begun c k.right.firm k.right.goes
-            (λ e. none_some c.traffic.course.class_seen Zero seen e) k.right.none (asked_heard v asks) h.all;
+            (λ e. none_some c.traffic.course.class_seen Zero seen e)
+            (mild_of v (takes way.Left v c.traffic).told.finding k.right.none) (asked_heard v asks) h.all;
         uncalled = uncalled_claim.passes Left at v c h.uncalled;
         asking = λ none. all_of_both IsAsking coming (v ∷ []) (h.asking (sym (class_was v c) ∙ none)) (asks, tt);
         plain = all_of_both IsNoCc coming (v ∷ []) h.plain (asking_plain v asks, tt);

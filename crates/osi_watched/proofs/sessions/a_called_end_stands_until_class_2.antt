@@ -17,7 +17,7 @@ use Rattle.osi_judge.proofs.honest.a_call_is_explained.{AsSent}
 use Rattle.osi_judge.proofs.honest.an_honest_run_stays_in_the_profile.{AsParts}
 use Rattle.osi_judge.proofs.honest.an_honest_side_is_kept.{CalledLaw, CallerLaw}
 use Rattle.osi_rules.specs.declared.directions.Direction.TheVariants as way
-use Rattle.osi_rules.specs.Traffic.{State, class_of}
+use Rattle.osi_rules.specs.Traffic.{State, class_of, takes}
 use Rattle.osi_stack.specs.Calls.{has_given}
 use Rattle.osi_stack.specs.State.{End, Holding}
 use Rattle.osi_fair.proofs.a_called_end_selects_class_zero.{Selecting}
@@ -35,6 +35,7 @@ use Rattle.osi_tap.specs.Connections.{Joined, spoken}
 use Rattle.osi_tap.specs.Courses.{Course as Passed, packet_begins, unit_passes, units_pass}
 use Rattle.osi_tap.specs.Lines.{heard}
 use Rattle.osi_watched.specs.Joint.{Joint, Steps, TakesTurn, begin, begins_other, begins_own, passes_other, passes_own, turns}
+use Rattle.osi_watched.proofs.what_a_taker_passes_over.{mild_of}
 use Rattle.osi_watched.proofs.what_passes_keeps_a_claim.{step_kept}
 use Rattle.osi_watched.proofs.what_the_turns_among_steps_do.{TurnDoes}
 use Rattle.osi_watched.proofs.sessions.a_called_end_answers_with_class_2_or_selects_class_0.{answers_or_selects}
@@ -117,7 +118,7 @@ fine_of at (v ∷ vs) c none h = (
     firm = h.0.right.firm;
     goes = h.0.right.goes;
     two = λ seen. none_some c.traffic.course.class Zero none (h.0.sure.agrees seen);
-    none = h.0.right.none;
+    none = mild_of v (takes way.Left v c.traffic).told.finding h.0.right.none;
   },
   record { sure = h.0.firm; two = λ zero_is. none_some c.traffic.course.class Zero none zero_is },
   fine_of at vs (unit_passes Left at v c)

@@ -22,28 +22,28 @@ use Rattle.osi_honest.proofs.reading.what_is_written_is_read_again.{CanBeWritten
 use Rattle.osi_tap.specs.declared.rooms.Room.TheVariants.{All}
 use Rattle.osi_tap.specs.Connections.{Joined, Sessions}
 use Rattle.osi_tap.specs.Courses.{Course, unit_passes, units_pass}
-use Rattle.osi_watched.proofs.the_first_break_is_not_of_an_end.{IsNoBreak}
+use Rattle.osi_watched.proofs.what_a_taker_passes_over.{applied_of}
 use Rattle.osi_watched.proofs.sessions.a_calling_end_is_ready.{IsPlain, cr_broke, goes_on, right_plain, zero_broke}
 use Rattle.osi_watched.proofs.sessions.a_cc_comes_before_what_is_put_for_it.{cc_heard, nothing_waits}
-use Rattle.osi_watched.proofs.sessions.a_dt_that_is_no_break_is_right.{dt_right}
+use Rattle.osi_watched.proofs.sessions.a_dt_that_is_no_break_is_right.{dt_clear}
 use Rattle.osi_watched.proofs.sessions.a_right_dt_has_one_place.{two_placed}
 use Rattle.osi_watched.proofs.sessions.a_unit_is_joined_where_it_is_named.{joined_named}
 use Rattle.osi_watched.proofs.sessions.all_connections_stand.{AllStand, there_too}
 use Rattle.osi_watched.proofs.sessions.connections_have_the_same_places.{at_same, unit_joins, unit_knows}
 use Rattle.osi_watched.proofs.sessions.nothing_is_done_before_a_cr_passes.{known_from}
 use Rattle.osi_watched.proofs.sessions.references_of_an_end_are_distinct.{AreDistinct, GivesNew, stays_so, unit_distinct}
-use Rattle.osi_watched.proofs.sessions.steps_leave_all_standing.{IsFine}
+use Rattle.osi_watched.proofs.sessions.steps_leave_all_standing.{IsTakeable}
 use Rattle.osi_watched.proofs.sessions.units_written_alike_are_for_the_same.{none_written_so}
 use Rattle.osi_watched.proofs.sessions.what_is_in_flight_to_an_end.{flight_grows, flight_same, known_of}
 use Rattle.osi_watched.proofs.sessions.what_passes_leaves_all_standing.{IsHeard, other_stands}
 use Rattle.osi_watched.proofs.sessions.what_stands_of_a_connection.{Known, Stands, lives, past, unnamed}
 
--- ---- units that are no break
+-- ---- units that are no break, or a break that is passed over
 
--- each, as it passes, while the rules have been kept
+-- each, as it passes, while all is judged
 abbrev pub AreFine : ℕ → List Value → Course → Type 0
 AreFine at [] c = Unit {0}
-AreFine at (v ∷ vs) c = IsFine Right v c × IsClear c.traffic.course × AreFine at vs (unit_passes Right at v c)
+AreFine at (v ∷ vs) c = IsTakeable Right v c × IsClear c.traffic.course × AreFine at vs (unit_passes Right at v c)
 
 pub fine_plain : (b at : ℕ) (vs : List Value) (c : Course) → AreFine at vs c → AllByRecursion (IsPlain b) vs
 fine_plain b at [] c h = tt
@@ -51,10 +51,10 @@ fine_plain b at (v ∷ vs) c (fine, clear, more) =
     (right_plain b v c.traffic fine.goes fine.two fine.none, fine_plain b at vs (unit_passes Right at v c) more)
 
 -- the other side gives no reference of this one
-gives_none : (v : Value) (c : Course) → IsFine Right v c → GivesNew Left v c.sessions
+gives_none : (v : Value) (c : Course) → IsTakeable Right v c → GivesNew Left v c.sessions
 gives_none (request x) c fine =
     cr_broke (class_for way.Right c.traffic.course) (is_stopped way.Left c.traffic.course) x c.traffic
-    (goes_on (is_stopped way.Right c.traffic.course) c.traffic
+    (goes_on (request x) (is_stopped way.Right c.traffic.course) c.traffic
     (routed way.Right (request x) c.traffic (route way.Right c.traffic.course (request x))) fine.goes fine.none)
 gives_none (confirm n x) c fine = tt
 gives_none (disconnect n source reason user) c fine = tt
@@ -83,12 +83,13 @@ module _ (local : Local) (deeds : ℕ → Deeds) (is_live : ℕ → Bool) (put :
   abbrev Stand : List Value → Course → Type 0
   Stand coming c = AllStand Left deeds (known_from is_live coming) put b c.traffic c.sessions
 
-  unit_heard : (coming : List Value) (v : Value) (c : Course) → IsFine Right v c → IsClear c.traffic.course → IsBehind local put c →
+  unit_heard : (coming : List Value) (v : Value) (c : Course) → IsTakeable Right v c → IsClear c.traffic.course → IsBehind local put c →
       Stand coming c → AreDistinct Left c.sessions →
       IsHeard Left (known_of is_live coming) (known_of is_live (coming ++ v ∷ [])) v put c.traffic c.sessions
   unit_heard coming (data2 n number end user) c fine clear w a distinct =
       let v : Value = data2 n number end user in
-      let kept = dt_right way.Right v end c.traffic refl fine.goes fine.firm a.judged (λ r e. subst IsNoBreak e fine.none) in
+      let kept = applied_of v (takes way.Right v c.traffic).told.finding (λ dr. dr)
+      (dt_clear way.Right v end c.traffic refl fine.goes fine.firm a.judged) fine.none in
       let p = two_placed way.Right n number end user c.traffic kept in
       let (k, here, one) = at_same c.traffic.connections c.sessions.live p.place p.connection a.places p.there in
       let named = joined_named Right v c n p.place p.connection k a.places refl p.told p.there p.judged here in (
@@ -108,7 +109,7 @@ module _ (local : Local) (deeds : ℕ → Deeds) (is_live : ℕ → Bool) (put :
       λ r later sure. flight_same is_live coming (disconnected n source) r later refl sure
   unit_heard coming (data0 end user) c fine clear w a distinct =
       zero_broke (class_for way.Right c.traffic.course) (is_stopped way.Left c.traffic.course) end user c.traffic fine.two
-      (goes_on (is_stopped way.Right c.traffic.course) c.traffic
+      (goes_on (data0 end user) (is_stopped way.Right c.traffic.course) c.traffic
       (routed way.Right (data0 end user) c.traffic (route way.Right c.traffic.course (data0 end user))) fine.goes fine.none)
   unit_heard coming (acknowledge credit n number) c fine clear w a distinct =
       λ r later sure. flight_same is_live coming (acknowledge credit n number) r later refl sure

@@ -43,6 +43,7 @@ use Rattle.osi_tap.specs.Connections.{Joined, Sessions, taken}
 use Rattle.osi_tap.specs.Courses.{Course, unit_passes, units_pass, way_of}
 use Rattle.osi_watched.proofs.a_carrier_does_events.{IsLike, none_of}
 use Rattle.osi_watched.proofs.the_first_break_is_not_of_an_end.{IsNoBreak}
+use Rattle.osi_watched.proofs.what_a_taker_passes_over.{mild_of}
 use Rattle.osi_watched.proofs.sessions.a_cc_of_class_0_opens_one_connection.{awaits_this, cc_opens, effect}
 use Rattle.osi_watched.proofs.sessions.a_dt_of_class_0_leaves_all_standing as in_zero
 use Rattle.osi_watched.proofs.sessions.a_dt_of_class_0_leaves_all_standing.{GrowsThere, IsHeardZero, IsZero, told_there}
@@ -191,8 +192,9 @@ units_none_before at (v ∷ vs) c none = none_before Right at v c (units_none_be
 not_cr : (b : ℕ) (v : Value) (c : Course) → IsRight Right v c → IsUpTo Left b v
 not_cr b (request x) c right =
     cr_broke (class_for way.Right c.traffic.course) (is_stopped way.Left c.traffic.course) x c.traffic
-    (goes_on (is_stopped way.Right c.traffic.course) c.traffic
-    (routed way.Right (request x) c.traffic (route way.Right c.traffic.course (request x))) right.goes right.none)
+    (goes_on (request x) (is_stopped way.Right c.traffic.course) c.traffic
+    (routed way.Right (request x) c.traffic (route way.Right c.traffic.course (request x))) right.goes
+    (mild_of (request x) (takes way.Right (request x) c.traffic).told.finding right.none))
 not_cr b (confirm n x) c right = tt
 not_cr b (disconnect n source reason user) c right = tt
 not_cr b (disconnected n source) c right = tt
@@ -424,7 +426,8 @@ module _ (local : Local) (deeds : ℕ → Deeds) (b : ℕ) (end : Carrier) (put 
         AllStand Left deeds (known_below b end (coming ++ v ∷ [])) put begun (after v c).traffic (after v c).sessions
     all_heard heard =
         in_two.other_stands Left deeds (known_below b end coming) (known_below b end (coming ++ v ∷ [])) at v put begun c right.firm
-        right.goes (λ e. none_zero c.traffic.course.class class e) right.none heard h.all
+        right.goes (λ e. none_zero c.traffic.course.class class e)
+        (mild_of v (takes way.Right v c.traffic).told.finding right.none) heard h.all
 
     quiet_early : IsQuiet v → Early (coming ++ v ∷ []) (after v c)
     quiet_early q =

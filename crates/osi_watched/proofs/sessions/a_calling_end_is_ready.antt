@@ -32,7 +32,7 @@ use Rattle.osi_tap.specs.Courses.{Course}
 use Rattle.osi_watched.specs.Joint.{Joint, Steps, TakesTurn, begin, begins_other, begins_own, passes_other, passes_own}
 use Rattle.osi_watched.specs.ShownPlaces.{HaveSamePlaces}
 use Rattle.osi_watched.proofs.steps_are_events.{IsFollowed, begin_followed, own_first}
-use Rattle.osi_watched.proofs.the_first_break_is_not_of_an_end.{IsNoBreak}
+use Rattle.osi_watched.proofs.what_a_taker_passes_over.{IsMild}
 use Rattle.osi_watched.proofs.sessions.a_turn_does_what_its_deeds_say.{turn_leaves, units_join}
 use Rattle.osi_watched.proofs.sessions.crs_that_wait_are_above_those_that_passed.{AreAbove, above_along, passes_asked}
 use Rattle.osi_watched.proofs.sessions.each_cr_that_passes_gives_a_new_reference.{AreAhead, GoesOn, IsUpTo, begins_other_ahead}
@@ -46,19 +46,19 @@ use Rattle.osi_watched.proofs.sessions.what_stands_of_a_connection.{Known}
 
 -- ---- what comes in class 2
 
-pub goes_on : (b : Bool) (s : State) (o : Outcome) → b ≡ false → IsNoBreak (if b then none_told way.Right NotJudged s else o).told.finding →
-    IsNoBreak o.told.finding
-goes_on true s o h none = absurd (cc)
-goes_on false s o h none = none
+pub goes_on : (v : Value) (b : Bool) (s : State) (o : Outcome) → b ≡ false →
+    IsMild v (if b then none_told way.Right NotJudged s else o).told.finding → IsMild v o.told.finding
+goes_on v true s o h none = absurd (cc)
+goes_on v false s o h none = none
 
 pub zero_broke : {A : Type 0} (k : Option Class) (b : Bool) (end : Bool) (user : List ℕ) (s : State) → (k ≡ Some Zero → ⊥) →
-    IsNoBreak (routed way.Right (data0 end user) s (route_in k way.Right b (data0 end user))).told.finding → A
+    IsMild (data0 end user) (routed way.Right (data0 end user) s (route_in k way.Right b (data0 end user))).told.finding → A
 zero_broke None b end user s two none = absurd none
 zero_broke (Some Zero) b end user s two none = absurd (two refl)
 zero_broke (Some Two) b end user s two none = absurd none
 
 pub cr_broke : {A : Type 0} (k : Option Class) (b : Bool) (x : Connect) (s : State) →
-    IsNoBreak (routed way.Right (request x) s (route_in k way.Right b (request x))).told.finding → A
+    IsMild (request x) (routed way.Right (request x) s (route_in k way.Right b (request x))).told.finding → A
 cr_broke None b x s none = absurd none
 cr_broke (Some Zero) b x s none = absurd none
 cr_broke (Some Two) b x s none = absurd none
@@ -68,13 +68,14 @@ abbrev pub IsPlain : ℕ → Value → Type 0
 IsPlain b v = IsNoZero v × IsUpTo Left b v
 
 pub right_plain : (b : ℕ) (v : Value) (s : State) → is_stopped way.Right s.course ≡ false → (class_for way.Right s.course ≡ Some Zero → ⊥) →
-    IsNoBreak (takes way.Right v s).told.finding → IsPlain b v
+    IsMild v (takes way.Right v s).told.finding → IsPlain b v
 right_plain b (request x) s goes two none =
     cr_broke (class_for way.Right s.course) (is_stopped way.Left s.course) x s
-    (goes_on (is_stopped way.Right s.course) s (routed way.Right (request x) s (route way.Right s.course (request x))) goes none)
+    (goes_on (request x) (is_stopped way.Right s.course) s (routed way.Right (request x) s (route way.Right s.course (request x))) goes none)
 right_plain b (data0 end user) s goes two none =
     zero_broke (class_for way.Right s.course) (is_stopped way.Left s.course) end user s two
-    (goes_on (is_stopped way.Right s.course) s (routed way.Right (data0 end user) s (route way.Right s.course (data0 end user))) goes none)
+    (goes_on (data0 end user) (is_stopped way.Right s.course) s
+    (routed way.Right (data0 end user) s (route way.Right s.course (data0 end user))) goes none)
 right_plain b (confirm n x) s goes two none = (tt, tt)
 right_plain b (disconnect n source reason user) s goes two none = (tt, tt)
 right_plain b (disconnected n source) s goes two none = (tt, tt)

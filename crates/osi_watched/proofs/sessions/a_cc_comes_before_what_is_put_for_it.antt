@@ -27,23 +27,23 @@ use Rattle.osi_fair.proofs.what_keeps_names_apart.{AreApart}
 use Rattle.osi_fair.proofs.which_units_are_for_a_connection.{picked_rest}
 use Rattle.osi_tap.specs.Connections.{Sessions}
 use Rattle.osi_watched.specs.ShownPlaces.{HaveSamePlaces, named_by}
-use Rattle.osi_watched.proofs.the_first_break_is_not_of_an_end.{IsNoBreak}
+use Rattle.osi_watched.proofs.what_a_taker_passes_over.{IsMild}
 use Rattle.osi_watched.proofs.sessions.a_right_dt_has_one_place.{still_used}
 use Rattle.osi_watched.proofs.sessions.connections_have_the_same_places.{at_same}
 use Rattle.osi_watched.proofs.sessions.what_is_in_flight_to_an_end.{flight_same, known_of}
 use Rattle.osi_watched.proofs.sessions.what_passes_leaves_all_standing.{IsHeard}
 use Rattle.osi_watched.proofs.sessions.what_stands_of_a_connection.{is_for, waiting_for}
 
--- ---- a CC that is no break
+-- ---- a CC that is no break, or has too large a size
 
-first_new : (a b i u z : Bool) →
-    IsNoBreak (first_failed ((a, Broke rule.WrongForm) ∷ (b, Broke rule.BadAnswer) ∷ (i, Outside)
+first_new : (v : Value) (a b i u z : Bool) →
+    IsMild v (first_failed ((a, Broke rule.WrongForm) ∷ (b, Broke rule.BadAnswer) ∷ (i, Outside)
     ∷ (u, Broke rule.ReferenceInUse) ∷ (z, Broke rule.LargerSize) ∷ [])) → u ≡ true
-first_new false b i u z h = absurd h
-first_new true false i u z h = absurd h
-first_new true true false u z h = absurd h
-first_new true true true false z h = absurd h
-first_new true true true true z h = refl
+first_new v false b i u z h = absurd h
+first_new v true false i u z h = absurd h
+first_new v true true false u z h = absurd h
+first_new v true true true false z h = absurd h
+first_new v true true true true z h = refl
 
 not_so : (b : Bool) → not b ≡ true → b ≡ false
 not_so true h = absurd (cc)
@@ -53,47 +53,47 @@ module _ (n : ℕ) (x : Connect) (s : State) (firm : s.course.loose ≡ false) (
   abbrev IsNew : Type 0
   IsNew = uses_source way.Right s.connections (confirm n x) ≡ false
 
-  cc_on : (c : Connection) → c.is_judged ≡ true → IsNoBreak (found_on way.Right s c (confirm n x)) → IsNew
+  cc_on : (c : Connection) → c.is_judged ≡ true → IsMild (confirm n x) (found_on way.Right s c (confirm n x)) → IsNew
   cc_on c is none = by c.is_judged is none
     where
       by : (b : Bool) → b ≡ true →
-          IsNoBreak (if b then found way.Right s.course (uses_source way.Right s.connections (confirm n x)) c
+          IsMild (confirm n x) (if b then found way.Right s.course (uses_source way.Right s.connections (confirm n x)) c
           (confirm n x) else NotJudged) →
           IsNew
       by true h k =
           not_so (uses_source way.Right s.connections (confirm n x))
-          (first_new (is_silent c.right.phase) (is_offered c.offer s.course.class x) (is_inside x)
+          (first_new (confirm n x) (is_silent c.right.phase) (is_offered c.offer s.course.class x) (is_inside x)
           (not (uses_source way.Right s.connections (confirm n x))) _ k)
       by false h k = absurd (cc)
 
   cc_nowhere : {A : Type 0} (loose strays : Bool) → loose ≡ false →
-      IsNoBreak (if loose then NotJudged else unnamed_by strays (confirm n x)) → A
+      IsMild (confirm n x) (if loose then NotJudged else unnamed_by strays (confirm n x)) → A
   cc_nowhere true strays h none = absurd (cc)
   cc_nowhere false true h none = absurd none
   cc_nowhere false false h none = absurd none
 
   cc_here : (i : ℕ) (o : Option Connection) → slice_get s.connections i ≡ o →
-      IsNoBreak (at_found way.Right (confirm n x) s i o).told.finding → IsNew
+      IsMild (confirm n x) (at_found way.Right (confirm n x) s i o).told.finding → IsNew
   cc_here i None e none = cc_nowhere s.course.loose s.course.strays firm none
   cc_here i (Some c) e none = cc_on c (judged firm i c e) none
 
-  cc_any : (o : Option ℕ) → IsNoBreak (at_place way.Right (confirm n x) s o).told.finding → IsNew
+  cc_any : (o : Option ℕ) → IsMild (confirm n x) (at_place way.Right (confirm n x) s o).told.finding → IsNew
   cc_any None none = cc_nowhere s.course.loose s.course.strays firm none
   cc_any (Some i) none = cc_here i (slice_get s.connections i) refl none
 
   cc_routed : (k : Option Class) (b : Bool) →
-      IsNoBreak (routed way.Right (confirm n x) s (route_in k way.Right b (confirm n x))).told.finding → IsNew
+      IsMild (confirm n x) (routed way.Right (confirm n x) s (route_in k way.Right b (confirm n x))).told.finding → IsNew
   cc_routed None b none = cc_any (position (is_named way.Right n) s.connections) none
   cc_routed (Some Zero) true none = absurd none
   cc_routed (Some Zero) false none = absurd none
   cc_routed (Some Two) b none = cc_any (position (is_named way.Right n) s.connections) none
 
-  goes_on : (b : Bool) (o : Outcome) → b ≡ false → IsNoBreak (if b then none_told way.Right NotJudged s else o).told.finding →
-      IsNoBreak o.told.finding
+  goes_on : (b : Bool) (o : Outcome) → b ≡ false → IsMild (confirm n x) (if b then none_told way.Right NotJudged s else o).told.finding →
+      IsMild (confirm n x) o.told.finding
   goes_on true o h none = absurd (cc)
   goes_on false o h none = none
 
-  pub cc_new : is_stopped way.Right s.course ≡ false → IsNoBreak (takes way.Right (confirm n x) s).told.finding →
+  pub cc_new : is_stopped way.Right s.course ≡ false → IsMild (confirm n x) (takes way.Right (confirm n x) s).told.finding →
       uses_source way.Right s.connections (confirm n x) ≡ false
   cc_new goes none =
       cc_routed (class_for way.Right s.course) (is_stopped way.Left s.course)
@@ -135,7 +135,7 @@ for_another n m (error k cause) e other = refl
 
 module _ (n : ℕ) (x : Connect) (s : State) (t : Sessions) (firm : s.course.loose ≡ false) (judged : AreJudged s)
     (places : HaveSamePlaces s.connections t.live) (apart : AreApart s.connections) (goes : is_stopped way.Right s.course ≡ false)
-    (none : IsNoBreak (takes way.Right (confirm n x) s).told.finding) where
+    (none : IsMild (confirm n x) (takes way.Right (confirm n x) s).told.finding) where
   pub none_open : (i : ℕ) (c : Connection) → slice_get s.connections i ≡ Some c → is_tracked c ≡ true →
       c.right.reference ≡ x.source → ⊥
   none_open i c there tracked same =

@@ -19,7 +19,6 @@ use Rattle.osi_rules.specs.declared.directions.Direction.TheVariants as way
 use Rattle.osi_rules.specs.declared.findings.Finding.{Finding}
 use Rattle.osi_rules.specs.declared.findings.Finding.TheVariants.{Broke, Kept, NotJudged}
 use Rattle.osi_rules.specs.declared.findings.Meaning.TheVariants.{Adds}
-use Rattle.osi_rules.specs.declared.findings.Rule.{Rule}
 use Rattle.osi_rules.specs.declared.findings.Rule.TheVariants as rule
 use Rattle.osi_rules.specs.declared.halves.Phase.{Phase}
 use Rattle.osi_rules.specs.declared.halves.Phase.TheVariants as phase
@@ -53,18 +52,18 @@ pub record IsPlaced (d : Way) (v : Value) (end : Bool) (s : State) (o : Outcome)
   pub means : o.told.meaning ≡ Adds end
   pub there : slice_get s.connections place ≡ Some connection
   pub judged : connection.is_judged ≡ true
-  pub kept : found d s.course (uses_source d s.connections v) connection v ≡ Kept
+  pub applied : is_applied (found d s.course (uses_source d s.connections v) connection v) ≡ true
 
-judged_kept : (b : Bool) (f : Finding) → (if b then f else NotJudged) ≡ Kept → (b ≡ true) × (f ≡ Kept)
-judged_kept true f h = (refl, h)
-judged_kept false f h = absurd (cc)
+judged_applied : (b : Bool) (f : Finding) → is_applied (if b then f else NotJudged) ≡ true → (b ≡ true) × (is_applied f ≡ true)
+judged_applied true f h = (refl, h)
+judged_applied false f h = absurd (cc)
 
 -- a unit that adds to a TSDU
 abbrev AddsTo : Value → Bool → Type 0
 AddsTo v end = meant v ≡ Adds end
 
 never_unnamed : {A : Type 0} (loose strays : Bool) (v : Value) (end : Bool) → AddsTo v end →
-    (if loose then NotJudged else unnamed_by strays v) ≡ Kept → A
+    is_applied (if loose then NotJudged else unnamed_by strays v) ≡ true → A
 never_unnamed true strays v end adds h = absurd (cc)
 never_unnamed false true (request c) end adds h = absurd (cc)
 never_unnamed false false (request c) end adds h = absurd (cc)
@@ -84,34 +83,34 @@ never_unnamed false true (error n cause) end adds h = absurd (cc)
 never_unnamed false false (error n cause) end adds h = absurd (cc)
 
 module _ (d : Way) (v : Value) (end : Bool) (s : State) (adds : AddsTo v end) where
-  placed_one : (i : ℕ) (o : Option Connection) → slice_get s.connections i ≡ o → (at_found d v s i o).told.finding ≡ Kept →
+  placed_one : (i : ℕ) (o : Option Connection) → slice_get s.connections i ≡ o → is_applied (at_found d v s i o).told.finding ≡ true →
       IsPlaced d v end s (at_found d v s i o)
   placed_one i None e h = never_unnamed s.course.loose s.course.strays v end adds h
   placed_one i (Some c) e h =
-      let (judged, kept) = judged_kept c.is_judged (found d s.course (uses_source d s.connections v) c v) h in
+      let (judged, applied) = judged_applied c.is_judged (found d s.course (uses_source d s.connections v) c v) h in
       record {
         place = i;
         connection = c;
         told = refl;
-        means = ap (λ (f : Finding). meaning_if (is_applied f) (meant v)) h ∙ adds;
+        means = ap (λ (b : Bool). meaning_if b (meant v)) h ∙ adds;
         there = e;
         judged = judged;
-        kept = kept;
+        applied = applied;
       }
 
-  placed_any : (o : Option ℕ) → (at_place d v s o).told.finding ≡ Kept → IsPlaced d v end s (at_place d v s o)
+  placed_any : (o : Option ℕ) → is_applied (at_place d v s o).told.finding ≡ true → IsPlaced d v end s (at_place d v s o)
   placed_any None h = never_unnamed s.course.loose s.course.strays v end adds h
   placed_any (Some i) h = placed_one i (slice_get s.connections i) refl h
 
-  stopped_or : (b : Bool) (r : Route) → ((routed d v s r).told.finding ≡ Kept → IsPlaced d v end s (routed d v s r)) →
-      (if b then none_told d NotJudged s else routed d v s r).told.finding ≡ Kept →
+  stopped_or : (b : Bool) (r : Route) → (is_applied (routed d v s r).told.finding ≡ true → IsPlaced d v end s (routed d v s r)) →
+      is_applied (if b then none_told d NotJudged s else routed d v s r).told.finding ≡ true →
       IsPlaced d v end s (if b then none_told d NotJudged s else routed d v s r)
   stopped_or true r f h = absurd (cc)
   stopped_or false r f h = f h
 
 -- in class 2
 two_routed : (k : Option Class) (d : Way) (b : Bool) (n number : ℕ) (end : Bool) (user : List ℕ) (s : State) →
-    (routed d (data2 n number end user) s (route_in k d b (data2 n number end user))).told.finding ≡ Kept →
+    is_applied (routed d (data2 n number end user) s (route_in k d b (data2 n number end user))).told.finding ≡ true →
     IsPlaced d (data2 n number end user) end s (routed d (data2 n number end user) s (route_in k d b (data2 n number end user)))
 two_routed None way.Left b n number end user s h = absurd (cc)
 two_routed None way.Right b n number end user s h = absurd (cc)
@@ -124,7 +123,7 @@ two_routed (Some Two) way.Right b n number end user s h =
 
 -- in class 0
 zero_routed : (k : Option Class) (d : Way) (b : Bool) (end : Bool) (user : List ℕ) (s : State) →
-    (routed d (data0 end user) s (route_in k d b (data0 end user))).told.finding ≡ Kept →
+    is_applied (routed d (data0 end user) s (route_in k d b (data0 end user))).told.finding ≡ true →
     IsPlaced d (data0 end user) end s (routed d (data0 end user) s (route_in k d b (data0 end user)))
 zero_routed None way.Left b end user s h = absurd (cc)
 zero_routed None way.Right b end user s h = absurd (cc)
@@ -136,7 +135,7 @@ zero_routed (Some Two) way.Left b end user s h = absurd (cc)
 zero_routed (Some Two) way.Right b end user s h = absurd (cc)
 
 pub two_placed : (d : Way) (n number : ℕ) (end : Bool) (user : List ℕ) (s : State) →
-    (takes d (data2 n number end user) s).told.finding ≡ Kept →
+    is_applied (takes d (data2 n number end user) s).told.finding ≡ true →
     IsPlaced d (data2 n number end user) end s (takes d (data2 n number end user) s)
 two_placed d n number end user s h =
     let v = data2 n number end user in
@@ -148,13 +147,14 @@ pub zero_placed : (d : Way) (end : Bool) (user : List ℕ) (s : State) → (take
 zero_placed d end user s h =
     let v = data0 end user in
     stopped_or d v end s refl (is_stopped d s.course) (route d s.course v)
-    (zero_routed (class_for d s.course) d (is_stopped (sides.other d) s.course) end user s) h
+    (zero_routed (class_for d s.course) d (is_stopped (sides.other d) s.course) end user s) (ap is_applied h)
 
 -- its sender has not closed the connection
-second_test : (a b : Bool) (x y : Rule) (more : List Test) → first_failed ((a, Broke x) ∷ (b, Broke y) ∷ more) ≡ Kept → b ≡ true
-second_test true true x y more h = refl
-second_test true false x y more h = absurd (cc)
-second_test false b x y more h = absurd (cc)
+second_test : (a b : Bool) (more : List Test) →
+    is_applied (first_failed ((a, Broke rule.UnknownReference) ∷ (b, Broke rule.Closed) ∷ more)) ≡ true → b ≡ true
+second_test true true more h = refl
+second_test true false more h = absurd (cc)
+second_test false b more h = absurd (cc)
 
 abbrev tests_of_numbers : Way → Connection → (number octets : ℕ) → List Test
 tests_of_numbers d c number octets =
@@ -163,12 +163,12 @@ tests_of_numbers d c number octets =
     ∷ (fits_size c.size (octets + 5), Broke rule.SizeExceeded) ∷ []
 
 pub two_open : (d : Way) (n number : ℕ) (end : Bool) (user : List ℕ) (course : Rules) (in_use : Bool) (c : Connection) →
-    found d course in_use c (data2 n number end user) ≡ Kept → is_open (own d c).phase ≡ true
+    is_applied (found d course in_use c (data2 n number end user)) ≡ true → is_open (own d c).phase ≡ true
 two_open way.Left n number end user course in_use c h =
-    second_test (not (is_silent c.left.phase)) (is_open c.left.phase) rule.UnknownReference rule.Closed
+    second_test (not (is_silent c.left.phase)) (is_open c.left.phase)
     (tests_of_numbers way.Left c number (length user)) h
 two_open way.Right n number end user course in_use c h =
-    second_test (not (is_silent c.right.phase)) (is_open c.right.phase) rule.UnknownReference rule.Closed
+    second_test (not (is_silent c.right.phase)) (is_open c.right.phase)
     (tests_of_numbers way.Right c number (length user)) h
 
 -- ---- it is joined there
@@ -203,10 +203,10 @@ dt_joined d at (data0 e user) end c h parts kept =
     (joined_at d at (data0 e user) e c h (zero_placed (way_of d) e user c.traffic kept) (λ n k. absurd (cc k)))
 dt_joined d at (data2 m number e user) end c h parts kept =
     let v = data2 m number e user in
-    let p = two_placed (way_of d) m number e user c.traffic kept in
+    let p = two_placed (way_of d) m number e user c.traffic (ap is_applied kept) in
     subst (λ (b : Bool). IsJoinedAt d at v b c) (first_part e end user parts)
     (joined_at d at v e c h p (λ n k. two_open (way_of d) m number e user c.traffic.course
-    (uses_source (way_of d) c.traffic.connections v) p.connection p.kept))
+    (uses_source (way_of d) c.traffic.connections v) p.connection p.applied))
 dt_joined d at (request x) end c h parts kept = absurd (cc)
 dt_joined d at (confirm m x) end c h parts kept = absurd (cc)
 dt_joined d at (disconnect m source reason user) end c h parts kept = absurd (cc)

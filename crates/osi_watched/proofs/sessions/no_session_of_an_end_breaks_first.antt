@@ -29,8 +29,6 @@ use Rattle.osi_honest.specs.Turns.{Turn}
 use Rattle.osi_honest.proofs.class_0.what_a_packet_does_in_class_0.{AllProper}
 use Rattle.osi_honest.proofs.courses.what_a_run_does_to_it.{fresh_course}
 use Rattle.osi_tap.specs.declared.marks.Cause.{Cause}
-use Rattle.osi_tap.specs.declared.marks.First.{First}
-use Rattle.osi_tap.specs.Blaming.{BreaksFirst}
 use Rattle.osi_tap.specs.Connections.{Joined, spoken}
 use Rattle.osi_tap.specs.Courses.{Course as Passed, marked, marks_of, moved, packet_begins, unit_passes, units_pass, unread, unread_mark}
 use Rattle.osi_tap.specs.Courses.{unread_moment, way_of}
@@ -51,7 +49,7 @@ use Rattle.osi_watched.proofs.sessions.after_too_many_nobody_is_to_blame.{NoneIs
 use Rattle.osi_watched.proofs.sessions.connections_have_the_same_places.{marked_traffic, unit_knows}
 use Rattle.osi_watched.proofs.sessions.each_step_leaves_class_0_one_connection.{Sure, fresh_sure, sure_claim}
 use Rattle.osi_watched.proofs.sessions.no_more_tsdus_than_moments_have_passed.{AreFew, few_claim}
-use Rattle.osi_watched.proofs.sessions.steps_leave_all_standing.{IsFine}
+use Rattle.osi_watched.proofs.sessions.steps_leave_all_standing.{IsFine, IsTakeable, takeable_of}
 use Rattle.osi_watched.proofs.sessions.steps_of_either_class_leave_all_standing.{IsRight}
 use Rattle.osi_watched.proofs.sessions.the_first_break_of_all_is_of_the_other_side.{AreClean, Ends, HasBroken, IsSilent, broken_claim}
 use Rattle.osi_watched.proofs.sessions.the_first_break_of_all_is_of_the_other_side.{moment, silent_claim, unit_breaks}
@@ -60,9 +58,9 @@ use Rattle.osi_watched.proofs.sessions.what_passes_is_no_break_while_none_is_tol
 
 -- ---- what is asked of what holds at each step
 
--- a unit of the other side breaks no rule, and is not one connection too many
+-- a unit of the other side breaks no rule, or its taker passes over that, and it is not one connection too many
 pub record IsTaken (d : Direction) (v : Value) (c : Passed) : Type 0 where
-  pub fine : IsFine (other d) v c
+  pub fine : IsTakeable (other d) v c
   pub clear : IsClear c.traffic.course
   pub few : (takes (way_of (other d)) v c.traffic).told.finding ≢ TooMany
 
@@ -193,28 +191,28 @@ module _ (barred : Class) where
   without_before c new stays longer h =
       record { not = λ is. h.not (stays is); few = (let few = h.few in omega (arith, longer, few)) }
 
-  step_without : (d : Direction) (step : Step) (old new : Joint) → Steps d step old new → IsWithout barred new.course →
+  pub step_without : (d : Direction) (step : Step) (old new : Joint) → Steps d step old new → IsWithout barred new.course →
       IsWithout barred old.course
   step_without d step old new does h =
       without_before old.course new.course (step_kept IsSelected (class_claim barred) d step old new does)
       (step_kept (λ c. length old.course.past ≤ length c.past) (long_claim (length old.course.past)) d step old new does (omega arith)) h
 
-  after_without : (capture : Capture) (s : tapping.State) → IsWithout barred (after capture s).course → IsWithout barred s.course
+  pub after_without : (capture : Capture) (s : tapping.State) → IsWithout barred (after capture s).course → IsWithout barred s.course
   after_without capture s h =
       without_before s.course (after capture s).course (after_kept IsSelected (class_claim barred) capture s)
       (after_kept (λ c. length s.course.past ≤ length c.past) (long_claim (length s.course.past)) capture s (omega arith)) h
 
-  unread_without : (d : Direction) (at : ℕ) (cause : Cause) (c : Passed) → IsWithout barred (unread d at cause c) → IsWithout barred c
+  pub unread_without : (d : Direction) (at : ℕ) (cause : Cause) (c : Passed) → IsWithout barred (unread d at cause c) → IsWithout barred c
   unread_without d at cause c h =
       without_before c (unread d at cause c) ((class_claim barred).bad d at cause c)
       ((long_claim (length c.past)).bad d at cause c (omega arith)) h
 
-  units_not : (d : Direction) (at : ℕ) (vs : List Value) (c : Passed) → (IsSelected (units_pass d at vs c) → ⊥) → IsSelected c → ⊥
+  pub units_not : (d : Direction) (at : ℕ) (vs : List Value) (c : Passed) → (IsSelected (units_pass d at vs c) → ⊥) → IsSelected c → ⊥
   units_not d at vs c not is = not (units_kept IsSelected (class_claim barred) d at vs c is)
 
 -- ---- units
 
-units_join : (d : Direction) (at : ℕ) (xs ys : List Value) (c : Passed) →
+pub units_join : (d : Direction) (at : ℕ) (xs ys : List Value) (c : Passed) →
     units_pass d at (xs ++ ys) c ≡ units_pass d at ys (units_pass d at xs c)
 units_join d at [] ys c = refl
 units_join d at (x ∷ xs) ys c = units_join d at xs ys (unit_passes d at x c)
@@ -248,7 +246,7 @@ not_many f many none (inl is) = let no : Kept ≡ TooMany = sym is ∙ many in c
 not_many f many none (inr is) = let no : NotJudged ≡ TooMany = sym is ∙ many in cc
 
 -- both sides are judged
-firm_so : (c : Passed) → IsJudged c → IsFirm c.traffic.course
+pub firm_so : (c : Passed) → IsJudged c → IsFirm c.traffic.course
 firm_so c j = record { firm = j.firm; left = j.left; right = j.right }
 
 goes_so : (e : Direction) (c : Passed) → IsJudged c → is_stopped (way_of e) c.traffic.course ≡ false
@@ -260,7 +258,7 @@ other_goes Left c j = j.right
 other_goes Right c j = j.left
 
 -- a unit of the end is no break: it is fair
-own_right : (d : Direction) (local : Local) → IsFairFrom (way_of d) (wholes.begin (calls_from d) local) → (at : ℕ) (v : Value)
+pub own_right : (d : Direction) (local : Local) → IsFairFrom (way_of d) (wholes.begin (calls_from d) local) → (at : ℕ) (v : Value)
     (old new : Joint) → Steps d (passes_own at v) old new → IsFollowed d (wholes.begin (calls_from d) local) old →
     IsJudged old.course → IsRight d v old.course
 own_right d local fair at v old new (read, octets, put, begun, is) f j =
@@ -636,7 +634,7 @@ without_zero c h = record { not = h.two; few = h.few }
 taken_one : (d : Direction) (v : Value) (c : Passed) → IsPassed Zero d v c → IsTaken d v c
 taken_one d v c h =
     let clear : IsClear c.traffic.course = record { sure = h.firm; two = h.not } in
-    record { fine = fine_so (other d) v c h.sure.agrees clear h.right.none; clear = clear; few = h.few }
+    record { fine = takeable_of (other d) v c (fine_so (other d) v c h.sure.agrees clear h.right.none); clear = clear; few = h.few }
 
 taken_all : (d : Direction) (at : ℕ) (vs : List Value) (c : Passed) → ArePassed Zero d at vs c → AreTaken d at vs c
 taken_all d at [] c h = tt

@@ -16,9 +16,8 @@ use Rattle.osi_rules.specs.declared.courses.Course.{Course as Rules}
 use Rattle.osi_rules.specs.declared.directions.Direction.{Direction as Way}
 use Rattle.osi_rules.specs.declared.directions.Direction.TheVariants as way
 use Rattle.osi_rules.specs.declared.findings.Finding.{Finding}
-use Rattle.osi_rules.specs.declared.findings.Finding.TheVariants.{Broke, Kept, NotJudged}
+use Rattle.osi_rules.specs.declared.findings.Finding.TheVariants.{Broke, NotJudged}
 use Rattle.osi_rules.specs.declared.findings.Reach.{Reach}
-use Rattle.osi_rules.specs.declared.findings.Rule.{Rule}
 use Rattle.osi_rules.specs.declared.findings.Rule.TheVariants as rule
 use Rattle.osi_rules.specs.declared.routes.Route.{Route}
 use Rattle.osi_rules.specs.Reaches.{is_applied}
@@ -46,7 +45,7 @@ no_place : {A : Type 0} (i : ℕ) → Some i ≡ None → A
 no_place i e = absurd (cc)
 
 ack_nowhere : {A : Type 0} (loose strays : Bool) (credit n number : ℕ) →
-    (if loose then NotJudged else unnamed_by strays (acknowledge credit n number)) ≡ Kept → A
+    is_applied (if loose then NotJudged else unnamed_by strays (acknowledge credit n number)) ≡ true → A
 ack_nowhere true strays credit n number h = absurd (cc)
 ack_nowhere false true credit n number h = absurd (cc)
 ack_nowhere false false credit n number h = absurd (cc)
@@ -55,23 +54,23 @@ module _ (d : Way) (credit n number : ℕ) (s : State) where
   abbrev ack : Value
   ack = acknowledge credit n number
 
-  ack_at : {A : Type 0} (i : ℕ) (o : Option Connection) → (at_found d ack s i o).told.finding ≡ Kept →
+  ack_at : {A : Type 0} (i : ℕ) (o : Option Connection) → is_applied (at_found d ack s i o).told.finding ≡ true →
       (at_found d ack s i o).told.place ≡ None → A
   ack_at i None h e = ack_nowhere s.course.loose s.course.strays credit n number h
   ack_at i (Some c) h e = no_place i e
 
-  ack_any : {A : Type 0} (o : Option ℕ) → (at_place d ack s o).told.finding ≡ Kept → (at_place d ack s o).told.place ≡ None → A
+  ack_any : {A : Type 0} (o : Option ℕ) → is_applied (at_place d ack s o).told.finding ≡ true → (at_place d ack s o).told.place ≡ None → A
   ack_any None h e = ack_nowhere s.course.loose s.course.strays credit n number h
   ack_any (Some i) h e = ack_at i (slice_get s.connections i) h e
 
-  ack_goes : {A : Type 0} (b : Bool) (r : Route) → ((routed d ack s r).told.finding ≡ Kept → (routed d ack s r).told.place ≡ None → A) →
-      (if b then none_told d NotJudged s else routed d ack s r).told.finding ≡ Kept →
+  ack_goes : {A : Type 0} (b : Bool) (r : Route) → (is_applied (routed d ack s r).told.finding ≡ true → (routed d ack s r).told.place ≡ None → A) →
+      is_applied (if b then none_told d NotJudged s else routed d ack s r).told.finding ≡ true →
       (if b then none_told d NotJudged s else routed d ack s r).told.place ≡ None → A
   ack_goes true r f h e = absurd (cc)
   ack_goes false r f h e = f h e
 
 ack_routed : {A : Type 0} (k : Option Class) (d : Way) (b : Bool) (credit n number : ℕ) (s : State) →
-    (routed d (acknowledge credit n number) s (route_in k d b (acknowledge credit n number))).told.finding ≡ Kept →
+    is_applied (routed d (acknowledge credit n number) s (route_in k d b (acknowledge credit n number))).told.finding ≡ true →
     (routed d (acknowledge credit n number) s (route_in k d b (acknowledge credit n number))).told.place ≡ None → A
 ack_routed None way.Left b credit n number s h e = absurd (cc)
 ack_routed None way.Right b credit n number s h e = absurd (cc)
@@ -82,28 +81,30 @@ ack_routed (Some Two) way.Left b credit n number s h e =
 ack_routed (Some Two) way.Right b credit n number s h e =
     ack_any way.Right credit n number s (position (is_named way.Right n) s.connections) h e
 
-pub ack_placed : {A : Type 0} (d : Way) (credit n number : ℕ) (s : State) → (takes d (acknowledge credit n number) s).told.finding ≡ Kept →
+pub ack_placed : {A : Type 0} (d : Way) (credit n number : ℕ) (s : State) →
+    is_applied (takes d (acknowledge credit n number) s).told.finding ≡ true →
     (takes d (acknowledge credit n number) s).told.place ≡ None → A
 ack_placed d credit n number s h e =
     ack_goes d credit n number s (is_stopped d s.course) (route d s.course (acknowledge credit n number))
     (ack_routed (class_for d s.course) d (is_stopped (sides.other d) s.course) credit n number s) h e
 
-second_test : (a b : Bool) (x y : Rule) (more : List Test) → first_failed ((a, Broke x) ∷ (b, Broke y) ∷ more) ≡ Kept → b ≡ true
-second_test true true x y more h = refl
-second_test true false x y more h = absurd (cc)
-second_test false b x y more h = absurd (cc)
+second_test : (a b : Bool) (more : List Test) →
+    is_applied (first_failed ((a, Broke rule.UnknownReference) ∷ (b, Broke rule.Closed) ∷ more)) ≡ true → b ≡ true
+second_test true true more h = refl
+second_test true false more h = absurd (cc)
+second_test false b more h = absurd (cc)
 
 abbrev tests_of_acks : Way → Connection → (number credit : ℕ) → List Test
 tests_of_acks d c number credit =
     (has_passed d c number, Broke rule.OutOfSequence) ∷ (keeps_credit d c number credit, Broke rule.CreditReduced) ∷ []
 
 ack_open : (d : Way) (credit n number : ℕ) (course : Rules) (in_use : Bool) (c : Connection) →
-    found d course in_use c (acknowledge credit n number) ≡ Kept → is_open (own d c).phase ≡ true
+    is_applied (found d course in_use c (acknowledge credit n number)) ≡ true → is_open (own d c).phase ≡ true
 ack_open way.Left credit n number course in_use c h =
-    second_test (not (is_silent c.left.phase)) (is_open c.left.phase) rule.UnknownReference rule.Closed
+    second_test (not (is_silent c.left.phase)) (is_open c.left.phase)
     (tests_of_acks way.Left c number credit) h
 ack_open way.Right credit n number course in_use c h =
-    second_test (not (is_silent c.right.phase)) (is_open c.right.phase) rule.UnknownReference rule.Closed
+    second_test (not (is_silent c.right.phase)) (is_open c.right.phase)
     (tests_of_acks way.Right c number credit) h
 
 -- ---- a DT or an AK of class 2 that is right
@@ -120,28 +121,30 @@ link_for : (v : Value) (n : ℕ) (o : Option ℕ) → IsLink v n → is_for o v 
 link_for v n o (dt number end user is) = ap (is_for o) is
 link_for v n o (ak credit number is) = ap (is_for o) is
 
-judged_kept : (b : Bool) (f : Finding) → (if b then f else NotJudged) ≡ Kept → f ≡ Kept
-judged_kept true f h = h
-judged_kept false f h = absurd (cc)
+judged_applied : (b : Bool) (f : Finding) → is_applied (if b then f else NotJudged) ≡ true → is_applied f ≡ true
+judged_applied true f h = h
+judged_applied false f h = absurd (cc)
 
-link_open : (d : Way) (v : Value) (n : ℕ) (s : State) (c : Connection) → IsLink v n → found_on d s c v ≡ Kept →
+link_open : (d : Way) (v : Value) (n : ℕ) (s : State) (c : Connection) → IsLink v n → is_applied (found_on d s c v) ≡ true →
     is_open (own d c).phase ≡ true
 link_open d v n s c (dt number end user is) h =
     let w = data2 n number end user in
     two_open d n number end user s.course (uses_source d s.connections w) c
-    (judged_kept c.is_judged (found d s.course (uses_source d s.connections w) c w) (subst (λ (x : Value). found_on d s c x ≡ Kept) is h))
+    (judged_applied c.is_judged (found d s.course (uses_source d s.connections w) c w)
+    (subst (λ (x : Value). is_applied (found_on d s c x) ≡ true) is h))
 link_open d v n s c (ak credit number is) h =
     let w = acknowledge credit n number in
     ack_open d credit n number s.course (uses_source d s.connections w) c
-    (judged_kept c.is_judged (found d s.course (uses_source d s.connections w) c w) (subst (λ (x : Value). found_on d s c x ≡ Kept) is h))
+    (judged_applied c.is_judged (found d s.course (uses_source d s.connections w) c w)
+    (subst (λ (x : Value). is_applied (found_on d s c x) ≡ true) is h))
 
-link_placed : {A : Type 0} (d : Way) (v : Value) (n : ℕ) (s : State) → IsLink v n → (takes d v s).told.finding ≡ Kept →
+link_placed : {A : Type 0} (d : Way) (v : Value) (n : ℕ) (s : State) → IsLink v n → is_applied (takes d v s).told.finding ≡ true →
     (takes d v s).told.place ≡ None → A
 link_placed d v n s (dt number end user is) h e =
-    let p = two_placed d n number end user s (subst (λ (x : Value). (takes d x s).told.finding ≡ Kept) is h) in
+    let p = two_placed d n number end user s (subst (λ (x : Value). is_applied (takes d x s).told.finding ≡ true) is h) in
     no_place p.place (sym p.told ∙ subst (λ (x : Value). (takes d x s).told.place ≡ None) is e)
 link_placed d v n s (ak credit number is) h e =
-    ack_placed d credit n number s (subst (λ (x : Value). (takes d x s).told.finding ≡ Kept) is h)
+    ack_placed d credit n number s (subst (λ (x : Value). is_applied (takes d x s).told.finding ≡ true) is h)
     (subst (λ (x : Value). (takes d x s).told.place ≡ None) is e)
 
 names_so : (o : Option ℕ) (n : ℕ) → names_it o n ≡ true → o ≡ Some n
@@ -157,7 +160,7 @@ not_so false h = refl
 module _ (d : Direction) (deeds : ℕ → Deeds) (known : Known) (at : ℕ) (v : Value) (rest : List Value) (s : State) (t : Sessions)
     (a : AllStand d deeds known (v ∷ rest) true s t) (firm : s.course.loose ≡ false) where
   -- it is for no other connection that the end has open
-  link_elsewhere : (n : ℕ) → IsLink v n → (takes (way_of d) v s).told.finding ≡ Kept →
+  link_elsewhere : (n : ℕ) → IsLink v n → is_applied (takes (way_of d) v s).told.finding ≡ true →
       (p i : ℕ) (first c : Connection) (k j : Joined) → (i ≡ p → ⊥) → (takes (way_of d) v s).told.place ≡ Some p →
       slice_get s.connections p ≡ Some first → IsOneOf first k → (takes (way_of d) v s).told.finding ≡ found_on (way_of d) s first v →
       slice_get s.connections i ≡ Some c → IsOneOf c j → is_open (own (way_of d) c).phase ≡ true → is_for (reference_of
@@ -165,13 +168,13 @@ module _ (d : Direction) (deeds : ℕ → Deeds) (known : Known) (at : ℕ) (v :
   link_elsewhere n link kept p i first c k j apart place there one finding here another live =
       let judged = a.judged firm p first there in
       let named = named_there d n first k one judged (names_there (way_of d) v s n p first there (link_names v n link) place) in
-      let opens = link_open (way_of d) v n s first link (sym finding ∙ kept) in
+      let opens = link_open (way_of d) v n s first link (sym (ap is_applied finding) ∙ kept) in
       not_so (is_for (reference_of (other d) j) v) (λ e. apart (one_place d n i p c first j k s.connections a.apart here there
       (a.judged firm i c here) judged another one live opens
       (names_so (reference_of (other d) j) n (sym (link_for v n (reference_of (other d) j) link) ∙ e)) named))
 
   -- a DT or an AK
-  pub link_leaves : (n : ℕ) → IsLink v n → (takes (way_of d) v s).told.finding ≡ Kept →
+  pub link_leaves : (n : ℕ) → IsLink v n → is_applied (takes (way_of d) v s).told.finding ≡ true →
       ((p : ℕ) (c : Connection) (j : Joined) (x : Bool) (r : Reach) → (takes (way_of d) v s).told.place ≡ Some p →
       slice_get s.connections p ≡ Some c → IsOneOf c j → (takes (way_of d) v s).told.finding ≡ found_on (way_of d) s c v →
       is_applied (found_on (way_of d) s c v) ≡ x → Stands d deeds known (v ∷ rest) true c j →
@@ -192,13 +195,13 @@ module _ (d : Direction) (deeds : ℕ → Deeds) (known : Known) (at : ℕ) (v :
 -- a DT
 pub own_dt : (d : Direction) (deeds : ℕ → Deeds) (known : Known) (at n number : ℕ) (end : Bool) (user : List ℕ) (rest : List Value)
     (s : State) (t : Sessions) → AllStand d deeds known (data2 n number end user ∷ rest) true s t → s.course.loose ≡ false →
-    (takes (way_of d) (data2 n number end user) s).told.finding ≡ Kept →
+    is_applied (takes (way_of d) (data2 n number end user) s).told.finding ≡ true →
     Leaves d deeds known known (data2 n number end user ∷ rest) rest true false d at (data2 n number end user) s t
 own_dt d deeds known at n number end user rest s t a firm kept =
     let v = data2 n number end user in
     link_leaves d deeds known at v rest s t a firm n (dt number end user refl) kept
     (λ p c j x r place there one finding is h.
-    by x (sym (ap is_applied (sym finding ∙ kept)) ∙ is) p c j r place there one finding h) (λ x e. cc e)
+    by x (sym (sym (ap is_applied finding) ∙ kept) ∙ is) p c j r place there one finding h) (λ x e. cc e)
   where
     by : (x : Bool) → true ≡ x → (p : ℕ) (c : Connection) (j : Joined) (r : Reach) →
         (takes (way_of d) (data2 n number end user) s).told.place ≡ Some p → slice_get s.connections p ≡ Some c → IsOneOf c j →
@@ -210,13 +213,13 @@ own_dt d deeds known at n number end user rest s t a firm kept =
     by true e p c j r place there one finding h =
         let v = data2 n number end user in
         own_part d deeds known at n number end user rest r c j one
-        (link_open (way_of d) v n s c (dt number end user refl) (sym finding ∙ kept))
+        (link_open (way_of d) v n s c (dt number end user refl) (sym (ap is_applied finding) ∙ kept))
         (named_there d n c j one (a.judged firm p c there) (names_there (way_of d) v s n p c there refl place)) h
 
 -- an AK
 pub own_ack : (d : Direction) (deeds : ℕ → Deeds) (known : Known) (at credit n number : ℕ) (rest : List Value) (s : State) (t : Sessions) →
     AllStand d deeds known (acknowledge credit n number ∷ rest) true s t → s.course.loose ≡ false →
-    (takes (way_of d) (acknowledge credit n number) s).told.finding ≡ Kept →
+    is_applied (takes (way_of d) (acknowledge credit n number) s).told.finding ≡ true →
     Leaves d deeds known known (acknowledge credit n number ∷ rest) rest true false d at (acknowledge credit n number) s t
 own_ack d deeds known at credit n number rest s t a firm kept =
     let v = acknowledge credit n number in
@@ -260,7 +263,7 @@ pub record StaysElsewhere (d : Direction) (known then_known : Known) (v : Value)
 -- a DT
 pub other_dt : (d : Direction) (deeds : ℕ → Deeds) (known then_known : Known) (at n number : ℕ) (end : Bool) (user : List ℕ)
     (put : List Value) (b : Bool) (s : State) (t : Sessions) → AllStand d deeds known put b s t → s.course.loose ≡ false →
-    (takes (way_of (other d)) (data2 n number end user) s).told.finding ≡ Kept →
+    is_applied (takes (way_of (other d)) (data2 n number end user) s).told.finding ≡ true →
     ((later : List Part) → known n later → then_known n (later ++ (end, user) ∷ [])) →
     StaysElsewhere d known then_known (data2 n number end user) s t →
     Leaves d deeds known then_known put put b b (other d) at (data2 n number end user) s t
@@ -268,7 +271,7 @@ other_dt d deeds known then_known at n number end user put b s t a firm kept gro
   all = λ e c j h. link_placed (way_of (other d)) (data2 n number end user) n s (dt number end user refl) kept e;
   elsewhere = λ p i first c k j apart place there one at_k finding at_c at_j another h.
       stands_other_none d deeds known then_known put b c c j j (like_same d j) refl refl (stays.live p i j apart place at_j) h;
-  here = λ p c j x r place there at_j one finding is h. by x (sym (ap is_applied (sym finding ∙ kept)) ∙ is) p c j r place there one h;
+  here = λ p c j x r place there at_j one finding is h. by x (sym (sym (ap is_applied finding) ∙ kept) ∙ is) p c j r place there one h;
   asked_so = λ x number is. absurd (cc);
   others = λ x is c j h. absurd (cc);
   moves = λ x is j h. absurd (cc);

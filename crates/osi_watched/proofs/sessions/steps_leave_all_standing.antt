@@ -15,6 +15,7 @@ use Rattle.osi_tap.specs.Lines.{heard}
 use Rattle.osi_watched.specs.Joint.{Joint, Steps, TakesTurn, begins_other, begins_own, passes_other, passes_own}
 use Rattle.osi_watched.specs.Shown.{calls_from}
 use Rattle.osi_watched.proofs.the_first_break_is_not_of_an_end.{IsNoBreak}
+use Rattle.osi_watched.proofs.what_a_taker_passes_over.{IsMild, mild_of}
 use Rattle.osi_watched.proofs.sessions.a_turn_leaves_all_standing.{Turns, all_turn}
 use Rattle.osi_watched.proofs.sessions.all_connections_stand.{AllStand, all_begin_other, all_begin_own}
 use Rattle.osi_watched.proofs.sessions.what_passes_leaves_all_standing.{IsHeard, IsReady, other_stands, own_stands}
@@ -30,6 +31,21 @@ pub record IsFine (d : Direction) (v : Value) (c : Passed) : Type 0 where
   pub goes : is_stopped (way_of d) c.traffic.course ≡ false
   pub two : class_for (way_of d) c.traffic.course ≢ Some Zero
   pub none : IsNoBreak (takes (way_of d) v c.traffic).told.finding
+
+-- and it is one that its taker passes over, if it is a break
+pub record IsTakeable (d : Direction) (v : Value) (c : Passed) : Type 0 where
+  pub firm : c.traffic.course.loose ≡ false
+  pub goes : is_stopped (way_of d) c.traffic.course ≡ false
+  pub two : class_for (way_of d) c.traffic.course ≢ Some Zero
+  pub none : IsMild v (takes (way_of d) v c.traffic).told.finding
+
+pub takeable_of : (d : Direction) (v : Value) (c : Passed) → IsFine d v c → IsTakeable d v c
+takeable_of d v c fine = record {
+  firm = fine.firm;
+  goes = fine.goes;
+  two = fine.two;
+  none = mild_of v (takes (way_of d) v c.traffic).told.finding fine.none;
+}
 
 module _ (d : Direction) (deeds : ℕ → Deeds) (known : Known) where
   pub step_begins_own : (old new : Joint) → Steps d begins_own old new →
@@ -75,10 +91,10 @@ module _ (d : Direction) (deeds : ℕ → Deeds) (known : Known) where
 
 -- ---- the units of a packet of the other side
 
--- each is no break, and this is known of the parts in flight after it
+-- each is taken, and this is known of the parts in flight after it
 pub data Heard (d : Direction) (put : List Value) (at : ℕ) : (known then_known : Known) → List Value → Passed → Type 1 where
   all_heard : (known : Known) (c : Passed) → Heard d put at known known [] c
-  one_heard : (known mid then_known : Known) (v : Value) (vs : List Value) (c : Passed) → IsFine (other d) v c →
+  one_heard : (known mid then_known : Known) (v : Value) (vs : List Value) (c : Passed) → IsTakeable (other d) v c →
       IsHeard d known mid v put c.traffic c.sessions → Heard d put at mid then_known vs (unit_passes (other d) at v c) →
       Heard d put at known then_known (v ∷ vs) c
 

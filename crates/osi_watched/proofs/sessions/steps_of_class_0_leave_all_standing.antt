@@ -10,6 +10,7 @@ use Rattle.osi_honest.specs.Courses.{Deeds}
 use Rattle.osi_tap.specs.Courses.{Course as Passed, unit_passes, units_pass, way_of}
 use Rattle.osi_watched.specs.Joint.{Joint, Steps, passes_other, passes_own}
 use Rattle.osi_watched.proofs.the_first_break_is_not_of_an_end.{IsNoBreak}
+use Rattle.osi_watched.proofs.what_a_taker_passes_over.{mild_of}
 use Rattle.osi_watched.proofs.sessions.a_dt_of_class_0_leaves_all_standing.{IsHeardZero, IsZero, other_stands, own_stands}
 use Rattle.osi_watched.proofs.sessions.all_connections_stand.{AllStand}
 use Rattle.osi_watched.proofs.sessions.steps_leave_all_standing.{IsFine, Standing}
@@ -52,7 +53,8 @@ units_stand : (d : Direction) (deeds : ℕ → Deeds) (put : List Value) (b : Bo
 units_stand d deeds put b at _ _ _ _ (all_heard known c) a = a
 units_stand d deeds put b at _ _ _ _ (two_heard known mid then_known v vs c fine heard more) a =
     units_stand d deeds put b at mid then_known vs (unit_passes (other d) at v c) more
-    (two.other_stands d deeds known mid at v put b c fine.firm fine.goes fine.two fine.none heard a)
+    (two.other_stands d deeds known mid at v put b c fine.firm fine.goes fine.two
+    (mild_of v (takes (way_of (other d)) v c.traffic).told.finding fine.none) heard a)
 units_stand d deeds put b at _ _ _ _ (zero_heard known mid then_known v vs c fine heard more) a =
     units_stand d deeds put b at mid then_known vs (unit_passes (other d) at v c) more
     (other_stands d deeds known mid at v put b c fine.zero fine.none heard a)

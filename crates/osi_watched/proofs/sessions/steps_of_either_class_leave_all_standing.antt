@@ -18,6 +18,7 @@ use Rattle.osi_tap.specs.Courses.{Course as Passed, unit_passes, units_pass, way
 use Rattle.osi_watched.specs.Joint.{Joint, Steps, passes_other, passes_own}
 use Rattle.osi_watched.specs.Shown.{calls_from}
 use Rattle.osi_watched.proofs.the_first_break_is_not_of_an_end.{IsNoBreak}
+use Rattle.osi_watched.proofs.what_a_taker_passes_over.{mild_of}
 use Rattle.osi_watched.proofs.what_a_unit_leaves_at_a_tap.{IsCalm}
 use Rattle.osi_watched.proofs.sessions.a_dt_of_class_0_leaves_all_standing as zero
 use Rattle.osi_watched.proofs.sessions.a_dt_of_class_0_leaves_all_standing.{IsHeardZero}
@@ -88,7 +89,8 @@ other_stands d deeds known then_known at v put b c sure r heard_zero heard a =
     zero_by (class_for (way_of (other d)) c.traffic.course)
     (λ h. zero.other_stands d deeds known then_known at v put b c (is_zero (other d) c.traffic sure r.firm r.goes h) r.none
     (heard_zero h) a)
-    (λ not. two.other_stands d deeds known then_known at v put b c r.firm r.goes not r.none (heard not) a)
+    (λ not. two.other_stands d deeds known then_known at v put b c r.firm r.goes not
+    (mild_of v (takes (way_of (other d)) v c.traffic).told.finding r.none) (heard not) a)
 
 module _ (known_of : AsSent) (parts : AsParts) (caller : CallerLaw) (called : CalledLaw) (d : Direction) (deeds : ℕ → Deeds)
     (put : List Value) (b : Bool) (e : End) (courses : (r : ℕ) → Course (calls_from d) r (deeds r) e) where

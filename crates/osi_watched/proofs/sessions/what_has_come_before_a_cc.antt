@@ -57,7 +57,7 @@ use Rattle.osi_watched.specs.Joint.{Joint, Steps, TakesTurn, begin, begins_other
 use Rattle.osi_watched.specs.ShownPlaces.{HaveSamePlaces, IsOneOf, named_by}
 use Rattle.osi_watched.proofs.a_carrier_does_events.{none_of}
 use Rattle.osi_watched.proofs.steps_are_events.{IsFollowed, own_first}
-use Rattle.osi_watched.proofs.the_first_break_is_not_of_an_end.{IsNoBreak}
+use Rattle.osi_watched.proofs.what_a_taker_passes_over.{IsDr, IsMild}
 use Rattle.osi_watched.proofs.sessions.a_calling_end_hears_what_breaks_no_rule.{AreFine}
 use Rattle.osi_watched.proofs.sessions.a_calling_end_is_ready.{IsCalling, first, right_plain, whole_joined}
 use Rattle.osi_watched.proofs.sessions.a_calling_end_takes_nothing_before_its_cc.{AwaitsCc, awaits_cc}
@@ -66,7 +66,7 @@ use Rattle.osi_watched.proofs.sessions.a_turn_does_what_its_deeds_say.{turn_leav
 use Rattle.osi_watched.proofs.sessions.a_unit_is_joined_where_it_is_named.{named_there, names_there}
 use Rattle.osi_watched.proofs.sessions.connections_have_the_same_places.{unit_knows}
 use Rattle.osi_watched.proofs.sessions.nothing_is_done_before_a_cr_passes.{IsNoZero, same_units}
-use Rattle.osi_watched.proofs.sessions.steps_leave_all_standing.{IsFine}
+use Rattle.osi_watched.proofs.sessions.steps_leave_all_standing.{IsTakeable}
 use Rattle.osi_watched.proofs.sessions.what_a_turn_puts_goes_to_its_peer.{all_front, one_of}
 use Rattle.osi_watched.proofs.sessions.what_a_unit_does_at_its_place.{Does, asks_again, asks_more, nowhere, somewhere, unit_does}
 use Rattle.osi_watched.proofs.sessions.what_stands_of_a_connection.{is_for, waiting_for}
@@ -289,26 +289,26 @@ for_one r (disconnected n source) zero h = absurd (cc h)
 for_one r (error n cause) zero h = absurd (cc h)
 
 -- its sender has sent a CC, and has not closed the connection
-open_by : (silent opened : Bool) (tests : List Test) →
-    IsNoBreak (first_failed ((not silent, Broke rule.UnknownReference) ∷ (opened, Broke rule.Closed) ∷ tests)) → opened ≡ true
-open_by true opened tests none = absurd none
-open_by false true tests none = refl
-open_by false false tests none = absurd none
+open_by : (v : Value) → (IsDr v → ⊥) → (silent opened : Bool) (tests : List Test) →
+    IsMild v (first_failed ((not silent, Broke rule.UnknownReference) ∷ (opened, Broke rule.Closed) ∷ tests)) → opened ≡ true
+open_by v other true opened tests none = absurd none
+open_by v other false true tests none = refl
+open_by v other false false tests none = absurd (other none)
 
 right_open : (s : State) (c : Connection) → c.is_judged ≡ true → (r : ℕ) (v : Value) → IsForOne r v →
-    IsNoBreak (found_on way.Right s c v) → is_open c.right.phase ≡ true
+    IsMild v (found_on way.Right s c v) → is_open c.right.phase ≡ true
 right_open s c judged r v (a_dt number end user is) none =
     let dt : Value = data2 r number end user in
-    let found_so : IsNoBreak (found way.Right s.course (uses_source way.Right s.connections dt) c dt) =
-    subst IsNoBreak (judged_same c.is_judged (found way.Right s.course (uses_source way.Right s.connections dt) c dt) judged)
-    (subst (λ (u : Value). IsNoBreak (found_on way.Right s c u)) is none) in
-    open_by (is_silent c.right.phase) (is_open c.right.phase) (drop 2 (data2_tests way.Right c number (length user))) found_so
+    let found_so : IsMild dt (found way.Right s.course (uses_source way.Right s.connections dt) c dt) =
+    subst (IsMild dt) (judged_same c.is_judged (found way.Right s.course (uses_source way.Right s.connections dt) c dt) judged)
+    (subst (λ (u : Value). IsMild u (found_on way.Right s c u)) is none) in
+    open_by dt (λ dr. dr) (is_silent c.right.phase) (is_open c.right.phase) (drop 2 (data2_tests way.Right c number (length user))) found_so
 right_open s c judged r v (an_ak credit number is) none =
     let ak : Value = acknowledge credit r number in
-    let found_so : IsNoBreak (found way.Right s.course (uses_source way.Right s.connections ak) c ak) =
-    subst IsNoBreak (judged_same c.is_judged (found way.Right s.course (uses_source way.Right s.connections ak) c ak) judged)
-    (subst (λ (u : Value). IsNoBreak (found_on way.Right s c u)) is none) in
-    open_by (is_silent c.right.phase) (is_open c.right.phase) (drop 2 (acknowledge_tests way.Right c number credit)) found_so
+    let found_so : IsMild ak (found way.Right s.course (uses_source way.Right s.connections ak) c ak) =
+    subst (IsMild ak) (judged_same c.is_judged (found way.Right s.course (uses_source way.Right s.connections ak) c ak) judged)
+    (subst (λ (u : Value). IsMild u (found_on way.Right s c u)) is none) in
+    open_by ak (λ dr. dr) (is_silent c.right.phase) (is_open c.right.phase) (drop 2 (acknowledge_tests way.Right c number credit)) found_so
 
 destination_is : (r : ℕ) (v : Value) → IsForOne r v → destination_of v ≡ Some r
 destination_is r v (a_dt number end user is) = ap destination_of is
@@ -322,7 +322,7 @@ no_dc r m source v (a_dt number end user is) e = absurd (cc (sym is ∙ e))
 no_dc r m source v (an_ak credit number is) e = absurd (cc (sym is ∙ e))
 
 module _ (local : Local) (v : Value) (ranges : HasFieldsInRange v) (w : Whole) (j : Follows local w)
-    (none : IsNoBreak (takes way.Right v w.tap).told.finding) (zero : IsNoZero v) (clear : IsClear w.tap.course)
+    (none : IsMild v (takes way.Right v w.tap).told.finding) (zero : IsNoZero v) (clear : IsClear w.tap.course)
     (then_clear : IsClear (takes way.Right v w.tap).state.course) (q : IsQuiet w.end w.coming w.tap) where
   abbrev other_after : Whole
   other_after = record w { tap = (takes way.Right v w.tap).state; coming = w.coming ++ v ∷ [] }
@@ -354,7 +354,7 @@ module _ (local : Local) (v : Value) (ranges : HasFieldsInRange v) (w : Whole) (
       let sound = j.kept.sane.apart.sound t.q t.c t.at judged in
       let same : t.c.left.reference ≡ r =
       is_name t.c t.n sound t.named ∙ same_name (destination_of v) t.n r t.dest (destination_is r v one) in
-      let found_none = subst IsNoBreak (ap (λ (o : Outcome). o.told.finding) t.is) none in
+      let found_none = subst (IsMild v) (ap (λ (o : Outcome). o.told.finding) t.is) none in
       named_there_by r may one t (is_open t.c.left.phase) refl same (right_open w.tap t.c judged r v one found_none)
 
   tracked_now : (r : ℕ) → MayOpen w.end r → IsForOne r v → Tracked w.tap.connections r
@@ -386,7 +386,7 @@ clear_first : (at : ℕ) (vs : List Value) (c : Course) → AreFine at vs c → 
 clear_first at [] c fine clear = clear
 clear_first at (v ∷ vs) c (one, clear, more) then_clear = clear
 
-zero_of : (v : Value) (c : Course) → IsFine Right v c → IsNoZero v
+zero_of : (v : Value) (c : Course) → IsTakeable Right v c → IsNoZero v
 zero_of v c fine = (right_plain 0 v c.traffic fine.goes fine.two fine.none).0
 
 units_quiet : (local : Local) (at : ℕ) (vs : List Value) (w : Whole) (c : Course) → AreFine at vs c →
@@ -400,7 +400,7 @@ units_quiet local at (v ∷ vs) w c (one, clear, more) then_clear ranges j same 
     ap (λ (s : State). (takes way.Right v s).state) same ∙ sym (unit_knows Right at v c) in
     let next_clear = subst (λ (s : State). IsClear s.course) (sym knows) (clear_first at vs (unit_passes Right at v c) more then_clear) in
     let now_clear = subst (λ (s : State). IsClear s.course) (sym same) clear in
-    let none = subst (λ (s : State). IsNoBreak (takes way.Right v s).told.finding) (sym same) one.none in
+    let none = subst (λ (s : State). IsMild v (takes way.Right v s).told.finding) (sym same) one.none in
     let then_quiet = other_quiet local v ranges.0 w j none (zero_of v c one) now_clear next_clear q in
     subst (λ (l : List Value). IsQuiet w.end l (units_pass Right at (v ∷ vs) c).traffic) (append_assoc w.coming (v ∷ []) vs)
     (units_quiet local at vs next (unit_passes Right at v c) more then_clear ranges.1

@@ -26,10 +26,11 @@ use Rattle.osi_tap.specs.Courses.{units_pass, way_of}
 use Rattle.osi_watched.specs.Joint.{Joint, Steps, passes_other, passes_own}
 use Rattle.osi_watched.proofs.steps_are_events.{IsFollowed, own_first}
 use Rattle.osi_watched.proofs.the_first_break_is_not_of_an_end.{IsFairFrom, IsNoBreak}
+use Rattle.osi_watched.proofs.what_a_taker_passes_over.{IsMild}
 use Rattle.osi_watched.proofs.what_a_unit_leaves_at_a_tap.{IsJudged, breaks_first, unit_first}
 use Rattle.osi_watched.proofs.sessions.class_0_is_known_once_it_is_selected.{IsKnownOnce, joint_known_once, unit_known_once}
 use Rattle.osi_watched.proofs.sessions.connections_have_the_same_places.{unit_knows}
-use Rattle.osi_watched.proofs.sessions.steps_leave_all_standing.{IsFine}
+use Rattle.osi_watched.proofs.sessions.steps_leave_all_standing.{IsFine, IsTakeable}
 
 -- ---- a break is told
 
@@ -83,6 +84,16 @@ fine_so e v c once clear none = record {
   goes = goes_on e c clear;
   two = not_zero e c once clear;
   none = none;
+}
+
+-- the same of one that is passed over
+pub takeable_so : (e : Direction) (v : Value) (c : Course) → IsKnownOnce c.traffic → IsClear c.traffic.course →
+    IsMild v (takes (way_of e) v c.traffic).told.finding → IsTakeable e v c
+takeable_so e v c once clear mild = record {
+  firm = clear.sure.firm;
+  goes = goes_on e c clear;
+  two = not_zero e c once clear;
+  none = mild;
 }
 
 was_clear : (e : Direction) (at : ℕ) (v : Value) (c : Course) → IsClear (unit_passes e at v c).traffic.course → IsClear c.traffic.course

@@ -1,7 +1,7 @@
 -- As long as nobody breaks a rule, what passes of class 2 leaves all connections of an end standing at a tap: a unit of the end, and
 -- one of the other side.
 -- For the session of each connection of an end.
-use Rattle.std.proofs.Common.{◌≡◌, refl, sym, subst, ℕ, Bool, true, false, if◌then◌else◌, List, [], ◌∷◌, ◌++◌, Option, Some, None}
+use Rattle.std.proofs.Common.{◌≡◌, refl, sym, ap, subst, ℕ, Bool, true, false, if◌then◌else◌, List, [], ◌∷◌, ◌++◌, Option, Some, None}
 use Rattle.std.proofs.Common.{inl, inr}
 use Rattle.std.specs.Prelude.{position, slice_get}
 use Rattle.osi_tpdu.specs.Value.{Connect, Value, acknowledge, confirm, data0, data2, disconnect, disconnected, error, request}
@@ -18,6 +18,7 @@ use Rattle.osi_rules.specs.declared.directions.Direction.TheVariants as way
 use Rattle.osi_rules.specs.declared.findings.Finding.{Finding}
 use Rattle.osi_rules.specs.declared.findings.Finding.TheVariants.{Broke, Kept, NotJudged}
 use Rattle.osi_rules.specs.declared.findings.Rule.TheVariants as rule
+use Rattle.osi_rules.specs.Reaches.{is_applied}
 use Rattle.osi_rules.specs.Rows.{acknowledge_tests, first_failed}
 use Rattle.osi_rules.specs.Sides.{is_live, is_named}
 use Rattle.osi_rules.specs.Sides as sides
@@ -29,6 +30,7 @@ use Rattle.osi_honest.specs.Courses.{Deeds}
 use Rattle.osi_tap.specs.Connections.{Joined, Sessions}
 use Rattle.osi_tap.specs.Courses.{Course, unit_passes, way_of}
 use Rattle.osi_watched.proofs.the_first_break_is_not_of_an_end.{IsNoBreak}
+use Rattle.osi_watched.proofs.what_a_taker_passes_over.{IsMild, applied_of, mild_of}
 use Rattle.osi_watched.proofs.sessions.a_dt_that_is_no_break_is_right.{IsClear, clear_any, clear_tests, dt_clear, goes_clear}
 use Rattle.osi_watched.proofs.sessions.all_connections_stand.{AllStand, Leaves, all_after}
 use Rattle.osi_watched.proofs.sessions.ccs_and_crs_leave_all_standing.{other_cc, other_cr, own_cc, own_cr}
@@ -77,7 +79,7 @@ ack_clear d credit n number s goes firm judged =
 
 -- a DT of class 0 is a break in class 2, and before a class is known
 pub zero_broke : {A : Type 0} (k : Option Class) (d : Way) (b : Bool) (end : Bool) (user : List ℕ) (s : State) → (k ≡ Some Zero → ⊥) →
-    IsNoBreak (routed d (data0 end user) s (route_in k d b (data0 end user))).told.finding → A
+    IsMild (data0 end user) (routed d (data0 end user) s (route_in k d b (data0 end user))).told.finding → A
 zero_broke None way.Left b end user s two none = absurd none
 zero_broke None way.Right b end user s two none = absurd none
 zero_broke (Some Zero) d b end user s two none = absurd (two refl)
@@ -86,47 +88,47 @@ zero_broke (Some Two) way.Right b end user s two none = absurd none
 
 -- a CR of right
 cr_broke : {A : Type 0} (k : Option Class) (b : Bool) (x : Connect) (s : State) →
-    IsNoBreak (routed way.Right (request x) s (route_in k way.Right b (request x))).told.finding → A
+    IsMild (request x) (routed way.Right (request x) s (route_in k way.Right b (request x))).told.finding → A
 cr_broke None b x s none = absurd none
 cr_broke (Some Zero) b x s none = absurd none
 cr_broke (Some Two) b x s none = absurd none
 
 -- a CC of left
 cc_here : {A : Type 0} (n : ℕ) (x : Connect) (s : State) (i : ℕ) (o : Option Connection) → slice_get s.connections i ≡ o →
-    s.course.loose ≡ false → AreJudged s → IsNoBreak (at_found way.Left (confirm n x) s i o).told.finding → A
+    s.course.loose ≡ false → AreJudged s → IsMild (confirm n x) (at_found way.Left (confirm n x) s i o).told.finding → A
 cc_here n x s i None e firm judged none = by s.course.loose s.course.strays firm none
   where
-    by : {A : Type 0} (loose strays : Bool) → loose ≡ false → IsNoBreak (if loose then NotJudged else unnamed_by strays (confirm n x)) → A
+    by : {A : Type 0} (loose strays : Bool) → loose ≡ false → IsMild (confirm n x) (if loose then NotJudged else unnamed_by strays (confirm n x)) → A
     by true strays h none = absurd (cc)
     by false true h none = absurd none
     by false false h none = absurd none
 cc_here n x s i (Some c) e firm judged none = by c.is_judged (judged firm i c e) none
   where
-    by : {A : Type 0} (b : Bool) → b ≡ true → IsNoBreak (if b then Broke rule.WrongForm else NotJudged) → A
+    by : {A : Type 0} (b : Bool) → b ≡ true → IsMild (confirm n x) (if b then Broke rule.WrongForm else NotJudged) → A
     by true h none = absurd none
     by false h none = absurd (cc)
 
 cc_any : {A : Type 0} (n : ℕ) (x : Connect) (s : State) (o : Option ℕ) → s.course.loose ≡ false → AreJudged s →
-    IsNoBreak (at_place way.Left (confirm n x) s o).told.finding → A
+    IsMild (confirm n x) (at_place way.Left (confirm n x) s o).told.finding → A
 cc_any n x s None firm judged none = by s.course.loose s.course.strays firm none
   where
-    by : {A : Type 0} (loose strays : Bool) → loose ≡ false → IsNoBreak (if loose then NotJudged else unnamed_by strays (confirm n x)) → A
+    by : {A : Type 0} (loose strays : Bool) → loose ≡ false → IsMild (confirm n x) (if loose then NotJudged else unnamed_by strays (confirm n x)) → A
     by true strays h none = absurd (cc)
     by false true h none = absurd none
     by false false h none = absurd none
 cc_any n x s (Some i) firm judged none = cc_here n x s i (slice_get s.connections i) refl firm judged none
 
 pub cc_broke : {A : Type 0} (k : Option Class) (b : Bool) (n : ℕ) (x : Connect) (s : State) → s.course.loose ≡ false → AreJudged s →
-    IsNoBreak (routed way.Left (confirm n x) s (route_in k way.Left b (confirm n x))).told.finding → A
+    IsMild (confirm n x) (routed way.Left (confirm n x) s (route_in k way.Left b (confirm n x))).told.finding → A
 cc_broke None b n x s firm judged none = absurd none
 cc_broke (Some Zero) b n x s firm judged none = absurd none
 cc_broke (Some Two) b n x s firm judged none = cc_any n x s (position (is_named way.Left n) s.connections) firm judged none
 
-pub goes_on : (b : Bool) (d : Way) (s : State) (o : Outcome) → b ≡ false →
-    IsNoBreak (if b then none_told d NotJudged s else o).told.finding →
-    IsNoBreak o.told.finding
-goes_on true d s o h none = absurd (cc)
-goes_on false d s o h none = none
+pub goes_on : (v : Value) (b : Bool) (d : Way) (s : State) (o : Outcome) → b ≡ false →
+    IsMild v (if b then none_told d NotJudged s else o).told.finding →
+    IsMild v o.told.finding
+goes_on v true d s o h none = absurd (cc)
+goes_on v false d s o h none = none
 
 -- ---- a unit of the end
 
@@ -150,15 +152,16 @@ module _ (deeds : ℕ → Deeds) (known : Known) (at : ℕ) (rest : List Value) 
   own_goes : (d : Direction) (v : Value) → OwnGoes d v
   own_goes d (data2 n number end user) goes two none ready a =
       own_dt d deeds known at n number end user rest s t a firm
-      (kept_of (takes (way_of d) (data2 n number end user) s).told.finding
-      (dt_clear (way_of d) (data2 n number end user) end s refl goes firm a.judged) none)
+      (ap is_applied (kept_of (takes (way_of d) (data2 n number end user) s).told.finding
+      (dt_clear (way_of d) (data2 n number end user) end s refl goes firm a.judged) none))
   own_goes d (acknowledge credit n number) goes two none ready a =
       own_ack d deeds known at credit n number rest s t a firm
-      (kept_of (takes (way_of d) (acknowledge credit n number) s).told.finding (ack_clear
-      (way_of d) credit n number s goes firm a.judged) none)
+      (ap is_applied (kept_of (takes (way_of d) (acknowledge credit n number) s).told.finding
+      (ack_clear (way_of d) credit n number s goes firm a.judged) none))
   own_goes d (data0 end user) goes two none ready a =
       zero_broke (class_for (way_of d) s.course) (way_of d) (is_stopped (sides.other (way_of d)) s.course) end user s two
-      (goes_on (is_stopped (way_of d) s.course) (way_of d) s (under (way_of d) (data0 end user)) goes none)
+      (goes_on (data0 end user) (is_stopped (way_of d) s.course) (way_of d) s (under (way_of d) (data0 end user)) goes
+      (mild_of (data0 end user) (takes (way_of d) (data0 end user) s).told.finding none))
   own_goes d (disconnect n source reason user) goes two none ready a =
       own_close d deeds known at (disconnect n source reason user) rest s t a (λ b. tt) (λ o. refl) (λ x e. cc e)
   own_goes d (disconnected n source) goes two none ready a =
@@ -168,11 +171,13 @@ module _ (deeds : ℕ → Deeds) (known : Known) (at : ℕ) (rest : List Value) 
   own_goes Left (request x) goes two none ready a = own_cr deeds known at x rest s t ready.0 ready.1 ready.2
   own_goes Right (request x) goes two none ready a =
       cr_broke (class_for way.Right s.course) (is_stopped way.Left s.course) x s
-      (goes_on (is_stopped way.Right s.course) way.Right s (under way.Right (request x)) goes none)
+      (goes_on (request x) (is_stopped way.Right s.course) way.Right s (under way.Right (request x)) goes
+      (mild_of (request x) (takes way.Right (request x) s).told.finding none))
   own_goes Right (confirm n x) goes two none ready a = own_cc deeds known at n x rest s t ready.0 ready.1 ready.2 a
   own_goes Left (confirm n x) goes two none ready a =
       cc_broke (class_for way.Left s.course) (is_stopped way.Right s.course) n x s firm a.judged
-      (goes_on (is_stopped way.Left s.course) way.Left s (under way.Left (confirm n x)) goes none)
+      (goes_on (confirm n x) (is_stopped way.Left s.course) way.Left s (under way.Left (confirm n x)) goes
+      (mild_of (confirm n x) (takes way.Left (confirm n x) s).told.finding none))
 
 pub own_stands : (d : Direction) (deeds : ℕ → Deeds) (known : Known) (at : ℕ) (v : Value) (rest : List Value) (c : Course) →
     c.traffic.course.loose ≡ false → is_stopped (way_of d) c.traffic.course ≡ false → (class_for
@@ -201,20 +206,20 @@ module _ (deeds : ℕ → Deeds) (known then_known : Known) (at : ℕ) (put : Li
     (firm : s.course.loose ≡ false) where
   abbrev pub OtherGoes : Direction → Value → Type 0
   OtherGoes d v = is_stopped (way_of (other d)) s.course ≡ false → (class_for (way_of (other d)) s.course ≡ Some Zero → ⊥) →
-      IsNoBreak (takes (way_of (other d)) v s).told.finding → IsHeard d known then_known v put s t → AllStand d deeds known put b s t →
+      IsMild v (takes (way_of (other d)) v s).told.finding → IsHeard d known then_known v put s t → AllStand d deeds known put b s t →
       Leaves d deeds known then_known put put b b (other d) at v s t
 
   other_goes : (d : Direction) (v : Value) → OtherGoes d v
   other_goes d (data2 n number end user) goes two none heard a =
       other_dt d deeds known then_known at n number end user put b s t a firm
-      (kept_of (takes (way_of (other d)) (data2 n number end user) s).told.finding
+      (applied_of (data2 n number end user) (takes (way_of (other d)) (data2 n number end user) s).told.finding (λ dr. dr)
       (dt_clear (way_of (other d)) (data2 n number end user) end s refl goes firm a.judged) none) heard.0 heard.1
   other_goes d (acknowledge credit n number) goes two none heard a =
       other_close d deeds known then_known at (acknowledge credit n number) put b s t a (λ x. tt) (λ x e. cc e) heard
   other_goes d (data0 end user) goes two none heard a =
       zero_broke (class_for (way_of (other d)) s.course) (way_of (other d)) (is_stopped (sides.other (way_of
       (other d))) s.course) end user s two
-      (goes_on (is_stopped (way_of (other d)) s.course) (way_of (other d)) s
+      (goes_on (data0 end user) (is_stopped (way_of (other d)) s.course) (way_of (other d)) s
       (routed (way_of (other d)) (data0 end user) s (route (way_of (other d)) s.course (data0 end user))) goes none)
   other_goes d (disconnect n source reason user) goes two none heard a =
       other_close d deeds known then_known at (disconnect n source reason user) put b s t a (λ x. tt) (λ x e. cc e) heard
@@ -225,18 +230,18 @@ module _ (deeds : ℕ → Deeds) (known then_known : Known) (at : ℕ) (put : Li
   other_goes Right (request x) goes two none heard a = other_cr deeds known then_known at x put b s t heard
   other_goes Left (request x) goes two none heard a =
       cr_broke (class_for way.Right s.course) (is_stopped way.Left s.course) x s
-      (goes_on (is_stopped way.Right s.course) way.Right s (routed way.Right (request x) s (route way.Right s.course
+      (goes_on (request x) (is_stopped way.Right s.course) way.Right s (routed way.Right (request x) s (route way.Right s.course
       (request x))) goes none)
   other_goes Left (confirm n x) goes two none heard a = other_cc deeds known then_known at n x put b s t heard.0 heard.1
   other_goes Right (confirm n x) goes two none heard a =
       cc_broke (class_for way.Left s.course) (is_stopped way.Right s.course) n x s firm a.judged
-      (goes_on (is_stopped way.Left s.course) way.Left s (routed way.Left (confirm n x) s (route way.Left s.course
+      (goes_on (confirm n x) (is_stopped way.Left s.course) way.Left s (routed way.Left (confirm n x) s (route way.Left s.course
       (confirm n x))) goes none)
 
 pub other_stands : (d : Direction) (deeds : ℕ → Deeds) (known then_known : Known) (at : ℕ) (v : Value) (put : List Value) (b : Bool)
     (c : Course) →
     c.traffic.course.loose ≡ false → is_stopped (way_of (other d)) c.traffic.course ≡ false →
-    (class_for (way_of (other d)) c.traffic.course ≡ Some Zero → ⊥) → IsNoBreak (takes (way_of (other d)) v c.traffic).told.finding →
+    (class_for (way_of (other d)) c.traffic.course ≡ Some Zero → ⊥) → IsMild v (takes (way_of (other d)) v c.traffic).told.finding →
     IsHeard d known then_known v put c.traffic c.sessions → AllStand d deeds known put b c.traffic c.sessions →
     AllStand d deeds then_known put b (unit_passes (other d) at v c).traffic (unit_passes (other d) at v c).sessions
 other_stands d deeds known then_known at v put b c firm goes two none heard a =

@@ -1,0 +1,615 @@
+-- A unit and what can't be read leave all that passes judged, or nothing any more; or one connection is not judged any more, or in class
+-- 0 one side. And what a side sends is no break of the other one.
+-- For the laws that an end is blamed nowhere.
+use Rattle.std.proofs.Common.{◌≡◌, ◌∙◌, ℕ, Bool, true, false, if◌then◌else◌, Option, Some, None, is_some, refl, sym, ap, subst}
+use Rattle.std.proofs.Common.{inl, inr, ◌⊎◌}
+use Rattle.std.specs.Prelude.{◌||◌, slice_get, position}
+use Rattle.osi_tpdu.specs.Value.{Value, Connect, request, confirm, disconnect, disconnected, data0, data2, acknowledge, error}
+use Rattle.osi_class.specs.declared.terms.Class.{Class}
+use Rattle.osi_class.specs.declared.terms.Class.TheVariants.{Two, Zero}
+use Rattle.osi_judge.specs.Captures.{other}
+use Rattle.osi_judge.specs.declared.directions.Direction.{Direction as Side}
+use Rattle.osi_judge.specs.declared.directions.Direction.TheVariants as side
+use Rattle.osi_rules.specs.declared.connections.Connection.{Connection}
+use Rattle.osi_rules.specs.declared.courses.Course.{Course as Judging}
+use Rattle.osi_rules.specs.declared.directions.Direction.{Direction}
+use Rattle.osi_rules.specs.declared.directions.Direction.TheVariants.{Left, Right}
+use Rattle.osi_rules.specs.declared.findings.Finding.{Finding}
+use Rattle.osi_rules.specs.declared.findings.Finding.TheVariants.{Kept, Broke, Outside, TooMany, NotJudged}
+use Rattle.osi_rules.specs.declared.findings.Reach.{Reach}
+use Rattle.osi_rules.specs.declared.findings.Reach.TheVariants as reach
+use Rattle.osi_rules.specs.declared.routes.Route.{Route}
+use Rattle.osi_rules.specs.declared.routes.Route.TheVariants.{Asks, Named, Only, Unnamed}
+use Rattle.osi_rules.specs.Reaches.{is_applied, is_of_connection, passes_over, reach_by, reach_of, reach_past}
+use Rattle.osi_rules.specs.Rows.{first_failed}
+use Rattle.osi_rules.specs.Sides.{is_live, is_named}
+use Rattle.osi_rules.specs.Traffic.{State, Outcome, class_for, course_after, course_after_none, found_on, unnamed, none_told, one_told}
+use Rattle.osi_rules.specs.Traffic.{unnamed_told, at_found, at_place, asks_by, asks_of, request_tests, routed, route, is_stopped, takes}
+use Rattle.osi_rules.specs.Traffic as traffic
+use Rattle.osi_rules.proofs.a_stop_is_said.{stops_are_said, stops_last}
+use Rattle.osi_fair.specs.Naming.{rubbish, unit}
+use Rattle.osi_fair.proofs.class_0_stays_selected.{zero_stays}
+use Rattle.osi_tap.specs.declared.marks.Cause.{Cause}
+use Rattle.osi_tap.specs.declared.marks.Cause.TheVariants as cause
+use Rattle.osi_tap.specs.declared.marks.Mark.{Mark}
+use Rattle.osi_tap.specs.declared.marks.Marks.{Marks}
+use Rattle.osi_tap.specs.Connections.{taken}
+use Rattle.osi_tap.specs.Courses.{Course, breaks, cause_of, changes, earlier, first_marked, halts, is_break, kind_of}
+use Rattle.osi_tap.specs.Courses.{marked, marks_of, moment_of, moved, noted_by, number_at, packet_begins, reached, unit_passes, unread}
+use Rattle.osi_tap.specs.Courses.{unread_mark, unread_moment, way_of}
+use Rattle.osi_watched.proofs.the_first_break_is_not_of_an_end.{IsNoBreak}
+use Rattle.osi_watched.proofs.what_a_unit_leaves_at_a_tap.{IsJudged, IsOver, begins_over, unread_over}
+use Rattle.osi_watched.proofs.what_passes_keeps_a_claim.{IsClaim}
+use Rattle.osi_watched.proofs.sessions.class_0_is_known_once_it_is_selected.{IsKnownOnce}
+use Rattle.osi_watched.proofs.sessions.connections_have_the_same_places.{marked_leaves, marked_traffic, unit_knows}
+
+-- ---- how far a unit reaches
+
+-- a connection has lost its judgement
+abbrev pub loose_by : Reach → Bool → Bool
+loose_by reach.Connection old = true
+loose_by reach.Nothing old = old
+loose_by reach.Side old = old
+loose_by reach.Everything old = old
+
+pub record Reaches (k : Option Class) (old : Bool) (o : Outcome) : Type 0 where
+  pub loose : o.state.course.loose ≡ loose_by o.told.reach old
+  pub far : o.told.reach ≡ reach_of k o.told.finding
+
+abbrev pub IsReached : Direction → State → Outcome → Type 0
+IsReached d s o = Reaches (class_for d s.course) s.course.loose o
+
+reached_loose : (d : Direction) (r : Reach) (c : Judging) (old : Bool) → c.loose ≡ old → (traffic.reached d r c).loose ≡ loose_by r old
+reached_loose d reach.Nothing c old e = e
+reached_loose d reach.Connection c old e = refl
+reached_loose Left reach.Side c old e = e
+reached_loose Right reach.Side c old e = e
+reached_loose d reach.Everything c old e = e
+
+keeps_loose : (d : Direction) (c : Connection) (v : Value) (applied : Bool) (course : Judging) →
+    (course_after d c v applied course).loose ≡ course.loose
+keeps_loose d c (request r) applied course = refl
+keeps_loose d c (confirm destination r) true course = refl
+keeps_loose d c (confirm destination r) false course = refl
+keeps_loose d c (disconnect destination source reason user) applied course = refl
+keeps_loose d c (disconnected destination source) applied course = refl
+keeps_loose d c (data0 end user) applied course = refl
+keeps_loose d c (data2 destination number end user) applied course = refl
+keeps_loose d c (acknowledge credit destination number) applied course = refl
+keeps_loose d c (error destination cause) applied course = refl
+
+none_loose : (v : Value) (course : Judging) → (course_after_none v course).loose ≡ course.loose
+none_loose (request r) course = refl
+none_loose (confirm destination r) course = refl
+none_loose (disconnect destination source reason user) course = refl
+none_loose (disconnected destination source) course = refl
+none_loose (data0 end user) course = refl
+none_loose (data2 destination number end user) course = refl
+none_loose (acknowledge credit destination number) course = refl
+none_loose (error destination cause) course = refl
+
+none_class : (d : Direction) (v : Value) (course : Judging) → class_for d (course_after_none v course) ≡ class_for d course
+none_class d (request r) course = refl
+none_class d (confirm destination r) course = refl
+none_class Left (disconnect destination source reason user) course = refl
+none_class Right (disconnect destination source reason user) course = refl
+none_class d (disconnected destination source) course = refl
+none_class d (data0 end user) course = refl
+none_class d (data2 destination number end user) course = refl
+none_class d (acknowledge credit destination number) course = refl
+none_class d (error destination cause) course = refl
+
+to_none : (d : Direction) (f : Finding) (s : State) → IsReached d s (none_told d f s)
+to_none d f s =
+    record { loose = reached_loose d (reach_of (class_for d s.course) f) s.course s.course.loose refl; far = refl }
+
+to_unnamed : (d : Direction) (v : Value) (s : State) → IsReached d s (unnamed_told d v s)
+to_unnamed d v s =
+    let c = course_after_none v s.course in
+    record {
+      loose = reached_loose d (reach_of (class_for d c) (unnamed s.course v)) c s.course.loose (none_loose v s.course);
+      far = ap (λ (k : Option Class). reach_of k (unnamed s.course v)) (none_class d v s.course);
+    }
+
+to_one : (d : Direction) (place : ℕ) (c : Connection) (v : Value) (s : State) → IsReached d s (one_told d place c v s)
+to_one d place c v s =
+    let f = found_on d s c v in
+    record {
+      loose = reached_loose d (reach_of (class_for d s.course) f) (course_after d c v (is_applied f) s.course) s.course.loose
+          (keeps_loose d c v (is_applied f) s.course);
+      far = refl;
+    }
+
+at_one : (d : Direction) (v : Value) (s : State) (place : ℕ) (c : Option Connection) → IsReached d s (at_found d v s place c)
+at_one d v s place None = to_unnamed d v s
+at_one d v s place (Some c) = to_one d place c v s
+
+at_any : (d : Direction) (v : Value) (s : State) (place : Option ℕ) → IsReached d s (at_place d v s place)
+at_any d v s None = to_unnamed d v s
+at_any d v s (Some place) = at_one d v s place (slice_get s.connections place)
+
+asking : (d : Direction) (f : Finding) (c : Connect) (s : State) → IsReached d s (asks_by d f c s)
+asking d Kept c s = record { loose = refl; far = refl }
+asking d (Broke rule) c s = to_none d (Broke rule) s
+asking d Outside c s = to_none d Outside s
+asking d TooMany c s = to_none d TooMany s
+asking d NotJudged c s = to_none d NotJudged s
+
+asks : (d : Direction) (v : Value) (s : State) → IsReached d s (asks_of d v s)
+asks d (request c) s = asking d (first_failed (request_tests s c)) c s
+asks d (confirm destination c) s = to_none d NotJudged s
+asks d (disconnect destination source reason user) s = to_none d NotJudged s
+asks d (disconnected destination source) s = to_none d NotJudged s
+asks d (data0 end user) s = to_none d NotJudged s
+asks d (data2 destination number end user) s = to_none d NotJudged s
+asks d (acknowledge credit destination number) s = to_none d NotJudged s
+asks d (error destination cause) s = to_none d NotJudged s
+
+by_route : (d : Direction) (v : Value) (s : State) (r : Route) → IsReached d s (routed d v s r)
+by_route d v s Asks = asks d v s
+by_route d v s (Named reference) = at_any d v s (position (is_named d reference) s.connections)
+by_route d v s Only = at_any d v s (position (is_live d) s.connections)
+by_route d v s (Unnamed finding) = to_none d finding s
+
+if_judged : (b : Bool) (d : Direction) (v : Value) (s : State) (r : Route) →
+    IsReached d s (if b then none_told d NotJudged s else routed d v s r)
+if_judged true d v s r = to_none d NotJudged s
+if_judged false d v s r = by_route d v s r
+
+takes_reach : (d : Direction) (v : Value) (s : State) → IsReached d s (takes d v s)
+takes_reach d v s = if_judged (is_stopped d s.course) d v s (route d s.course v)
+
+-- only in class 0 one side alone is not judged any more
+by_zero : (k : Option Class) (b : Bool) → reach_by k b ≡ reach.Side → k ≡ Some Zero
+by_zero None b e = absurd (cc)
+by_zero (Some Zero) b e = refl
+by_zero (Some Two) true e = absurd (cc)
+by_zero (Some Two) false e = absurd (cc)
+
+past_zero : (p : Bool) (k : Option Class) (b : Bool) → reach_past p (reach_by k b) ≡ reach.Side → k ≡ Some Zero
+past_zero true k b e = absurd (cc)
+past_zero false k b e = by_zero k b e
+
+side_zero : (k : Option Class) (f : Finding) → reach_of k f ≡ reach.Side → k ≡ Some Zero
+side_zero k Kept e = absurd (cc)
+side_zero k NotJudged e = absurd (cc)
+side_zero k Outside e = absurd (cc)
+side_zero k TooMany e = absurd (cc)
+side_zero k (Broke rule) e = past_zero (passes_over rule) k (is_of_connection rule) e
+
+-- what ends all judging is told
+all_caused : (k : Option Class) (f : Finding) → reach_of k f ≡ reach.Everything → (x : Cause) × (cause_of f ≡ Some x)
+all_caused k Kept e = absurd (cc)
+all_caused k NotJudged e = absurd (cc)
+all_caused k Outside e = (cause.Outside, refl)
+all_caused k TooMany e = (cause.TooMany, refl)
+all_caused k (Broke rule) e = (cause.Broke rule, refl)
+
+-- ---- at the tap
+
+-- one connection is not judged any more, or in class 0 this side alone
+abbrev pub IsPartly : Side → Course → Type 0
+IsPartly e c = (c.traffic.course.loose ≡ true)
+    ⊎ ((c.traffic.course.class ≡ Some Zero) × (is_stopped (way_of e) c.traffic.course ≡ true))
+
+-- all that passes is judged, or nothing any more; or not all of it
+pub data Judges (e : Side) (c : Course) : Type 0 where
+  all_judged : IsJudged c → Judges e c
+  none_judged : IsOver c → Judges e c
+  part_judged : IsPartly e c → Judges e c
+
+breaks_halted : (m : Mark) (k : Marks) → (breaks m k).halted ≡ k.halted
+breaks_halted m k = by (is_break m.cause)
+  where
+    by : (b : Bool) → (if b then record k { broke = earlier k.broke m } else k).halted ≡ k.halted
+    by true = refl
+    by false = refl
+
+breaks_no : (m : Mark) (k : Marks) → is_break m.cause ≡ false → (breaks m k).broke ≡ k.broke
+breaks_no m k h = ap (λ (b : Bool). (if b then record k { broke = earlier k.broke m } else k).broke) h
+
+halted_by : (d e : Side) (m : Mark) (c : Course) →
+    (marks_of e (changes d (breaks m) (first_marked m c))).halted ≡ (marks_of e c).halted
+halted_by side.Left side.Left m c = breaks_halted m c.left
+halted_by side.Left side.Right m c = refl
+halted_by side.Right side.Left m c = refl
+halted_by side.Right side.Right m c = breaks_halted m c.right
+
+some_earlier : (o : Option Mark) (m : Mark) → is_some (earlier o m) ≡ true
+some_earlier None m = refl
+some_earlier (Some k) m = refl
+
+-- who is not judged any more keeps what was found before
+changes_broke : (d e : Side) (m : Mark) (c : Course) → (marks_of e (changes d (halts m) c)).broke ≡ (marks_of e c).broke
+changes_broke side.Left side.Left m c = refl
+changes_broke side.Left side.Right m c = refl
+changes_broke side.Right side.Left m c = refl
+changes_broke side.Right side.Right m c = refl
+
+reached_broke : (e : Side) (m : Mark) (r : Reach) (c : Course) → (marks_of e (reached m r c)).broke ≡ (marks_of e c).broke
+reached_broke e m reach.Nothing c = refl
+reached_broke e m reach.Connection c = refl
+reached_broke e m reach.Side c = changes_broke m.direction e m c
+reached_broke side.Left m reach.Everything c = refl
+reached_broke side.Right m reach.Everything c = refl
+
+-- a mark of the other side, and one that is no break
+other_marked : (d : Side) (m : Mark) (c : Course) →
+    (marks_of d (changes (other d) (breaks m) (first_marked m c))).broke ≡ (marks_of d c).broke
+other_marked side.Left m c = refl
+other_marked side.Right m c = refl
+
+own_marked : (d : Side) (m : Mark) (c : Course) → is_break m.cause ≡ false →
+    (marks_of d (changes d (breaks m) (first_marked m c))).broke ≡ (marks_of d c).broke
+own_marked side.Left m c h = breaks_no m c.left h
+own_marked side.Right m c h = breaks_no m c.right h
+
+module _ (d : Side) (at : ℕ) (v : Value) (c : Course) where
+  abbrev o : Outcome
+  o = takes (way_of d) v c.traffic
+
+  -- what it comes to, before what was found is noted
+  abbrev mid : Course
+  mid = moved (moment_of d at v o.told (taken d at v o.told.meaning o.told.place c.sessions)) (record c { traffic = o.state })
+
+  abbrev mark : Cause → Mark
+  mark k = record { direction = d; offset = at; unit = Some (kind_of v); connection = number_at o.told.place mid.sessions; cause = k }
+
+  mid_marks : (e : Side) → marks_of e mid ≡ marks_of e c
+  mid_marks side.Left = refl
+  mid_marks side.Right = refl
+
+  halts_none : (e : Side) (k : Option Cause) → o.told.reach ≡ reach.Nothing →
+      (marks_of e (noted_by d at v o.told k mid)).halted ≡ (marks_of e c).halted
+  halts_none e None is = ap (λ (m : Marks). m.halted) (mid_marks e)
+  halts_none e (Some k) is =
+      ap (λ (r : Reach). (marks_of e (marked (mark k) r mid)).halted) is ∙ halted_by d e (mark k) mid
+      ∙ ap (λ (m : Marks). m.halted) (mid_marks e)
+
+  halts_by : (e : Side) (k : Cause) → is_some (marks_of e (marked (mark k) reach.Everything mid)).halted ≡ true
+  halts_by side.Left k = some_earlier (changes d (breaks (mark k)) (first_marked (mark k) mid)).left.halted (mark k)
+  halts_by side.Right k = some_earlier (changes d (breaks (mark k)) (first_marked (mark k) mid)).right.halted (mark k)
+
+  halts_all : (e : Side) (k : Option Cause) (x : Cause) → k ≡ Some x → o.told.reach ≡ reach.Everything →
+      is_some (marks_of e (noted_by d at v o.told k mid)).halted ≡ true
+  halts_all e k x caused is =
+      ap (λ (y : Option Cause). is_some (marks_of e (noted_by d at v o.told y mid)).halted) caused
+      ∙ ap (λ (r : Reach). is_some (marks_of e (marked (mark x) r mid)).halted) is ∙ halts_by e x
+
+  abbrev next : Course
+  next = unit_passes d at v c
+
+  stops_so : (r : Reach) → o.told.reach ≡ r → (e : Direction) →
+      is_stopped e next.traffic.course ≡ (traffic.stops_by (way_of d) r e || is_stopped e c.traffic.course)
+  stops_so r is e =
+      ap (λ (s : State). is_stopped e s.course) (unit_knows d at v c) ∙ stops_are_said (way_of d) v c.traffic e
+      ∙ ap (λ (x : Reach). traffic.stops_by (way_of d) x e || is_stopped e c.traffic.course) is
+
+  pub reach_so : IsReached (way_of d) c.traffic o
+  reach_so = takes_reach (way_of d) v c.traffic
+
+  loose_so : (r : Reach) → o.told.reach ≡ r → next.traffic.course.loose ≡ loose_by r c.traffic.course.loose
+  loose_so r is =
+      ap (λ (s : State). s.course.loose) (unit_knows d at v c) ∙ reach_so.loose
+      ∙ ap (λ (x : Reach). loose_by x c.traffic.course.loose) is
+
+  zero_known : (e : Side) → IsKnownOnce c.traffic → class_for (way_of e) c.traffic.course ≡ Some Zero →
+      c.traffic.course.class ≡ Some Zero
+  zero_known side.Left once h = once h
+  zero_known side.Right once h = h
+
+  own_stops : (e : Side) (b : Bool) → (traffic.stops_by (way_of e) reach.Side (way_of e) || b) ≡ true
+  own_stops side.Left b = refl
+  own_stops side.Right b = refl
+
+  pub nothing_ends : o.told.reach ≡ reach.Nothing → IsJudged c → IsJudged next
+  nothing_ends is j = record {
+    left = stops_so reach.Nothing is Left ∙ j.left;
+    right = stops_so reach.Nothing is Right ∙ j.right;
+    firm = loose_so reach.Nothing is ∙ j.firm;
+    left_goes = halts_none side.Left (cause_of o.told.finding) is ∙ j.left_goes;
+    right_goes = halts_none side.Right (cause_of o.told.finding) is ∙ j.right_goes;
+  }
+
+  pub all_ends : o.told.reach ≡ reach.Everything → IsOver next
+  all_ends is =
+      let (x, caused) = all_caused (class_for (way_of d) c.traffic.course) o.told.finding (sym reach_so.far ∙ is) in
+      record {
+        left = stops_so reach.Everything is Left;
+        right = stops_so reach.Everything is Right;
+        left_halts = halts_all side.Left (cause_of o.told.finding) x caused is;
+        right_halts = halts_all side.Right (cause_of o.told.finding) x caused is;
+      }
+
+  side_so : o.told.reach ≡ reach.Side → IsKnownOnce c.traffic →
+      (next.traffic.course.class ≡ Some Zero) × (is_stopped (way_of d) next.traffic.course ≡ true)
+  side_so is once =
+      let k = side_zero (class_for (way_of d) c.traffic.course) o.told.finding (sym reach_so.far ∙ is) in (
+        ap (λ (s : State). s.course.class) (unit_knows d at v c)
+            ∙ zero_stays (unit (way_of d) v) c.traffic (zero_known d once k),
+        stops_so reach.Side is (way_of d) ∙ own_stops d (is_stopped (way_of d) c.traffic.course),
+      )
+
+  ends_by : (r : Reach) → o.told.reach ≡ r → IsJudged c → IsKnownOnce c.traffic → Judges d next
+  ends_by reach.Nothing is j once = all_judged (nothing_ends is j)
+  ends_by reach.Connection is j once = part_judged (inl (loose_so reach.Connection is))
+  ends_by reach.Side is j once = part_judged (inr (side_so is once))
+  ends_by reach.Everything is j once = none_judged (all_ends is)
+
+  pub unit_ends : IsJudged c → IsKnownOnce c.traffic → Judges d next
+  unit_ends j once = ends_by o.told.reach refl j once
+
+  far_of : (f : Finding) → o.told.finding ≡ f → o.told.reach ≡ reach_of (class_for (way_of d) c.traffic.course) f
+  far_of f is = reach_so.far ∙ ap (reach_of (class_for (way_of d) c.traffic.course)) is
+
+  none_by : (f : Finding) → o.told.finding ≡ f → IsNoBreak f → IsJudged c → IsJudged next ⊎ IsOver next
+  none_by Kept is none j = inl (nothing_ends (far_of Kept is) j)
+  none_by NotJudged is none j = inl (nothing_ends (far_of NotJudged is) j)
+  none_by TooMany is none j = inr (all_ends (far_of TooMany is))
+  none_by (Broke rule) is none j = absurd none
+  none_by Outside is none j = absurd none
+
+  -- one after which less is judged
+  pub hard_ends : (o.told.reach ≡ reach.Nothing → ⊥) → IsKnownOnce c.traffic → IsOver next ⊎ IsPartly d next
+  hard_ends less once = by o.told.reach refl
+    where
+      by : (r : Reach) → o.told.reach ≡ r → IsOver next ⊎ IsPartly d next
+      by reach.Nothing is = absurd (less is)
+      by reach.Connection is = inr (inl (loose_so reach.Connection is))
+      by reach.Side is = inr (inr (side_so is once))
+      by reach.Everything is = inl (all_ends is)
+
+  -- one that is no break ends no judging, or all
+  pub none_ends : IsNoBreak o.told.finding → IsJudged c → IsJudged next ⊎ IsOver next
+  none_ends none j = none_by o.told.finding refl none j
+
+  -- a unit that is no break of its side leaves it without one
+  own_by : (f : Finding) → IsNoBreak f → (marks_of d (noted_by d at v o.told (cause_of f) mid)).broke ≡ (marks_of d c).broke
+  own_by Kept none = ap (λ (m : Marks). m.broke) (mid_marks d)
+  own_by NotJudged none = ap (λ (m : Marks). m.broke) (mid_marks d)
+  own_by TooMany none =
+      reached_broke d (mark cause.TooMany) o.told.reach (changes d (breaks (mark cause.TooMany)) (first_marked (mark cause.TooMany) mid))
+      ∙ own_marked d (mark cause.TooMany) mid refl ∙ ap (λ (m : Marks). m.broke) (mid_marks d)
+  own_by (Broke rule) none = absurd none
+  own_by Outside none = absurd none
+
+  pub own_unbroken : IsNoBreak o.told.finding → (marks_of d next).broke ≡ (marks_of d c).broke
+  own_unbroken none = own_by o.told.finding none
+
+-- nor does any unit of the other side
+pub other_unbroken : (d : Side) (at : ℕ) (v : Value) (c : Course) →
+    (marks_of d (unit_passes (other d) at v c)).broke ≡ (marks_of d c).broke
+other_unbroken d at v c = by (cause_of (o (other d) at v c).told.finding)
+  where
+    by : (k : Option Cause) → (marks_of d (noted_by (other d) at v (o (other d) at v c).told k (mid (other d) at v c))).broke
+        ≡ (marks_of d c).broke
+    by None = ap (λ (m : Marks). m.broke) (mid_marks (other d) at v c d)
+    by (Some k) =
+        let m = mark (other d) at v c k in
+        reached_broke d m (o (other d) at v c).told.reach (changes (other d) (breaks m) (first_marked m (mid (other d) at v c)))
+        ∙ other_marked d m (mid (other d) at v c) ∙ ap (λ (x : Marks). x.broke) (mid_marks (other d) at v c d)
+
+-- ---- a packet begins
+
+pub begins_judged : (e : Side) (c : Course) → IsJudged c → IsJudged (packet_begins e c)
+begins_judged side.Left c j =
+    record { left = j.left; right = j.right; firm = j.firm; left_goes = j.left_goes; right_goes = j.right_goes }
+begins_judged side.Right c j =
+    record { left = j.left; right = j.right; firm = j.firm; left_goes = j.left_goes; right_goes = j.right_goes }
+
+-- ---- what can't be read
+
+reached_stops : (d : Direction) (r : Reach) (c : Judging) (e : Direction) →
+    is_stopped e (traffic.reached d r c) ≡ (traffic.stops_by d r e || is_stopped e c)
+reached_stops d reach.Nothing c e = refl
+reached_stops d reach.Connection c Left = refl
+reached_stops d reach.Connection c Right = refl
+reached_stops Left reach.Side c Left = refl
+reached_stops Left reach.Side c Right = refl
+reached_stops Right reach.Side c Left = refl
+reached_stops Right reach.Side c Right = refl
+reached_stops d reach.Everything c Left = refl
+reached_stops d reach.Everything c Right = refl
+
+abbrev refuses : Side → (at : ℕ) → Cause → Course → Course
+refuses d at k c = marked (unread_mark d at k) (traffic.refused_reach (way_of d) c.traffic)
+    (moved (unread_moment d at k c.sessions) (record c { traffic = traffic.refused (way_of d) c.traffic }))
+
+abbrev unread_if : Bool → Side → (at : ℕ) → Cause → Course → Course
+unread_if b d at k c = if b then c else refuses d at k c
+
+module _ (d : Side) (at : ℕ) (k : Cause) (c : Course) where
+  refused_traffic : (refuses d at k c).traffic ≡ traffic.refused (way_of d) c.traffic
+  refused_traffic = marked_traffic (unread_mark d at k) (traffic.refused_reach (way_of d) c.traffic) _
+
+  goes : IsJudged c → (e : Side) → is_some (marks_of e c).halted ≡ false
+  goes j side.Left = ap is_some j.left_goes
+  goes j side.Right = ap is_some j.right_goes
+
+  refused_stops : (r : Reach) → traffic.refused_reach (way_of d) c.traffic ≡ r → (e : Direction) →
+      is_stopped e (refuses d at k c).traffic.course ≡ (traffic.stops_by (way_of d) r e || is_stopped e c.traffic.course)
+  refused_stops r is e =
+      ap (λ (s : State). is_stopped e s.course) refused_traffic
+      ∙ reached_stops (way_of d) (traffic.refused_reach (way_of d) c.traffic) c.traffic.course e
+      ∙ ap (λ (x : Reach). traffic.stops_by (way_of d) x e || is_stopped e c.traffic.course) is
+
+  abbrev before_halts : Course
+  before_halts = changes d (breaks (unread_mark d at k)) (first_marked (unread_mark d at k)
+      (moved (unread_moment d at k c.sessions) (record c { traffic = traffic.refused (way_of d) c.traffic })))
+
+  refused_over : traffic.refused_reach (way_of d) c.traffic ≡ reach.Everything → IsOver (refuses d at k c)
+  refused_over is = record {
+    left = refused_stops reach.Everything is Left;
+    right = refused_stops reach.Everything is Right;
+    left_halts = ap (λ (r : Reach). is_some (reached (unread_mark d at k) r before_halts).left.halted) is
+        ∙ some_earlier before_halts.left.halted (unread_mark d at k);
+    right_halts = ap (λ (r : Reach). is_some (reached (unread_mark d at k) r before_halts).right.halted) is
+        ∙ some_earlier before_halts.right.halted (unread_mark d at k);
+  }
+
+  class_kept : c.traffic.course.class ≡ Some Zero → (refuses d at k c).traffic.course.class ≡ Some Zero
+  class_kept h = ap (λ (s : State). s.course.class) refused_traffic ∙ zero_stays (rubbish (way_of d)) c.traffic h
+
+  own_too : (e : Side) (b : Bool) → (traffic.stops_by (way_of e) reach.Side (way_of e) || b) ≡ true
+  own_too side.Left b = refl
+  own_too side.Right b = refl
+
+  known_too : (e : Side) → IsKnownOnce c.traffic → class_for (way_of e) c.traffic.course ≡ Some Zero →
+      c.traffic.course.class ≡ Some Zero
+  known_too side.Left once h = once h
+  known_too side.Right once h = h
+
+  refused_by : (class : Option Class) → class_for (way_of d) c.traffic.course ≡ class → IsKnownOnce c.traffic →
+      IsOver (refuses d at k c) ⊎ IsPartly d (refuses d at k c)
+  refused_by None is once = inl (refused_over (ap (λ (x : Option Class). reach_by x false) is))
+  refused_by (Some Two) is once = inl (refused_over (ap (λ (x : Option Class). reach_by x false) is))
+  refused_by (Some Zero) is once =
+      inr (inr (
+        class_kept (known_too d once is),
+        refused_stops reach.Side (ap (λ (x : Option Class). reach_by x false) is) (way_of d)
+            ∙ own_too d (is_stopped (way_of d) c.traffic.course),
+      ))
+
+  pub unread_ends : IsJudged c → IsKnownOnce c.traffic → IsOver (unread d at k c) ⊎ IsPartly d (unread d at k c)
+  unread_ends j once =
+      subst (λ (b : Bool). IsOver (unread_if b d at k c) ⊎ IsPartly d (unread_if b d at k c)) (sym (goes j d))
+      (refused_by (class_for (way_of d) c.traffic.course) refl once)
+
+pub unread_unbroken : (d : Side) (at : ℕ) (k : Cause) (c : Course) → (marks_of d (unread (other d) at k c)).broke ≡ (marks_of d c).broke
+unread_unbroken d at k c = by (is_some (marks_of (other d) c).halted)
+  where
+    same : (e : Side) → (marks_of e
+        (moved (unread_moment (other d) at k c.sessions) (record c { traffic = traffic.refused (way_of (other d)) c.traffic }))).broke
+        ≡ (marks_of e c).broke
+    same side.Left = refl
+    same side.Right = refl
+
+    by : (b : Bool) → (marks_of d (unread_if b (other d) at k c)).broke ≡ (marks_of d c).broke
+    by true = refl
+    by false =
+        reached_broke d (unread_mark (other d) at k) (traffic.refused_reach (way_of (other d)) c.traffic) (before_halts (other d) at k c)
+        ∙ other_marked d (unread_mark (other d) at k)
+        (moved (unread_moment (other d) at k c.sessions) (record c { traffic = traffic.refused (way_of (other d)) c.traffic }))
+        ∙ same d
+
+-- it joins nothing
+pub unread_sessions : (d : Side) (at : ℕ) (k : Cause) (c : Course) → (unread d at k c).sessions ≡ c.sessions
+unread_sessions d at k c = by (is_some (marks_of d c).halted)
+  where
+    by : (b : Bool) → (unread_if b d at k c).sessions ≡ c.sessions
+    by true = refl
+    by false = marked_leaves (unread_mark d at k) (traffic.refused_reach (way_of d) c.traffic) _
+
+-- ---- what stays so, whatever passes
+
+stopped_so : (e : Side) (c : Course) → IsOver c → is_stopped (way_of e) c.traffic.course ≡ true
+stopped_so side.Left c over = over.left
+stopped_so side.Right c over = over.right
+
+-- nothing is judged any more, and this side has broken no rule
+pub record IsLeft (d : Side) (c : Course) : Type 0 where
+  pub over : IsOver c
+  pub unbroken : (marks_of d c).broke ≡ None
+
+left_begins : (d e : Side) (c : Course) → IsLeft d c → IsLeft d (packet_begins e c)
+left_begins d e c h = record { over = begins_over e c h.over; unbroken = by d e h.unbroken }
+  where
+    by : (d e : Side) → (marks_of d c).broke ≡ None → (marks_of d (packet_begins e c)).broke ≡ None
+    by side.Left e h = h
+    by side.Right e h = h
+
+pub still_over : (e : Side) (at : ℕ) (v : Value) (c : Course) → IsOver c → IsOver (unit_passes e at v c)
+still_over e at v c over =
+    let told = stops_last (way_of e) v c.traffic (stopped_so e c over) in
+    subst (λ (x : Outcome). IsOver (noted_by e at v x.told (cause_of x.told.finding)
+    (moved (moment_of e at v x.told (taken e at v x.told.meaning x.told.place c.sessions)) (record c { traffic = x.state }))))
+    (sym told) (record {
+      left = over.left;
+      right = over.right;
+      left_halts = over.left_halts;
+      right_halts = over.right_halts;
+    })
+
+still_unbroken : (d e : Side) (at : ℕ) (v : Value) (c : Course) → IsOver c →
+    (marks_of d (unit_passes e at v c)).broke ≡ (marks_of d c).broke
+still_unbroken d e at v c over =
+    let told = stops_last (way_of e) v c.traffic (stopped_so e c over) in
+    subst (λ (x : Outcome). (marks_of d (noted_by e at v x.told (cause_of x.told.finding)
+    (moved (moment_of e at v x.told (taken e at v x.told.meaning x.told.place c.sessions)) (record c { traffic = x.state })))).broke
+    ≡ (marks_of d c).broke)
+    (sym told) (by d)
+  where
+    none : Outcome
+    none = none_told (way_of e) NotJudged c.traffic
+
+    by : (d : Side) →
+        (marks_of d (moved (moment_of e at v none.told (taken e at v none.told.meaning none.told.place c.sessions))
+        (record c { traffic = none.state }))).broke ≡ (marks_of d c).broke
+    by side.Left = refl
+    by side.Right = refl
+
+left_passes : (d e : Side) (at : ℕ) (v : Value) (c : Course) → IsLeft d c → IsLeft d (unit_passes e at v c)
+left_passes d e at v c h =
+    record { over = still_over e at v c h.over; unbroken = still_unbroken d e at v c h.over ∙ h.unbroken }
+
+pub left_claim : (d : Side) → IsClaim (IsLeft d)
+left_claim d = record {
+  begins = λ e c h. left_begins d e c h;
+  passes = λ e at v c h. left_passes d e at v c h;
+  bad = λ e at k c h. subst (IsLeft d) (sym (unread_over e at k c h.over)) h;
+}
+
+-- what is not judged is not judged later
+loose_more : (r : Reach) → loose_by r true ≡ true
+loose_more reach.Nothing = refl
+loose_more reach.Connection = refl
+loose_more reach.Side = refl
+loose_more reach.Everything = refl
+
+stops_more : (b : Bool) → (b || true) ≡ true
+stops_more true = refl
+stops_more false = refl
+
+partly_begins : (e f : Side) (c : Course) → IsPartly e c → IsPartly e (packet_begins f c)
+partly_begins e side.Left c (inl h) = inl h
+partly_begins e side.Right c (inl h) = inl h
+partly_begins side.Left side.Left c (inr (zero, stop)) = inr (zero, stop)
+partly_begins side.Left side.Right c (inr (zero, stop)) = inr (zero, stop)
+partly_begins side.Right side.Left c (inr (zero, stop)) = inr (zero, stop)
+partly_begins side.Right side.Right c (inr (zero, stop)) = inr (zero, stop)
+
+partly_passes : (e f : Side) (at : ℕ) (v : Value) (c : Course) → IsPartly e c → IsPartly e (unit_passes f at v c)
+partly_passes e f at v c (inl h) =
+    let r = (takes (way_of f) v c.traffic).told.reach in
+    inl (loose_so f at v c r refl ∙ ap (loose_by r) h ∙ loose_more r)
+partly_passes e f at v c (inr (zero, stop)) =
+    let r = (takes (way_of f) v c.traffic).told.reach in
+    inr (
+      ap (λ (s : State). s.course.class) (unit_knows f at v c) ∙ zero_stays (unit (way_of f) v) c.traffic zero,
+      stops_so f at v c r refl (way_of e) ∙ ap (λ (b : Bool). traffic.stops_by (way_of f) r (way_of e) || b) stop
+          ∙ stops_more (traffic.stops_by (way_of f) r (way_of e)),
+    )
+
+partly_refused : (e f : Side) (at : ℕ) (k : Cause) (c : Course) → IsPartly e c → IsPartly e (refuses f at k c)
+partly_refused e f at k c (inl h) =
+    let r = traffic.refused_reach (way_of f) c.traffic in
+    inl (ap (λ (s : State). s.course.loose) (refused_traffic f at k c)
+    ∙ reached_loose (way_of f) r c.traffic.course true h ∙ loose_more r)
+partly_refused e f at k c (inr (zero, stop)) =
+    let r = traffic.refused_reach (way_of f) c.traffic in
+    inr (
+      class_kept f at k c zero,
+      refused_stops f at k c r refl (way_of e) ∙ ap (λ (b : Bool). traffic.stops_by (way_of f) r (way_of e) || b) stop
+          ∙ stops_more (traffic.stops_by (way_of f) r (way_of e)),
+    )
+
+partly_unread : (b : Bool) (e f : Side) (at : ℕ) (k : Cause) (c : Course) → IsPartly e c → IsPartly e (unread_if b f at k c)
+partly_unread true e f at k c h = h
+partly_unread false e f at k c h = partly_refused e f at k c h
+
+pub partly_claim : (e : Side) → IsClaim (IsPartly e)
+partly_claim e = record {
+  begins = λ f c h. partly_begins e f c h;
+  passes = λ f at v c h. partly_passes e f at v c h;
+  bad = λ f at k c h. partly_unread (is_some (marks_of f c).halted) e f at k c h;
+}

@@ -1,0 +1,527 @@
+-- No session of an end is to blame, also after breaks of the other side that a taker passes over, if something holds at each step by which
+-- nobody of the end is to blame, as long as all is judged and class 0 is not selected.
+-- For the law that no session of an end is blamed after such a break.
+use Rattle.std.proofs.Common.{◌≡◌, ◌∙◌, ◌⊎◌, inl, inr, refl, sym, ap, subst, ℕ, ◌^◌, ◌<◌, Bool, true, false, if◌then◌else◌}
+use Rattle.std.proofs.Common.{List, [], ◌∷◌, ◌++◌, length, Some, is_some, append_assoc, arith}
+use Rattle.std.specs.Prelude.{slice_get}
+use Rattle.std.specs.List.{AllByRecursion}
+use Rattle.std.proofs.lemmas.List.{append-nil}
+use Rattle.osi_tpdu.specs.Value.{Value, acknowledge, confirm, data0, data2, disconnect, disconnected, error, request}
+use Rattle.osi_class.specs.declared.terms.Class.TheVariants.{Zero}
+use Rattle.osi_class.specs.declared.terms.Local.{Local}
+use Rattle.osi_judge.specs.Captures.{Capture, other}
+use Rattle.osi_judge.specs.declared.directions.Direction.{Direction}
+use Rattle.osi_rules.specs.declared.findings.Finding.{Finding}
+use Rattle.osi_rules.specs.declared.findings.Finding.TheVariants.{Broke, Kept, NotJudged, Outside, TooMany}
+use Rattle.osi_rules.specs.declared.findings.Rule.TheVariants as rule
+use Rattle.osi_rules.specs.Reaches.{is_applied}
+use Rattle.osi_rules.specs.Traffic.{class_for, is_stopped, takes}
+use Rattle.osi_rules.specs.Traffic as traffic
+use Rattle.osi_fair.specs.Wholes as wholes
+use Rattle.osi_fair.proofs.what_the_other_side_closes.{IsClear}
+use Rattle.osi_stack.specs.State.{End, Holding}
+use Rattle.osi_honest.specs.Courses.{Course, Deeds, all_did, no_deeds}
+use Rattle.osi_honest.specs.Seeing.{IsFresh}
+use Rattle.osi_honest.specs.Turns.{Turn}
+use Rattle.osi_honest.proofs.class_0.what_a_packet_does_in_class_0.{AllProper}
+use Rattle.osi_honest.proofs.courses.what_a_run_does_to_it.{fresh_course}
+use Rattle.osi_tap.specs.declared.marks.Cause.{Cause}
+use Rattle.osi_tap.specs.declared.marks.Cause.TheVariants as cause
+use Rattle.osi_tap.specs.declared.marks.Mark.{Mark}
+use Rattle.osi_tap.specs.declared.marks.UnitKind.TheVariants.{Dr}
+use Rattle.osi_tap.specs.Connections.{Joined, spoken}
+use Rattle.osi_tap.specs.Courses.{Course as Passed, Moment, cause_of, kind_of, marked, marks_of, mark_by, moved, number_at}
+use Rattle.osi_tap.specs.Courses.{packet_begins, unit_passes, units_pass, unread, unread_mark, unread_moment, way_of}
+use Rattle.osi_tap.specs.Lines.{heard}
+use Rattle.osi_tap.specs.Tapping as tapping
+use Rattle.osi_tap.specs.Tapping.{after, comes_to}
+use Rattle.osi_tap.proofs.no_break_was_before_the_first.{marked_past}
+use Rattle.osi_watched.specs.Joint.{Joint, Step, Steps, StepsAlong, TakesTurn, begin, begins_other, begins_own, passes_other, passes_own}
+use Rattle.osi_watched.specs.Joint.{turns}
+use Rattle.osi_watched.specs.Judging.{ClosesLast, IsJudgedWhole}
+use Rattle.osi_watched.specs.Passing.{TurnsBad}
+use Rattle.osi_watched.specs.Shown.{calls_from}
+use Rattle.osi_watched.proofs.a_break_ends_no_judging_or_all.{IsPartly, all_ends, begins_judged, hard_ends, none_ends, nothing_ends}
+use Rattle.osi_watched.proofs.a_break_ends_no_judging_or_all.{partly_claim, reach_so, still_over, unread_ends}
+use Rattle.osi_watched.proofs.a_break_ends_no_judging_or_all.{unread_sessions}
+use Rattle.osi_watched.proofs.steps_are_events.{IsFollowed, begin_followed, step_followed}
+use Rattle.osi_watched.proofs.the_first_break_is_not_of_an_end.{IsFairFrom}
+use Rattle.osi_watched.proofs.what_a_taker_passes_over.{IsDr, IsMild, Sort, is_hard, is_mild, is_shut, mild_reach, sort_of}
+use Rattle.osi_watched.proofs.what_a_unit_leaves_at_a_tap.{IsJudged, IsOver, begins_over, unread_over}
+use Rattle.osi_watched.proofs.what_passes_keeps_a_claim.{IsClaim, after_join, after_kept, step_kept, units_kept}
+use Rattle.osi_watched.proofs.what_the_turns_among_steps_do.{ComesByDoing, IsOfTap, StepsDo, TurnDoes}
+use Rattle.osi_watched.proofs.sessions.after_too_many_nobody_is_to_blame.{NoneIsToBlame, none_begins, over_joins}
+use Rattle.osi_watched.proofs.sessions.each_step_leaves_class_0_one_connection.{Sure, fresh_sure, sure_claim}
+use Rattle.osi_watched.proofs.sessions.no_more_tsdus_than_moments_have_passed.{AreFew, few_claim}
+use Rattle.osi_watched.proofs.sessions.no_session_of_an_end_breaks_first.{AreTaken, HaveCourses, IsTaken, IsWithout, KeepsNoneToBlame}
+use Rattle.osi_watched.proofs.sessions.no_session_of_an_end_breaks_first.{after_without, firm_so, own_right, step_without, units_join}
+use Rattle.osi_watched.proofs.sessions.no_session_of_an_end_breaks_first.{units_not, unread_without}
+use Rattle.osi_watched.proofs.sessions.steps_of_either_class_leave_all_standing.{IsRight}
+use Rattle.osi_watched.proofs.sessions.the_first_break_of_all_is_of_the_other_side.{moment, then_joined, unit_past}
+use Rattle.osi_watched.proofs.sessions.what_has_no_effect_joins_nothing.{joins_none, too_many_ends}
+use Rattle.osi_watched.proofs.sessions.what_passes_is_no_break_while_none_is_told.{fine_so, takeable_so}
+
+-- ---- a DT or an AK on a connection that its side had closed
+
+pub record IsShut (m : Moment) : Type 0 where
+  pub mark : Mark
+  pub is : m.mark ≡ Some mark
+  pub closed : mark.cause ≡ cause.Broke rule.Closed
+  pub unlike : mark.unit ≡ Some Dr → ⊥
+
+abbrev pub HasShut : List Moment → Type 0
+HasShut [] = ⊥
+HasShut (m ∷ past) = IsShut m ⊎ HasShut past
+
+shut_then : (past : List Moment) (m : Moment) → IsShut m → HasShut (past ++ m ∷ [])
+shut_then [] m h = inl h
+shut_then (x ∷ past) m h = inr (shut_then past m h)
+
+shut_more : (past more : List Moment) → HasShut past → HasShut (past ++ more)
+shut_more [] more h = absurd h
+shut_more (x ∷ past) more (inl h) = inl h
+shut_more (x ∷ past) more (inr h) = inr (shut_more past more h)
+
+shut_not : (past : List Moment) → AllByRecursion (λ (m : Moment). ClosesLast m.mark) past → HasShut past → ⊥
+shut_not [] all h = h
+shut_not (m ∷ past) all (inl h) =
+    let last : ClosesLast (Some h.mark) = subst ClosesLast h.is all.0 in h.unlike (last h.closed)
+shut_not (m ∷ past) all (inr h) = shut_not past all.1 h
+
+no_dr : (v : Value) → (IsDr v → ⊥) → Some (kind_of v) ≡ Some Dr → ⊥
+no_dr (disconnect n source reason user) not e = not tt
+no_dr (request x) not e = cc
+no_dr (confirm n x) not e = cc
+no_dr (disconnected n source) not e = cc
+no_dr (data0 end user) not e = cc
+no_dr (data2 n number end user) not e = cc
+no_dr (acknowledge credit n number) not e = cc
+no_dr (error n cause) not e = cc
+
+shut_now : (e : Direction) (at : ℕ) (v : Value) (c : Passed) → (takes (way_of e) v c.traffic).told.finding ≡ Broke rule.Closed →
+    (IsDr v → ⊥) → HasShut (unit_passes e at v c).past
+shut_now e at v c is not =
+    let told = (takes (way_of e) v c.traffic).told in
+    subst HasShut (sym (unit_past e at v c)) (shut_then c.past (moment e at v c) (record {
+      mark = record {
+        direction = e;
+        offset = at;
+        unit = Some (kind_of v);
+        connection = number_at told.place (then_joined e at v c);
+        cause = cause.Broke rule.Closed;
+      };
+      is = ap (λ (f : Finding). mark_by e at v (number_at told.place (then_joined e at v c)) (cause_of f)) is;
+      closed = refl;
+      unlike = no_dr v not;
+    }))
+
+shut_bad : (b : Bool) (e : Direction) (at : ℕ) (k : Cause) (c : Passed) → HasShut c.past →
+    HasShut (if b then c else marked (unread_mark e at k) (traffic.refused_reach (way_of e) c.traffic)
+    (moved (unread_moment e at k c.sessions) (record c { traffic = traffic.refused (way_of e) c.traffic }))).past
+shut_bad true e at k c h = h
+shut_bad false e at k c h =
+    subst HasShut (sym (marked_past (unread_mark e at k) (traffic.refused_reach (way_of e) c.traffic) _))
+    (shut_more c.past (unread_moment e at k c.sessions ∷ []) h)
+
+shut_claim : IsClaim (λ c. HasShut c.past)
+shut_claim = record {
+  begins = λ e c h. h;
+  passes = λ e at v c h. subst HasShut (sym (unit_past e at v c)) (shut_more c.past (moment e at v c ∷ []) h);
+  bad = λ e at k c h. shut_bad (is_some (marks_of e c).halted) e at k c h;
+}
+
+-- ---- what stays, whatever passes
+
+-- of a part nothing is judged any more, or such a unit has passed
+abbrev pub IsLost : Direction → Passed → Type 0
+IsLost d c = IsPartly (other d) c ⊎ HasShut c.past
+
+lost_claim : (d : Direction) → IsClaim (IsLost d)
+lost_claim d = record { begins = λ e c h. by_begins e c h; passes = λ e at v c h. by_passes e at v c h; bad = λ e at k c h. by_bad e at k c h }
+  where
+    by_begins : (e : Direction) (c : Passed) → IsLost d c → IsLost d (packet_begins e c)
+    by_begins e c (inl p) = inl ((partly_claim (other d)).begins e c p)
+    by_begins e c (inr h) = inr (shut_claim.begins e c h)
+
+    by_passes : (e : Direction) (at : ℕ) (v : Value) (c : Passed) → IsLost d c → IsLost d (unit_passes e at v c)
+    by_passes e at v c (inl p) = inl ((partly_claim (other d)).passes e at v c p)
+    by_passes e at v c (inr h) = inr (shut_claim.passes e at v c h)
+
+    by_bad : (e : Direction) (at : ℕ) (k : Cause) (c : Passed) → IsLost d c → IsLost d (unread e at k c)
+    by_bad e at k c (inl p) = inl ((partly_claim (other d)).bad e at k c p)
+    by_bad e at k c (inr h) = inr (shut_claim.bad e at k c h)
+
+-- nothing is judged any more, and nobody of this side is to blame
+pub record IsDone (d : Direction) (c : Passed) : Type 0 where
+  pub over : IsOver c
+  pub none : NoneIsToBlame d c.sessions
+
+done_claim : (d : Direction) → IsClaim (IsDone d)
+done_claim d = record {
+  begins = λ e c h. record { over = begins_over e c h.over; none = none_begins d e c.sessions h.none };
+  passes = λ e at v c h. record {
+    over = still_over e at v c h.over;
+    none = subst (NoneIsToBlame d) (sym (over_joins e at v c h.over)) h.none;
+  };
+  bad = λ e at k c h. subst (IsDone d) (sym (unread_over e at k c h.over)) h;
+}
+
+-- ---- one connection too many, or not
+
+many_or : (f : Finding) → (f ≡ TooMany) ⊎ (f ≡ TooMany → ⊥)
+many_or TooMany = inl refl
+many_or Kept = inr (λ e. cc e)
+many_or NotJudged = inr (λ e. cc e)
+many_or Outside = inr (λ e. cc e)
+many_or (Broke r) = inr (λ e. cc e)
+
+taken_then : (d : Direction) (at : ℕ) (xs : List Value) (v : Value) (c : Passed) → AreTaken d at xs c →
+    IsTaken d v (units_pass (other d) at xs c) → AreTaken d at (xs ++ v ∷ []) c
+taken_then d at [] v c h k = (k, tt)
+taken_then d at (x ∷ xs) v c h k = (h.0, taken_then d at xs v (unit_passes (other d) at x c) h.1 k)
+
+-- ---- the steps
+
+module _ (proper : AllProper) (d : Direction) (local : Local) (fair : IsFairFrom (way_of d) (wholes.begin (calls_from d) local))
+    (Inv : (ℕ → Deeds) → Joint → Type 0) (k : KeepsNoneToBlame d local Inv) where
+  -- all that passes is judged
+  record Goes (deeds : ℕ → Deeds) (j : Joint) : Type 0 where
+    judged : IsJudged j.course
+    holds : Inv deeds j
+    courses : HaveCourses d deeds j
+    followed : IsFollowed d (wholes.begin (calls_from d) local) j
+    few : AreFew (other d) j.course
+    sure : Sure j.course
+
+  data Stays (deeds : ℕ → Deeds) (j : Joint) : Type 0 where
+    goes : Goes deeds j → Stays deeds j
+    ended : IsDone d j.course → Stays deeds j
+    lost : IsLost d j.course → Stays deeds j
+
+  -- ---- a packet of the other side
+
+  data Passing (at : ℕ) (vs : List Value) (c : Passed) : Type 0 where
+    all_taken : AreTaken d at vs c → IsJudged (units_pass (other d) at vs c) → Passing at vs c
+    then_done : IsDone d (units_pass (other d) at vs c) → Passing at vs c
+    then_lost : IsLost d (units_pass (other d) at vs c) → Passing at vs c
+
+  module _ (deeds : ℕ → Deeds) (at : ℕ) (octets : List ℕ) (units : List Value) (old new : Joint)
+      (step : Steps d (passes_other at octets units) old new) (g : Goes deeds old)
+      (not : (units_pass (other d) at units old.course).traffic.course.class ≡ Some Zero → ⊥) where
+    abbrev After : List Value → Passed
+    After front = units_pass (other d) at front old.course
+
+    blameless : (front back : List Value) → units ≡ front ++ back → AreTaken d at front old.course → NoneIsToBlame d (After front).sessions
+    blameless front back is taken =
+        k.none_amid deeds at octets front back old new (subst (λ (l : List Value). Steps d (passes_other at octets l) old new) is step)
+        g.courses taken g.holds
+
+    record AllSoFar (front : List Value) : Type 0 where
+      taken : AreTaken d at front old.course
+      judged : IsJudged (After front)
+
+    module _ (front back : List Value) (v : Value) (is : units ≡ front ++ v ∷ back) (so : AllSoFar front) where
+      abbrev c : Passed
+      c = After front
+
+      abbrev next : Passed
+      next = unit_passes (other d) at v c
+
+      abbrev found : Finding
+      found = (takes (way_of (other d)) v c.traffic).told.finding
+
+      joined : After (front ++ v ∷ []) ≡ next
+      joined = units_join (other d) at front (v ∷ []) old.course
+
+      not_yet : c.traffic.course.class ≡ Some Zero → ⊥
+      not_yet =
+          units_not Zero (other d) at (v ∷ back) c
+          (λ is_so. not (subst (λ (l : List Value). (After l).traffic.course.class ≡ Some Zero) (sym is)
+          (ap (λ (x : Passed). x.traffic.course.class) (units_join (other d) at front (v ∷ back) old.course) ∙ is_so)))
+
+      is_sure : Sure c
+      is_sure = units_kept Sure sure_claim (other d) at front old.course g.sure
+
+      -- what comes of the unit
+      data One : Type 0 where
+        goes_on : AllSoFar (front ++ v ∷ []) → One
+        is_done : IsDone d next → One
+        is_lost : IsLost d next → One
+
+      nobody : NoneIsToBlame d c.sessions
+      nobody = blameless front (v ∷ back) is so.taken
+
+      -- it has no effect
+      none_joined : is_applied found ≡ false → NoneIsToBlame d next.sessions
+      none_joined unapplied = subst (NoneIsToBlame d) (sym (joins_none (other d) at v c unapplied)) nobody
+
+      by_mild : IsMild v found → (found ≡ TooMany) ⊎ (found ≡ TooMany → ⊥) → One
+      by_mild m (inl many) =
+          is_done (record {
+            over = all_ends (other d) at v c (too_many_ends (other d) v c.traffic many);
+            none = none_joined (ap is_applied many);
+          })
+      by_mild m (inr few) =
+          let clear : IsClear c.traffic.course = record { sure = firm_so c so.judged; two = not_yet } in
+          goes_on (record {
+            taken = taken_then d at front v old.course so.taken (record {
+              fine = takeable_so (other d) v c is_sure.agrees clear m;
+              clear = clear;
+              few = few;
+            });
+            judged = subst IsJudged (sym joined)
+                (nothing_ends (other d) at v c
+                ((reach_so (other d) at v c).far ∙ mild_reach v (class_for (way_of (other d)) c.traffic.course) found m few) so.judged);
+          })
+
+      by_hard : is_applied found ≡ false → IsOver next ⊎ IsPartly (other d) next → One
+      by_hard unapplied (inl o) = is_done (record { over = o; none = none_joined unapplied })
+      by_hard unapplied (inr p) = is_lost (inl p)
+
+      one_by : Sort v found → One
+      one_by (is_mild m) = by_mild m (many_or found)
+      one_by (is_shut closed other_unit) = is_lost (inr (shut_now (other d) at v c closed other_unit))
+      one_by (is_hard unapplied less) =
+          by_hard unapplied (hard_ends (other d) at v c
+          (λ none. less (class_for (way_of (other d)) c.traffic.course) (sym (reach_so (other d) at v c).far ∙ none)) is_sure.agrees)
+
+      all_join : After units ≡ units_pass (other d) at back next
+      all_join = ap After is ∙ units_join (other d) at front (v ∷ back) old.course
+
+      then_rest : One → (AllSoFar (front ++ v ∷ []) → Passing at units old.course) → Passing at units old.course
+      then_rest (goes_on more) rest = rest more
+      then_rest (is_done s) rest =
+          then_done (subst (IsDone d) (sym all_join) (units_kept (IsDone d) (done_claim d) (other d) at back next s))
+      then_rest (is_lost b) rest =
+          then_lost (subst (IsLost d) (sym all_join) (units_kept (IsLost d) (lost_claim d) (other d) at back next b))
+
+    pass_on : (back front : List Value) → units ≡ front ++ back → AllSoFar front → Passing at units old.course
+    pass_on [] front is so =
+        subst (λ (l : List Value). Passing at l old.course) (sym (is ∙ append-nil front)) (all_taken so.taken so.judged)
+    pass_on (v ∷ back) front is so =
+        then_rest front back v is so (one_by front back v is so (sort_of v (found front back v is so)))
+        (λ more. pass_on back (front ++ v ∷ []) (is ∙ sym (append_assoc front (v ∷ []) back)) more)
+
+    passed : Passing at units old.course
+    passed = pass_on units [] refl (record { taken = tt; judged = g.judged })
+
+    abbrev same : new.course ≡ After units
+    same = ap (λ (j : Joint). j.course) step.2
+
+    other_by : Passing at units old.course → Stays deeds new
+    other_by (all_taken taken judged) = goes (record {
+      judged = subst IsJudged (sym same) judged;
+      holds = k.other_passes deeds at octets units old new step taken g.holds;
+      courses = subst (HaveCourses d deeds) (sym step.2) g.courses;
+      followed = step_followed d (wholes.begin (calls_from d) local) proper (passes_other at octets units) old new step g.followed;
+      few = step_kept (AreFew (other d)) (few_claim (other d)) d (passes_other at octets units) old new step g.few;
+      sure = step_kept Sure sure_claim d (passes_other at octets units) old new step g.sure;
+    })
+    other_by (then_done s) = ended (subst (IsDone d) (sym same) s)
+    other_by (then_lost b) = lost (subst (IsLost d) (sym same) b)
+
+  -- ---- a unit of the end
+
+  own_so : (deeds : ℕ → Deeds) (at : ℕ) (v : Value) (old new : Joint) → Steps d (passes_own at v) old new → Goes deeds old →
+      (old.course.traffic.course.class ≡ Some Zero → ⊥) → (new.course.traffic.course.class ≡ Some Zero → ⊥) → Stays deeds new
+  own_so deeds at v old new step g was_not not = by (none_ends d at v old.course right.none g.judged)
+    where
+      right : IsRight d v old.course
+      right = own_right d local fair at v old new step g.followed g.judged
+
+      clear : IsClear old.course.traffic.course
+      clear = record { sure = firm_so old.course g.judged; two = was_not }
+
+      holds : Inv deeds new
+      holds = k.own_passes deeds at v old new step (fine_so d v old.course g.sure.agrees clear right.none) clear not g.holds
+
+      courses : HaveCourses d deeds new
+      courses = subst (HaveCourses d deeds) (sym step.4) g.courses
+
+      now : new.course ≡ unit_passes d at v old.course
+      now = ap (λ (j : Joint). j.course) step.4
+
+      by : IsJudged (unit_passes d at v old.course) ⊎ IsOver (unit_passes d at v old.course) → Stays deeds new
+      by (inl j) = goes (record {
+        judged = subst IsJudged (sym now) j;
+        holds = holds;
+        courses = courses;
+        followed = step_followed d (wholes.begin (calls_from d) local) proper (passes_own at v) old new step g.followed;
+        few = step_kept (AreFew (other d)) (few_claim (other d)) d (passes_own at v) old new step g.few;
+        sure = step_kept Sure sure_claim d (passes_own at v) old new step g.sure;
+      })
+      by (inr o) = ended (record { over = subst IsOver (sym now) o; none = k.none deeds new courses holds })
+
+  -- ---- each step
+
+  few_so : (deeds : ℕ → Deeds) (old : Joint) → Goes deeds old → IsWithout Zero old.course → (i : ℕ) (j : Joined) →
+      slice_get old.course.sessions.live i ≡ Some j → length (heard (spoken (other d) j)) < 2 ^ 64
+  few_so deeds old g within i j here = let most = g.few i j here in let few = within.few in omega (arith, most, few)
+
+  -- nothing passes
+  still_goes : (deeds then_deeds : ℕ → Deeds) (step : Step) (old new : Joint) → Steps d step old new → Goes deeds old →
+      IsJudged new.course → Inv then_deeds new → HaveCourses d then_deeds new → Stays then_deeds new
+  still_goes deeds then_deeds step old new does g judged holds courses = goes (record {
+    judged = judged;
+    holds = holds;
+    courses = courses;
+    followed = step_followed d (wholes.begin (calls_from d) local) proper step old new does g.followed;
+    few = step_kept (AreFew (other d)) (few_claim (other d)) d step old new does g.few;
+    sure = step_kept Sure sure_claim d step old new does g.sure;
+  })
+
+  turn_so : (turn : Turn) (old new : Joint) (t : TakesTurn turn old new) (deeds : ℕ → Deeds)
+      (does : TurnDoes (calls_from d) deeds turn old new t) → Goes deeds old → IsWithout Zero old.course →
+      Stays (all_did deeds does.of.on.more) new
+  turn_so turn old new t deeds does g within =
+      still_goes deeds (all_did deeds does.of.on.more) (turns turn) old new t g (subst IsJudged (sym t.course) g.judged)
+      (k.turn turn old new t deeds does g.followed
+      (step_followed d (wholes.begin (calls_from d) local) proper (turns turn) old new t g.followed)
+      (record { sure = firm_so old.course g.judged; two = within.not }) g.holds)
+      does.of.on.course
+
+  own_begins_so : (old new : Joint) → Steps d begins_own old new → IsWithout Zero old.course → (deeds : ℕ → Deeds) → Goes deeds old →
+      Stays deeds new
+  own_begins_so old new step within deeds g =
+      still_goes deeds deeds begins_own old new step g
+      (subst (λ (j : Joint). IsJudged j.course) (sym step.2) (begins_judged d old.course g.judged))
+      (k.own_begins deeds old new step g.courses (few_so deeds old g within) g.holds)
+      (subst (HaveCourses d deeds) (sym step.2) g.courses)
+
+  other_begins_so : (old new : Joint) → Steps d begins_other old new → (deeds : ℕ → Deeds) → Goes deeds old → Stays deeds new
+  other_begins_so old new step deeds g =
+      still_goes deeds deeds begins_other old new step g
+      (subst (λ (j : Joint). IsJudged j.course) (sym step) (begins_judged (other d) old.course g.judged))
+      (k.other_begins deeds old new step g.holds) (subst (HaveCourses d deeds) (sym step) g.courses)
+
+  -- what passes
+  tap_so : (step : Step) → IsOfTap step → (old new : Joint) → Steps d step old new → IsWithout Zero new.course → (deeds : ℕ → Deeds) →
+      Goes deeds old → Stays deeds new
+  tap_so (turns turn) tap old new t within deeds g = absurd tap
+  tap_so begins_own tap old new step within deeds g =
+      own_begins_so old new step (step_without Zero d begins_own old new step within) deeds g
+  tap_so begins_other tap old new step within deeds g = other_begins_so old new step deeds g
+  tap_so (passes_own at v) tap old new step within deeds g =
+      own_so deeds at v old new step g (step_without Zero d (passes_own at v) old new step within).not within.not
+  tap_so (passes_other at octets units) tap old new step within deeds g =
+      let not : (units_pass (other d) at units old.course).traffic.course.class ≡ Some Zero → ⊥ =
+      λ is_so. within.not (ap (λ (j : Joint). j.course.traffic.course.class) step.2 ∙ is_so) in
+      other_by deeds at octets units old new step g not (passed deeds at octets units old new step g not)
+
+  -- what is over or lost stays so
+  step_stays : (step : Step) (deeds then_deeds : ℕ → Deeds) (old new : Joint) → Steps d step old new →
+      (Goes deeds old → Stays then_deeds new) → Stays deeds old → Stays then_deeds new
+  step_stays step deeds then_deeds old new does on (goes g) = on g
+  step_stays step deeds then_deeds old new does on (ended s) = ended (step_kept (IsDone d) (done_claim d) d step old new does s)
+  step_stays step deeds then_deeds old new does on (lost b) = lost (step_kept (IsLost d) (lost_claim d) d step old new does b)
+
+  tap_stays : (step : Step) → IsOfTap step → (deeds : ℕ → Deeds) (old new : Joint) → Steps d step old new → IsWithout Zero new.course →
+      Stays deeds old → Stays deeds new
+  tap_stays step tap deeds old new does within s =
+      step_stays step deeds deeds old new does (λ g. tap_so step tap old new does within deeds g) s
+
+  along_within : (steps : List Step) (old new : Joint) → StepsAlong d old steps new → IsWithout Zero new.course →
+      IsWithout Zero old.course
+  along_within [] old new is h = subst (λ (j : Joint). IsWithout Zero j.course) is h
+  along_within (step ∷ steps) old new (mid, one, more) h = step_without Zero d step old mid one (along_within steps mid new more h)
+
+  abbrev Stood : Joint → Type 0
+  Stood j = (deeds : ℕ → Deeds) × Stays deeds j
+
+  along_so : (steps : List Step) (deeds : ℕ → Deeds) (old new : Joint) (along : StepsAlong d old steps new) →
+      StepsDo d (calls_from d) deeds old steps new along → IsWithout Zero new.course → Stays deeds old → Stood new
+  along_so [] deeds old new is does within s = (deeds, subst (Stays deeds) (sym is) s)
+  along_so (turns turn ∷ steps) deeds old new (mid, t, more) (does, rest) within s =
+      let now = along_within steps mid new more within in
+      along_so steps (all_did deeds does.of.on.more) mid new more rest within
+      (step_stays (turns turn) deeds (all_did deeds does.of.on.more) old mid t
+      (λ g. turn_so turn old mid t deeds does g (subst (IsWithout Zero) t.course now)) s)
+  along_so (begins_own ∷ steps) deeds old new (mid, one, more) does within s =
+      along_so steps deeds mid new more does within (tap_stays begins_own tt deeds old mid one (along_within steps mid new more within) s)
+  along_so (passes_own at v ∷ steps) deeds old new (mid, one, more) does within s =
+      along_so steps deeds mid new more does within
+      (tap_stays (passes_own at v) tt deeds old mid one (along_within steps mid new more within) s)
+  along_so (begins_other ∷ steps) deeds old new (mid, one, more) does within s =
+      along_so steps deeds mid new more does within (tap_stays begins_other tt deeds old mid one (along_within steps mid new more within) s)
+  along_so (passes_other at octets units ∷ steps) deeds old new (mid, one, more) does within s =
+      along_so steps deeds mid new more does within
+      (tap_stays (passes_other at octets units) tt deeds old mid one (along_within steps mid new more within) s)
+
+  -- ---- the capture
+
+  stays_first : (h : Holding) → IsFresh (calls_from d) local h → Stays (λ r. no_deeds) (begin h)
+  stays_first h fresh = goes (record {
+    judged = record { left = refl; right = refl; firm = refl; left_goes = refl; right_goes = refl };
+    holds = k.begins h fresh;
+    courses = λ r. subst (λ (e : End). Course (calls_from d) r no_deeds e) (sym fresh.end) (fresh_course (calls_from d) local r);
+    followed = begin_followed d (calls_from d) local h fresh;
+    few = λ i j here. absurd (cc here);
+    sure = fresh_sure;
+  })
+
+  -- nobody is to blame, or not all is judged
+  abbrev pub EndsWell : Passed → Type 0
+  EndsWell c = NoneIsToBlame d c.sessions ⊎ IsLost d c
+
+  ends_so : (j : Joint) → Stood j → EndsWell j.course
+  ends_so j (deeds, goes g) = inl (k.none deeds j g.courses g.holds)
+  ends_so j (deeds, ended s) = inl s.none
+  ends_so j (deeds, lost b) = inr b
+
+  -- the other side sends what can't be read, and then anything passes
+  module _ (at : ℕ) (cause_is : Cause) (j : Joint) where
+    abbrev bad : Passed
+    bad = unread (other d) at cause_is j.course
+
+    unread_by : NoneIsToBlame d j.course.sessions → IsOver bad ⊎ IsPartly (other d) bad → IsDone d bad ⊎ IsLost d bad
+    unread_by none (inl o) =
+        inl (record { over = o; none = subst (NoneIsToBlame d) (sym (unread_sessions (other d) at cause_is j.course)) none })
+    unread_by none (inr p) = inr (inl p)
+
+    unread_so : Stood j → IsDone d bad ⊎ IsLost d bad
+    unread_so (deeds, goes g) =
+        unread_by (k.none deeds j g.courses g.holds) (unread_ends (other d) at cause_is j.course g.judged g.sure.agrees)
+    unread_so (deeds, ended s) = inl ((done_claim d).bad (other d) at cause_is j.course s)
+    unread_so (deeds, lost b) = inr ((lost_claim d).bad (other d) at cause_is j.course b)
+
+  after_bad : (capture : Capture) (s : tapping.State) → IsDone d s.course ⊎ IsLost d s.course → EndsWell (after capture s).course
+  after_bad capture s (inl h) = let last = after_kept (IsDone d) (done_claim d) capture s h in inl last.none
+  after_bad capture s (inr b) = inr (after_kept (IsLost d) (lost_claim d) capture s b)
+
+  bad_so : (capture : Capture) (j : Joint) → TurnsBad d capture j.course → Stood j → EndsWell (comes_to capture).course
+  bad_so capture j t stays =
+      let join = ap (λ (x : Capture). comes_to x) t.parts ∙ after_join t.front t.back tapping.begin in
+      subst (λ (s : tapping.State). EndsWell s.course) (sym join)
+      (after_bad t.back (comes_to t.front)
+      (subst (λ (c : Passed). IsDone d c ⊎ IsLost d c) (sym t.unreadable) (unread_so t.at t.cause j stays)))
+
+  bad_within : (capture : Capture) (c : Passed) → TurnsBad d capture c → IsWithout Zero (comes_to capture).course → IsWithout Zero c
+  bad_within capture c t h =
+      let join = ap (λ (x : Capture). comes_to x) t.parts ∙ after_join t.front t.back tapping.begin in
+      unread_without Zero (other d) t.at t.cause c (subst (IsWithout Zero) t.unreadable
+      (after_without Zero t.back (comes_to t.front) (subst (λ (s : tapping.State). IsWithout Zero s.course) join h)))
+
+  pub ends_well : (h : Holding) (capture : Capture) → IsFresh (calls_from d) local h → ComesByDoing d (calls_from d) capture h →
+      IsWithout Zero (comes_to capture).course → EndsWell (comes_to capture).course
+  ends_well h capture fresh comes within = by comes.all
+    where
+      at_last : IsWithout Zero comes.last.course → Stood comes.last
+      at_last w = along_so comes.steps (λ r. no_deeds) (begin h) comes.last comes.along comes.does w (stays_first h fresh)
+
+      by : ((comes_to capture).course ≡ comes.last.course) ⊎ TurnsBad d capture comes.last.course → EndsWell (comes_to capture).course
+      by (inl is) = subst EndsWell (sym is) (ends_so comes.last (at_last (subst (IsWithout Zero) is within)))
+      by (inr bad) = bad_so capture comes.last bad (at_last (bad_within capture comes.last.course bad within))
+
+-- ---- in the end
+
+differ : {A : Type 0} (b : Bool) → b ≡ true → b ≡ false → A
+differ b h k = absurd (cc)
+
+-- all is judged, or nothing any more; and nobody sends a DT or an AK on what it has closed
+pub nobody_of_well : (d : Direction) (c : Passed) → NoneIsToBlame d c.sessions ⊎ IsLost d c → IsJudgedWhole d c →
+    AllByRecursion (λ (m : Moment). ClosesLast m.mark) c.past → NoneIsToBlame d c.sessions
+nobody_of_well d c (inl none) whole last = none
+nobody_of_well d c (inr (inl (inl loose))) whole last = differ c.traffic.course.loose loose whole.firm
+nobody_of_well d c (inr (inl (inr (zero, stop)))) whole last =
+    differ (is_stopped (way_of (other d)) c.traffic.course) stop (whole.both zero)
+nobody_of_well d c (inr (inr h)) whole last = absurd (shut_not c.past last h)
