@@ -4,12 +4,14 @@ import time
 from . import script, verdicts
 from .history import TOKENS, Band
 from .picture import TIMES_KEY, Picture, Row
-from .tapped import Piece, arrow_of, row_of, steps_of, text_of, times_of
+from .tapped import Piece, arrow_of, read, row_of, steps_of, text_of, times_of
 from .transcript import SIDES, BadInput, other
 
 KEY = ("● a packet as it passed the tap; the number before it is its offset in its direction · × the packet that broke the protocol",
        "Grey, beside a packet: how each side stood after it, by osi judge, if that side had received everything that had passed.",
        "Bands beside a life line, from left to right: the data (d), minor (m), major (M) and release (r) tokens that this side held.")
+# What trials/witnesses.py takes from here: it reads captures as `osi judge` does.
+__all__ = ["read"]
 # The program is asked after so many packets at most, so many of them before the break; only once if that took more than SLOW
 # seconds, and no more after LONGEST seconds.
 MOST, BEFORE, SLOW, LONGEST = 300, 270, 5, 60

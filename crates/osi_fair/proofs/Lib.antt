@@ -1,3 +1,6 @@
+-- The map of these proofs, in reading order. `Vocabulary` has the names that come from elsewhere.
+mod Vocabulary
+pub mod small_facts_that_many_lemmas_use
 pub mod what_is_right_passes_each_test
 pub mod what_was_right_stays_right
 pub mod what_a_link_does

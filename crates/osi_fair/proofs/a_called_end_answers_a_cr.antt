@@ -1,44 +1,22 @@
 -- A called end takes a CR, and puts its answer: a DR that refuses it, or a CC with the next reference.
 -- For the law on a whole called end.
-use Rattle.std.proofs.Common.{◌≡◌, ◌≢◌, ◌∙◌, ◌≤◌, ◌<◌, ◌+◌, ℕ, Bool, true, false, List, [], ◌∷◌, ◌++◌, refl, sym, ap, subst, arith}
-use Rattle.std.proofs.Common.{Option, Some, None, inl, inr, ◌⊎◌, is_some, if◌then◌else◌}
-use Rattle.std.specs.Prelude.{◌&&◌, ◌==◌, slice_get}
-use Rattle.std.specs.List.{AllByRecursion}
-use Rattle.std.proofs.lemmas.Bool.{eq-eqb, eqb-true}
-use Rattle.std.proofs.lemmas.List.{append-nil}
-use Rattle.osi_tpdu.specs.Value.{Value, Connect, request, confirm, disconnect, disconnected, data0, data2, acknowledge, error}
-use Rattle.osi_tpdu.specs.Value.{destination_of}
-use Rattle.osi_class.specs.Link.{Standing}
-use Rattle.osi_class.specs.Negotiation.{accept, selected_by}
-use Rattle.osi_class.specs.declared.terms.Class.TheVariants.{Two}
-use Rattle.osi_class.specs.declared.terms.Local.{Local}
-use Rattle.osi_carrier.specs.Negotiation.{acceptance, opened_link}
-use Rattle.osi_carrier.specs.Rows.{Rows, value_at}
-use Rattle.osi_carrier.specs.State.{State, Connection as Live, linked}
-use Rattle.osi_rules.specs.declared.connections.Connection.{Connection}
-use Rattle.osi_fair.specs.Wholes.{Whole}
-use Rattle.osi_fair.proofs.each_connection_of_a_called_end.{Among, AreAbove, Answering, Asked, Called, IsDc, IsFor, IsStray, IsUnlinked}
-use Rattle.osi_fair.proofs.each_connection_of_a_called_end.{Row, Stand, Untagged, answers, closes, comes, first_some, over, past, refuses}
-use Rattle.osi_fair.proofs.each_connection_of_a_called_end.{runs, talks}
+use Rattle.osi_fair.proofs.Vocabulary.{[], ap, arith, Bool, false, if◌then◌else◌, is_some, List, None, Option, refl, Some, subst}
+use Rattle.osi_fair.proofs.Vocabulary.{sym, true, ℕ, ◌++◌, ◌+◌, ◌<◌, ◌∙◌, ◌∷◌, ◌≡◌, ◌≢◌, ◌≤◌, ◌⊎◌, eq-eqb, eqb-true, append-nil}
+use Rattle.osi_fair.proofs.Vocabulary.{AllByRecursion, slice_get, ◌&&◌, ◌==◌, acknowledge, confirm, Connect, data0, data2, destination_of}
+use Rattle.osi_fair.proofs.Vocabulary.{disconnect, disconnected, error, request, Value, Standing, accept, selected_by, Two, Local}
+use Rattle.osi_fair.proofs.Vocabulary.{acceptance, opened_link, Rows, value_at, Live, linked, Connection, Whole}
+use Rattle.osi_carrier.specs.State.{State}
+use Rattle.osi_fair.proofs.small_facts_that_many_lemmas_use.{and_second, differ, no_number, number_is}
+use Rattle.osi_fair.proofs.each_connection_of_a_called_end.{stands_at, Among, AreAbove, Answering, Asked, Called, IsDc, IsFor, IsStray}
+use Rattle.osi_fair.proofs.each_connection_of_a_called_end.{IsUnlinked, Row, Stand, Untagged, answers, closes, comes, first_some, over}
+use Rattle.osi_fair.proofs.each_connection_of_a_called_end.{past, refuses, runs, talks}
 use Rattle.osi_fair.proofs.units_by_their_place.{Placed, at_first, at_join, at_other, first_at, first_more, units_at, values, values_join}
 use Rattle.osi_fair.proofs.what_a_called_end_does_to_its_lines.{above_more, some_more, strays_keep}
 use Rattle.osi_fair.proofs.what_is_live_at_a_called_end.{IsKnown, Timely, timely_answers, timely_puts}
 use Rattle.osi_fair.proofs.which_units_are_for_a_connection.{keep, names_in, those}
-
-differ : {A : Type 0} (b : Bool) → b ≡ true → b ≡ false → A
-differ b h k = absurd (cc)
-
-unlike : (q p : ℕ) → (q == p) ≡ false → q ≡ p → ⊥
-unlike q p h e = differ (q == p) (ap (λ (x : ℕ). x == p) e ∙ eq-eqb p p refl) h
-
-number_is : (m n : ℕ) → Some m ≡ Some n → m ≡ n
-number_is m n e = cc
-
-no_number : {A : Type 0} (o : Option ℕ) (n : ℕ) → o ≡ None → o ≡ Some n → A
-no_number o n e h = absurd (cc)
-
-no_list : {A : Type 0} (v : Value) (vs l : List Value) → l ≡ v ∷ vs → l ≡ [] → A
-no_list v vs l h e = absurd (cc)
+use Rattle.osi_fair.proofs.a_dt_of_class_zero_passes.{unlike}
+use Rattle.osi_fair.proofs.how_a_unit_of_right_passes.{no_list}
+use Rattle.osi_fair.proofs.what_comes_to_a_called_end.{no_item}
 
 rest_none : (v : Value) (vs l : List Value) → l ≡ v ∷ vs → (x : Value) → l ≡ x ∷ [] → vs ≡ []
 rest_none v vs l h x e = cc
@@ -46,31 +24,20 @@ rest_none v vs l h x e = cc
 request_is : (x y : Connect) (vs ys l : List Value) → l ≡ request x ∷ vs → l ≡ request y ∷ ys → x ≡ y
 request_is x y vs ys l h e = cc
 
-and_second : (a b : Bool) → (a && b) ≡ true → b ≡ true
-and_second true b h = h
-and_second false b h = cc
-
-gone_not : {A : Type 0} (o : Option Connection) (c : Connection) → o ≡ Some c → o ≡ None → A
-gone_not o c h e = absurd (cc)
-
 item_is : (c e : Connection) (o : Option Connection) → o ≡ Some c → o ≡ Some e → c ≡ e
 item_is c e o h k = cc
 
 place_not : (b : Bool) (c : Bool) → c ≡ b → (b ≡ true → ⊥) → b ≡ false
-place_not true c e h = absurd (h refl)
-place_not false c e h = refl
+place_not b c e h = grind arith
 
 -- what has come for a reference that was not given is DCs
 own_by : (given r m : ℕ) (v : Value) (vs : List Value) (b : Bool) → (m == r) ≡ b → given < r → ((m ≤ given) × (1 ≤ m)) ⊎ IsDc v →
     Among [] vs → Among [] (keep b v vs)
-own_by given r m v vs false e above h a = a
-own_by given r m v vs true e above (inl (k, one)) a = let same = eqb-true m r e in absurd (omega arith)
-own_by given r m v vs true e above (inr dc) a = inl (dc, a)
+own_by given r m v vs b e above h a = grind (arith, eqb-true)
 
 not_own : (given r : ℕ) (v : Value) (vs : List Value) (o : Option ℕ) → destination_of v ≡ o → given < r → IsFor given v →
     Among [] vs → Among [] (keep (names_in r o) v vs)
-not_own given r v vs None d above h a = a
-not_own given r v vs (Some m) d above h a = own_by given r m v vs (m == r) refl above (h m d) a
+not_own given r v vs o d above h a = grind (arith, own_by)
 
 dcs_alone : (given r : ℕ) (vs : List Value) → given < r → AllByRecursion (IsFor given) vs → Among [] (those r vs)
 dcs_alone given r [] above h = refl
@@ -90,8 +57,7 @@ above_cc given n (acknowledge credit destination number ∷ vs) m x e h = above_
 above_cc given n (error destination cause ∷ vs) m x e h = above_cc given n vs m x e h
 
 for_by : (given m : ℕ) (v : Value) → ((m ≤ given) × (1 ≤ m)) ⊎ IsDc v → ((m ≤ given + 1) × (1 ≤ m)) ⊎ IsDc v
-for_by given m v (inl (h, one)) = inl (omega arith, one)
-for_by given m v (inr dc) = inr dc
+for_by given m v k = grind arith
 
 for_more : (given : ℕ) (vs : List Value) → AllByRecursion (IsFor given) vs → AllByRecursion (IsFor (given + 1)) vs
 for_more given [] h = tt
@@ -112,15 +78,13 @@ module _ (local : Local) (w : Whole) (f : Called local w) (was : w.end.ended ≡
   asks_other i other = sym (ap (λ (l : List Placed). units_at i l) came ∙ at_other i p (request x) later (λ e. other (sym e)))
 
   those_same : (m : ℕ) → those m coming ≡ those m w.coming
-  those_same m = ap (λ (l : List Value). those m l) come_is
-      ∙ sym (ap (λ (l : List Value). those m l) (f.come ∙ ap (λ (l : List Placed). values l) came))
+  those_same m = grind arith
 
   untagged_later : AllByRecursion Untagged later
   untagged_later = (subst (AllByRecursion Untagged) came f.untagged).1
 
   known_later : w.tap.course.strays ≡ false → AllByRecursion (IsKnown s.given) coming
-  known_later none = subst (AllByRecursion (IsKnown s.given)) (sym come_is)
-      (subst (AllByRecursion (IsKnown s.given)) (f.come ∙ ap (λ (l : List Placed). values l) came) (f.timely none was).known).1
+  known_later none = grind arith
 
   -- the connection of the CR
   pub record Place : Type 0 where
@@ -171,12 +135,10 @@ module _ (local : Local) (w : Whole) (f : Called local w) (was : w.end.ended ≡
     begun_not e = absurd (first_some p f.tagged (and_second w.begun (first_at p f.tagged) (sym (begun_same p) ∙ e)) place.none)
 
     mine_here : units_at p tagged ≡ v ∷ []
-    mine_here = at_join p f.tagged ((Some p, v) ∷ []) ∙ ap (λ (l : List Value). l ++ units_at p ((Some p, v) ∷ [])) place.none
-        ∙ at_first p v []
+    mine_here = grind (arith, at_join, place, at_first)
 
     mine_other : (i : ℕ) → (i ≡ p → ⊥) → units_at i tagged ≡ units_at i f.tagged
-    mine_other i other = at_join i f.tagged ((Some p, v) ∷ [])
-        ∙ ap (λ (l : List Value). units_at i f.tagged ++ l) (at_other i p v [] (λ e. other (sym e))) ∙ append-nil (units_at i f.tagged)
+    mine_other i other = grind (arith, at_join, at_other, append-nil)
 
     -- ---- the other connections
 
@@ -195,45 +157,9 @@ module _ (local : Local) (w : Whole) (f : Called local w) (was : w.end.ended ≡
       stand_same : (i : ℕ) (c : Connection) (mine : List Value) (begun : Bool) → (i ≡ p → ⊥) →
           Stand local f.shut s w.coming mine (units_at i f.came) begun (f.refs i) c →
           Stand local f.shut t coming mine (units_at i later) begun (f.refs i) c
-      stand_same i c mine begun other (comes y a none ask e) = comes y a none (λ lasts. asks_other i other ∙ ask was) e
-      stand_same i c mine begun other (refuses y a reason is none e seen) = refuses y a reason is (asks_other i other ∙ none) e seen
-      stand_same i c mine begun other (answers h none) = answers (record {
-        x = h.x;
-        size = h.size;
-        r = h.r;
-        index = h.index;
-        asked = h.asked;
-        selected = h.selected;
-        link = h.link;
-        more = h.more;
-        come = h.come;
-        mine_is = h.mine_is;
-        acts = h.acts;
-        along = h.along;
-        seen = h.seen;
-        row = row_same h.r h.x.source h.link h.come (f.homes i h.r h.index).1 h.row;
-        shut_is = h.shut_is;
-      }) (asks_other i other ∙ none)
-      stand_same i c mine begun other (runs g none) = runs (record {
-        r = g.r;
-        peer = g.peer;
-        index = g.index;
-        line = g.line;
-        tap = g.tap;
-        put = g.put;
-        begun_is = g.begun_is;
-        first = g.first;
-        acts = g.acts;
-        opened = g.opened;
-        along = g.along;
-        there = g.there;
-        right = g.right;
-        left = g.left;
-        row = row_same g.r g.peer g.line.link g.line.coming (f.homes i g.r g.index).1 g.row;
-        shut_is = g.shut_is;
-      }) (asks_other i other ∙ none)
-      stand_same i c mine begun other (past silent up none ask un off) =
-          past silent up none (asks_other i other ∙ ask) (λ r e. unlinked_still r (f.homes i r e).1 (un r e)) off
+      stand_same i c mine begun other = stands_at local f.shut s t w.coming coming mine (units_at i f.came) (units_at i later) begun
+          (f.refs i) c (λ y ask lasts. asks_other i other ∙ ask was) (λ none. asks_other i other ∙ none)
+          (λ r peer link come e. row_same r peer link come (f.homes i r e).1) (λ r e. unlinked_still r (f.homes i r e).1)
 
       stand_else : (i : ℕ) (c : Connection) → (i ≡ p → ⊥) → slice_get w.tap.connections i ≡ Some c →
           Stand local f.shut t coming (units_at i tagged) (units_at i later) (w.begun && first_at i tagged) (f.refs i) c
@@ -245,7 +171,7 @@ module _ (local : Local) (w : Whole) (f : Called local w) (was : w.end.ended ≡
 
       gone_by : (i : ℕ) → slice_get w.tap.connections i ≡ None → (b : Bool) → (i == p) ≡ b →
           (units_at i tagged ≡ []) × (units_at i later ≡ []) × ((r : ℕ) → f.refs i ≡ Some r → IsUnlinked t r)
-      gone_by i none true e = gone_not (slice_get w.tap.connections p) place.c place.at
+      gone_by i none true e = no_item (slice_get w.tap.connections p) place.c place.at
           (ap (λ (j : ℕ). slice_get w.tap.connections j) (sym (eqb-true i p e)) ∙ none)
       gone_by i none false e =
           let (a, b, d) = f.beyond i none in
@@ -278,19 +204,7 @@ module _ (local : Local) (w : Whole) (f : Called local w) (was : w.end.ended ≡
 
     stray_dr : (v : Value) (rest : List Placed) → IsStray f.shut s f.refs f.home w.tap.course.strays v rest →
         IsStray f.shut t f.refs f.home w.tap.course.strays v (rest ++ (Some p, dr) ∷ [])
-    stray_dr v rest a = record {
-      m = a.m;
-      n = a.n;
-      is = a.is;
-      strays_is = a.strays_is;
-      given = subst (λ (i : ℕ). a.n ≤ i) (sym given) a.given;
-      positive = a.positive;
-      shut_is = a.shut_is;
-      none = λ e. at_join (f.home a.n) rest ((Some p, dr) ∷ [])
-          ∙ ap (λ (l : List Value). units_at (f.home a.n) rest ++ l) (at_other (f.home a.n) p dr []
-          (λ same. no_number (f.refs p) a.n place.no_ref (ap (λ (j : ℕ). f.refs j) same ∙ e)))
-          ∙ append-nil (units_at (f.home a.n) rest) ∙ a.none e;
-    }
+    stray_dr v rest a = search (arith, at_join, at_other, no_number, place, append-nil)
 
     pub is_refused : Called local (record w { end = t; put = w.put ++ dr ∷ []; coming = coming })
     is_refused = record {
@@ -361,8 +275,7 @@ module _ (local : Local) (w : Whole) (f : Called local w) (was : w.end.ended ≡
     same_true i = eq-eqb i i refl
 
     not_by : (m : ℕ) (b : Bool) → (m == r) ≡ b → m ≤ s.given → b ≡ false
-    not_by m true e up = let same = eqb-true m r e in absurd (omega arith)
-    not_by m false e up = refl
+    not_by m b e up = grind (arith, eqb-true)
 
     below_not : (m : ℕ) → m ≤ s.given → (m == r) ≡ false
     below_not m up = not_by m (m == r) refl up
@@ -409,7 +322,7 @@ module _ (local : Local) (w : Whole) (f : Called local w) (was : w.end.ended ≡
 
     gone_cc : (i : ℕ) → slice_get w.tap.connections i ≡ None → (b : Bool) → (i == p) ≡ b →
         (units_at i (tagged cc_is) ≡ []) × (units_at i later ≡ []) × ((m : ℕ) → refs i ≡ Some m → IsUnlinked t m)
-    gone_cc i none true e = gone_not (slice_get w.tap.connections p) place.c place.at
+    gone_cc i none true e = no_item (slice_get w.tap.connections p) place.c place.at
         (ap (λ (j : ℕ). slice_get w.tap.connections j) (sym (eqb-true i p e)) ∙ none)
     gone_cc i none false e =
         let (a, b, d) = gone_by cc_is t rows i none false e in (a, b, λ m k. d m (sym (refs_other i e) ∙ k))
@@ -431,8 +344,7 @@ module _ (local : Local) (w : Whole) (f : Called local w) (was : w.end.ended ≡
 
     -- what has a reference from before has another place
     old_place : (m : ℕ) → f.refs (f.home m) ≡ Some m → (f.home m == p) ≡ false
-    old_place m h = place_not (f.home m == p) (f.home m == p) refl (λ e. no_number (f.refs p) m place.no_ref
-        (ap (λ (j : ℕ). f.refs j) (sym (eqb-true (f.home m) p e)) ∙ h))
+    old_place m h = grind (arith, place_not, no_number, place, eqb-true)
 
     linked_cc : (m peer : ℕ) (l : Standing) (b : Bool) → (m == r) ≡ b → value_at m t.live ≡ Some (linked peer l) → refs (home m) ≡ Some m
     linked_cc m peer l true e there =
@@ -444,11 +356,7 @@ module _ (local : Local) (w : Whole) (f : Called local w) (was : w.end.ended ≡
 
     stray_place : (m : ℕ) → m ≤ s.given → refs (home m) ≡ Some m → (b : Bool) → (f.home m == p) ≡ b →
         (f.refs (f.home m) ≡ Some m) × ((f.home m ≡ p) → ⊥)
-    stray_place m up h true e =
-        let is : r ≡ m = number_is r m (sym (refs_here (f.home m) e) ∙ ap (λ (j : ℕ). refs j) (sym (home_old m up)) ∙ h) in
-        absurd (omega arith)
-    stray_place m up h false e =
-        (sym (refs_other (f.home m) e) ∙ ap (λ (j : ℕ). refs j) (sym (home_old m up)) ∙ h, unlike (f.home m) p e)
+    stray_place m up h b e = search (arith, number_is, refs_here, home_old, refs_other, unlike)
 
     stray_cc : (v : Value) (rest : List Placed) → IsStray f.shut s f.refs f.home w.tap.course.strays v rest →
         IsStray f.shut t refs home w.tap.course.strays v (rest ++ (Some p, cc_is) ∷ [])

@@ -1,35 +1,24 @@
 -- A whole called end is fair as long as both sides are judged: by induction over what happens.
 -- For the law of that name.
-use Rattle.std.proofs.Common.{◌≡◌, ◌≢◌, ◌∙◌, ℕ, true, false, List, [], ◌∷◌, ◌++◌, refl, sym, ap, subst, arith, Option, Some, None, inl}
-use Rattle.std.proofs.Common.{inr, ◌⊎◌}
-use Rattle.osi_tpdu.specs.Value.{Value, HasFieldsInRange}
-use Rattle.osi_carrier.specs.React.{react}
-use Rattle.osi_carrier.specs.Runs.{UserCall, user_does}
-use Rattle.osi_rules.specs.Sides.{is_live}
-use Rattle.osi_rules.specs.Traffic.{State as Traffic, fresh, is_stopped, packet_begins, takes}
-use Rattle.osi_fair.specs.Naming.{HoldsOfOne, Passing, all_passed, packet, passes, rubbish, unit as passing}
-use Rattle.osi_fair.specs.Putting.{put_by, put_for}
-use Rattle.osi_fair.specs.Wholes.{Event, HappenAlong, Happens, MayCall, Whole, arrives, begin, begins_other, begins_own, calls}
-use Rattle.osi_fair.specs.Wholes.{passes_other, passes_own, passes_rubbish}
+use Rattle.osi_fair.proofs.Vocabulary.{[], ap, arith, false, inl, inr, List, None, Option, refl, Some, subst, sym, true, ℕ, ◌++◌, ◌∙◌, ◌∷◌}
+use Rattle.osi_fair.proofs.Vocabulary.{◌≡◌, ◌≢◌, ◌⊎◌, slice_get, HasFieldsInRange, Value, Local, orderly_fresh, react, user_does, UserCall}
+use Rattle.osi_fair.proofs.Vocabulary.{is_live, fresh, is_stopped, packet_begins, Traffic, takes, Connection, Left, Right, Kept, NotJudged}
+use Rattle.osi_fair.proofs.Vocabulary.{all_passed, HoldsOfOne, packet, passes, Passing, rubbish, unit as passing, put_by, put_for, arrives}
+use Rattle.osi_fair.proofs.Vocabulary.{begin, calls, Event, HappenAlong, Happens, MayCall, passes_rubbish, Whole}
+use Rattle.osi_fair.specs.Wholes.{begins_other, begins_own, passes_other, passes_own}
 use Rattle.osi_fair.proofs.a_called_end_selects_class_zero.{Selected, Selecting, selected_begins, selected_calls, selected_takes}
 use Rattle.osi_fair.proofs.a_called_end_selects_class_zero.{selecting_begins, selecting_calls, selecting_takes}
 use Rattle.osi_fair.proofs.a_unit_of_an_end_of_class_zero_passes.{selected_passes, selecting_passes}
 use Rattle.osi_fair.proofs.what_comes_to_an_end_of_class_zero.{selected_comes, selecting_comes}
 use Rattle.osi_fair.proofs.a_called_end_takes_a_unit.{SelectsZero, selects_zero, takes_so}
 use Rattle.osi_fair.proofs.one_request_waits.{one_waits}
-use Rattle.std.specs.Prelude.{slice_get}
-use Rattle.osi_class.specs.declared.terms.Local.{Local}
-use Rattle.osi_carrier.proofs.effects.a_unit_touches_one_connection.{orderly_fresh}
-use Rattle.osi_rules.specs.declared.connections.Connection.{Connection}
-use Rattle.osi_rules.specs.declared.directions.Direction.TheVariants.{Left, Right}
-use Rattle.osi_rules.specs.declared.findings.Finding.TheVariants.{Kept, NotJudged}
-use Rattle.osi_fair.proofs.a_called_end_is_judged_as_the_other_side_is.{IsMild, other_judged, own_judged, rubbish_judged}
+use Rattle.osi_fair.proofs.a_called_end_is_judged_as_the_other_side_is.{IsNotBlamed, other_judged, own_judged, rubbish_judged}
 use Rattle.osi_fair.proofs.a_called_end_makes_a_call.{makes_so}
 use Rattle.osi_fair.proofs.what_becomes_of_a_called_end.{IsCalled}
 use Rattle.osi_fair.proofs.a_dc_for_what_is_gone_passes.{stray_passes}
 use Rattle.osi_fair.proofs.a_reference_names_one_connection.{fresh_apart, no_item, passes_apart}
 use Rattle.osi_fair.proofs.a_unit_of_a_called_end_passes.{one_passes}
-use Rattle.osi_fair.proofs.how_a_unit_of_right_passes.{head_of}
+use Rattle.osi_fair.proofs.how_a_unit_of_right_passes.{head_of, no_list}
 use Rattle.osi_fair.proofs.all_are_judged_unless_one_broke.{AreJudged, IsJudged, still_judged}
 use Rattle.osi_fair.proofs.each_connection_of_a_called_end.{Called, other_begins as lines_begin, own_begins as line_begins}
 use Rattle.osi_fair.proofs.units_by_their_place.{Placed, at_first, units_at, values}
@@ -38,9 +27,6 @@ use Rattle.osi_fair.proofs.what_holds_of_one_item.{HoldsOfEach}
 use Rattle.osi_fair.proofs.what_keeps_names_apart.{AreApart}
 use Rattle.osi_fair.proofs.what_lasts_at_the_tap.{lasts_passing}
 use Rattle.osi_fair.proofs.which_unit_comes_to_a_called_end.{IsCalm, by_reach, calm_before}
-
-no_list : {A : Type 0} (v : Value) (vs l : List Value) → l ≡ v ∷ vs → l ≡ [] → A
-no_list v vs l h e = absurd (cc)
 
 -- ---- a unit of the end
 
@@ -69,7 +55,7 @@ module _ (local : Local) (w : Whole) (f : Called local w) (apart : AreApart w.ta
   own_passes : w.put ≡ v ∷ rest → Passed
   own_passes e = let h = head_of v rest f.tagged (sym e ∙ f.put) in by_tag h.o h.later h.is h.values_are
 
-mild : (w : Whole) (v : Value) → IsFine w v → IsMild (takes Right v w.tap).told.finding
+mild : (w : Whole) (v : Value) → IsFine w v → IsNotBlamed (takes Right v w.tap).told.finding
 mild w v (inl e) = inl e
 mild w v (inr (e, strays)) = inr e
 

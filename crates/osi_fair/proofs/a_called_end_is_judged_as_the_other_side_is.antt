@@ -1,92 +1,24 @@
 -- As long as the other side is judged, a called end is: what is right stops nothing, and what stops the end stops both sides.
 -- For the law on a whole called end.
-use Rattle.std.proofs.Common.{◌≡◌, ◌∙◌, ℕ, Bool, true, false, refl, ap, Option, Some, None, inl, inr, ◌⊎◌, if◌then◌else◌}
-use Rattle.std.specs.Prelude.{◌||◌, position, slice_get}
-use Rattle.osi_tpdu.specs.Value.{Value, Connect, request, confirm, disconnect, disconnected, data0, data2, acknowledge, error}
-use Rattle.osi_class.specs.declared.terms.Class.{Class}
-use Rattle.osi_class.specs.declared.terms.Class.TheVariants.{Two, Zero}
-use Rattle.osi_rules.specs.declared.connections.Connection.{Connection}
-use Rattle.osi_rules.specs.declared.directions.Direction.{Direction}
-use Rattle.osi_rules.specs.declared.directions.Direction.TheVariants.{Left, Right}
-use Rattle.osi_rules.specs.declared.findings.Finding.{Finding}
-use Rattle.osi_rules.specs.declared.findings.Finding.TheVariants.{Broke, Kept, NotJudged, Outside, TooMany}
-use Rattle.osi_rules.specs.declared.findings.Reach.{Reach}
+use Rattle.osi_fair.proofs.Vocabulary.{arith}
+use Rattle.osi_fair.proofs.Vocabulary.{ap, false, inl, inr, Option, refl, ◌∙◌, ◌≡◌, ◌⊎◌, ◌||◌, Value, Class, stops_are_said}
+use Rattle.osi_fair.proofs.Vocabulary.{reach_by, reach_of, class_for, reached, refused, Traffic as State, stops_by, takes, Left, Right}
+use Rattle.osi_fair.proofs.Vocabulary.{Finding, Kept, NotJudged, Reach}
 use Rattle.osi_rules.specs.declared.findings.Reach.TheVariants as reach
-use Rattle.osi_rules.specs.declared.routes.Route.{Route}
-use Rattle.osi_rules.specs.declared.routes.Route.TheVariants.{Asks, Named, Only, Unnamed}
-use Rattle.osi_rules.specs.Reaches.{reach_by, reach_of}
-use Rattle.osi_rules.specs.Rows.{first_failed}
-use Rattle.osi_rules.specs.Sides.{is_live, is_named}
-use Rattle.osi_rules.specs.Traffic.{Outcome, State, asks_by, asks_of, at_found, at_place, class_for, course_after_none, is_stopped}
-use Rattle.osi_rules.specs.Traffic.{none_told, one_told, reached, refused, request_tests, route, routed, stops_by, takes, unnamed_told}
-use Rattle.osi_rules.proofs.a_stop_is_said.{stops_are_said}
-
--- ---- how far a unit reaches is by what is found of it
-
-abbrev IsBy : Outcome → Type 0
-IsBy o = (k : Option Class) × (o.told.reach ≡ reach_of k o.told.finding)
-
-to_none : (d : Direction) (f : Finding) (s : State) → IsBy (none_told d f s)
-to_none d f s = (class_for d s.course, refl)
-
-to_one : (d : Direction) (p : ℕ) (c : Connection) (v : Value) (s : State) → IsBy (one_told d p c v s)
-to_one d p c v s = (class_for d s.course, refl)
-
-to_unnamed : (d : Direction) (v : Value) (s : State) → IsBy (unnamed_told d v s)
-to_unnamed d v s = (class_for d (course_after_none v s.course), refl)
-
-at_one : (d : Direction) (v : Value) (s : State) (p : ℕ) (c : Option Connection) → IsBy (at_found d v s p c)
-at_one d v s p None = to_unnamed d v s
-at_one d v s p (Some c) = to_one d p c v s
-
-at_any : (d : Direction) (v : Value) (s : State) (p : Option ℕ) → IsBy (at_place d v s p)
-at_any d v s None = to_unnamed d v s
-at_any d v s (Some p) = at_one d v s p (slice_get s.connections p)
-
-asking : (d : Direction) (f : Finding) (c : Connect) (s : State) → IsBy (asks_by d f c s)
-asking d Kept c s = (None, refl)
-asking d (Broke rule) c s = to_none d (Broke rule) s
-asking d Outside c s = to_none d Outside s
-asking d TooMany c s = to_none d TooMany s
-asking d NotJudged c s = to_none d NotJudged s
-
-asks : (d : Direction) (v : Value) (s : State) → IsBy (asks_of d v s)
-asks d (request c) s = asking d (first_failed (request_tests s c)) c s
-asks d (confirm destination c) s = to_none d NotJudged s
-asks d (disconnect destination source reason user) s = to_none d NotJudged s
-asks d (disconnected destination source) s = to_none d NotJudged s
-asks d (data0 end user) s = to_none d NotJudged s
-asks d (data2 destination number end user) s = to_none d NotJudged s
-asks d (acknowledge credit destination number) s = to_none d NotJudged s
-asks d (error destination cause) s = to_none d NotJudged s
-
-by_route : (d : Direction) (v : Value) (s : State) (r : Route) → IsBy (routed d v s r)
-by_route d v s Asks = asks d v s
-by_route d v s (Named n) = at_any d v s (position (is_named d n) s.connections)
-by_route d v s Only = at_any d v s (position (is_live d) s.connections)
-by_route d v s (Unnamed finding) = to_none d finding s
-
-if_judged : (b : Bool) (d : Direction) (v : Value) (s : State) (r : Route) → IsBy (if b then none_told d NotJudged s else routed d v s r)
-if_judged true d v s r = to_none d NotJudged s
-if_judged false d v s r = by_route d v s r
-
-told_by : (d : Direction) (v : Value) (s : State) → IsBy (takes d v s)
-told_by d v s = if_judged (is_stopped d s.course) d v s (route d s.course v)
+use Rattle.osi_fair.proofs.small_facts_that_many_lemmas_use.{differ}
+use Rattle.osi_fair.proofs.the_end_is_judged_as_the_other_side_is.{told_by}
 
 -- ---- a unit of the end
 
 -- right, or not judged
-abbrev pub IsMild : Finding → Type 0
-IsMild f = (f ≡ Kept) ⊎ (f ≡ NotJudged)
+abbrev pub IsNotBlamed : Finding → Type 0
+IsNotBlamed f = (f ≡ Kept) ⊎ (f ≡ NotJudged)
 
-no_reach : (k : Option Class) (f : Finding) → IsMild f → reach_of k f ≡ reach.Nothing
+no_reach : (k : Option Class) (f : Finding) → IsNotBlamed f → reach_of k f ≡ reach.Nothing
 no_reach k f (inl e) = ap (reach_of k) e
 no_reach k f (inr e) = ap (reach_of k) e
 
-differ : {A : Type 0} (b : Bool) → b ≡ true → b ≡ false → A
-differ b h k = absurd (cc)
-
-pub own_judged : (v : Value) (s : State) → IsMild (takes Right v s).told.finding → s.course.right_stopped ≡ false →
+pub own_judged : (v : Value) (s : State) → IsNotBlamed (takes Right v s).told.finding → s.course.right_stopped ≡ false →
     (takes Right v s).state.course.right_stopped ≡ false
 own_judged v s mild right =
     let (k, is) = told_by Right v s in
@@ -97,15 +29,8 @@ own_judged v s mild right =
 
 other_by : (r : Reach) (v : Value) (s : State) → (takes Left v s).told.reach ≡ r → s.course.right_stopped ≡ false →
     (takes Left v s).state.course.left_stopped ≡ false → (takes Left v s).state.course.right_stopped ≡ false
-other_by reach.Nothing v s e right left =
-    stops_are_said Left v s Right ∙ ap (λ (r : Reach). stops_by Left r Right || s.course.right_stopped) e ∙ right
-other_by reach.Connection v s e right left =
-    stops_are_said Left v s Right ∙ ap (λ (r : Reach). stops_by Left r Right || s.course.right_stopped) e ∙ right
-other_by reach.Side v s e right left =
-    stops_are_said Left v s Right ∙ ap (λ (r : Reach). stops_by Left r Right || s.course.right_stopped) e ∙ right
-other_by reach.Everything v s e right left =
-    differ (takes Left v s).state.course.left_stopped
-    (stops_are_said Left v s Left ∙ ap (λ (r : Reach). stops_by Left r Left || s.course.left_stopped) e) left
+other_by reach.Everything v s e right left = grind (arith, differ, stops_are_said)
+other_by _ v s e right left = grind (arith, stops_are_said)
 
 pub other_judged : (v : Value) (s : State) → s.course.right_stopped ≡ false → (takes Left v s).state.course.left_stopped ≡ false →
     (takes Left v s).state.course.right_stopped ≡ false
@@ -113,9 +38,7 @@ other_judged v s right left = other_by (takes Left v s).told.reach v s refl righ
 
 rubbish_by : (k : Option Class) (s : State) → s.course.right_stopped ≡ false →
     (reached Left (reach_by k false) s.course).left_stopped ≡ false → (reached Left (reach_by k false) s.course).right_stopped ≡ false
-rubbish_by None s right left = cc
-rubbish_by (Some Zero) s right left = right
-rubbish_by (Some Two) s right left = cc
+rubbish_by k s right left = grind arith
 
 pub rubbish_judged : (s : State) → s.course.right_stopped ≡ false → (refused Left s).course.left_stopped ≡ false →
     (refused Left s).course.right_stopped ≡ false

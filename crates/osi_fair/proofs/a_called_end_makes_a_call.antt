@@ -1,35 +1,17 @@
 -- The user of a whole called end makes a call: it sends TSDUs on an open connection, closes one, or ends the carrier.
 -- For the law on a whole called end.
-use Rattle.std.proofs.Common.{◌≡◌, ◌∙◌, ◌≤◌, ℕ, Bool, true, false, List, [], ◌∷◌, ◌++◌, length, refl, sym, ap, subst, arith, Option, Some}
-use Rattle.std.proofs.Common.{None, is_some, if◌then◌else◌}
-use Rattle.std.specs.Prelude.{◌==◌, not}
-use Rattle.std.specs.List.{AllByRecursion}
-use Rattle.std.proofs.lemmas.Bool.{eq-eqb, eqb-true}
-use Rattle.std.proofs.lemmas.List.{append-nil}
-use Rattle.osi_tpdu.specs.Value.{Value}
-use Rattle.osi_class.specs.Limits.{longest_tsdu}
-use Rattle.osi_class.specs.Giving.{all_given}
-use Rattle.osi_class.specs.Link.{Standing, with_tsdu}
-use Rattle.osi_class.specs.declared.terms.Class.{Class}
-use Rattle.osi_class.specs.declared.terms.Class.TheVariants.{Two}
-use Rattle.osi_class.specs.declared.terms.Local.{Local}
-use Rattle.osi_carrier.specs.Calls.{class_error, closed_on, closed_with, closes as closes_in, ended_by, link_of, open_link, or_else}
-use Rattle.osi_carrier.specs.Calls.{room_error, sent, sent_all, sent_on}
-use Rattle.osi_carrier.specs.Orderly.{IsOrderly}
-use Rattle.osi_carrier.specs.Pump.{pumped}
-use Rattle.osi_carrier.specs.Rows.{value_at}
-use Rattle.osi_carrier.specs.Runs.{UserCall, breaks, closes as closes_call, connects, sends, sends_all, user_does}
-use Rattle.osi_carrier.specs.State.{State, Connection as Live, asked, closing, ends as ends_as, linked}
-use Rattle.osi_carrier.specs.declared.ends.EndReason.{EndReason}
-use Rattle.osi_carrier.specs.declared.faults.OpenError.{OpenError}
-use Rattle.osi_carrier.specs.declared.faults.OpenError.TheVariants.{Ended, NotCaller}
-use Rattle.osi_carrier.proofs.effects.a_unit_touches_one_connection.{orderly_closed, orderly_ended, orderly_sent, orderly_sent_all}
-use Rattle.osi_carrier.proofs.references.rows_after_a_change.{put_other}
-use Rattle.osi_carrier.proofs.references.what_a_change_leaves_there.{put_here}
-use Rattle.osi_fair.specs.Following.{Follows, link_now}
-use Rattle.osi_fair.specs.Putting.{put_by, put_closed, put_closing, put_sent, put_together}
-use Rattle.osi_fair.specs.Wholes.{MayCall, Whole}
-use Rattle.osi_fair.proofs.what_becomes_of_a_called_end.{IsCalled, IsNoCc, Same, called_still, units_no_cc}
+use Rattle.osi_fair.proofs.Vocabulary.{[], ap, arith, Bool, false, if◌then◌else◌, is_some, length, List, None, Option, refl, Some, subst}
+use Rattle.osi_fair.proofs.Vocabulary.{sym, true, ℕ, ◌++◌, ◌∙◌, ◌∷◌, ◌≡◌, ◌≤◌, eqb-true, append-nil, AllByRecursion, not, ◌==◌, Value}
+use Rattle.osi_fair.proofs.Vocabulary.{all_given, longest_tsdu, Standing, with_tsdu, Class, Two, Local, orderly_closed, orderly_ended}
+use Rattle.osi_fair.proofs.Vocabulary.{orderly_sent, orderly_sent_all, put_other, put_here, class_error, closed_on, closed_with, closes_in}
+use Rattle.osi_fair.proofs.Vocabulary.{ended_by, link_of, open_link, or_else, room_error, sent, sent_all, IsOrderly, pumped, value_at}
+use Rattle.osi_fair.proofs.Vocabulary.{breaks, closes_call, connects, sends, sends_all, user_does, UserCall, asked, closing, Live}
+use Rattle.osi_fair.proofs.Vocabulary.{ends as ends_as, linked, EndReason, OpenError, Ended, NotCaller, Follows, link_now, put_by}
+use Rattle.osi_fair.proofs.Vocabulary.{put_closed, put_closing, put_sent, put_together, MayCall, Whole}
+use Rattle.osi_carrier.specs.Calls.{sent_on}
+use Rattle.osi_carrier.specs.State.{State}
+use Rattle.osi_fair.proofs.small_facts_that_many_lemmas_use.{none_of, same_pair}
+use Rattle.osi_fair.proofs.what_becomes_of_a_called_end.{IsCalled, Same, called_still, units_no_cc}
 use Rattle.osi_fair.proofs.a_carrier_follows_lines.{follows_closed, follows_sent}
 use Rattle.osi_fair.proofs.calls_of_a_line_join.{follows_together, still_open}
 use Rattle.osi_fair.proofs.each_connection_of_a_called_end.{Called}
@@ -37,14 +19,10 @@ use Rattle.osi_fair.proofs.what_a_called_end_does_to_its_lines.{Leaves, line_ste
 use Rattle.osi_fair.proofs.what_a_called_end_leaves_alone.{is_over}
 use Rattle.osi_fair.proofs.units_by_their_place.{values}
 use Rattle.osi_fair.proofs.what_is_live_at_a_called_end.{IsLive, timely_calls}
+use Rattle.osi_fair.proofs.a_dt_of_class_zero_passes.{unlike}
+use Rattle.osi_fair.proofs.each_connection_has_its_line.{IsNoCc}
 
 -- ---- the end
-
-differ : {A : Type 0} (b : Bool) → b ≡ true → b ≡ false → A
-differ b h k = absurd (cc)
-
-unlike : (q p : ℕ) → (q == p) ≡ false → q ≡ p → ⊥
-unlike q p h e = differ (q == p) (ap (λ (x : ℕ). x == p) e ∙ eq-eqb p p refl) h
 
 not_asked : (o : Option Live) (q : ℕ) (l : Standing) → o ≡ Some (linked q l) → o ≡ Some asked → ⊥
 not_asked o q l h e = cc
@@ -52,49 +30,40 @@ not_asked o q l h e = cc
 not_closing : (o : Option Live) (q : ℕ) → o ≡ Some (closing q) → o ≡ Some asked → ⊥
 not_closing o q h e = cc
 
-given_same : {m n : ℕ} → n ≡ m → m ≤ n
+pub given_same : {m n : ℕ} → n ≡ m → m ≤ n
 given_same e = omega arith
 
-same_peer : (q p : ℕ) (l k : Standing) → Some (linked q l) ≡ Some (linked p k) → q ≡ p
+pub same_peer : (q p : ℕ) (l k : Standing) → Some (linked q l) ≡ Some (linked p k) → q ≡ p
 same_peer q p l k e = cc
 
-open_of : (r peer : ℕ) (link : Standing) (s : State) → s.ended ≡ None → value_at r s.live ≡ Some (linked peer link) →
+pub open_of : (r peer : ℕ) (link : Standing) (s : State) → s.ended ≡ None → value_at r s.live ≡ Some (linked peer link) →
     open_link r s ≡ Some (peer, link)
 open_of r peer link s lasts h =
     ap (λ (o : Option EndReason). if◌then◌else◌ {A = Option (ℕ × Standing)} (is_some o) None (link_of (value_at r s.live))) lasts
     ∙ ap link_of h
 
-same_pair : (a b : ℕ × Standing) → Some a ≡ Some b → a ≡ b
-same_pair a b e = cc
-
-row_of : (o : Option Live) (peer : ℕ) (link : Standing) → link_of o ≡ Some (peer, link) → o ≡ Some (linked peer link)
-row_of None peer link e = cc
-row_of (Some asked) peer link e = cc
+pub row_of : (o : Option Live) (peer : ℕ) (link : Standing) → link_of o ≡ Some (peer, link) → o ≡ Some (linked peer link)
 row_of (Some (linked q l)) peer link e = ap (λ (p : ℕ × Standing). Some (linked p.0 p.1)) (same_pair (q, l) (peer, link) e)
-row_of (Some (closing q)) peer link e = cc
+row_of _ peer link e = cc
 
 linked_of : (b : Bool) (o : Option Live) (peer : ℕ) (link : Standing) → (if b then None else link_of o) ≡ Some (peer, link) →
     (b ≡ false) × (o ≡ Some (linked peer link))
 linked_of true o peer link e = cc
 linked_of false o peer link e = (refl, row_of o peer link e)
 
-not_ended : (o : Option EndReason) → is_some o ≡ false → o ≡ None
-not_ended None e = refl
-not_ended (Some x) e = absurd (cc e)
-
 open_is : (r peer : ℕ) (link : Standing) (s : State) → open_link r s ≡ Some (peer, link) →
     (s.ended ≡ None) × (value_at r s.live ≡ Some (linked peer link))
 open_is r peer link s e =
-    let (a, b) = linked_of (is_some s.ended) (value_at r s.live) peer link e in (not_ended s.ended a, b)
+    let (a, b) = linked_of (is_some s.ended) (value_at r s.live) peer link e in (none_of s.ended a, b)
 
 -- ---- what calls change
 
-rows_sent : (m r : ℕ) (tsdu : List ℕ) (o : Option (ℕ × Standing)) (s : State) → (m ≡ r → ⊥) →
+pub rows_sent : (m r : ℕ) (tsdu : List ℕ) (o : Option (ℕ × Standing)) (s : State) → (m ≡ r → ⊥) →
     value_at m (sent_on r tsdu o s).live ≡ value_at m s.live
 rows_sent m r tsdu None s other = refl
 rows_sent m r tsdu (Some (peer, link)) s other = put_other m r (linked peer (pumped (with_tsdu link tsdu))) s.live other
 
-rows_all : (m r : ℕ) (tsdus : List (List ℕ)) (s : State) → (m ≡ r → ⊥) → value_at m (sent_all r tsdus s).live ≡ value_at m s.live
+pub rows_all : (m r : ℕ) (tsdus : List (List ℕ)) (s : State) → (m ≡ r → ⊥) → value_at m (sent_all r tsdus s).live ≡ value_at m s.live
 rows_all m r [] s other = refl
 rows_all m r (tsdu ∷ tsdus) s other = rows_all m r tsdus (sent r tsdu s) other ∙ rows_sent m r tsdu (open_link r s) s other
 
@@ -116,13 +85,13 @@ same_all r (tsdu ∷ tsdus) s =
     same_then s (sent r tsdu s) (sent_all r tsdus (sent r tsdu s)) (same_sent r tsdu (open_link r s) s) (same_all r tsdus (sent r tsdu s))
 
 -- the link after TSDUs that were sent together
-all_open : (r peer : ℕ) (tsdus : List (List ℕ)) (s : State) (link : Standing) → open_link r s ≡ Some (peer, link) →
+pub all_open : (r peer : ℕ) (tsdus : List (List ℕ)) (s : State) (link : Standing) → open_link r s ≡ Some (peer, link) →
     (l : Standing) × (open_link r (sent_all r tsdus s) ≡ Some (peer, l))
 all_open r peer [] s link e = (link, e)
 all_open r peer (tsdu ∷ tsdus) s link e =
     all_open r peer tsdus (sent r tsdu s) (pumped (with_tsdu link tsdu)) (still_open r peer tsdu s link e)
 
-all_none : (r : ℕ) (tsdus : List (List ℕ)) (s : State) → open_link r s ≡ None →
+pub all_none : (r : ℕ) (tsdus : List (List ℕ)) (s : State) → open_link r s ≡ None →
     (sent_all r tsdus s ≡ s) × (put_together r tsdus s ≡ [])
 all_none r [] s h = (refl, refl)
 all_none r (tsdu ∷ tsdus) s h =

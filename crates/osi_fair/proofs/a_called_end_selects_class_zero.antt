@@ -1,23 +1,10 @@
 -- A whole called end selects class 0: what holds until its CC has passed and after that, as the end goes on and packets begin.
 -- For the law on a whole called end.
-use Rattle.std.proofs.Common.{◌≡◌, ◌∙◌, ◌≤◌, ◌+◌, ◌-◌, ℕ, zero, suc, Bool, true, List, [], ◌∷◌, ◌++◌, map, refl, sym, ap, subst, IfSome}
-use Rattle.std.proofs.Common.{Option, Some, None, inr, ◌⊎◌}
-use Rattle.std.specs.Prelude.{slice_get}
-use Rattle.osi_tpdu.specs.Value.{Value, Connect, confirm}
-use Rattle.osi_class.specs.Negotiation.{accept, selected_by}
-use Rattle.osi_class.specs.declared.terms.Class.TheVariants.{Zero}
-use Rattle.osi_class.specs.declared.terms.Local.{Local}
-use Rattle.osi_carrier.specs.Negotiation.{acceptance, unit_octets}
-use Rattle.osi_carrier.specs.React.{react}
-use Rattle.osi_carrier.specs.Runs.{UserCall, user_does}
-use Rattle.osi_rules.specs.declared.connections.Connection.{Connection}
-use Rattle.osi_rules.specs.declared.directions.Direction.{Direction}
-use Rattle.osi_rules.specs.declared.directions.Direction.TheVariants.{Left, Right}
-use Rattle.osi_rules.specs.declared.halves.Half.{Half}
-use Rattle.osi_rules.specs.Sides.{begins, is_open, is_refused}
-use Rattle.osi_rules.specs.Traffic.{State as Traffic, packet_begins}
-use Rattle.osi_fair.specs.Putting.{put_by, put_for}
-use Rattle.osi_fair.specs.Wholes.{MayCall, Whole}
+use Rattle.osi_fair.proofs.Vocabulary.{[], ap, Bool, IfSome, inr, List, map, None, Option, refl, Some, subst, suc, sym, true, zero, ℕ, ◌++◌}
+use Rattle.osi_fair.proofs.Vocabulary.{◌+◌, ◌-◌, ◌∙◌, ◌∷◌, ◌≡◌, ◌≤◌, ◌⊎◌, slice_get, confirm, Connect, Value, accept, selected_by, Zero}
+use Rattle.osi_fair.proofs.Vocabulary.{Local, acceptance, unit_octets, react, user_does, UserCall, begins, is_open, is_refused}
+use Rattle.osi_fair.proofs.Vocabulary.{packet_begins, Traffic, Connection, Direction, Left, Right, Half, put_by, put_for, MayCall, Whole}
+use Rattle.osi_fair.proofs.small_facts_that_many_lemmas_use.{begun_left, begun_right, course_class, item_is}
 use Rattle.osi_fair.proofs.each_connection_of_a_called_end.{Asked}
 use Rattle.osi_fair.proofs.what_an_end_does_in_class_zero.{IsInZero, zero_calls, zero_takes}
 use Rattle.osi_fair.proofs.what_holds_of_a_line.{is_there}
@@ -59,9 +46,6 @@ pub record Selected (w : Whole) : Type 0 where
   pub end : IsInZero limit w.end c.right.begun w.put
 
 -- ---- small facts
-
-item_is : {X : Type 0} (x y : X) (o : Option X) → o ≡ Some x → o ≡ Some y → x ≡ y
-item_is x y o h k = cc
 
 -- ---- the end takes a unit, and its user makes a call
 
@@ -141,21 +125,9 @@ selected_calls w call may f = record {
 
 -- ---- a packet begins
 
-begun_right : (d : Direction) (c : Connection) → (begins d c).right ≡ c.right
-begun_right Left c = refl
-begun_right Right c = refl
-
-begun_left : (d : Direction) (c : Connection) → (begins d c).left ≡ c.left
-begun_left Left c = refl
-begun_left Right c = refl
-
 begun_size : (d : Direction) (c : Connection) → (begins d c).size ≡ c.size
 begun_size Left c = refl
 begun_size Right c = refl
-
-course_class : (d : Direction) (s : Traffic) → (packet_begins d s).course.class ≡ s.course.class
-course_class Left s = refl
-course_class Right s = refl
 
 seen_none : (d : Direction) (s : Traffic) → s.course.class ≡ None → s.course.class_seen ≡ None →
     (packet_begins d s).course.class_seen ≡ None

@@ -1,98 +1,54 @@
 -- A whole called end takes a unit: a CR, a unit for an open connection or for one that is not open, or one for which it ends.
 -- For the law on a whole called end.
-use Rattle.std.proofs.Common.{◌≡◌, ◌∙◌, ◌≤◌, ◌<◌, ◌+◌, ◌-◌, ℕ, Bool, true, false, List, [], ◌∷◌, ◌++◌, refl, sym, ap, subst, arith}
-use Rattle.std.proofs.Common.{Option, Some, None, inl, inr, ◌⊎◌, is_some, if◌then◌else◌}
-use Rattle.std.specs.Prelude.{not, ◌&&◌, ◌||◌, ◌==◌, IsSome, nat_lt, slice_get}
-use Rattle.std.specs.List.{AllByRecursion}
-use Rattle.std.proofs.lemmas.Bool.{eq-eqb, eqb-true, ltb-false, ltb-true}
-use Rattle.std.proofs.lemmas.List.{append-nil}
-use Rattle.osi_tpdu.specs.Value.{Value, Connect, request, confirm, disconnect, disconnected, data0, data2, acknowledge, error}
-use Rattle.osi_tpdu.specs.Value.{destination_of}
-use Rattle.osi_class.specs.Link.{Standing}
-use Rattle.osi_class.specs.Negotiation.{Selection, accept, refuse, selected_by}
-use Rattle.osi_class.specs.declared.terms.Class.{Class}
-use Rattle.osi_class.specs.declared.terms.Class.TheVariants.{Two, Zero}
-use Rattle.osi_class.specs.declared.terms.Local.{Local}
-use Rattle.osi_carrier.specs.Negotiation.{acceptance, opened_link, unit_octets}
-use Rattle.osi_carrier.specs.Orderly.{AreUpTo, IsOrderly, RiseFrom}
-use Rattle.osi_carrier.specs.React.{accepts, answers as answers_by, answers_request, before_class, denies, has_peer, in_class, in_two}
-use Rattle.osi_carrier.specs.React.{is_full, react_by, to_closing, to_connection, to_unknown}
+use Rattle.osi_fair.proofs.Vocabulary.{[], ap, arith, Bool, false, if◌then◌else◌, inl, inr, is_some, List, None, Option, refl, Some}
+use Rattle.osi_fair.proofs.Vocabulary.{subst, sym, true, ℕ, ◌++◌, ◌+◌, ◌-◌, ◌<◌, ◌∙◌, ◌∷◌, ◌≡◌, ◌≤◌, ◌⊎◌, eq-eqb, eqb-true, ltb-false}
+use Rattle.osi_fair.proofs.Vocabulary.{ltb-true, append-nil, AllByRecursion, IsSome, slice_get, ◌&&◌, ◌==◌, ◌||◌, acknowledge, confirm}
+use Rattle.osi_fair.proofs.Vocabulary.{Connect, data0, data2, destination_of, disconnect, disconnected, error, request, Value, Standing}
+use Rattle.osi_fair.proofs.Vocabulary.{accept, refuse, selected_by, Selection, Class, Two, Zero, Local, orderly_unit, push_other, beyond}
+use Rattle.osi_fair.proofs.Vocabulary.{push_here, without_here, acceptance, opened_link, unit_octets, AreUpTo, IsOrderly, RiseFrom, accepts}
+use Rattle.osi_fair.proofs.Vocabulary.{answers_by, answers_request, before_class, denies, has_peer, in_class, in_two, is_full, react_by}
+use Rattle.osi_fair.proofs.Vocabulary.{to_closing, to_connection, to_unknown, Rows, value_at, asked, closing, Live, fails, linked}
+use Rattle.osi_fair.proofs.Vocabulary.{UnexpectedUnit, EndReason, is_live, is_refused, Connection, Left, Follows}
+use Rattle.osi_fair.proofs.Vocabulary.{HoldsOfOne, put_at, put_before, put_for, put_for_request, put_for_selection, put_in}
+use Rattle.osi_fair.proofs.Vocabulary.{put_in_two, refusal, Whole}
 unfoldable use Rattle.osi_carrier.specs.React.{react}
-use Rattle.osi_carrier.specs.Rows.{Rows, value_at}
-use Rattle.osi_carrier.specs.State.{State, Connection as Live, asked, closing, fails, linked}
-use Rattle.osi_carrier.specs.declared.ends.CarrierFault.TheVariants.{UnexpectedUnit}
-use Rattle.osi_carrier.specs.declared.ends.EndReason.{EndReason}
-use Rattle.osi_carrier.proofs.effects.a_unit_touches_one_connection.{orderly_unit}
-use Rattle.osi_carrier.proofs.references.rows_after_a_change.{push_other}
-use Rattle.osi_carrier.proofs.references.what_a_change_leaves_there.{beyond, push_here, without_here}
-use Rattle.osi_rules.specs.declared.connections.Connection.{Connection}
-use Rattle.osi_fair.specs.Following.{Follows}
-use Rattle.osi_fair.specs.Putting.{put_at, put_for, put_for_request, put_before, put_for_selection, put_in, put_in_two, refusal}
-use Rattle.osi_fair.specs.Wholes.{Whole}
+use Rattle.osi_carrier.specs.State.{State}
+use Rattle.osi_fair.proofs.small_facts_that_many_lemmas_use.{and_false, differ, first_is, number_is, or_first, or_last}
 use Rattle.osi_fair.proofs.a_called_end_answers_a_cr.{Place, is_accepted, is_refused as refuses_it, place}
 use Rattle.osi_fair.proofs.a_called_end_selects_class_zero.{Selecting}
 use Rattle.osi_fair.proofs.all_are_judged_unless_one_broke.{IsJudged}
-use Rattle.osi_fair.proofs.what_an_end_does_in_class_zero.{IsInZero, talks as goes_on}
+use Rattle.osi_fair.proofs.what_an_end_does_in_class_zero.{IsInZero, some_is as same_row, talks as goes_on}
 use Rattle.osi_fair.proofs.what_holds_of_one_item.{HoldsOfEach}
-use Rattle.osi_fair.specs.Naming.{HoldsOfOne}
-use Rattle.osi_fair.specs.Lines.{opened_half}
-use Rattle.osi_rules.specs.declared.directions.Direction.TheVariants.{Left}
-use Rattle.osi_rules.specs.declared.halves.Half.{Half}
-use Rattle.osi_rules.specs.Sides.{is_live, is_over_by, is_refused}
 use Rattle.osi_fair.proofs.a_carrier_follows_lines.{follows_open, put_is, react_is}
-use Rattle.osi_fair.proofs.how_a_unit_of_right_passes.{Head, head_of}
-use Rattle.osi_fair.proofs.each_connection_of_a_called_end.{AreStrays, Asked, Among, Called, IsDc, IsFor, IsNoCr, Stand, Untagged}
-use Rattle.osi_fair.proofs.each_connection_of_a_called_end.{answers, comes, past, refuses, runs}
-use Rattle.osi_fair.proofs.units_by_their_place.{Placed, at_first, first_at, is_at, units_at, values}
+use Rattle.osi_fair.proofs.how_a_unit_of_right_passes.{Head, head_of, no_list}
+use Rattle.osi_fair.proofs.each_connection_of_a_called_end.{Asked, Among, Called, IsDc, IsFor, IsNoCr, Stand, Untagged, answers}
+use Rattle.osi_fair.proofs.each_connection_of_a_called_end.{comes, past, refuses, runs}
+use Rattle.osi_fair.proofs.units_by_their_place.{Placed, at_first, first_at, units_at, values}
 use Rattle.osi_fair.proofs.what_a_called_end_does_to_its_lines.{Leaves, Took, line_steps}
 use Rattle.osi_fair.proofs.what_a_called_end_leaves_alone.{is_over, left_alone}
-use Rattle.osi_fair.proofs.what_is_live_at_a_called_end.{IsLive, Timely, dr_for, shuts_of, timely_takes}
-use Rattle.osi_fair.proofs.which_units_are_for_a_connection.{first_kept, first_left, keep, named_not, named_so, those}
-use Rattle.osi_fair.proofs.what_becomes_of_a_called_end.{above_up, rows_none, IsCalled, Same, called_still, differ, unlike, same_row}
-use Rattle.osi_fair.proofs.what_becomes_of_a_called_end.{no_row, touch_rows, touch_none, touch_lives, push_lives, IsNoCc, linked_no_cc}
-use Rattle.osi_fair.proofs.what_becomes_of_a_called_end.{OpenSo, open_so, dc_follows, closing_touches, closing_same}
+use Rattle.osi_fair.proofs.what_is_live_at_a_called_end.{IsLive, Timely, shuts_of, timely_takes}
+use Rattle.osi_fair.proofs.which_units_are_for_a_connection.{first_kept, first_left, keep, named_not, named_so, names_in as is_at, those}
+use Rattle.osi_fair.proofs.what_becomes_of_a_called_end.{above_up, rows_none, IsCalled, Same, called_still, no_row, touch_rows, touch_none}
+use Rattle.osi_fair.proofs.what_becomes_of_a_called_end.{touch_lives, push_lives, linked_no_cc, OpenSo, open_so, dc_follows}
+use Rattle.osi_fair.proofs.what_becomes_of_a_called_end.{closing_touches, closing_same}
+use Rattle.osi_fair.proofs.a_called_end_makes_a_call.{given_same, same_peer}
+use Rattle.osi_fair.proofs.a_dt_of_class_zero_passes.{unlike}
+use Rattle.osi_fair.proofs.each_connection_has_its_line.{IsNoCc}
 
 -- ---- small facts
 
 keep_none : (b : Bool) (v : Value) (vs : List Value) → keep b v vs ≡ [] → vs ≡ []
-keep_none true v vs h = absurd (cc)
-keep_none false v vs h = h
-
-no_list : {A : Type 0} (v : Value) (vs l : List Value) → l ≡ v ∷ vs → l ≡ [] → A
-no_list v vs l h e = absurd (cc)
-
-first_is : (u v : Value) (xs ys : List Value) → u ∷ xs ≡ v ∷ ys → u ≡ v
-first_is u v xs ys e = cc
-
-number_is : (m n : ℕ) → Some m ≡ Some n → m ≡ n
-number_is m n e = cc
-
-same_peer : (q p : ℕ) (l k : Standing) → Some (linked q l) ≡ Some (linked p k) → q ≡ p
-same_peer q p l k e = cc
-
-or_first : (a b : Bool) → a ≡ true → (a || b) ≡ true
-or_first true b h = refl
-or_first false b h = cc
-
-or_last : (a b : Bool) → b ≡ true → (a || b) ≡ true
-or_last true b h = refl
-or_last false b h = h
+keep_none b v vs h = grind arith
 
 shut_one : (r n : ℕ) (a b : Bool) → (r == n) ≡ a → (a || b) ≡ true → (b ≡ true) ⊎ (r ≡ n)
-shut_one r n true b e h = inr (eqb-true r n e)
-shut_one r n false b e h = inl h
+shut_one r n a b e h = grind (arith, eqb-true)
 
 shut_up : (r n given : ℕ) (b : Bool) → n ≤ given → (b ≡ true → r ≤ given) → (b ≡ true) ⊎ (r ≡ n) → r ≤ given
-shut_up r n given b up h (inl k) = h k
-shut_up r n given b up h (inr e) = omega arith
-
-given_same : {m n : ℕ} → n ≡ m → m ≤ n
-given_same e = omega arith
+shut_up r n given b up h l = grind arith
 
 given_so : (n given source reason : ℕ) (user : List ℕ) → ((n ≤ given) × (1 ≤ n)) ⊎ IsDc (disconnect n source reason user) →
     (n ≤ given) × (1 ≤ n)
-given_so n given source reason user (inl h) = h
-given_so n given source reason user (inr (m, i, e)) = absurd (cc e)
+given_so n given source reason user k = grind arith
 
 ended_some : (o : Option EndReason) (reason : EndReason) → o ≡ Some reason → IsSome o
 ended_some o reason e = ap is_some e
@@ -106,10 +62,7 @@ unfolding react
 reacts_not u s over = ap (λ (b : Bool). react_by b u s) over
 
 not_above : (m n : ℕ) → (n < m → ⊥) → m ≤ n
-not_above m n h = elim (nat_lt n m) as (λ b. nat_lt n m ≡ b → m ≤ n) [
-  | true ↦ λ e. absurd (h (ltb-true n m e))
-  | false ↦ λ e. ltb-false n m e
-] refl
+not_above m n h = grind (arith, ltb-true, ltb-false)
 
 above_none : (given m : ℕ) (o : Live) (rows : Rows Live) → AreUpTo given rows → given < m → value_at m rows ≡ Some o → ⊥
 above_none given m o rows up above there = no_row (value_at m rows) o (beyond m given rows up above) there
@@ -124,10 +77,7 @@ up_by given m o k rows up there other = up_more given m o rows up (sym (push_oth
 
 accepted_by : (m given : ℕ) (k : Live) (rows : Rows Live) → value_at (given + 1) rows ≡ None → (value_at m rows ≡ Some asked → ⊥) →
     (k ≡ asked → ⊥) → (b : Bool) → (m == given + 1) ≡ b → value_at m (rows ++ (given + 1, k) ∷ []) ≡ Some asked → ⊥
-accepted_by m given k rows none h settled true e there =
-    settled (same_row k asked (sym (push_here (given + 1) k rows none)
-    ∙ ap (λ (i : ℕ). value_at i (rows ++ (given + 1, k) ∷ [])) (sym (eqb-true m (given + 1) e)) ∙ there))
-accepted_by m given k rows none h settled false e there = h (sym (push_other m (given + 1) k rows (unlike m (given + 1) e)) ∙ there)
+accepted_by m given k rows none h settled b e there = grind (arith, same_row, push_here, eqb-true, push_other, unlike)
 
 accepted_none : (m given : ℕ) (k : Live) (rows : Rows Live) → value_at (given + 1) rows ≡ None →
     ((i : ℕ) → value_at i rows ≡ Some asked → ⊥) → (k ≡ asked → ⊥) → value_at m (rows ++ (given + 1, k) ∷ []) ≡ Some asked → ⊥
@@ -135,14 +85,7 @@ accepted_none m given k rows none h settled there = accepted_by m given k rows n
 
 closing_gone : (n q p : ℕ) (k : Standing) (u : Value) (s : State) → value_at n s.live ≡ Some (closing q) → RiseFrom 0 s.live →
     value_at n (to_closing n u s).live ≡ Some (linked p k) → ⊥
-closing_gone n q p k (request x) s here rise row = cc (sym here ∙ row)
-closing_gone n q p k (confirm destination x) s here rise row = cc (sym here ∙ row)
-closing_gone n q p k (disconnect destination source reason user) s here rise row = cc (sym (without_here n s.live rise) ∙ row)
-closing_gone n q p k (disconnected destination source) s here rise row = cc (sym (without_here n s.live rise) ∙ row)
-closing_gone n q p k (data0 end user) s here rise row = cc (sym here ∙ row)
-closing_gone n q p k (data2 destination number end user) s here rise row = cc (sym here ∙ row)
-closing_gone n q p k (acknowledge credit destination number) s here rise row = cc (sym here ∙ row)
-closing_gone n q p k (error destination cause) s here rise row = cc (sym here ∙ row)
+closing_gone n q p k u s here rise row = grind (arith, without_here)
 
 -- ---- the unit, and what comes after it
 
@@ -154,12 +97,7 @@ untag_by None x h k = absurd (h refl x refl)
 untag_by (Some p) x h k = k p refl
 
 either_none : (k : Option Class) → (k ≡ None) ⊎ (k ≡ Some Two) → (k ≡ Some Two → ⊥) → k ≡ None
-either_none k (inl e) h = e
-either_none k (inr e) h = absurd (h e)
-
-and_none : (b : Bool) → (b && false) ≡ false
-and_none true = refl
-and_none false = refl
+either_none k l h = grind arith
 
 module _ (local : Local) (w : Whole) (f : Called local w) (c : IsCalled local w.end)
     (u : Value) (later : List Value) (come : w.coming ≡ u ∷ later) where
@@ -177,11 +115,7 @@ module _ (local : Local) (w : Whole) (f : Called local w) (c : IsCalled local w.
 
   -- by what the end is then, and what it puts
   by_both : (e : State) (units : List Value) → t ≡ e → put_for u s ≡ units → Called local (After e units) × IsCalled local e → Taken
-  by_both e units is puts (a, b) = (
-    subst (λ (x : State). Called local (After x (put_for u s))) (sym is)
-        (subst (λ (l : List Value). Called local (After e l)) (sym puts) a),
-    subst (λ (x : State). IsCalled local x) (sym is) b,
-  )
+  by_both e units is puts h = grind arith
 
   head : Head u later f.came
   head = head_of u later f.came (sym come ∙ f.come)
@@ -200,10 +134,7 @@ module _ (local : Local) (w : Whole) (f : Called local w) (c : IsCalled local w.
   -- a DR for what is gone comes only if a DR has closed nothing
   gone_dr : s.ended ≡ None → (n source reason : ℕ) (user : List ℕ) → u ≡ disconnect n source reason user → value_at n s.live ≡ None →
       (b : Bool) → w.tap.course.strays ≡ b → b ≡ true
-  gone_dr was n source reason user e here true is = refl
-  gone_dr was n source reason user e here false is =
-      let h = subst (λ (l : List Value). Timely s l w.tap.connections (values f.tagged)) come (f.timely is was) in
-      differ (is_some (value_at n s.live)) (h.firsts.0 n (ap dr_for e)) (ap is_some here)
+  gone_dr was n source reason user e here b is = grind (arith, differ)
 
   -- ---- the end has ended, or ends
 
@@ -222,9 +153,7 @@ module _ (local : Local) (w : Whole) (f : Called local w) (c : IsCalled local w.
   -- ---- a CR
 
   asks_request : {A : Type 0} (x : Connect) → u ≡ request x → ((p : ℕ) → f.came ≡ (Some p, request x) ∷ head.later → A) → A
-  asks_request x e k =
-      untag_by head.o x (subst (λ (v : Value). Untagged (head.o, v)) e untagged_all.0)
-      (λ p is. k p (head.is ∙ ap (λ (o : Option ℕ). (o, u) ∷ head.later) is ∙ ap (λ (v : Value). (Some p, v) ∷ head.later) e))
+  asks_request x e k = grind (arith, untag_by, head, untagged_all)
 
   denies_so : (was : s.ended ≡ None) (x : Connect) (reason : ℕ) → u ≡ request x → t ≡ denies reason x.source s →
       put_for u s ≡ refusal reason x.source → Taken
@@ -349,8 +278,7 @@ module _ (local : Local) (w : Whole) (f : Called local w) (c : IsCalled local w.
     asked_at q h = asked_by_place q (slice_get w.tap.connections q) refl h
 
     asks_by : (p : ℕ) (o : Option ℕ) → f.came ≡ (o, u) ∷ head.later → units_at p head.later ≡ units_at p f.came
-    asks_by p None is = sym (ap (λ (l : List Placed). units_at p l) is)
-    asks_by p (Some q) is = absurd (asked_at q (ap (λ (l : List Placed). units_at q l) is ∙ at_first q u head.later))
+    asks_by p o is = grind (arith, asked_at, at_first, head)
 
     asks_same : (p : ℕ) → units_at p head.later ≡ units_at p f.came
     asks_same p = asks_by p head.o head.is
@@ -467,23 +395,7 @@ module _ (local : Local) (w : Whole) (f : Called local w) (c : IsCalled local w.
     unknown (disconnected destination source) e here =
         at_gone here (to_n ∙ ap (λ (o : Option Live). to_connection n o u s) here ∙ ap (λ (v : Value). to_unknown v s) e)
         (puts_n ∙ ap (λ (o : Option Live). put_at n o u s.class) here ∙ ap (λ (v : Value). put_at n None v s.class) e)
-    unknown (confirm destination x) e here = over_so (to_unknown (confirm destination x) s)
-        (to_n ∙ ap (λ (o : Option Live). to_connection n o u s) here ∙ ap (λ (v : Value). to_unknown v s) e)
-        (puts_n ∙ ap (λ (o : Option Live). put_at n o u s.class) here ∙ ap (λ (v : Value). put_at n None v s.class) e)
-        refl (record { caller = refl; local_is = refl; class = refl; given = refl }) refl
-    unknown (data0 end user) e here = over_so (to_unknown (data0 end user) s)
-        (to_n ∙ ap (λ (o : Option Live). to_connection n o u s) here ∙ ap (λ (v : Value). to_unknown v s) e)
-        (puts_n ∙ ap (λ (o : Option Live). put_at n o u s.class) here ∙ ap (λ (v : Value). put_at n None v s.class) e)
-        refl (record { caller = refl; local_is = refl; class = refl; given = refl }) refl
-    unknown (data2 destination number end user) e here = over_so (to_unknown (data2 destination number end user) s)
-        (to_n ∙ ap (λ (o : Option Live). to_connection n o u s) here ∙ ap (λ (v : Value). to_unknown v s) e)
-        (puts_n ∙ ap (λ (o : Option Live). put_at n o u s.class) here ∙ ap (λ (v : Value). put_at n None v s.class) e)
-        refl (record { caller = refl; local_is = refl; class = refl; given = refl }) refl
-    unknown (acknowledge credit destination number) e here = over_so (to_unknown (acknowledge credit destination number) s)
-        (to_n ∙ ap (λ (o : Option Live). to_connection n o u s) here ∙ ap (λ (v : Value). to_unknown v s) e)
-        (puts_n ∙ ap (λ (o : Option Live). put_at n o u s.class) here ∙ ap (λ (v : Value). put_at n None v s.class) e)
-        refl (record { caller = refl; local_is = refl; class = refl; given = refl }) refl
-    unknown (error destination cause) e here = over_so (to_unknown (error destination cause) s)
+    unknown x e here = over_so (to_unknown x s)
         (to_n ∙ ap (λ (o : Option Live). to_connection n o u s) here ∙ ap (λ (v : Value). to_unknown v s) e)
         (puts_n ∙ ap (λ (o : Option Live). put_at n o u s.class) here ∙ ap (λ (v : Value). put_at n None v s.class) e)
         refl (record { caller = refl; local_is = refl; class = refl; given = refl }) refl
@@ -513,20 +425,8 @@ module _ (local : Local) (w : Whole) (f : Called local w) (c : IsCalled local w.
   before_by : (was : s.ended ≡ None) → (v : Value) → u ≡ v → t ≡ before_class false v s → put_for u s ≡ put_before false v s →
       Taken ⊎ SelectsZero
   before_by was (request x) e to puts = request_so was x (has_peer x.source s.live) (is_full s) e refl refl to puts
-  before_by was (confirm destination x) e to puts = inl (wrong_so was (confirm destination x) e
-      (before_class false (confirm destination x) s)
-      to puts refl)
-  before_by was (disconnect destination source reason user) e to puts = inl (wrong_so was (disconnect destination source reason user) e
-      (before_class false (disconnect destination source reason user) s) to puts refl)
-  before_by was (disconnected destination source) e to puts = inl (wrong_so was (disconnected destination source) e
-      (before_class false (disconnected destination source) s) to puts refl)
-  before_by was (data0 end user) e to puts = inl (wrong_so was (data0 end user) e (before_class false (data0 end user) s) to puts refl)
-  before_by was (data2 destination number end user) e to puts = inl (wrong_so was (data2 destination number end user) e
-      (before_class false (data2 destination number end user) s) to puts refl)
-  before_by was (acknowledge credit destination number) e to puts = inl (wrong_so was (acknowledge credit destination number) e
-      (before_class false (acknowledge credit destination number) s) to puts refl)
-  before_by was (error destination cause) e to puts = inl (wrong_so was (error destination cause) e
-      (before_class false (error destination cause) s) to puts refl)
+  before_by was v e to puts = inl (wrong_so was v e
+      (before_class false v s) to puts refl)
 
   -- no class is selected
   before_so : (was : s.ended ≡ None) → s.class ≡ None → (v : Value) → u ≡ v → Taken ⊎ SelectsZero
@@ -587,15 +487,13 @@ module _ (local : Local) (w : Whole) (f : Called local w) (c : IsCalled local w.
         absurd (omega arith)
 
     class_none : w.tap.course.class ≡ None
-    class_none = either_none w.tap.course.class f.class (λ two. let zero = c.none_given z.none in let one_given = f.past_two two in absurd
-        (omega arith))
+    class_none = grind (arith, either_none)
 
     seen_none : w.tap.course.class_seen ≡ None
     seen_none = either_none w.tap.course.class_seen f.class_seen (λ two. absurd (cc (sym class_none ∙ f.seen_two two)))
 
     asked_live : (y : Connect) (e : Connection) → Asked y e → is_live Left e ≡ true
-    asked_live y e a = ap not (ap (λ (b : Bool). e.is_judged && b) (ap (λ (h : Half). is_over_by h e.seen_by_left) a.left
-        ∙ ap (λ (h : Half). is_over_by (opened_half y.source y.credit) h) a.known) ∙ and_none e.is_judged)
+    asked_live y e a = grind (arith, and_false)
 
     module _ (p : ℕ) (came : f.came ≡ (Some p, request z.x) ∷ head.later) where
       abbrev here : Place local w f z.was p z.x head.later came later head.values_are few_all.1
@@ -637,12 +535,7 @@ module _ (local : Local) (w : Whole) (f : Called local w) (c : IsCalled local w.
       none_tagged : (ts : List Placed) → f.tagged ≡ ts → values ts ≡ []
       none_tagged [] is = refl
       none_tagged ((Some q, v) ∷ ts) is = absurd (none_by_place q v ts is (slice_get w.tap.connections q) refl)
-      none_tagged ((None, v) ∷ ts) is =
-          let stray = (subst (λ (l : List Placed). AreStrays f.shut s f.refs f.home w.tap.course.strays l) is f.strays).0 in
-          let zero = c.none_given z.none in
-          let up = stray.given in
-          let low = stray.positive in
-          absurd (omega arith)
+      none_tagged ((None, v) ∷ ts) is = grind arith
 
       none_put : values f.tagged ≡ []
       none_put = none_tagged f.tagged refl

@@ -1,53 +1,32 @@
 -- A calling end in class 0: what holds once the CC has passed that selects it, as the end takes that CC, as it goes on, and as units
 -- pass. For the laws on whole calling ends.
-use Rattle.std.proofs.Common.{◌≡◌, ◌∙◌, ◌≤◌, ◌+◌, ◌-◌, ◌^◌, ℕ, Bool, true, false, List, [], ◌∷◌, ◌++◌, set, refl, sym, ap, subst, arith}
-use Rattle.std.proofs.Common.{option_map, IfSome, Option, Some, None, inl, inr, ◌⊎◌, if◌then◌else◌, length}
-use Rattle.std.specs.Prelude.{◌&&◌, ◌||◌, ◌==◌, not, min, position, slice_get}
-use Rattle.std.proofs.Math.Nat.{pow-le-pow_right}
-use Rattle.std.proofs.lemmas.Bool.{eqb-true}
-use Rattle.std.proofs.lemmas.Option.{slice_get-map}
-use Rattle.osi_tpdu.specs.Limits.{size_code}
-use Rattle.osi_tpdu.specs.Value.{Value, Connect, IsConnect, request, confirm, disconnect, disconnected, data0, data2, acknowledge, error}
-use Rattle.osi_class.specs.Limits.{longest_tsdu}
-use Rattle.osi_class.specs.declared.terms.Class.{Class}
-use Rattle.osi_class.specs.declared.terms.Class.TheVariants.{Two, Zero}
-use Rattle.osi_class.specs.declared.terms.Local.{Local}
-use Rattle.osi_carrier.specs.Negotiation.{agreed_size, opened_link, proposes_two, proposes_zero, selects_expedited, unit_octets}
-use Rattle.osi_carrier.specs.React.{opens, react, to_connection}
-use Rattle.osi_carrier.specs.Rows.{Rows, put, value_at}
-use Rattle.osi_carrier.specs.Runs.{UserCall, user_does}
-use Rattle.osi_carrier.specs.State.{State, Connection as Live, asked, linked}
-use Rattle.osi_rules.specs.declared.connections.Connection.{Connection}
-use Rattle.osi_rules.specs.declared.connections.Offer.{Offer}
-use Rattle.osi_rules.specs.declared.courses.Course.{Course}
-use Rattle.osi_rules.specs.declared.directions.Direction.TheVariants.{Left, Right}
-use Rattle.osi_rules.specs.declared.findings.Finding.{Finding}
-use Rattle.osi_rules.specs.declared.findings.Finding.TheVariants.{Broke, Kept, NotJudged, Outside, TooMany}
-use Rattle.osi_rules.specs.declared.findings.Reach.{Reach}
+use Rattle.osi_fair.proofs.Vocabulary.{[], ap, arith, Bool, false, IfSome, if◌then◌else◌, inl, inr, length, List, None, Option, option_map}
+use Rattle.osi_fair.proofs.Vocabulary.{refl, set, Some, subst, sym, true, ℕ, ◌++◌, ◌+◌, ◌-◌, ◌^◌, ◌∙◌, ◌∷◌, ◌≡◌, ◌≤◌, ◌⊎◌, pow-le-pow_right}
+use Rattle.osi_fair.proofs.Vocabulary.{eqb-true, slice_get-map, min, not, position, slice_get, ◌&&◌, ◌==◌, ◌||◌, size_code, confirm}
+use Rattle.osi_fair.proofs.Vocabulary.{Connect, data0, disconnected, error, IsConnect, request, Value, longest_tsdu, Class, Two, Zero}
+use Rattle.osi_fair.proofs.Vocabulary.{Local, agreed_size, opened_link, proposes_two, proposes_zero, unit_octets, opens, react}
+use Rattle.osi_fair.proofs.Vocabulary.{to_connection, put, Rows, value_at, user_does, UserCall, asked, Live, linked, is_applied}
+use Rattle.osi_fair.proofs.Vocabulary.{passes_over, reach_of, reach_past, begins, is_closed, is_closing, is_live, is_named, is_open}
+use Rattle.osi_fair.proofs.Vocabulary.{is_over, is_over_by, is_refused, is_silent, at_found, at_place, class_for, class_of}
+use Rattle.osi_fair.proofs.Vocabulary.{connection_after, course_after, course_after_none, found_on, is_stopped, judged_on, none_told}
+use Rattle.osi_fair.proofs.Vocabulary.{one_told, Outcome, packet_begins, reached, refused, refused_reach, route_in, route_zero, routed}
+use Rattle.osi_fair.proofs.Vocabulary.{sent_on, Traffic, takes, unnamed, unnamed_told, Connection, Offer, Course, Left, Right, Finding}
+use Rattle.osi_fair.proofs.Vocabulary.{Broke, Kept, NotJudged, Reach, Half, Phase, Open, Refused, Silent, rubbish, unit as passing, put_at}
+use Rattle.osi_fair.proofs.Vocabulary.{put_by, put_for, MayCall}
+use Rattle.osi_carrier.specs.Negotiation.{selects_expedited}
+use Rattle.osi_carrier.specs.State.{State}
 use Rattle.osi_rules.specs.declared.findings.Reach.TheVariants as reach
 use Rattle.osi_rules.specs.declared.findings.Rule.TheVariants as rule
-use Rattle.osi_rules.specs.declared.halves.Half.{Half}
-use Rattle.osi_rules.specs.declared.halves.Phase.{Phase}
-use Rattle.osi_rules.specs.declared.halves.Phase.TheVariants.{Silent, Open, Refused, Closing, Closed}
-use Rattle.osi_rules.specs.Reaches.{is_applied, passes_over, reach_of, reach_past}
-use Rattle.osi_rules.specs.Sides.{begins, is_closed, is_closing, is_live, is_named, is_open, is_over, is_over_by, is_refused, is_silent}
-use Rattle.osi_rules.specs.Traffic.{Outcome, State as Traffic, at_found, at_place, class_for, class_of, connection_after, course_after}
-use Rattle.osi_rules.specs.Traffic.{course_after_none, found_on, is_stopped, judged_on, none_told, one_told, packet_begins, reached, refused}
-use Rattle.osi_rules.specs.Traffic.{refused_reach, route_in, route_zero, routed, sent_on, takes, unnamed, unnamed_told}
-use Rattle.osi_fair.specs.Naming.{rubbish, unit as passing}
-use Rattle.osi_fair.specs.Putting.{put_at, put_by, put_for}
-use Rattle.osi_fair.specs.Wholes.{MayCall}
+use Rattle.osi_fair.proofs.small_facts_that_many_lemmas_use.{differ, item_is, live_not_over, no_two}
 use Rattle.osi_fair.proofs.a_dt_of_class_zero_passes.{begun_so, dt_conns, dt_course, dt_kept, only_first, unlike}
 use Rattle.osi_fair.proofs.a_refused_request_waits_no_more.{refused_over}
 use Rattle.osi_fair.proofs.class_0_stays_selected.{zero_stays}
 use Rattle.osi_fair.proofs.how_a_calling_end_asks.{IsCalling, Puts, one, puts}
-use Rattle.osi_fair.proofs.how_a_unit_of_right_passes.{differ}
 use Rattle.osi_fair.proofs.what_a_link_does.{begun_by}
 use Rattle.osi_fair.proofs.what_an_end_does_in_class_zero.{IsInZero, over, talks, zero_calls, zero_next, zero_puts, zero_takes}
 use Rattle.osi_fair.proofs.what_an_end_puts_in_class_zero.{PutsData}
 use Rattle.osi_fair.proofs.what_holds_of_one_item.{after_map, first_true}
-use Rattle.osi_fair.proofs.while_no_class_is_selected.{IsDone, Waits, after_change, confirmed_tap, over_done}
-use Rattle.osi_fair.proofs.while_no_class_is_selected.{set_there}
+use Rattle.osi_fair.proofs.while_no_class_is_selected.{IsDone, Waits, after_change, confirmed_tap, over_done, set_there}
 
 -- ---- what holds
 
@@ -93,10 +72,6 @@ opens_by n r x s e is false true h =
     (ap (λ (rows : Rows Live). put n (linked x.source link) rows) is.live ∙ put_one n r asked (linked x.source link) true e refl)
     (record { flow = refl; size = refl }) refl
 
-no_two : (b two : Bool) → b ≡ false → (b && two) ≡ false
-no_two true two h = cc
-no_two false two h = refl
-
 to_one : (n r : ℕ) (x : Connect) (s : State) (b : Bool) → (r == n) ≡ b → IsCalling (one r) s → (x.class == 2) ≡ false →
     IsInZero (limit_of x s) (to_connection n (if b then Some asked else None) (confirm n x) s) 0 []
 to_one n r x s true e is zero =
@@ -120,7 +95,7 @@ confirm_takes n r x s is zero =
 
 -- ---- the CC passes
 
-least : (a b : ℕ) → 7 ≤ a → 7 ≤ b → 7 ≤ min a b
+pub least : (a b : ℕ) → 7 ≤ a → 7 ≤ b → 7 ≤ min a b
 least a b h k = omega arith
 
 least_up : (a b : ℕ) → min a b ≤ a
@@ -234,14 +209,9 @@ module _ (end : State) (units : List Value) (begun : Bool) (s : Traffic) (f : Is
 live_by : (p k : Phase) → is_open p ≡ true → is_refused k ≡ false →
     (is_refused p || (is_refused k || (is_closed p || (is_closing p && (is_closing k || is_closed k))))) ≡ false
 live_by Open Refused h g = cc
-live_by Open Silent h g = refl
-live_by Open Open h g = refl
-live_by Open Closing h g = refl
-live_by Open Closed h g = refl
+live_by Open _ h g = refl
 live_by Silent k h g = cc
-live_by Refused k h g = cc
-live_by Closing k h g = cc
-live_by Closed k h g = cc
+live_by _ k h g = cc
 
 not_both : (a b : Bool) → b ≡ false → not (a && b) ≡ true
 not_both true b h = ap not h
@@ -309,13 +279,7 @@ module _ (end : State) (s : Traffic) (u : Value) (rest : List Value) (left : s.c
 
   dt_by : (v : Value) → u ≡ v → PutsData t.limit (λ b. Unit {0}) t.c.left.begun (v ∷ rest) → Passes
   dt_by (data0 last user) e puts = dt_passes last user e puts
-  dt_by (request x) e puts = absurd puts
-  dt_by (confirm destination x) e puts = absurd puts
-  dt_by (disconnect destination source reason user) e puts = absurd puts
-  dt_by (disconnected destination source) e puts = absurd puts
-  dt_by (data2 destination number last user) e puts = absurd puts
-  dt_by (acknowledge credit destination number) e puts = absurd puts
-  dt_by (error destination cause) e puts = absurd puts
+  dt_by _ e puts = absurd puts
 
   pub zeroed_passes : Passes
   zeroed_passes = dt_by u refl (zero_puts t.limit end t.c.left.begun (u ∷ rest) f.goes)
@@ -326,12 +290,7 @@ module _ (end : State) (s : Traffic) (u : Value) (rest : List Value) (left : s.c
 abbrev IsOnly : Value → Type 0
 IsOnly (data0 end user) = Unit {0}
 IsOnly (disconnected destination source) = Unit {0}
-IsOnly (request x) = ⊥
-IsOnly (confirm destination x) = ⊥
-IsOnly (disconnect destination source reason user) = ⊥
-IsOnly (data2 destination number end user) = ⊥
-IsOnly (acknowledge credit destination number) = ⊥
-IsOnly (error destination cause) = ⊥
+IsOnly _ = ⊥
 
 record Still (c n : Connection) : Type 0 where
   left : n.left ≡ c.left
@@ -346,12 +305,7 @@ still_self c h = record { left = refl; seen = refl; judged = refl; size = refl; 
 still_sent : (v : Value) → IsOnly v → (c : Connection) → is_refused c.right.phase ≡ false → Still c (sent_on Right v c)
 still_sent (data0 end user) k c h = record { left = refl; seen = refl; judged = refl; size = refl; there = h }
 still_sent (disconnected destination source) k c h = record { left = refl; seen = refl; judged = refl; size = refl; there = refl }
-still_sent (request x) k c h = absurd k
-still_sent (confirm destination x) k c h = absurd k
-still_sent (disconnect destination source reason user) k c h = absurd k
-still_sent (data2 destination number end user) k c h = absurd k
-still_sent (acknowledge credit destination number) k c h = absurd k
-still_sent (error destination cause) k c h = absurd k
+still_sent _ k c h = absurd k
 
 -- in class 0 no connection loses its judgement
 past_side : (b : Bool) (c : Connection) → judged_on (reach_past b reach.Side) c ≡ c
@@ -359,11 +313,8 @@ past_side true c = refl
 past_side false c = refl
 
 zero_far : (f : Finding) (c : Connection) → judged_on (reach_of (Some Zero) f) c ≡ c
-zero_far Kept c = refl
-zero_far NotJudged c = refl
-zero_far Outside c = refl
-zero_far TooMany c = refl
 zero_far (Broke r) c = past_side (passes_over r) c
+zero_far _ c = refl
 
 still_after : (v : Value) → IsOnly v → (applied : Bool) (k : Option Class) (f : Finding) (c : Connection) → k ≡ Some Zero →
     is_refused c.right.phase ≡ false → Still c (connection_after Right v applied (reach_of k f) c)
@@ -375,37 +326,18 @@ still_after v plain false k f c e h =
 
 reached_seen : (r : Reach) (c : Course) → (reached Right r c).class_seen ≡ c.class_seen
 reached_seen reach.Nothing c = refl
-reached_seen reach.Connection c = refl
-reached_seen reach.Side c = refl
-reached_seen reach.Everything c = refl
+reached_seen _ c = refl
 
 after_seen : (v : Value) → IsOnly v → (c : Connection) (b : Bool) (o : Course) →
     (course_after Right c v b o).class_seen ≡ o.class_seen
 after_seen (data0 end user) k c b o = refl
 after_seen (disconnected destination source) k c b o = refl
-after_seen (request x) k c b o = absurd k
-after_seen (confirm destination x) k c b o = absurd k
-after_seen (disconnect destination source reason user) k c b o = absurd k
-after_seen (data2 destination number end user) k c b o = absurd k
-after_seen (acknowledge credit destination number) k c b o = absurd k
-after_seen (error destination cause) k c b o = absurd k
+after_seen _ k c b o = absurd k
 
 none_same : (v : Value) → IsOnly v → (o : Course) → course_after_none v o ≡ o
 none_same (data0 end user) k o = refl
 none_same (disconnected destination source) k o = refl
-none_same (request x) k o = absurd k
-none_same (confirm destination x) k o = absurd k
-none_same (disconnect destination source reason user) k o = absurd k
-none_same (data2 destination number end user) k o = absurd k
-none_same (acknowledge credit destination number) k o = absurd k
-none_same (error destination cause) k o = absurd k
-
-live_not_over : (b : Bool) → not b ≡ true → b ≡ true → ⊥
-live_not_over true h k = cc
-live_not_over false h k = cc
-
-item_is : {X : Type 0} (x y : X) (o : Option X) → o ≡ Some x → o ≡ Some y → x ≡ y
-item_is x y o h k = cc
+none_same _ k o = absurd k
 
 module _ (end : State) (units : List Value) (begun : Bool) (s : Traffic) (f : IsZeroed end units begun s) where
   abbrev z : ZeroTap begun s
@@ -520,29 +452,21 @@ module _ (end : State) (units : List Value) (begun : Bool) (s : Traffic) (f : Is
   zero_comes : (v : Value) (b : Bool) → After v (routed Right v s (route_zero Right b v))
   zero_comes (request x) true = to_none (request x) (Broke rule.UnexpectedUnit)
   zero_comes (request x) false = to_none (request x) (Broke rule.UnexpectedUnit)
-  zero_comes (confirm destination x) true = to_none (confirm destination x) (Broke rule.WrongForm)
-  zero_comes (confirm destination x) false = to_none (confirm destination x) (Broke rule.WrongForm)
-  zero_comes (disconnect destination source reason user) true = to_none (disconnect destination source reason user) (Broke rule.WrongForm)
-  zero_comes (disconnect destination source reason user) false = to_none (disconnect destination source reason user) (Broke rule.WrongForm)
   zero_comes (disconnected destination source) true =
       at_name (disconnected destination source) tt destination (position (is_named Right destination) s.connections) refl
   zero_comes (disconnected destination source) false =
       at_name (disconnected destination source) tt destination (position (is_named Right destination) s.connections) refl
   zero_comes (data0 last user) true = at_live (data0 last user) tt (position (is_live Right) s.connections) refl
   zero_comes (data0 last user) false = at_live (data0 last user) tt (position (is_live Right) s.connections) refl
-  zero_comes (data2 destination number last user) true = to_none (data2 destination number last user) (Broke rule.WrongForm)
-  zero_comes (data2 destination number last user) false = to_none (data2 destination number last user) (Broke rule.WrongForm)
-  zero_comes (acknowledge credit destination number) true = to_none (acknowledge credit destination number) (Broke rule.WrongForm)
-  zero_comes (acknowledge credit destination number) false = to_none (acknowledge credit destination number) (Broke rule.WrongForm)
   zero_comes (error destination cause) true = to_none (error destination cause) Kept
-  zero_comes (error destination cause) false = to_none (error destination cause) (Broke rule.WrongForm)
+  zero_comes v true = to_none v (Broke rule.WrongForm)
+  zero_comes v false = to_none v (Broke rule.WrongForm)
 
   comes_by : (stopped : Bool) (v : Value) (k : Option Class) → k ≡ Some Zero →
       After v (if stopped then none_told Right NotJudged s else routed Right v s (route_in k Right (is_stopped Left s.course) v))
   comes_by true v k e = to_none v NotJudged
   comes_by false v (Some Zero) e = zero_comes v (is_stopped Left s.course)
-  comes_by false v (Some Two) e = absurd (cc e)
-  comes_by false v None e = absurd (cc e)
+  comes_by false v _ e = absurd (cc e)
 
   pub zeroed_comes : (v : Value) → IsZeroed end units begun (takes Right v s).state
   zeroed_comes v = comes_by (is_stopped Right s.course) v s.course.class z.class (zero_stays (passing Right v) s z.class)

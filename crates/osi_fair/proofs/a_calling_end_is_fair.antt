@@ -1,21 +1,13 @@
 -- A whole calling end is fair as long as the other side has broken no rule, whatever classes it offers: by its stages.
 -- For the law of that name.
-use Rattle.std.proofs.Common.{◌≡◌, ◌∙◌, true, false, List, [], ◌∷◌, refl, sym, subst, Some, inl, ◌⊎◌}
-use Rattle.std.specs.List.{AllByRecursion}
-use Rattle.osi_tpdu.specs.Value.{Value, request}
-use Rattle.osi_class.specs.declared.terms.Class.TheVariants.{Two}
-use Rattle.osi_class.specs.declared.terms.Local.{Local}
-use Rattle.osi_rules.specs.declared.courses.Course.{Course}
-use Rattle.osi_rules.specs.declared.directions.Direction.TheVariants.{Left, Right}
-use Rattle.osi_rules.specs.declared.findings.Finding.TheVariants.{Kept, NotJudged, TooMany}
-use Rattle.osi_rules.specs.Traffic.{is_stopped, takes}
-use Rattle.osi_fair.specs.Naming.{passes, rubbish, unit as passing}
-use Rattle.osi_fair.specs.Wholes.{Event, HappenAlong, Happens, Whole, arrives, begin, begins_other, begins_own, calls, passes_other}
-use Rattle.osi_fair.specs.Wholes.{passes_own, passes_rubbish}
+use Rattle.osi_fair.proofs.Vocabulary.{[], false, inl, List, refl, Some, subst, sym, true, ◌∙◌, ◌∷◌, ◌≡◌, ◌⊎◌, AllByRecursion, request}
+use Rattle.osi_fair.proofs.Vocabulary.{Value, Two, Local, is_stopped, takes, Course, Left, Right, Kept, NotJudged, TooMany, passes, rubbish}
+use Rattle.osi_fair.proofs.Vocabulary.{unit as passing, arrives, begin, calls, Event, HappenAlong, Happens, passes_rubbish, Whole}
+use Rattle.osi_fair.specs.Wholes.{begins_other, begins_own, passes_other, passes_own}
 use Rattle.osi_fair.proofs.a_calling_end_goes_on_in_class_zero.{IsZeroed, zeroed_passes}
 use Rattle.osi_fair.proofs.a_calling_end_is_fair_in_class_2.{IsFine, Joined, fine_by, fine_request, first_joined, mild_of, next_joined}
 use Rattle.osi_fair.proofs.each_connection_has_its_line.{IsOwned}
-use Rattle.osi_fair.proofs.how_requests_go_on.{Stage, answered, asks, ended, known, quiet, refused, waits, zero}
+use Rattle.osi_fair.proofs.how_requests_go_on.{Stage, asks, known, zero, answered, ended, quiet, refused, waits}
 use Rattle.osi_fair.proofs.no_request_is_blamed.{Holds as Staged, holds_first, holds_next, is_right}
 use Rattle.osi_fair.proofs.the_end_is_judged_as_the_other_side_is.{other_judged, own_judged, rubbish_judged}
 use Rattle.osi_fair.proofs.what_lasts_at_the_tap.{lasts_passing}

@@ -1,34 +1,17 @@
 -- A whole calling end is fair in class 2 as long as the other side has broken no rule: by induction over what happens.
 -- For the law of that name.
-use Rattle.std.proofs.Common.{◌≡◌, ◌∙◌, ℕ, Bool, true, false, List, [], ◌∷◌, ◌++◌, refl, sym, ap, subst}
-use Rattle.std.proofs.Common.{Option, Some, None, inl, inr, ◌⊎◌, is_some}
-use Rattle.std.specs.Prelude.{◌||◌, not}
-use Rattle.std.specs.List.{AllByRecursion}
-use Rattle.osi_tpdu.specs.Value.{Value, HasFieldsInRange, disconnect, disconnected, request}
-use Rattle.osi_class.specs.declared.terms.Class.{Class}
-use Rattle.osi_class.specs.declared.terms.Class.TheVariants.{Two, Zero}
-use Rattle.osi_class.specs.declared.terms.Local.{Local}
-use Rattle.osi_carrier.specs.Orderly.{IsOrderly}
-use Rattle.osi_carrier.specs.React.{react}
-use Rattle.osi_carrier.specs.Runs.{UserCall, breaks, closes, connects, sends, sends_all, user_does}
-use Rattle.osi_carrier.specs.Rows.{value_at}
+use Rattle.osi_fair.proofs.Vocabulary.{[], ap, Bool, false, inl, inr, is_some, List, None, Option, refl, Some, subst, sym, true, ℕ, ◌++◌}
+use Rattle.osi_fair.proofs.Vocabulary.{◌∙◌, ◌∷◌, ◌≡◌, ◌⊎◌, AllByRecursion, not, ◌||◌, disconnect, disconnected, HasFieldsInRange, request}
+use Rattle.osi_fair.proofs.Vocabulary.{Value, Class, Two, Zero, Local, orderly_asks, orderly_closed, orderly_ended, orderly_fresh}
+use Rattle.osi_fair.proofs.Vocabulary.{orderly_sent, orderly_sent_all, orderly_unit, IsOrderly, react, value_at, breaks}
+use Rattle.osi_fair.proofs.Vocabulary.{closes_call as closes, connects, sends, sends_all, user_does, UserCall, reach_by, is_stopped}
+use Rattle.osi_fair.proofs.Vocabulary.{packet_begins, reached, Traffic, takes, Connection, Course, Left, Right, Kept, NotJudged, TooMany}
+use Rattle.osi_fair.proofs.Vocabulary.{packet, passes, rubbish, unit as passing, put_by, put_for, arrives, begin, calls, Event, HappenAlong}
+use Rattle.osi_fair.proofs.Vocabulary.{Happens, MayCall, passes_rubbish, Whole}
 use Rattle.osi_carrier.specs.State.{State}
-use Rattle.osi_carrier.proofs.effects.a_unit_touches_one_connection.{orderly_asks, orderly_closed, orderly_ended, orderly_fresh}
-use Rattle.osi_carrier.proofs.effects.a_unit_touches_one_connection.{orderly_sent}
-use Rattle.osi_carrier.proofs.effects.a_unit_touches_one_connection.{orderly_sent_all, orderly_unit}
-use Rattle.osi_rules.specs.declared.courses.Course.{Course}
-use Rattle.osi_rules.specs.declared.directions.Direction.TheVariants.{Left, Right}
-use Rattle.osi_rules.specs.declared.findings.Finding.TheVariants.{Kept, NotJudged, TooMany}
-use Rattle.osi_rules.specs.Reaches.{reach_by}
-use Rattle.osi_rules.specs.declared.connections.Connection.{Connection}
-use Rattle.osi_rules.specs.Traffic.{State as Traffic, is_stopped, packet_begins, reached, takes}
-use Rattle.osi_fair.specs.Naming.{packet, passes, rubbish, unit as passing}
-use Rattle.osi_fair.specs.Putting.{put_by, put_for}
-use Rattle.osi_fair.specs.Wholes.{Event, HappenAlong, Happens, MayCall, Whole, arrives, begin, begins_other, begins_own, calls}
-use Rattle.osi_fair.specs.Wholes.{passes_other}
-use Rattle.osi_fair.specs.Wholes.{passes_own, passes_rubbish}
-use Rattle.osi_fair.proofs.a_dr_for_what_is_gone.{Firsts, Holds as Kept_so, before_clear, first_holds, gone_strays, lasted}
-use Rattle.osi_fair.proofs.a_dr_for_what_is_gone.{next_holds}
+use Rattle.osi_fair.specs.Wholes.{begins_other, begins_own, passes_other, passes_own}
+use Rattle.osi_fair.proofs.small_facts_that_many_lemmas_use.{differ}
+use Rattle.osi_fair.proofs.a_dr_for_what_is_gone.{Firsts, Holds as Kept_so, before_clear, first_holds, gone_strays, lasted, next_holds}
 use Rattle.osi_fair.proofs.a_dc_for_a_stray_dr_passes.{Passes, dc_found, dc_goes, dc_passes}
 use Rattle.osi_fair.proofs.a_stray_dc_of_the_other_side_passes.{idle_passes}
 use Rattle.osi_fair.proofs.a_reference_names_one_connection.{no_item}
@@ -39,14 +22,12 @@ use Rattle.osi_fair.proofs.each_connection_has_its_line.{Followed, IsOwned, aski
 use Rattle.osi_fair.proofs.how_requests_go_on.{Stage, answered, asks, ended, known, quiet, refused, waits, zero}
 use Rattle.osi_fair.proofs.no_request_is_blamed.{Holds as Staged, holds_first, holds_next, is_right}
 use Rattle.osi_fair.proofs.the_end_is_judged_as_the_other_side_is.{IsMild}
-use Rattle.osi_fair.proofs.what_a_calling_end_still_has.{IsLive, SelectsTwo, call_after, over_not, unit_after}
+use Rattle.osi_fair.proofs.what_a_calling_end_still_has.{SelectsTwo, call_after, over_not, unit_after}
 use Rattle.osi_fair.proofs.what_becomes_of_a_connection.{IsIdle, Told, comes_for}
 use Rattle.osi_fair.proofs.what_holds_of_one_item.{HoldsOfEach}
 use Rattle.osi_fair.proofs.while_no_class_is_selected.{calm_tap}
 use Rattle.osi_fair.proofs.what_the_other_side_closes.{IsClear, IsDr, IsFirm, IsPlain, IsSane, closed_by}
-
-differ : {A : Type 0} (b : Bool) → b ≡ true → b ≡ false → A
-differ b h k = absurd (cc)
+use Rattle.osi_fair.proofs.what_is_live_at_a_called_end.{IsLive}
 
 -- ---- all that holds
 
@@ -139,9 +120,8 @@ module _ (local : Local) (w : Whole) (j : Joined local w) where
   not_zero k (inr e) h = absurd (cc (sym e ∙ h))
 
   rubbish_not : (k : Option Class) → (k ≡ None) ⊎ (k ≡ Some Two) → (c : Course) → IsClear (reached Right (reach_by k false) c) → ⊥
-  rubbish_not None e c h = differ true refl h.sure.left
-  rubbish_not (Some Two) e c h = differ true refl h.sure.left
   rubbish_not (Some Zero) e c h = not_zero (Some Zero) e refl
+  rubbish_not _ e c h = differ true refl h.sure.left
 
   rubbish_by : IsClear (passes (rubbish Right) w.tap).course →
       Followed local (record w { tap = passes (rubbish Right) w.tap })

@@ -1,33 +1,22 @@
 -- What a carrier of class 2 does to a connection is acts of its line: for a unit that arrives, a TSDU, and a close.
 -- For the law of that name.
-use Rattle.std.proofs.Common.{◌≡◌, ◌∙◌, ℕ, ◌≤◌, Bool, true, false, List, [], ◌∷◌, ◌++◌, drop, length, map, refl, sym, ap, subst}
-use Rattle.std.proofs.Common.{Option, Some, None, Result, Ok, Err, append_assoc, if◌then◌else◌, is_some}
-use Rattle.std.specs.List.{flat_map, AllByRecursion}
-use Rattle.std.proofs.lemmas.List.{append-nil}
-use Rattle.std.proofs.lemmas.Grind.{flat_map-append}
-use Rattle.osi_tpdu.specs.Value.{Value, request, confirm, disconnect, disconnected, data0, data2, acknowledge, error, destination_of}
-use Rattle.osi_class.specs.Giving.{all_given}
-use Rattle.osi_class.specs.Limits.{longest_tsdu}
-use Rattle.osi_class.specs.Link.{Standing, Given, taken, unit_of, with_tsdu}
-use Rattle.osi_class.specs.Runs.{Move, MovesAlong, give_out, hand_in, hand_out, take_in}
-use Rattle.osi_class.specs.declared.faults.LinkFault.{LinkFault}
-use Rattle.osi_class.specs.declared.terms.Class.{Class}
-use Rattle.osi_class.specs.declared.terms.Class.TheVariants.{Two}
-use Rattle.osi_class.proofs.giving.a_link_gives_finitely_many_units.{drained_moves}
-use Rattle.osi_carrier.specs.Calls.{closes as closes_in, closed_on, closed_with, link_of, open_link, sent, sent_on}
-use Rattle.osi_carrier.specs.Orderly.{RiseFrom}
-use Rattle.osi_carrier.specs.Pump.{pumped, written_by}
-use Rattle.osi_carrier.specs.React.{handed_out, in_class, in_two, leaves, breaks, react_by, to_connection, to_reference, to_linked}
-use Rattle.osi_carrier.specs.React.{to_closing, taking}
+use Rattle.osi_fair.proofs.Vocabulary.{arith}
+use Rattle.osi_fair.proofs.Vocabulary.{[], ap, append_assoc, Bool, Err, if◌then◌else◌, is_some, length, List, map, None, Ok}
+use Rattle.osi_fair.proofs.Vocabulary.{Option, refl, Result, Some, subst, sym, ℕ, ◌++◌, ◌∙◌, ◌∷◌, ◌≡◌, ◌≤◌, flat_map-append}
+use Rattle.osi_fair.proofs.Vocabulary.{append-nil, AllByRecursion, flat_map, destination_of, disconnect}
+use Rattle.osi_fair.proofs.Vocabulary.{disconnected, Value, drained_moves, all_given, longest_tsdu, Given, Standing, taken}
+use Rattle.osi_fair.proofs.Vocabulary.{unit_of, with_tsdu, give_out, hand_in, hand_out, Move, MovesAlong, take_in, LinkFault, Class, Two}
+use Rattle.osi_fair.proofs.Vocabulary.{put_here, without_here, closed_on, closed_with, closes_in, link_of, open_link, sent, RiseFrom}
+use Rattle.osi_fair.proofs.Vocabulary.{pumped, written_by, handed_out, in_two, leaves, taking}
+use Rattle.osi_fair.proofs.Vocabulary.{to_closing, to_connection, to_linked, to_reference, put, value_at, closing, Live as Connection}
+use Rattle.osi_fair.proofs.Vocabulary.{linked, packets, Direction, Follows, link_now, Act, ActsAlong, answers, closes_with as closes}
+use Rattle.osi_fair.proofs.Vocabulary.{HandsInShort, ignores, Line, moves, units_put, units_taken, put_at, put_closed, put_closing, put_for}
+use Rattle.osi_fair.proofs.Vocabulary.{put_in_two, put_leaving, put_linked, put_sent, put_taking, put_to}
+use Rattle.osi_carrier.specs.Calls.{sent_on}
 unfoldable use Rattle.osi_carrier.specs.React.{react}
-use Rattle.osi_carrier.specs.Rows.{put, value_at}
-use Rattle.osi_carrier.specs.State.{Connection, State, asked, closing, linked, packets}
-use Rattle.osi_carrier.proofs.references.what_a_change_leaves_there.{put_here, without_here}
-use Rattle.osi_rules.specs.declared.directions.Direction.{Direction}
-use Rattle.osi_fair.specs.Following.{Follows, link_now}
-use Rattle.osi_fair.specs.Putting.{put_at, put_closed, put_closing, put_for, put_in, put_in_two, put_leaving, put_linked, put_sent}
-use Rattle.osi_fair.specs.Putting.{put_taking, put_to}
-use Rattle.osi_fair.specs.Lines.{Act, ActsAlong, HandsInShort, Line, answers, closes, ignores, moves, units_put, units_taken}
+use Rattle.osi_carrier.specs.State.{State}
+use Rattle.osi_fair.proofs.small_facts_that_many_lemmas_use.{same_pair}
+use Rattle.osi_fair.proofs.Vocabulary.{breaks_in as breaks}
 
 -- ---- calls of a link
 
@@ -39,10 +28,7 @@ line_after line link put later = record line { link = Some link; put = put; comi
 
 same_line : (line : Line) (link : Standing) (later : List Value) → line.link ≡ Some link → line.coming ≡ later →
     line_after line link (line.put ++ []) later ≡ line
-same_line line link later is coming =
-    ap (λ (o : Option Standing). record line { link = o; put = line.put ++ []; coming = later }) (sym is)
-    ∙ ap (λ (l : List Value). record line { put = l; coming = later }) (append-nil line.put)
-    ∙ ap (λ (l : List Value). record line { coming = l }) (sym coming)
+same_line line link later is coming = grind (arith, append-nil)
 
 module _ (d : Direction) (r peer : ℕ) where
   moves_along : (calls : List Move) (old new : Standing) → MovesAlong old calls new → AllByRecursion HandsInShort calls →
@@ -92,9 +78,7 @@ calls_after front mid = front ++ map give_out (all_given mid)
 
 front_takes : (old mid : Standing) (front : List Move) (taken : List Value) → Front old mid front taken →
     flat_map units_taken (calls_after front mid) ≡ taken
-front_takes old mid front taken f = flat_map-append units_taken front (map give_out (all_given mid))
-    ∙ ap (λ (l : List Value). flat_map units_taken front ++ l) (none_taken (all_given mid))
-    ∙ append-nil (flat_map units_taken front) ∙ f.takes
+front_takes old mid front taken f = grind (arith, flat_map-append, none_taken, append-nil)
 
 front_puts : (peer : ℕ) (old mid : Standing) (front : List Move) (taken : List Value) → Front old mid front taken →
     flat_map (units_put peer) (calls_after front mid) ≡ written_by peer mid
@@ -126,17 +110,9 @@ module _ (r peer : ℕ) (s new : State) (link mid : Standing) (front : List Move
 
 -- ---- a TSDU
 
-same_pair : (a b : ℕ × Standing) → Some a ≡ Some b → a ≡ b
-same_pair a b e = cc
-
 pub open_is : (ended : Bool) (o : Option Connection) (peer : ℕ) (link : Standing) →
     (if ended then None else link_of o) ≡ Some (peer, link) → o ≡ Some (linked peer link)
-open_is true o peer link e = cc
-open_is false None peer link e = cc
-open_is false (Some asked) peer link e = cc
-open_is false (Some (linked q other)) peer link e =
-    ap (λ (p : ℕ × Standing). Some (linked p.0 p.1)) (same_pair (q, other) (peer, link) e)
-open_is false (Some (closing q)) peer link e = cc
+open_is ended o peer link e = grind (arith, same_pair)
 
 pub follows_sent : (r peer : ℕ) (tsdu : List ℕ) (s : State) (link : Standing) → open_link r s ≡ Some (peer, link) →
     length tsdu ≤ longest_tsdu → Follows r peer [] (put_sent tsdu (open_link r s)) s (sent r tsdu s)
@@ -192,20 +168,11 @@ with_whole link whole = record link { ends = record link.ends { joining = record
 
 hands_along : (link : Standing) (whole : List (List ℕ)) → link.ends.joining.whole ≡ whole →
     MovesAlong link (hands_of whole) (handed_out link)
-hands_along link [] e =
-    let none : drop 1 link.ends.joining.whole ≡ link.ends.joining.whole = ap (λ (l : List (List ℕ)). drop 1 l) e ∙ sym e in
-    ap (with_whole link) none
-hands_along link (tsdu ∷ tsdus) e =
-    let rest : drop 1 link.ends.joining.whole ≡ tsdus = ap (λ (l : List (List ℕ)). drop 1 l) e in
-    let is : link.ends.joining.whole ≡ tsdu ∷ drop 1 link.ends.joining.whole = e ∙ ap (λ (l : List (List ℕ)). tsdu ∷ l) (sym rest) in
-    (handed_out link, ap (with_whole link) is, refl)
+hands_along link whole e = grind arith
 
 hands_front : (old link : Standing) (unit : Value) (whole : List (List ℕ)) → link.ends.joining.whole ≡ whole → taken old unit ≡ Ok link →
     Front old (handed_out link) (take_in unit ∷ hands_of whole) (unit ∷ [])
-hands_front old link unit [] e h =
-    record { along = (link, h, hands_along link [] e); short = (tt, tt); puts = λ p. refl; takes = refl }
-hands_front old link unit (tsdu ∷ tsdus) e h =
-    record { along = (link, h, hands_along link (tsdu ∷ tsdus) e); short = (tt, (tt, tt)); puts = λ p. refl; takes = refl }
+hands_front old link unit whole e h = search (arith, hands_along)
 
 module _ (r peer : ℕ) (s : State) (link : Standing) (here : value_at r s.live ≡ Some (linked peer link)) (two : s.class ≡ Some Two) where
   follows_taking : (unit : Value) (result : Result Standing LinkFault) → taken link unit ≡ result →
@@ -254,16 +221,7 @@ module _ (r peer : ℕ) (s : State) (link : Standing) (here : value_at r s.live 
   follows_linked : (unit : Value) → RiseFrom 0 s.live →
       Follows r peer (unit ∷ []) (put_linked r peer link unit s.class) s (to_linked r peer link unit s)
   follows_linked (disconnect destination source reason user) rise = follows_disconnect destination source reason user rise
-  follows_linked (request c) rise = follows_taking (request c) (taken link (request c)) refl
-  follows_linked (confirm destination c) rise = follows_taking (confirm destination c) (taken link (confirm destination c)) refl
-  follows_linked (disconnected destination source) rise =
-      follows_taking (disconnected destination source) (taken link (disconnected destination source)) refl
-  follows_linked (data0 end user) rise = follows_taking (data0 end user) (taken link (data0 end user)) refl
-  follows_linked (data2 destination number end user) rise =
-      follows_taking (data2 destination number end user) (taken link (data2 destination number end user)) refl
-  follows_linked (acknowledge credit destination number) rise =
-      follows_taking (acknowledge credit destination number) (taken link (acknowledge credit destination number)) refl
-  follows_linked (error destination cause) rise = follows_taking (error destination cause) (taken link (error destination cause)) refl
+  follows_linked v rise = follows_taking v (taken link v) refl
 
 -- ---- a unit for a connection that is closing
 
@@ -287,22 +245,7 @@ ignores_follows r peer unit s new before after outgoing = record {
 
 follows_closing : (r peer : ℕ) (unit : Value) (s : State) → value_at r s.live ≡ Some (closing peer) → RiseFrom 0 s.live →
     Follows r peer (unit ∷ []) [] s (to_closing r unit s)
-follows_closing r peer (disconnected destination source) s here rise =
-    ignores_follows r peer (disconnected destination source) s (to_closing r (disconnected destination source) s) (ap link_now here)
-    (ap link_now (without_here r s.live rise)) refl
-follows_closing r peer (disconnect destination source reason user) s here rise =
-    ignores_follows r peer (disconnect destination source reason user) s (to_closing r (disconnect destination source reason user) s)
-    (ap link_now here) (ap link_now (without_here r s.live rise)) refl
-follows_closing r peer (request c) s here rise = ignores_follows r peer (request c) s s (ap link_now here) (ap link_now here) refl
-follows_closing r peer (confirm destination c) s here rise =
-    ignores_follows r peer (confirm destination c) s s (ap link_now here) (ap link_now here) refl
-follows_closing r peer (data0 end user) s here rise = ignores_follows r peer (data0 end user) s s (ap link_now here) (ap link_now here) refl
-follows_closing r peer (data2 destination number end user) s here rise =
-    ignores_follows r peer (data2 destination number end user) s s (ap link_now here) (ap link_now here) refl
-follows_closing r peer (acknowledge credit destination number) s here rise =
-    ignores_follows r peer (acknowledge credit destination number) s s (ap link_now here) (ap link_now here) refl
-follows_closing r peer (error destination cause) s here rise =
-    ignores_follows r peer (error destination cause) s s (ap link_now here) (ap link_now here) refl
+follows_closing r peer v s here rise = grind (arith, ignores_follows, without_here)
 
 -- ---- by reference
 
@@ -311,57 +254,20 @@ to_same n r unit s e = let same : n ≡ r = cc in ap (λ (m : ℕ). to_reference
 
 two_is : (is_caller : Bool) (unit : Value) (s : State) (r : ℕ) → destination_of unit ≡ Some r →
     in_two is_caller unit s ≡ to_reference r unit s
-two_is true (request c) s r e = cc
-two_is true (data0 end user) s r e = cc
-two_is true (confirm destination c) s r e = to_same destination r (confirm destination c) s e
-two_is true (disconnect destination source reason user) s r e = to_same destination r (disconnect destination source reason user) s e
-two_is true (disconnected destination source) s r e = to_same destination r (disconnected destination source) s e
-two_is true (data2 destination number end user) s r e = to_same destination r (data2 destination number end user) s e
-two_is true (acknowledge credit destination number) s r e = to_same destination r (acknowledge credit destination number) s e
-two_is true (error destination cause) s r e = to_same destination r (error destination cause) s e
-two_is false (request c) s r e = cc
-two_is false (data0 end user) s r e = cc
-two_is false (confirm destination c) s r e = to_same destination r (confirm destination c) s e
-two_is false (disconnect destination source reason user) s r e = to_same destination r (disconnect destination source reason user) s e
-two_is false (disconnected destination source) s r e = to_same destination r (disconnected destination source) s e
-two_is false (data2 destination number end user) s r e = to_same destination r (data2 destination number end user) s e
-two_is false (acknowledge credit destination number) s r e = to_same destination r (acknowledge credit destination number) s e
-two_is false (error destination cause) s r e = to_same destination r (error destination cause) s e
+two_is is_caller unit s r e = grind (arith, to_same)
 
 pub react_is : (unit : Value) (s : State) (r : ℕ) → s.class ≡ Some Two → s.ended ≡ None → destination_of unit ≡ Some r →
     react unit s ≡ to_reference r unit s
 unfolding react
-react_is unit s r two lasts e =
-    let on : is_some s.ended ≡ false = ap is_some lasts in
-    ap (λ (b : Bool). react_by b unit s) on ∙ ap (λ (c : Option Class). in_class c unit s) two ∙ two_is s.is_caller unit s r e
+react_is unit s r two lasts e = grind (arith, two_is)
 
 put_two_is : (is_caller : Bool) (unit : Value) (s : State) (r : ℕ) → destination_of unit ≡ Some r →
     put_in_two is_caller unit s ≡ put_to (Some r) unit s
-put_two_is true (request c) s r e = ap (λ (o : Option ℕ). put_to o (request c) s) e
-put_two_is true (confirm destination c) s r e = ap (λ (o : Option ℕ). put_to o (confirm destination c) s) e
-put_two_is true (disconnect destination source reason user) s r e =
-    ap (λ (o : Option ℕ). put_to o (disconnect destination source reason user) s) e
-put_two_is true (disconnected destination source) s r e = ap (λ (o : Option ℕ). put_to o (disconnected destination source) s) e
-put_two_is true (data0 end user) s r e = ap (λ (o : Option ℕ). put_to o (data0 end user) s) e
-put_two_is true (data2 destination number end user) s r e = ap (λ (o : Option ℕ). put_to o (data2 destination number end user) s) e
-put_two_is true (acknowledge credit destination number) s r e = ap (λ (o : Option ℕ). put_to o (acknowledge credit destination number) s) e
-put_two_is true (error destination cause) s r e = ap (λ (o : Option ℕ). put_to o (error destination cause) s) e
-put_two_is false (request c) s r e = cc
-put_two_is false (confirm destination c) s r e = ap (λ (o : Option ℕ). put_to o (confirm destination c) s) e
-put_two_is false (disconnect destination source reason user) s r e =
-    ap (λ (o : Option ℕ). put_to o (disconnect destination source reason user) s) e
-put_two_is false (disconnected destination source) s r e = ap (λ (o : Option ℕ). put_to o (disconnected destination source) s) e
-put_two_is false (data0 end user) s r e = ap (λ (o : Option ℕ). put_to o (data0 end user) s) e
-put_two_is false (data2 destination number end user) s r e = ap (λ (o : Option ℕ). put_to o (data2 destination number end user) s) e
-put_two_is false (acknowledge credit destination number) s r e = ap (λ (o : Option ℕ). put_to o (acknowledge credit destination number) s) e
-put_two_is false (error destination cause) s r e = ap (λ (o : Option ℕ). put_to o (error destination cause) s) e
+put_two_is is_caller v s r e = grind arith
 
 pub put_is : (unit : Value) (s : State) (r : ℕ) → s.class ≡ Some Two → s.ended ≡ None → destination_of unit ≡ Some r →
     put_for unit s ≡ put_at r (value_at r s.live) unit s.class
-put_is unit s r two lasts e =
-    let on : is_some s.ended ≡ false = ap is_some lasts in
-    ap (λ (b : Bool). if b then [] else put_in s.class unit s) on ∙ ap (λ (c : Option Class). put_in c unit s) two
-    ∙ put_two_is s.is_caller unit s r e
+put_is unit s r two lasts e = grind (arith, put_two_is)
 
 pub follows_open : (unit : Value) (s : State) (r peer : ℕ) (link : Standing) → RiseFrom 0 s.live → s.class ≡ Some Two → s.ended ≡ None →
     value_at r s.live ≡ Some (linked peer link) → destination_of unit ≡ Some r →

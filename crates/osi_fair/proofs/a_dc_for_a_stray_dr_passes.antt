@@ -1,34 +1,22 @@
 -- A DC of a whole calling end passes that answers a DR which closed nothing: it changes nothing at the tap, or it is that of a line.
 -- For the law on a whole end.
-use Rattle.std.proofs.Common.{◌≡◌, ◌∙◌, ℕ, Bool, true, false, List, [], ◌∷◌, set, refl, sym, ap, subst}
-use Rattle.std.proofs.Common.{Option, Some, None, inl, inr, ◌⊎◌, if◌then◌else◌}
-use Rattle.std.specs.Prelude.{◌&&◌, ◌||◌, ◌==◌, not, position, slice_get}
-use Rattle.std.specs.List.{AllByRecursion}
-use Rattle.std.proofs.lemmas.Bool.{eqb-true}
-use Rattle.osi_tpdu.specs.Value.{Value, Connect, disconnected, request}
-use Rattle.osi_class.specs.declared.terms.Class.{Class}
-use Rattle.osi_class.specs.declared.terms.Class.TheVariants.{Two, Zero}
-use Rattle.osi_class.specs.declared.terms.Local.{Local}
-use Rattle.osi_rules.specs.declared.connections.Connection.{Connection}
-use Rattle.osi_rules.specs.declared.directions.Direction.TheVariants.{Left, Right}
-use Rattle.osi_rules.specs.declared.findings.Finding.{Finding}
-use Rattle.osi_rules.specs.declared.findings.Finding.TheVariants.{Broke, Kept, NotJudged}
+use Rattle.osi_fair.proofs.Vocabulary.{arith}
+use Rattle.osi_fair.proofs.Vocabulary.{[], ap, Bool, false, if◌then◌else◌, inl, inr, List, None, Option, refl, Some, subst, sym, true}
+use Rattle.osi_fair.proofs.Vocabulary.{ℕ, ◌∙◌, ◌∷◌, ◌≡◌, ◌⊎◌, eqb-true, AllByRecursion, not, position, slice_get, ◌&&◌, ◌||◌, Connect}
+use Rattle.osi_fair.proofs.Vocabulary.{disconnected, request, Value, Class, Two, Zero, Local, first_failed, is_due}
+use Rattle.osi_fair.proofs.Vocabulary.{is_named, at_found, at_place, class_for}
+use Rattle.osi_fair.proofs.Vocabulary.{is_stopped, none_told, one_told, Outcome, route, route_in, routed}
+use Rattle.osi_fair.proofs.Vocabulary.{Traffic, takes, unnamed_told, Connection, Left, Right}
+use Rattle.osi_fair.proofs.Vocabulary.{Broke, Kept, NotJudged, Whole}
 use Rattle.osi_rules.specs.declared.findings.Rule.TheVariants as rule
-use Rattle.osi_rules.specs.Reaches.{is_applied, reach_of}
-use Rattle.osi_rules.specs.Rows.{first_failed, is_due}
-use Rattle.osi_rules.specs.Sides.{is_closing, is_named, is_open, is_over, is_silent}
-use Rattle.osi_rules.specs.Traffic.{Outcome, State as Traffic, at_found, at_place, class_for, connection_after, course_after, found}
-use Rattle.osi_rules.specs.Traffic.{is_stopped}
-use Rattle.osi_rules.specs.Traffic.{none_told, one_told, reached, route, route_in, routed, takes, unnamed, unnamed_by, unnamed_told}
-use Rattle.osi_rules.specs.Traffic.{uses_source}
-use Rattle.osi_fair.specs.Wholes.{Whole}
+use Rattle.osi_fair.proofs.small_facts_that_many_lemmas_use.{and_false as none_begun, and_first, and_second, both, judged_same, or_last}
 use Rattle.osi_fair.proofs.a_right_unit_is_not_blamed.{first_there}
-use Rattle.osi_fair.proofs.a_unit_of_a_whole_end_passes.{none_begun, own_kept, own_passes}
-use Rattle.osi_fair.proofs.no_two_open_connections_have_one_peer.{and_first, and_second, both}
-use Rattle.osi_fair.proofs.each_connection_has_its_line.{AreSettled, Followed, Following, IsAsking, IsOwned, all_so, is_tracked}
+use Rattle.osi_fair.proofs.a_unit_of_a_whole_end_passes.{own_kept, own_passes}
+use Rattle.osi_fair.proofs.each_connection_has_its_line.{followed_at, AreSettled, Followed, Following, IsAsking, IsOwned, all_so}
+use Rattle.osi_fair.proofs.each_connection_has_its_line.{is_tracked}
 use Rattle.osi_fair.proofs.what_holds_of_one_item.{first_true}
 use Rattle.osi_fair.proofs.what_keeps_names_apart.{Sound}
-use Rattle.osi_fair.proofs.what_the_other_side_closes.{IsSane, judged_same}
+use Rattle.osi_fair.proofs.what_the_other_side_closes.{IsSane}
 use Rattle.osi_fair.proofs.which_units_are_for_a_connection.{IsOf, picked_rest, is_ours, leads, ours, ours_is}
 use Rattle.osi_fair.proofs.while_no_class_is_selected.{set_same}
 
@@ -42,9 +30,7 @@ pub data Passes (m source : ℕ) (s : Traffic) (o : Outcome) : Type 0 where
 
 where_named : (cs : List Connection) (n q : ℕ) → position (is_named Left n) cs ≡ Some q →
     (e : Connection) × (slice_get cs q ≡ Some e) × (is_named Left n e ≡ true)
-where_named [] n q h = absurd (cc)
-where_named (c ∷ cs) n q h =
-    let (e, at) = first_there (is_named Left n) (c ∷ cs) q q c h in (e, at, first_true (is_named Left n) (c ∷ cs) q e h at)
+where_named cs n q h = grind (arith, first_there, first_true)
 
 pub not_due : (due strays : Bool) → due ≡ false → strays ≡ true →
     first_failed ((due || not strays, NotJudged) ∷ (due, Broke rule.NothingToAnswer) ∷ []) ≡ NotJudged
@@ -57,24 +43,12 @@ module _ (m source : ℕ) (s : Traffic) (firm : s.course.loose ≡ false) (stray
   v = disconnected m source
 
   none_passes : Passes m source s (unnamed_told Left v s)
-  none_passes =
-      let so : unnamed s.course v ≡ NotJudged = ap (λ (b : Bool). if b then NotJudged else unnamed_by s.course.strays v) firm
-      ∙ ap (λ (b : Bool). unnamed_by b v) strays in
-      idle so (ap (λ (g : Finding). (none_told Left g s).state) so)
+  none_passes = grind arith
 
   one_passes : (p : ℕ) (c : Connection) → slice_get s.connections p ≡ Some c → is_named Left m c ≡ true → c.is_judged ≡ true →
       (b : Bool) → is_due Left c source ≡ b → Passes m source s (one_told Left p c v s)
   one_passes p c at named judged true e = due p c at named e
-  one_passes p c at named judged false e =
-      let so : (if c.is_judged then found Left s.course (uses_source Left s.connections v) c v else NotJudged) ≡ NotJudged =
-      judged_same c.is_judged (found Left s.course (uses_source Left s.connections v) c v) judged
-      ∙ not_due (is_due Left c source) s.course.strays e strays in
-      idle so
-      (ap (λ (g : Finding). record s {
-        connections = set s.connections p (connection_after Left v (is_applied g) (reach_of (class_for Left s.course) g) c);
-        course = reached Left (reach_of (class_for Left s.course) g) (course_after Left c v (is_applied g) s.course);
-      }) so
-      ∙ ap (λ (l : List Connection). record s { connections = l }) (set_same s.connections p c at))
+  one_passes p c at named judged false e = grind (arith, judged_same, not_due, set_same)
 
   at_passes : (judged : (i : ℕ) (c : Connection) → slice_get s.connections i ≡ Some c → c.is_judged ≡ true) → (o : Option ℕ) →
       position (is_named Left m) s.connections ≡ o → Passes m source s (at_place Left v s o)
@@ -101,33 +75,15 @@ module _ (m source : ℕ) (s : Traffic) (firm : s.course.loose ≡ false) (stray
 -- ---- at the end
 
 name_so : (a b d : Bool) → (not a && (not b && d)) ≡ true → (b ≡ false) × (d ≡ true)
-name_so false false d h = (refl, h)
-name_so false true d h = cc
-name_so true b d h = cc
+name_so a b d h = grind arith
 
 -- the connection on which it is due is open, and it has its references
 pub record IsDueOn (c : Connection) (m source : ℕ) : Type 0 where
   pub tracked : is_tracked c ≡ true
   pub own : IsOf c.left.reference c.right.reference (disconnected m source)
 
-or_second : (a b : Bool) → b ≡ true → (a || b) ≡ true
-or_second true b h = refl
-or_second false b h = h
-
 due_on : (c : Connection) (m source : ℕ) → Sound c → is_named Left m c ≡ true → is_due Left c source ≡ true → IsDueOn c m source
-due_on c m source sound named h =
-    let (known, same) = name_so (is_over Left c) (is_silent c.seen_by_left.phase) (c.seen_by_left.reference == m) named in
-    let live = and_first (is_open c.left.phase) (is_closing c.seen_by_left.phase && (source == c.left.reference)) h in
-    let rest = and_second (is_open c.left.phase) (is_closing c.seen_by_left.phase && (source == c.left.reference)) h in
-    let closing = sound.left_knows.closing (and_first (is_closing c.seen_by_left.phase) (source == c.left.reference) rest) in
-    record {
-      tracked = both (is_open c.left.phase) (is_open c.right.phase || is_closing c.right.phase) live
-          (or_second (is_open c.right.phase) (is_closing c.right.phase) closing);
-      own = record {
-        named = ap (λ (i : ℕ). Some i) (sym (eqb-true c.seen_by_left.reference m same) ∙ sound.left_knows.reference known);
-        from = and_second (is_closing c.seen_by_left.phase) (source == c.left.reference) rest;
-      };
-    }
+due_on c m source sound named h = search (arith, name_so, and_first, and_second, both, or_last, eqb-true)
 
 module _ (local : Local) (w : Whole) (f : Followed local w) (sane : IsSane w.tap) (firm : w.tap.course.loose ≡ false) (m source : ℕ)
     (rest : List Value) (e : w.put ≡ disconnected m source ∷ rest) (begun : w.begun ≡ true) (left : w.tap.course.left_stopped ≡ false) where
@@ -149,32 +105,13 @@ module _ (local : Local) (w : Whole) (f : Followed local w) (sane : IsSane w.tap
 
   idle_line : (c : Connection) → (g : Following local w.put w.begun w.tap.course.strays w.end w.coming c) →
       is_ours g.r g.peer dc ≡ false → Following local rest false w.tap.course.strays w.end w.coming c
-  idle_line c g other = record {
-    r = g.r;
-    peer = g.peer;
-    line = g.line;
-    left = g.left;
-    right = g.right;
-    tracks = g.tracks;
-    tap = g.tap;
-    spare = g.spare;
-    put_is = sym (picked_rest (is_ours g.r g.peer) dc rest other) ∙ ap (λ (l : List Value). ours g.r g.peer l) (sym e) ∙ g.put_is;
-    spares = g.spares;
-    gone = g.gone;
-    begun_is = g.begun_is ∙ ap (λ (l : List Value). w.begun && leads (is_ours g.r g.peer) l) e ∙ ap (λ (b : Bool). w.begun && b) other
-        ∙ none_begun w.begun;
-    row = g.row;
-    calm = g.calm;
-  }
+  idle_line c g other = followed_at g
+      (sym (picked_rest (is_ours g.r g.peer) dc rest other) ∙ ap (λ (l : List Value). ours g.r g.peer l) (sym e)) g.spares
+      (ap (λ (l : List Value). w.begun && leads (is_ours g.r g.peer) l) e ∙ ap (λ (b : Bool). w.begun && b) other ∙ none_begun w.begun)
+      g.row
 
   settled_rest : (v : Value) → AreSettled w.tap.connections w.put w.end.given v → AreSettled w.tap.connections rest w.end.given v
-  settled_rest v h i j is =
-      let k = h i j is in
-      record {
-        up = k.up;
-        waits = k.waits;
-        asks = (subst (AllByRecursion (λ (y : Value). (z : Connect) → y ≡ request z → z.source ≡ j → ⊥)) e k.asks).1;
-      }
+  settled_rest v h i j is = search (arith)
 
   idle_all : (takes Left dc w.tap).told.finding ≡ NotJudged → Followed local (record w { put = rest; begun = false })
   idle_all spared =

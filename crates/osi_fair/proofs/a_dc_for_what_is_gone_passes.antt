@@ -1,25 +1,14 @@
 -- A DC with which a whole called end answers a DR for what is gone passes: it answers nothing at the tap, and changes nothing.
 -- For the law on a whole called end.
-use Rattle.std.proofs.Common.{◌≡◌, ◌∙◌, ℕ, Bool, true, false, List, [], ◌∷◌, set, refl, sym, ap, subst, Option, Some, None, inr, ◌⊎◌}
-use Rattle.std.proofs.Common.{if◌then◌else◌}
-use Rattle.std.specs.Prelude.{◌&&◌, ◌||◌, ◌==◌, not, position, slice_get}
-use Rattle.std.specs.List.{AllByRecursion}
-use Rattle.std.proofs.lemmas.Bool.{eqb-true}
-use Rattle.osi_tpdu.specs.Value.{Value, Connect, disconnected}
-use Rattle.osi_class.specs.declared.terms.Local.{Local}
-use Rattle.osi_rules.specs.declared.connections.Connection.{Connection}
-use Rattle.osi_rules.specs.declared.directions.Direction.TheVariants.{Left, Right}
-use Rattle.osi_rules.specs.declared.findings.Finding.{Finding}
-use Rattle.osi_rules.specs.declared.findings.Finding.TheVariants.{Broke, Kept, NotJudged}
+use Rattle.osi_fair.proofs.Vocabulary.{arith}
+use Rattle.osi_fair.proofs.Vocabulary.{[], ap, Bool, false, if◌then◌else◌, inr, List, None, Option, refl, Some, subst, sym, true, ℕ}
+use Rattle.osi_fair.proofs.Vocabulary.{◌∙◌, ◌∷◌, ◌≡◌, ◌⊎◌, eqb-true, AllByRecursion, not, position, slice_get, ◌&&◌, ◌==◌, ◌||◌, Connect}
+use Rattle.osi_fair.proofs.Vocabulary.{disconnected, Value, Local, first_failed, is_due, is_closing, is_named}
+use Rattle.osi_fair.proofs.Vocabulary.{is_open, at_found, at_place, is_stopped, none_told}
+use Rattle.osi_fair.proofs.Vocabulary.{one_told, Outcome, route, routed, Traffic, takes, unnamed, unnamed_by, Connection, Left}
+use Rattle.osi_fair.proofs.Vocabulary.{Right, Finding, Broke, Kept, NotJudged, Half, Route, Whole}
 use Rattle.osi_rules.specs.declared.findings.Rule.TheVariants as rule
-use Rattle.osi_rules.specs.declared.halves.Half.{Half}
-use Rattle.osi_rules.specs.declared.routes.Route.{Route}
-use Rattle.osi_rules.specs.Reaches.{is_applied, reach_of}
-use Rattle.osi_rules.specs.Rows.{first_failed, is_due}
-use Rattle.osi_rules.specs.Sides.{is_closing, is_named, is_open}
-use Rattle.osi_rules.specs.Traffic.{Outcome, State as Traffic, at_found, at_place, connection_after, course_after, found, found_on}
-use Rattle.osi_rules.specs.Traffic.{is_stopped, none_told, one_told, reached, route, routed, takes, unnamed, unnamed_by}
-use Rattle.osi_fair.specs.Wholes.{Whole}
+use Rattle.osi_fair.proofs.small_facts_that_many_lemmas_use.{and_false, differ, is_false}
 use Rattle.osi_fair.proofs.how_a_unit_of_right_passes.{route_dc}
 use Rattle.osi_fair.proofs.all_are_judged_unless_one_broke.{IsJudged}
 use Rattle.osi_fair.proofs.each_connection_of_a_called_end.{AreAbove, AreStrays, Asked, Called, IsStray, Running, Stand, answers, comes}
@@ -30,37 +19,19 @@ use Rattle.osi_fair.proofs.what_holds_of_one_item.{HoldsOfEach}
 use Rattle.osi_fair.proofs.what_is_live_at_a_called_end.{Answers, IsHeld}
 use Rattle.osi_fair.proofs.while_no_class_is_selected.{set_same}
 
-differ : {A : Type 0} (b : Bool) → b ≡ true → b ≡ false → A
-differ b h k = absurd (cc)
-
-and_false : (b : Bool) → (b && false) ≡ false
-and_false true = refl
-and_false false = refl
-
 due_parts : (a b c : Bool) → (a && (b && c)) ≡ true → (a ≡ true) × (c ≡ true)
-due_parts true true c h = (refl, h)
-due_parts true false c h = cc
-due_parts false b c h = cc
+due_parts a b c h = grind arith
 
 not_due : (due strays : Bool) → due ≡ false → strays ≡ true →
     first_failed ((due || not strays, NotJudged) ∷ (due, Broke rule.NothingToAnswer) ∷ []) ≡ NotJudged
-not_due false true h k = refl
-not_due false false h k = cc
-not_due true strays h k = cc
+not_due due strays h k = grind arith
 
 unnamed_so : (loose strays : Bool) (m n : ℕ) → strays ≡ true →
     (if loose then NotJudged else unnamed_by strays (disconnected m n)) ≡ NotJudged
-unnamed_so true strays m n h = refl
-unnamed_so false true m n h = refl
-unnamed_so false false m n h = cc
+unnamed_so loose strays m n h = grind arith
 
 judged_not : (j : Bool) (g : Finding) → g ≡ NotJudged → (if j then g else NotJudged) ≡ NotJudged
-judged_not true g h = h
-judged_not false g h = refl
-
-is_false : (b : Bool) → (b ≡ true → ⊥) → b ≡ false
-is_false true h = absurd (h refl)
-is_false false h = refl
+judged_not j g h = grind arith
 
 -- nothing is changed
 record Spared (u : Value) (s : Traffic) (o : Outcome) : Type 0 where
@@ -74,28 +45,16 @@ module _ (m n : ℕ) (s : Traffic) (strays : s.course.strays ≡ true) where
 
   one_spared : (q : ℕ) (c : Connection) → slice_get s.connections q ≡ Some c → is_due Right c n ≡ false →
       Spared (disconnected m n) s (one_told Right q c (disconnected m n) s)
-  one_spared q c at due =
-      let f : found_on Right s c (disconnected m n) ≡ NotJudged =
-      judged_not c.is_judged (found Right s.course false c (disconnected m n)) (not_due (is_due Right c n) s.course.strays due
-      strays) in
-      record {
-        finding = f;
-        state = ap (λ (g : Finding). record {
-          connections = set s.connections q (connection_after Right (disconnected m n) (is_applied g) (reach_of s.course.class g) c);
-          course = reached Right (reach_of s.course.class g) (course_after Right c (disconnected m n) (is_applied g) s.course);
-        }) f ∙ ap (λ (cs : List Connection). record s { connections = cs }) (set_same s.connections q c at);
-      }
+  one_spared q c at due = search (arith, judged_not, not_due, set_same)
 
   found_spared : (q : ℕ) (o : Option Connection) → slice_get s.connections q ≡ o →
       ((c : Connection) → slice_get s.connections q ≡ Some c → is_due Right c n ≡ false) →
       Spared (disconnected m n) s (at_found Right (disconnected m n) s q o)
-  found_spared q None e h = none_spared
-  found_spared q (Some c) e h = one_spared q c e (h c e)
+  found_spared q o e h = grind (arith, none_spared, one_spared)
 
   place_spared : (o : Option ℕ) → ((q : ℕ) (c : Connection) → slice_get s.connections q ≡ Some c → is_due Right c n ≡ false) →
       Spared (disconnected m n) s (at_place Right (disconnected m n) s o)
-  place_spared None h = none_spared
-  place_spared (Some q) h = found_spared q (slice_get s.connections q) refl (λ c. h q c)
+  place_spared o h = grind (arith, none_spared, found_spared)
 
   spared : s.course.right_stopped ≡ false → ((q : ℕ) (c : Connection) → slice_get s.connections q ≡ Some c → is_due Right c n ≡ false) →
       Spared (disconnected m n) s (takes Right (disconnected m n) s)
@@ -130,15 +89,7 @@ module _ (local : Local) (w : Whole) (f : Called local w) (judged : HoldsOfEach 
 
   run_not : {A : Type 0} (q : ℕ) (c : Connection) → slice_get w.tap.connections q ≡ Some c → stray.n ≡ c.right.reference →
       Running f.shut w.end w.coming (units_at q f.tagged) (w.begun && first_at q f.tagged) (f.refs q) c → A
-  run_not q c at same g =
-      let index : f.refs q ≡ Some stray.n = g.index ∙ ap (λ (i : ℕ). Some i) (sym (same ∙ g.right)) in
-      let (home, given) = f.homes q stray.n index in
-      let none : units_at q later ≡ [] = ap (λ (i : ℕ). units_at i later) (sym home)
-      ∙ stray.none (ap (λ (i : ℕ). f.refs i) home ∙ index) in
-      let gone = g.shut_is (ap (λ (i : ℕ). f.shut i) (sym (same ∙ g.right)) ∙ stray.shut_is) in
-      absurd (close_waits g.r g.peer g.first g.opened g.line g.acts g.along (ap (λ (x : Connection). x.is_judged) g.tap ∙ judged q c at)
-      gone
-      (ap (λ (x : Connection). is_open x.right.phase) g.tap ∙ g.there) (g.put ∙ mine_is q ∙ none))
+  run_not q c at same g = grind (arith, stray, close_waits, mine_is)
 
   due_not : {A : Type 0} (q : ℕ) (c : Connection) → slice_get w.tap.connections q ≡ Some c → is_open c.right.phase ≡ true →
       stray.n ≡ c.right.reference →
@@ -155,8 +106,7 @@ module _ (local : Local) (w : Whole) (f : Called local w) (judged : HoldsOfEach 
       due_not q c at a (eqb-true stray.n c.right.reference b) (f.stands q c at))
 
   all_spared : Spared u w.tap (takes Right u w.tap)
-  all_spared = subst (λ (v : Value). Spared v w.tap (takes Right v w.tap)) (sym stray.is)
-      (spared stray.m stray.n w.tap stray.strays_is right no_due)
+  all_spared = grind (arith, stray, spared, no_due)
 
   stays : Called local (after w.tap)
   stays = record {

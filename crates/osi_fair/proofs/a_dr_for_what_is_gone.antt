@@ -1,55 +1,36 @@
 -- A DR that a whole calling end takes for a reference that is gone closed nothing at the tap, whatever happens.
 -- For the law of that name.
-use Rattle.std.proofs.Common.{◌≡◌, ◌∙◌, ℕ, ◌+◌, ◌<◌, ◌≤◌, Bool, true, false, List, [], ◌∷◌, ◌++◌, map, refl, sym, ap, subst, arith}
-use Rattle.std.proofs.Common.{Option, Some, None, inl, inr, ◌⊎◌, is_some}
-use Rattle.std.specs.Prelude.{◌==◌}
-use Rattle.std.specs.List.{AllByRecursion}
-use Rattle.std.proofs.lemmas.List.{append-nil}
-use Rattle.std.proofs.lemmas.Grind.{flat_map-append}
-use Rattle.osi_tpdu.specs.Value.{Value, Connect, request, confirm, disconnect, disconnected, data0, data2, acknowledge, error}
-use Rattle.osi_class.specs.declared.terms.Class.{Class}
-use Rattle.osi_class.specs.declared.terms.Class.TheVariants.{Two, Zero}
-use Rattle.osi_class.specs.declared.terms.Local.{Local}
-use Rattle.osi_carrier.specs.Calls.{open_link}
-use Rattle.osi_carrier.specs.React.{react}
-use Rattle.osi_carrier.specs.Rows.{value_at}
-use Rattle.osi_carrier.specs.Runs.{UserCall, breaks, closes, connects, sends, sends_all, user as by_user, user_does}
-use Rattle.osi_carrier.specs.State.{State, Connection as Live}
-use Rattle.osi_carrier.specs.declared.ends.EndReason.{EndReason}
-use Rattle.osi_rules.specs.declared.connections.Connection.{Connection}
-use Rattle.osi_rules.specs.declared.courses.Course.{Course}
-use Rattle.osi_rules.specs.declared.directions.Direction.{Direction}
-use Rattle.osi_rules.specs.declared.directions.Direction.TheVariants.{Left, Right}
-use Rattle.osi_rules.specs.Reaches.{is_applied, reach_of}
-use Rattle.osi_rules.specs.Sides.{begins, is_silent}
-use Rattle.osi_rules.specs.Traffic.{Outcome, State as Traffic, asked_by, class_for, course_after, found_on, packet_begins, reached, takes}
-use Rattle.osi_fair.specs.Asking.{asked_in, asks_with}
-use Rattle.osi_fair.specs.Naming.{Passing, packet, passes, rubbish, unit as passing}
-use Rattle.osi_fair.specs.Putting.{put_by, put_for}
-use Rattle.osi_fair.specs.Wholes.{Event, Happens, Whole, arrives, begin, begins_other, begins_own, calls, passes_other}
-use Rattle.osi_fair.specs.Wholes.{passes_own, passes_rubbish}
+use Rattle.osi_fair.proofs.Vocabulary.{[], ap, arith, Bool, false, inl, inr, is_some, List, map, None, Option, refl, Some, subst, sym, true}
+use Rattle.osi_fair.proofs.Vocabulary.{ℕ, ◌++◌, ◌+◌, ◌<◌, ◌∙◌, ◌∷◌, ◌≡◌, ◌≤◌, ◌⊎◌, flat_map-append, append-nil, AllByRecursion, ◌==◌}
+use Rattle.osi_fair.proofs.Vocabulary.{confirm, Connect, disconnect, request, Value, Class, Two, Zero, Local, open_link, react, value_at}
+use Rattle.osi_fair.proofs.Vocabulary.{breaks, closes_call as closes, connects, sends, sends_all, user as by_user, user_does, UserCall}
+use Rattle.osi_fair.proofs.Vocabulary.{Live, begins, is_silent, asked_by, Outcome}
+use Rattle.osi_fair.proofs.Vocabulary.{packet_begins, Traffic, takes, Connection, Course, Direction, Left, Right, asked_in}
+use Rattle.osi_fair.proofs.Vocabulary.{asks_with, packet, passes, Passing, rubbish, unit as passing, put_by, put_for, arrives, begin, calls}
+use Rattle.osi_fair.proofs.Vocabulary.{Event, Happens, passes_rubbish, Whole}
+use Rattle.osi_carrier.specs.State.{State}
+use Rattle.osi_fair.specs.Wholes.{begins_other, begins_own, passes_other, passes_own}
+use Rattle.osi_fair.proofs.small_facts_that_many_lemmas_use.{begins_reference, none_of}
 use Rattle.osi_fair.proofs.a_reference_names_one_connection.{fresh_apart, no_item, passes_apart}
 use Rattle.osi_fair.proofs.a_request_of_a_whole_end_is_new.{Newer, still_newer, unit_gives}
 use Rattle.osi_fair.proofs.all_are_judged_unless_one_broke.{still_judged}
 use Rattle.osi_fair.proofs.how_a_calling_end_asks.{over_takes}
 use Rattle.osi_fair.proofs.references_of_requests_rise.{Rise, all_gives, closed_gives, ended_gives, not_less, sent_gives}
 use Rattle.osi_fair.proofs.class_0_stays_selected.{zero_stays}
-use Rattle.osi_fair.proofs.what_a_calling_end_still_has.{IsLive, OffersTwo, SelectsTwo, all_last, call_after, closed_lasts, ended_lasts}
-use Rattle.osi_fair.proofs.what_a_calling_end_still_has.{new_live}
-use Rattle.osi_fair.proofs.what_a_calling_end_still_has.{sent_lasts}
-use Rattle.osi_fair.proofs.what_a_calling_end_still_has.{unit_after}
+use Rattle.osi_fair.proofs.what_a_calling_end_still_has.{OffersTwo, SelectsTwo, all_last, call_after, closed_lasts, ended_lasts, new_live}
+use Rattle.osi_fair.proofs.what_a_calling_end_still_has.{sent_lasts, unit_after}
 use Rattle.osi_fair.proofs.what_holds_of_one_item.{HoldsOfEach, after_map, each_map}
 use Rattle.osi_fair.proofs.what_lasts_at_the_tap.{lasts_passing}
-use Rattle.osi_fair.proofs.what_stays_of_each_connection.{AreDistinct, IfAsked, IsLively, IsStarted, left_passes}
-use Rattle.osi_fair.proofs.what_stays_of_each_connection.{lively_stays, right_passes, started_stays}
-use Rattle.osi_fair.proofs.what_becomes_of_a_connection.{Answered, IsIdle, Told, answered, cc_waits, comes_for, not_selected, opens}
-use Rattle.osi_fair.proofs.what_becomes_of_a_connection.{refused}
-use Rattle.osi_fair.proofs.what_becomes_of_a_connection.{waits_on}
+use Rattle.osi_fair.proofs.what_stays_of_each_connection.{AreDistinct, IfAsked, IsLively, IsStarted, left_passes, lively_stays}
+use Rattle.osi_fair.proofs.what_stays_of_each_connection.{right_passes, started_stays}
+use Rattle.osi_fair.proofs.what_becomes_of_a_connection.{Answered, IsIdle, Told, answered, cc_waits, comes_for, not_selected}
 use Rattle.osi_fair.proofs.what_keeps_names_apart.{Sound}
 use Rattle.osi_fair.proofs.what_the_other_side_closes.{Came, IsClear, IsDr, IsFirm, IsPlain, IsSane, Less, clear_of, closed_by}
 use Rattle.osi_fair.proofs.what_the_other_side_closes.{closes as closes_one, stays, what_came}
 use Rattle.osi_fair.proofs.which_units_are_for_a_connection.{is_dc}
 use Rattle.osi_fair.proofs.which_requests_are_put.{asked_among, call_asks, unit_asks}
+use Rattle.osi_fair.proofs.what_is_live_at_a_called_end.{IsLive}
+use Rattle.osi_fair.proofs.Vocabulary.{is_applied, reach_of, class_for, course_after, found_on, reached}
 
 -- ---- what has come
 
@@ -132,18 +113,12 @@ lively_more L K cs h a i c at there = h c.left.reference (a i c at there)
 
 -- ---- the end takes a unit, and its user makes a call
 
-none_of : (o : Option EndReason) → is_some o ≡ false → o ≡ None
-none_of None e = refl
-none_of (Some x) e = absurd (cc e)
-
 -- the end had not ended before
 pub lasted : (unit : Value) (s : State) (b : Bool) → is_some s.ended ≡ b → (react unit s).ended ≡ None → s.ended ≡ None
-lasted unit s false e h = none_of s.ended e
-lasted unit s true e h = ap (λ (t : State). t.ended) (sym (over_takes unit s e).0) ∙ h
+lasted unit s b e h = grind (arith, none_of, over_takes)
 
 no_more : (put more : List Value) → asked_among more ≡ [] → asked_among put ≡ asked_among (put ++ more)
-no_more put more none =
-    sym (append-nil (asked_among put)) ∙ ap (λ (l : List ℕ). asked_among put ++ l) (sym none) ∙ sym (flat_map-append asked_in put more)
+no_more put more none = grind (arith, append-nil, flat_map-append)
 
 taking : (w : Whole) (unit : Value) (later : List Value) → w.coming ≡ unit ∷ later → OffersTwo w.end → SelectsTwo unit →
     (react unit w.end).ended ≡ None →
@@ -163,7 +138,7 @@ taking w unit later e o two lasts l =
       known = known_more w.end.given t.given later (unit_gives unit w.end) known;
     }
 
-abbrev after_calling : Whole → UserCall → Whole
+abbrev pub after_calling : Whole → UserCall → Whole
 after_calling w call = record w { end = user_does call w.end; put = w.put ++ put_by call w.end }
 
 -- a call that puts no CR
@@ -218,8 +193,7 @@ calling_by (breaks reason) w live l =
 -- ---- a packet begins
 
 begun_lively : (L : ℕ → Type 0) (d : Direction) (c : Connection) → IsLively L c → IsLively L (begins d c)
-begun_lively L Left c h = h
-begun_lively L Right c h = h
+begun_lively L d c h = grind arith
 
 beginning : (d : Direction) (w : Whole) (b : Bool) → Lively w → Lively (record w { begun = b; tap = packet_begins d w.tap })
 beginning d w b l = record {
@@ -235,26 +209,10 @@ beginning d w b l = record {
 -- the CR that passes has a reference above those at the tap
 above : (w : Whole) (v : Value) (put : List Value) → w.put ≡ v ∷ put → Newer w → (P : Connection → Type 0) →
     ((x : Connect) → v ≡ request x → P (asked_by x)) → IfAsked P w.tap.connections v
-above w (request x) put e n P new =
-    let (up, rise) = subst (λ (l : List Value). Rise n.last (asked_among l)) e n.rise in
-    (new x refl, λ i c at. let b = n.below i c at in omega arith)
-above w (confirm destination x) put e n P new = tt
-above w (disconnect destination source reason user) put e n P new = tt
-above w (disconnected destination source) put e n P new = tt
-above w (data0 end user) put e n P new = tt
-above w (data2 destination number end user) put e n P new = tt
-above w (acknowledge credit destination number) put e n P new = tt
-above w (error destination cause) put e n P new = tt
+above w v put e n P new = grind arith
 
 tail_so : (L : ℕ → Type 0) (v : Value) (put : List Value) → AllSo L (asked_among (v ∷ put)) → AllSo L (asked_among put)
-tail_so L (request x) put h = h.1
-tail_so L (confirm destination x) put h = h
-tail_so L (disconnect destination source reason user) put h = h
-tail_so L (disconnected destination source) put h = h
-tail_so L (data0 end user) put h = h
-tail_so L (data2 destination number end user) put h = h
-tail_so L (acknowledge credit destination number) put h = h
-tail_so L (error destination cause) put h = h
+tail_so L v put h = grind arith
 
 head_so : (L : ℕ → Type 0) (v : Value) (put : List Value) (x : Connect) → v ≡ request x → AllSo L (asked_among (v ∷ put)) → L x.source
 head_so L v put x e h = (subst (λ (u : Value). AllSo L (asked_among (u ∷ put))) e h).0
@@ -328,12 +286,7 @@ pub record Holds (w : Whole) : Type 0 where
   pub lively : IsPlain w.tap.course → w.end.ended ≡ None → Lively w
 
 begun_started : (d : Direction) (c : Connection) → IsStarted c → IsStarted (begins d c)
-begun_started Left c h = h
-begun_started Right c h = h
-
-begins_reference : (d : Direction) (c : Connection) → (begins d c).left.reference ≡ c.left.reference
-begins_reference Left c = refl
-begins_reference Right c = refl
+begun_started d c h = grind arith
 
 distinct_begins : (d : Direction) (cs : List Connection) → AreDistinct cs → AreDistinct (map (begins d) cs)
 distinct_begins d cs a i j c e at there same =
@@ -371,12 +324,7 @@ sane_left v s new h =
     }
 
 sane_rubbish : (s : Traffic) → IsSane s → IsSane (passes (rubbish Right) s)
-sane_rubbish s h = record {
-  apart = passes_apart (rubbish Right) s h.apart;
-  judged = still_judged (rubbish Right) s h.judged;
-  started = h.started;
-  distinct = h.distinct;
-}
+sane_rubbish s h = search (arith, passes_apart, still_judged)
 
 before_passing : (p : Passing) (s : Traffic) → IsPlain (passes p s).course → IsPlain s.course
 before_passing p s h =
@@ -399,9 +347,7 @@ before_clear p s h = record { sure = before_firm p s h.sure; two = λ zero. h.tw
 -- ---- a CC of the other side passes
 
 two_of : (k : Option Class) → (k ≡ Some Zero → ⊥) → (k ≡ None) ⊎ (k ≡ Some Two)
-two_of None h = inl refl
-two_of (Some Two) h = inr refl
-two_of (Some Zero) h = absurd (h refl)
+two_of k h = grind arith
 
 class_of : (c : Course) → IsClear c → (c.class ≡ None) ⊎ (c.class ≡ Some Two)
 class_of c h = two_of c.class h.two
@@ -415,9 +361,7 @@ same_class i m y x e h = ap (λ (z : Connect). z.class == 2) (same_content i m y
 module _ (s : Traffic) (sane : IsSane s) (clear : IsClear s.course) (v : Value) (after : IsClear (takes Right v s).state.course) where
   by_answer : (t : Told v s (takes Right v s)) → (judged : t.c.is_judged ≡ true) (sound : Sound t.c) → Answered s t.c judged sound v →
       SelectsTwo v
-  by_answer t judged sound (opens i y e fine two unused) m x is = same_class i m y x (sym e ∙ is) two
-  by_answer t judged sound (refused h none) m x is = absurd (none m x is)
-  by_answer t judged sound (waits_on dc same) m x is = absurd (cc (sym (ap is_dc is) ∙ dc))
+  by_answer t judged sound k m x is = grind (arith, same_class)
 
   cc_by : (t : Told v s (takes Right v s)) → (judged : t.c.is_judged ≡ true) (sound : Sound t.c) → (b : Bool) →
       is_silent t.c.right.phase ≡ b → SelectsTwo v
@@ -443,13 +387,9 @@ module _ (s : Traffic) (sane : IsSane s) (clear : IsClear s.course) (v : Value) 
       by_told (comes_for s clear.sure.firm v clear.sure.left clear.sure.right (class_of s.course clear) after.sure)
 
 not_over : (call : UserCall) (s : State) → (user_does call s).ended ≡ None → s.ended ≡ None
-not_over (connects calling called) s h = h
-not_over (sends r tsdu) s h = sym (sent_lasts r tsdu (open_link r s) s) ∙ h
-not_over (sends_all r tsdus) s h = sym (all_last r tsdus s) ∙ h
-not_over (closes r reason) s h = closed_lasts r reason (open_link r s) s h
-not_over (breaks reason) s h = ended_lasts (is_some s.ended) reason s h
+not_over call s h = grind (arith, sent_lasts, all_last, closed_lasts, ended_lasts)
 
-abbrev after_arriving : Whole → Value → List Value → Whole
+abbrev pub after_arriving : Whole → Value → List Value → Whole
 after_arriving w unit later = record w { end = react unit w.end; put = w.put ++ put_for unit w.end; coming = later }
 
 holds_taking : (w : Whole) (unit : Value) (later : List Value) → w.coming ≡ unit ∷ later → Holds w →
@@ -544,37 +484,19 @@ next_holds passes_rubbish w new is h =
     })
 
 pub first_holds : (local : Local) → local.class2 ≡ true → Holds (begin true local)
-first_holds local two = record {
-  newer = record { last = 0; below = λ i c at. no_item i c at; rise = tt; up = tt; given = omega arith };
-  offers = λ clear. record { caller = refl; two = two; class = inl refl };
-  selects = λ clear. tt;
-  sane = record {
-    apart = fresh_apart;
-    judged = λ firm i c at. no_item i c at;
-    started = λ i c at. no_item i c at;
-    distinct = λ i j c e at there same. no_item i c at;
-  };
-  lively = λ plain lasts. record { tap = λ i c at. no_item i c at; requests = tt; firsts = tt; known = tt };
-}
+first_holds local two = search (arith, no_item, fresh_apart)
 
 -- ---- the DR
 
 gone_not : {A : Type 0} (o : Option Live) → is_some o ≡ true → o ≡ None → A
-gone_not None h e = absurd (cc h)
-gone_not (Some x) h e = absurd (cc e)
+gone_not o h e = grind arith
 
 strays_by : (b : Bool) (w : Whole) (n source reason : ℕ) (user : List ℕ) (more : List Value) → w.tap.course.strays ≡ b → Holds w →
     w.coming ≡ disconnect n source reason user ∷ more → w.end.ended ≡ None → value_at n w.end.live ≡ None → IsClear w.tap.course →
     b ≡ true
-strays_by true w n source reason user more e h coming lasts gone clear = refl
-strays_by false w n source reason user more e h coming lasts gone clear =
-    let sure = clear.sure in
-    let l = h.lively (record { firm = sure.firm; left = sure.left; right = sure.right; strays = e; two = clear.two }) lasts in
-    let (first, others) = subst (Firsts (IsLive w.end)) coming l.firsts in
-    gone_not (value_at n w.end.live) (first tt n refl) gone
+strays_by b w n source reason user more e h coming lasts gone clear = search (arith, gone_not)
 
 pub gone_strays : (w : Whole) (n source reason : ℕ) (user : List ℕ) (more : List Value) → Holds w →
     w.coming ≡ disconnect n source reason user ∷ more → w.end.ended ≡ None → value_at n w.end.live ≡ None → IsClear w.tap.course →
     w.tap.course.strays ≡ true
-gone_strays w n source reason user more h coming lasts gone clear =
-    strays_by w.tap.course.strays w n source reason user more refl h coming lasts gone clear
+gone_strays w n source reason user more h coming lasts gone clear = grind (arith, strays_by)

@@ -1,43 +1,21 @@
 -- What a carrier does with a packet, with or without enough memory, or with several, and what its user does, is events of its whole end.
 -- For the law of that name.
-use Rattle.std.proofs.Common.{◌≡◌, ◌∙◌, ℕ, Bool, true, false, List, [], ◌∷◌, ◌++◌, refl, sym, ap, subst, append_assoc}
-use Rattle.std.proofs.Common.{Option, Some, None, Result, Ok, Err, inl, inr, ◌⊎◌, is_some, if◌then◌else◌}
-use Rattle.std.specs.Prelude.{◌||◌}
-use Rattle.std.proofs.lemmas.List.{append-nil}
-use Rattle.std.proofs.lemmas.Grind.{flat_map-append}
-use Rattle.osi_tpkt.specs.Packet.{packet_of}
-use Rattle.osi_tpdu.specs.Packet.{units_of}
-use Rattle.osi_tpdu.specs.Value.{Value}
-use Rattle.osi_tpdu.specs.Writing.{written}
-use Rattle.osi_tpdu.specs.declared.faults.TpduFault.{TpduFault}
-use Rattle.osi_carrier.specs.Calls.{ended_by}
-use Rattle.osi_carrier.specs.Packets.{Acts, ActsBy, RunsOut, acts_by, stops, waits}
-unfoldable use Rattle.osi_carrier.specs.Packets.{after_packet}
-use Rattle.osi_carrier.specs.React.{react, reacts}
-use Rattle.osi_carrier.specs.Runs.{UserCall, breaks, user_does}
-use Rattle.osi_carrier.specs.State.{State, ends, fails, packets}
-use Rattle.osi_carrier.specs.declared.ends.CarrierFault.TheVariants.{Tpdu}
-use Rattle.osi_carrier.specs.declared.ends.EndReason.{EndReason}
-use Rattle.osi_carrier.specs.declared.ends.EndReason.TheVariants.{Fault, NoMemory}
-use Rattle.osi_rules.specs.declared.directions.Direction.{Direction}
-use Rattle.osi_fair.specs.Pieces.{units_by}
-use Rattle.osi_fair.specs.Putting.{put_by, put_for}
-use Rattle.osi_fair.specs.Wholes.{Becomes, Event, HappenAlong, MayCall, Whole, arrives, calls}
+use Rattle.osi_fair.proofs.Vocabulary.{arith}
+use Rattle.osi_fair.proofs.Vocabulary.{[], ap, append_assoc, Err, false, if◌then◌else◌, inl, inr, is_some, List, None, Ok, Option, refl}
+use Rattle.osi_fair.proofs.Vocabulary.{Result, subst, sym, ℕ, ◌++◌, ◌∙◌, ◌∷◌, ◌≡◌, ◌⊎◌, flat_map-append, append-nil, packet_of, units_of}
+use Rattle.osi_fair.proofs.Vocabulary.{Value, written, TpduFault, ended_by, acts_by, RunsOut, stops, waits, react, reacts, breaks}
+use Rattle.osi_fair.proofs.Vocabulary.{user_does, UserCall, ends, packets, Tpdu, EndReason, Fault, NoMemory, Direction, units_by}
+use Rattle.osi_fair.proofs.Vocabulary.{put_by, put_for, arrives, Becomes, calls, Event, HappenAlong, MayCall, Whole}
+use Rattle.osi_carrier.specs.Packets.{Acts}
+use Rattle.osi_carrier.specs.State.{State}
+use Rattle.osi_fair.proofs.small_facts_that_many_lemmas_use.{none_of, or_left}
 use Rattle.osi_fair.proofs.what_a_carrier_puts.{call_writes, unit_writes}
 
 packets_join : (xs ys : List Value) → packets (xs ++ ys) ≡ packets xs ++ packets ys
 packets_join xs ys = flat_map-append (λ (unit : Value). packet_of (written unit)) xs ys
 
-none_of : (o : Option EndReason) → is_some o ≡ false → o ≡ None
-none_of None e = refl
-none_of (Some x) e = absurd (cc e)
-
-first_not : (a b : Bool) → (a || b) ≡ false → a ≡ false
-first_not true b h = cc
-first_not false b h = refl
-
 pub not_over : (s : State) → stops s ≡ false → s.ended ≡ None
-not_over s h = none_of s.ended (first_not (is_some s.ended) (waits s) h)
+not_over s h = none_of s.ended (or_left (is_some s.ended) (waits s) h)
 
 module _ (d : Direction) where
   -- ---- what happens twice, one after the other
@@ -145,14 +123,11 @@ module _ (d : Direction) where
 
   pub becomes_by_packet : (octets : List ℕ) (units later : List Value) (w : Whole) (new : State) → Acts w.end octets new →
       units_of octets ≡ Ok units → w.coming ≡ units ++ later → Becomes d w new
-  becomes_by_packet octets units later w new h read e =
-      by_memory units later w new e (subst (λ (r : Result (List Value) TpduFault). ActsBy r w.end new) read h)
+  becomes_by_packet octets units later w new h read e = grind (arith, by_memory)
 
   pub becomes_by_fault : (octets : List ℕ) (fault : TpduFault) (w : Whole) (new : State) → Acts w.end octets new →
       units_of octets ≡ Err fault → w.end.ended ≡ None → Becomes d w new
-  becomes_by_fault octets fault w new h read lasts =
-      let is : new ≡ fails (Tpdu fault) w.end = subst (λ (r : Result (List Value) TpduFault). ActsBy r w.end new) read h in
-      subst (λ (s : State). Becomes d w s) (sym is) (becomes_over (Fault (Tpdu fault)) w lasts)
+  becomes_by_fault octets fault w new h read lasts = grind (arith, becomes_over)
 
   -- ---- packets one after the other
 

@@ -1,28 +1,14 @@
 -- What a carrier does with a piece of its stream is events of its whole end, as it takes the packets that the piece completes.
 -- For the law on packets.
-use Rattle.std.proofs.Common.{◌≡◌, ◌∙◌, ℕ, Bool, true, false, List, [], ◌∷◌, ◌++◌, length, take, refl, sym, ap, subst, append_assoc}
-use Rattle.std.proofs.Common.{Option, Some, None, inl, inr, ◌⊎◌, if◌then◌else◌, is_some, arith}
-use Rattle.std.specs.Prelude.{◌||◌}
-use Rattle.std.proofs.lemmas.List.{append-nil, take_all}
-use Rattle.osi_tpkt.specs.Stream.{ArePackets}
-use Rattle.osi_tpkt.specs.declared.cutting.Fed.{Fed}
-use Rattle.osi_tpdu.specs.Packet.{units_of}
-use Rattle.osi_tpdu.specs.Value.{Value}
-use Rattle.osi_carrier.specs.Happenings.{Happening}
-use Rattle.osi_carrier.specs.Packets.{Carrying, Feeds, FindsNoMemory, FindsNoRoom, Goes, Refuses, RunsDry, Starves, StopsBehind}
-use Rattle.osi_carrier.specs.Packets.{TakesPackets, is_spoilt, waits}
-use Rattle.osi_carrier.specs.React.{reacts}
-use Rattle.osi_carrier.specs.Runs.{put_back}
-use Rattle.osi_carrier.specs.State.{State, ends}
-use Rattle.osi_carrier.specs.declared.ends.CarrierFault.TheVariants.{Tpkt}
-use Rattle.osi_carrier.specs.declared.ends.EndReason.{EndReason}
-use Rattle.osi_carrier.specs.declared.ends.EndReason.TheVariants.{Fault, NoMemory}
-use Rattle.osi_rules.specs.declared.directions.Direction.{Direction}
-use Rattle.osi_fair.specs.Pieces.{IsFed, units_by, units_in}
-use Rattle.osi_fair.specs.Wholes.{Becomes, Whole}
+use Rattle.osi_fair.proofs.Vocabulary.{[], ap, append_assoc, arith, Bool, false, if◌then◌else◌, inl, inr, is_some, length, List, None}
+use Rattle.osi_fair.proofs.Vocabulary.{Option, refl, subst, sym, take, true, ℕ, ◌++◌, ◌∙◌, ◌∷◌, ◌≡◌, ◌⊎◌, append-nil, take_all, ◌||◌}
+use Rattle.osi_fair.proofs.Vocabulary.{ArePackets, Fed, units_of, Value, Happening, Carrying, Feeds, FindsNoMemory, FindsNoRoom, Goes}
+use Rattle.osi_fair.proofs.Vocabulary.{is_spoilt, Refuses, RunsDry, Starves, StopsBehind, TakesPackets, waits, reacts, put_back, ends, Tpkt}
+use Rattle.osi_fair.proofs.Vocabulary.{EndReason, Fault, NoMemory, Direction, IsFed, units_by, units_in, Becomes, Whole}
+use Rattle.osi_carrier.specs.State.{State}
 use Rattle.osi_fair.proofs.a_packet_is_events.{becomes_then, not_over}
-use Rattle.osi_fair.proofs.what_is_in_front_of_a_whole_end.{Comes, after_all, all_come, none_come, runs_out_front, same_front}
-use Rattle.osi_fair.proofs.what_is_in_front_of_a_whole_end.{takes_front, units_in_range}
+use Rattle.osi_fair.proofs.what_is_in_front_of_a_whole_end.{Comes, after_all, all_come, none_come, runs_out_front, same_front, takes_front}
+use Rattle.osi_fair.proofs.what_is_in_front_of_a_whole_end.{units_in_range}
 
 pub units_join : (us vs : List (List ℕ)) → units_in (us ++ vs) ≡ units_in us ++ units_in vs
 units_join [] vs = refl
@@ -49,9 +35,7 @@ module _ (d : Direction) (old : Carrying) (piece : List ℕ) (new : Carrying) wh
   whole = take_all (length piece) piece (omega arith)
 
   over_not : (reason : EndReason) (before : State) → new.state ≡ ends reason before → new.state.ended ≡ None → ⊥
-  over_not reason before e lasts =
-      let some : Some reason ≡ None = sym (ap (λ (s : State). s.ended) e) ∙ lasts in
-      cc some
+  over_not reason before e lasts = grind arith
 
   same_fed : (used : ℕ) → new ≡ old → (new.state.ended ≡ None → used ≡ 0) → FeedsOn d old piece used new
   same_fed used same none = record {
@@ -91,9 +75,7 @@ module _ (d : Direction) (old : Carrying) (piece : List ℕ) (new : Carrying) wh
   ends_after : (units : List (List ℕ)) (before : State) (reason : EndReason) → TakesPackets old.state units before →
       before.ended ≡ None → new.state ≡ ends reason before → (e : List Happening) (o : List ℕ) (w : Whole) (later : List Value) →
       w.end ≡ put_back e o old.state → w.coming ≡ units_in units ++ later → Comes d e o w new.state later
-  ends_after units before reason taken lasts ended e o w later is come =
-      subst (λ (s : State). Comes d e o w s later) (sym ended)
-      (none_come d e o w reason before later (after_all d e o units old.state before reason w later is taken come lasts))
+  ends_after units before reason taken lasts ended e o w later is come = grind (arith, none_come, after_all)
 
   refused_fed : (used : ℕ) → Refuses old piece used new → FeedsOn d old piece used new
   refused_fed used h =
@@ -161,12 +143,7 @@ module _ (d : Direction) (old : Carrying) (piece : List ℕ) (new : Carrying) wh
       goes_fed fed.used (h.goes (ap (λ (o : Option EndReason). is_some o || waits old.state) lasts ∙ e))
 
   by_end : (fed : Fed) → Feeds old piece fed new → (o : Option EndReason) → old.state.ended ≡ o → FeedsOn d old piece fed.used new
-  by_end fed h None e = by_waits fed h e (waits old.state) refl
-  by_end fed h (Some reason) e =
-      let (all, same) = h.over (ap is_some e) in
-      same_fed fed.used same (λ still.
-      let some : Some reason ≡ None = sym e ∙ ap (λ (c : Carrying). c.state.ended) (sym same) ∙ still in
-      absurd (cc some))
+  by_end fed h o e = grind (arith, by_waits, same_fed)
 
   pub feeds_on : (fed : Fed) → Feeds old piece fed new → FeedsOn d old piece fed.used new
   feeds_on fed h = by_end fed h old.state.ended refl

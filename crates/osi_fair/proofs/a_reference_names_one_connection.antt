@@ -1,42 +1,27 @@
 -- A reference names one connection at most of those that are judged, whatever passes.
 -- For the law of that name. By the way that a unit takes, as in a_unit_is_an_act_of_its_line.
-use Rattle.std.proofs.Common.{◌≡◌, ◌∙◌, ℕ, Bool, true, false, List, [], ◌∷◌, refl, sym, ap, subst, Option, Some, None, inl}
-use Rattle.std.proofs.Common.{inr}
-use Rattle.std.proofs.Common.{if◌then◌else◌}
-use Rattle.std.specs.Prelude.{◌&&◌, ◌||◌, ◌==◌, ◌^◌, nat_le, not, option_map, position, slice_get, slice_set}
-use Rattle.std.specs.List.{list_any}
-use Rattle.std.proofs.lemmas.Bool.{eqb-true}
-use Rattle.osi_tpdu.specs.Value.{Value, Connect, request, confirm, disconnect, disconnected, data0, data2, acknowledge, error}
-use Rattle.osi_class.specs.declared.terms.Class.{Class}
-use Rattle.osi_rules.specs.declared.connections.Connection.{Connection}
-use Rattle.osi_rules.specs.declared.courses.Course.{Course}
-use Rattle.osi_rules.specs.declared.directions.Direction.{Direction}
-use Rattle.osi_rules.specs.declared.directions.Direction.TheVariants.{Left, Right}
-use Rattle.osi_rules.specs.declared.findings.Finding.{Finding}
-use Rattle.osi_rules.specs.declared.findings.Finding.TheVariants.{Broke, Kept, NotJudged, Outside, TooMany}
-use Rattle.osi_rules.specs.declared.findings.Reach.{Reach}
+use Rattle.osi_fair.proofs.Vocabulary.{arith}
+use Rattle.osi_fair.proofs.Vocabulary.{[], Bool, false, if◌then◌else◌, List, None, Option, option_map, refl, Some, subst, sym}
+use Rattle.osi_fair.proofs.Vocabulary.{true, ℕ, ◌^◌, ◌∙◌, ◌∷◌, ◌≡◌, eqb-true, list_any, nat_le, not, position, slice_get, slice_set, ◌&&◌}
+use Rattle.osi_fair.proofs.Vocabulary.{◌==◌, ◌||◌, confirm, Connect, disconnect, disconnected, error, request, Value, Class, is_applied}
+use Rattle.osi_fair.proofs.Vocabulary.{reach_of, code_named, first_failed, is_inside, is_offered, is_closing, is_free}
+use Rattle.osi_fair.proofs.Vocabulary.{is_named, is_open, is_over, is_over_by, is_refused, is_silent, seen, uses, asked_by}
+use Rattle.osi_fair.proofs.Vocabulary.{asks_by, asks_kept, asks_of, at_found, at_place, class_for, closing_phase, connection_after, found}
+use Rattle.osi_fair.proofs.Vocabulary.{found_on, fresh, half_after, is_stopped, judged_on, none_told, Outcome, request_tests, route, routed}
+use Rattle.osi_fair.proofs.Vocabulary.{sent_on, Traffic as State, uses_source, Connection, Course, Direction, Left, Right}
+use Rattle.osi_fair.proofs.Vocabulary.{Finding, Broke, Kept, NotJudged, Outside, Reach, Half, Phase, Closed, Open, Refused, Route}
+use Rattle.osi_fair.proofs.Vocabulary.{Asks, Named, Only, Unnamed, all_passed, HoldsOfOne, packet, passes, Passing, rubbish, unit}
 use Rattle.osi_rules.specs.declared.findings.Reach.TheVariants as reach
 use Rattle.osi_rules.specs.declared.findings.Rule.TheVariants as rule
-use Rattle.osi_rules.specs.declared.halves.Half.{Half}
-use Rattle.osi_rules.specs.declared.halves.Phase.{Phase}
-use Rattle.osi_rules.specs.declared.halves.Phase.TheVariants.{Silent, Open, Refused, Closing, Closed}
-use Rattle.osi_rules.specs.declared.routes.Route.{Route}
-use Rattle.osi_rules.specs.declared.routes.Route.TheVariants.{Asks, Named, Only, Unnamed}
-use Rattle.osi_rules.specs.Reaches.{is_applied, reach_of}
-use Rattle.osi_rules.specs.Rows.{first_failed, is_due, is_inside, is_offered, code_named}
-use Rattle.osi_rules.specs.Sides.{is_closed, is_closing, is_free, is_live, is_named, is_open, is_over, is_over_by, is_refused}
-use Rattle.osi_rules.specs.Sides.{is_silent, seen, uses}
-use Rattle.osi_rules.specs.Traffic.{Outcome, State, asked_by, asks_by, asks_kept, asks_of, at_found, at_place, class_for, closing_phase}
-use Rattle.osi_rules.specs.Traffic.{connection_after, found, found_on, fresh, half_after, is_stopped, judged_on, none_told}
-use Rattle.osi_rules.specs.Traffic.{request_tests}
-use Rattle.osi_rules.specs.Traffic.{route, routed, sent_on, silent_half, uses_source}
-use Rattle.osi_fair.specs.Naming.{HoldsOfOne, Passing, all_passed, packet, passes, rubbish, unit}
+use Rattle.osi_fair.proofs.small_facts_that_many_lemmas_use.{and_first, and_second, judged_same, or_first, or_last}
 use Rattle.osi_fair.proofs.what_is_right_passes_each_test.{passes_each}
 use Rattle.osi_fair.proofs.what_holds_of_one_item.{first_true, none_true}
 use Rattle.osi_fair.proofs.when_a_connection_has_a_name.{HalfMoves, earlier_same}
 use Rattle.osi_fair.proofs.what_keeps_names_apart.{AreApart, IsNew, Lessens, Sound, apart_add, apart_begins, apart_opens, apart_put}
-use Rattle.osi_fair.proofs.what_keeps_names_apart.{apart_set}
-use Rattle.osi_fair.proofs.what_keeps_names_apart.{left_lessens, lessens_on, right_lessens, same_lessens}
+use Rattle.osi_fair.proofs.what_keeps_names_apart.{apart_set, left_lessens, lessens_on, right_lessens, same_lessens}
+use Rattle.osi_fair.proofs.Vocabulary.{is_due}
+use Rattle.osi_fair.proofs.Vocabulary.{ap, is_live}
+pub use Rattle.osi_fair.proofs.small_facts_that_many_lemmas_use.{differ}
 
 -- ---- what a side has sent after a unit that has its effect
 
@@ -44,100 +29,39 @@ record Effect (mine seen after : Half) : Type 0 where
   moves : HalfMoves mine seen after
   silent : is_silent mine.phase ≡ true → (is_silent after.phase || is_refused after.phase) ≡ true
 
-or_first : (a b : Bool) → a ≡ true → (a || b) ≡ true
-or_first true b h = refl
-or_first false b h = cc
-
-or_last : (a b : Bool) → b ≡ true → (a || b) ≡ true
-or_last true b h = refl
-or_last false b h = h
-
-and_first : (a b : Bool) → (a && b) ≡ true → a ≡ true
-and_first true b h = refl
-and_first false b h = cc
-
-and_second : (a b : Bool) → (a && b) ≡ true → b ≡ true
-and_second true b h = h
-and_second false b h = cc
-
-pub differ : {A : Type 0} (b : Bool) → b ≡ true → b ≡ false → A
-differ b h k = absurd (cc)
-
 silent_or_open : (p : Phase) → is_silent p ≡ true → is_open p ≡ true → ⊥
-silent_or_open Silent h k = cc
-silent_or_open Open h k = cc
-silent_or_open Refused h k = cc
-silent_or_open Closing h k = cc
-silent_or_open Closed h k = cc
+silent_or_open p h k = grind arith
 
 not_both : {A : Type 0} (p : Phase) → is_silent p ≡ true → is_open p ≡ true → A
 not_both p h k = absurd (silent_or_open p h k)
 
 -- the phase and the reference stay
 same_phase : (mine seen after : Half) → after.phase ≡ mine.phase → after.reference ≡ mine.reference → Effect mine seen after
-same_phase mine seen after e r = record {
-  moves = record {
-    reference = λ k. r;
-    there = λ k. ap is_silent e ∙ k;
-    phase = inl e;
-    closed = λ k. inl (ap is_closed (sym e) ∙ k);
-  };
-  silent = λ k. or_first (is_silent after.phase) (is_refused after.phase) (ap is_silent e ∙ k);
-}
+same_phase mine seen after e r = search (arith, or_first)
 
 closes_so : (mine seen : Half) (was : Bool) → is_silent mine.phase ≡ was → (is_silent mine.phase || is_open mine.phase) ≡ true →
     Effect mine seen (closing_phase was mine)
-closes_so mine seen true e h = record {
-  moves = record { reference = λ k. refl; there = λ k. refl; phase = inr h; closed = λ k. absurd (cc k) };
-  silent = λ k. refl;
-}
-closes_so mine seen false e h = record {
-  moves = record { reference = λ k. refl; there = λ k. refl; phase = inr h; closed = λ k. absurd (cc k) };
-  silent = λ k. differ (is_silent mine.phase) k e;
-}
+closes_so mine seen was e h = search (arith, differ)
 
 answers_so : (mine seen : Half) (same : Bool) → (is_open mine.phase && (is_closing seen.phase && same)) ≡ true →
     Effect mine seen (record mine { phase = Closed })
-answers_so mine seen same h =
-    let live = and_first (is_open mine.phase) (is_closing seen.phase && same) h in
-    let answers = and_second (is_open mine.phase) (is_closing seen.phase && same) h in
-    record {
-      moves = record {
-        reference = λ k. refl;
-        there = λ k. refl;
-        phase = inr (or_last (is_silent mine.phase) (is_open mine.phase) live);
-        closed = λ k. inr (and_first (is_closing seen.phase) same answers);
-      };
-      silent = λ k. not_both mine.phase k live;
-    }
+answers_so mine seen same h = search (arith, and_first, and_second, or_last, not_both)
 
 refuses_so : (mine seen : Half) → is_silent mine.phase ≡ true → Effect mine seen (record mine { phase = Refused })
-refuses_so mine seen h = record {
-  moves = record {
-    reference = λ k. refl;
-    there = λ k. refl;
-    phase = inr (or_first (is_silent mine.phase) (is_open mine.phase) h);
-    closed = λ k. absurd (cc k);
-  };
-  silent = λ k. refl;
-}
+refuses_so mine seen h = search (arith, or_first)
 
 -- ---- a unit that has its effect passed these tests
 
 one_test : (b : Bool) → is_applied (first_failed ((b, Broke rule.Closed) ∷ [])) ≡ true → b ≡ true
-one_test true h = refl
-one_test false h = cc
+one_test b h = grind arith
 
-form_test : (b : Bool) → is_applied (first_failed ((b, Broke rule.WrongForm) ∷ [])) ≡ true → b ≡ true
-form_test true h = refl
-form_test false h = cc
+pub form_test : (b : Bool) → is_applied (first_failed ((b, Broke rule.WrongForm) ∷ [])) ≡ true → b ≡ true
+form_test b h = grind arith
 
 due_test : (due strays : Bool) →
     is_applied (first_failed ((due || not strays, NotJudged) ∷ (due, Broke rule.NothingToAnswer) ∷ [])) ≡ true →
     due ≡ true
-due_test true strays h = refl
-due_test false true h = cc
-due_test false false h = cc
+due_test due strays h = grind arith
 
 confirm_test : (a b i u z : Bool) →
     is_applied (first_failed ((a, Broke rule.WrongForm) ∷ (b, Broke rule.BadAnswer) ∷ (i, Outside) ∷ (u, Broke rule.ReferenceInUse)
@@ -145,69 +69,28 @@ confirm_test : (a b i u z : Bool) →
     (a ≡ true) × (u ≡ true) × ((k : Option Class) →
     reach_of k (first_failed ((a, Broke rule.WrongForm) ∷ (b, Broke rule.BadAnswer) ∷ (i, Outside)
     ∷ (u, Broke rule.ReferenceInUse) ∷ (z, Broke rule.LargerSize) ∷ [])) ≡ reach.Nothing)
-confirm_test false b i u z h = cc
-confirm_test true false i u z h = cc
-confirm_test true true false u z h = cc
-confirm_test true true true false z h = cc
-confirm_test true true true true false h = (refl, refl, λ k. refl)
-confirm_test true true true true true h = (refl, refl, λ k. refl)
+confirm_test a b i u z h = grind arith
 
 module _ (course : Course) (in_use : Bool) (c : Connection) where
   left_effect : (v : Value) → is_applied (found Left course in_use c v) ≡ true → Effect c.left c.seen_by_left (half_after v c.left)
-  left_effect (request x) h = cc
-  left_effect (confirm destination x) h = cc
-  left_effect (disconnect destination source reason user) h =
-      closes_so c.left c.seen_by_left (is_silent c.left.phase) refl (one_test (is_silent c.left.phase || is_open c.left.phase) h)
-  left_effect (disconnected destination source) h =
-      answers_so c.left c.seen_by_left (source == c.left.reference) (due_test (is_due Left c source) course.strays h)
-  left_effect (data0 end user) h = same_phase c.left c.seen_by_left (half_after (data0 end user) c.left) refl refl
-  left_effect (data2 destination number end user) h =
-      same_phase c.left c.seen_by_left (half_after (data2 destination number end user) c.left) refl refl
-  left_effect (acknowledge credit destination number) h =
-      same_phase c.left c.seen_by_left (half_after (acknowledge credit destination number) c.left) refl refl
-  left_effect (error destination cause) h = refuses_so c.left c.seen_by_left (form_test (is_silent c.left.phase) h)
+  left_effect v h = grind (arith, closes_so, one_test, answers_so, due_test, refuses_so, form_test, same_phase)
 
   left_sent : (v : Value) → is_applied (found Left course in_use c v) ≡ true → c.is_judged ≡ true → Sound c →
       is_over_by c.left c.seen_by_left ≡ false → Lessens c (sent_on Left v c)
   left_sent (request x) h j s live = cc
   left_sent (confirm destination x) h j s live = cc
-  left_sent (disconnect destination source reason user) h j s live =
-      let e = left_effect (disconnect destination source reason user) h in
-      left_lessens c (half_after (disconnect destination source reason user) c.left) c.size j s live e.moves e.silent
-  left_sent (disconnected destination source) h j s live =
-      let e = left_effect (disconnected destination source) h in
-      left_lessens c (half_after (disconnected destination source) c.left) c.size j s live e.moves e.silent
-  left_sent (data0 end user) h j s live =
-      let e = left_effect (data0 end user) h in left_lessens c (half_after (data0 end user) c.left) c.size j s live e.moves e.silent
-  left_sent (data2 destination number end user) h j s live =
-      let e = left_effect (data2 destination number end user) h in
-      left_lessens c (half_after (data2 destination number end user) c.left) c.size j s live e.moves e.silent
-  left_sent (acknowledge credit destination number) h j s live =
-      let e = left_effect (acknowledge credit destination number) h in
-      left_lessens c (half_after (acknowledge credit destination number) c.left) c.size j s live e.moves e.silent
-  left_sent (error destination cause) h j s live =
-      let e = left_effect (error destination cause) h in
-      left_lessens c (half_after (error destination cause) c.left) c.size j s live e.moves e.silent
+  left_sent v h j s live = grind (arith, left_effect, left_lessens)
 
   right_by : (v : Value) (cs : List Connection) (p : ℕ) (r : Reach) → AreApart cs → slice_get cs p ≡ Some c → c.is_judged ≡ true → Sound c →
       is_over_by c.right c.seen_by_right ≡ false → Effect c.right c.seen_by_right (half_after v c.right) →
       AreApart (slice_set cs p (judged_on r (record c { right = half_after v c.right })))
-  right_by v cs p r a at j s live e =
-      let l = right_lessens c (half_after v c.right) c.size j s live e.moves e.silent in
-      apart_set cs p c (judged_on r (record c { right = half_after v c.right })) a at
-      (lessens_on r c (record c { right = half_after v c.right }) l)
+  right_by v cs p r a at j s live e = search (arith, right_lessens, apart_set, lessens_on)
 
 opened_moves : (mine seen after : Half) → is_silent mine.phase ≡ true → after.phase ≡ Open → HalfMoves mine seen after
-opened_moves mine seen after h e = record {
-  reference = λ k. differ (is_silent mine.phase) h k;
-  there = λ k. ap is_silent e;
-  phase = inr (or_first (is_silent mine.phase) (is_open mine.phase) h);
-  closed = λ k. differ (is_closed after.phase) k (ap is_closed e);
-}
+opened_moves mine seen after h e = search (arith, differ, or_first)
 
 pub not_true : (b : Bool) → not b ≡ true → b ≡ false
-not_true true h = cc
-not_true false h = refl
+not_true b h = grind arith
 
 -- a CC
 right_opens : (s : State) (c : Connection) (destination : ℕ) (x : Connect) (p : ℕ) → AreApart s.connections →
@@ -245,36 +128,23 @@ right_sent (disconnect destination source reason user) s c p a at j sound live r
 right_sent (disconnected destination source) s c p a at j sound live r h is =
     right_by s.course false c (disconnected destination source) s.connections p r a at j sound live
     (answers_so c.right c.seen_by_right (source == c.right.reference) (due_test (is_due Right c source) s.course.strays h))
-right_sent (data0 end user) s c p a at j sound live r h is =
-    right_by s.course false c (data0 end user) s.connections p r a at j sound live
-    (same_phase c.right c.seen_by_right (half_after (data0 end user) c.right) refl refl)
-right_sent (data2 destination number end user) s c p a at j sound live r h is =
-    right_by s.course false c (data2 destination number end user) s.connections p r a at j sound live
-    (same_phase c.right c.seen_by_right (half_after (data2 destination number end user) c.right) refl refl)
-right_sent (acknowledge credit destination number) s c p a at j sound live r h is =
-    right_by s.course false c (acknowledge credit destination number) s.connections p r a at j sound live
-    (same_phase c.right c.seen_by_right (half_after (acknowledge credit destination number) c.right) refl refl)
 right_sent (error destination cause) s c p a at j sound live r h is =
     right_by s.course false c (error destination cause) s.connections p r a at j sound live
     (refuses_so c.right c.seen_by_right (form_test (is_silent c.right.phase) h))
+right_sent v s c p a at j sound live r h is =
+    right_by s.course false c v s.connections p r a at j sound live
+    (same_phase c.right c.seen_by_right (half_after v c.right) refl refl)
 
 -- ---- a unit for a connection
 
 pub applied_judged : (b : Bool) (g : Finding) → is_applied (if b then g else NotJudged) ≡ true → b ≡ true
-applied_judged true g h = refl
-applied_judged false g h = cc
+applied_judged b g h = grind arith
 
 pub applied_found : (b : Bool) (g : Finding) → is_applied (if b then g else NotJudged) ≡ true → is_applied g ≡ true
-applied_found true g h = h
-applied_found false g h = cc
-
-found_judged : (b : Bool) (g : Finding) → b ≡ true → (if b then g else NotJudged) ≡ g
-found_judged true g h = refl
-found_judged false g h = cc
+applied_found b g h = grind arith
 
 not_over : (j over : Bool) → j ≡ true → (j && over) ≡ false → over ≡ false
-not_over true over h k = k
-not_over false over h k = cc
+not_over j over h k = grind arith
 
 applied_apart : (d : Direction) (v : Value) (s : State) (p : ℕ) (c : Connection) → AreApart s.connections →
     slice_get s.connections p ≡ Some c →
@@ -290,7 +160,7 @@ applied_apart Left v s p c a at live h =
 applied_apart Right v s p c a at live h =
     let j = applied_judged c.is_judged (found Right s.course (uses_source Right s.connections v) c v) h in
     let f = applied_found c.is_judged (found Right s.course (uses_source Right s.connections v) c v) h in
-    let same = found_judged c.is_judged (found Right s.course (uses_source Right s.connections v) c v) j in
+    let same = judged_same c.is_judged (found Right s.course (uses_source Right s.connections v) c v) j in
     right_sent v s c p a at j (a.sound p c at j) (not_over c.is_judged (is_over_by c.right c.seen_by_right) j live)
     (reach_of (class_for Right s.course) (found_on Right s c v)) f
     (ap (λ (g : Finding). reach_of (class_for Right s.course) g) (sym same))
@@ -320,26 +190,7 @@ at_any d v s (Some p) live a = at_one d v s p (slice_get s.connections p) refl (
 -- ---- a CR
 
 asked_new : (cs : List Connection) (c : Connect) → list_any (λ e. uses Left c.source e) cs ≡ false → IsNew cs (asked_by c)
-asked_new cs c none = record {
-  sound = record {
-    left_knows = earlier_same silent_half;
-    right_knows = record {
-      reference = λ k. absurd (cc k);
-      there = λ k. absurd (cc k);
-      refused = λ k. absurd (cc k);
-      closing = λ k. absurd (cc k);
-      closed = λ k. absurd (cc k);
-    };
-    left_closed = λ k. absurd (cc k);
-    right_closed = λ k. absurd (cc k);
-  };
-  used_left = λ n i e at h new. differ (uses Left n e) h
-      (subst (λ (m : ℕ). uses Left m e ≡ false) (eqb-true c.source n new)
-      (none_true (λ (z : Connection). uses Left c.source z) cs i e none at));
-  used_right = λ n h. absurd (cc h);
-  named_left = λ n h. absurd (cc h);
-  named_right = λ n h. absurd (cc h);
-}
+asked_new cs c none = search (arith, earlier_same, differ, eqb-true, none_true)
 
 placed_apart : (c : Connect) (s : State) (p : Option ℕ) → list_any (λ e. uses Left c.source e) s.connections ≡ false →
     AreApart s.connections →
@@ -352,26 +203,16 @@ asking : (d : Direction) (f : Finding) (c : Connect) (s : State) → first_faile
 asking d Kept c s e a =
     let t = passes_each (request_tests s c) refl e in
     placed_apart c s (position is_free s.connections) (not_true (list_any (λ e. uses Left c.source e) s.connections) t.1.1.0) a
-asking d (Broke rule) c s e a = a
-asking d Outside c s e a = a
-asking d TooMany c s e a = a
-asking d NotJudged c s e a = a
+asking d _ c s e a = a
 
 asks : (d : Direction) (v : Value) (s : State) → AreApart s.connections → Apart (asks_of d v s)
 asks d (request c) s a = asking d (first_failed (request_tests s c)) c s refl a
-asks d (confirm destination c) s a = a
-asks d (disconnect destination source reason user) s a = a
-asks d (disconnected destination source) s a = a
-asks d (data0 end user) s a = a
-asks d (data2 destination number end user) s a = a
-asks d (acknowledge credit destination number) s a = a
-asks d (error destination cause) s a = a
+asks d _ s a = a
 
 -- ---- by route
 
 pub not_first : (a b : Bool) → (not a && b) ≡ true → a ≡ false
-not_first true b h = cc
-not_first false b h = refl
+not_first a b h = grind arith
 
 by_route : (d : Direction) (v : Value) (s : State) (r : Route) → AreApart s.connections → Apart (routed d v s r)
 by_route d v s Asks a = asks d v s a
@@ -400,13 +241,7 @@ pub no_item : {A : Type 0} (i : ℕ) (c : Connection) → slice_get [] i ≡ Som
 no_item i c h = absurd (cc)
 
 pub fresh_apart : AreApart fresh.connections
-fresh_apart = record {
-  sound = λ i c at. no_item i c at;
-  used_left = λ n i j c e at there jc je fc fe. no_item i c at;
-  used_right = λ n i j c e at there jc je fc fe. no_item i c at;
-  named_left = λ n i j c e at there jc je fc fe. no_item i c at;
-  named_right = λ n i j c e at there jc je fc fe. no_item i c at;
-}
+fresh_apart = search (arith, no_item)
 
 pub names_one : (ps : List Passing) (d : Direction) (n : ℕ) → HoldsOfOne (is_named d n) (all_passed ps fresh).connections
 names_one ps Left n = (all_apart ps fresh fresh_apart).named_left n

@@ -1,37 +1,25 @@
 -- Once the CR that waits has been refused, and a packet of left has begun since, no connection waits: each is over for left.
 -- For the law on CRs that wait.
-use Rattle.std.proofs.Common.{◌≡◌, ◌∙◌, ℕ, zero, suc, Bool, true, false, List, [], ◌∷◌, map, refl, sym, ap, subst, Some, None}
-use Rattle.std.specs.Prelude.{◌&&◌, ◌||◌, not, slice_get}
-use Rattle.std.specs.List.{list_all}
-use Rattle.osi_rules.specs.declared.connections.Connection.{Connection}
-use Rattle.osi_rules.specs.declared.directions.Direction.TheVariants.{Left}
-use Rattle.osi_rules.specs.Sides.{begins, is_live, is_over, is_closed, is_closing, is_over_by, is_refused}
-use Rattle.osi_rules.specs.Traffic.{fresh, packet_begins}
-use Rattle.osi_fair.specs.Naming.{Passing, all_passed}
+use Rattle.osi_fair.proofs.Vocabulary.{arith}
+use Rattle.osi_fair.proofs.Vocabulary.{[], ap, Bool, false, List, map, None, refl, Some, subst, suc, sym, true, zero, ℕ, ◌∙◌, ◌∷◌, ◌≡◌}
+use Rattle.osi_fair.proofs.Vocabulary.{list_all, not, slice_get, ◌||◌, begins, is_live, is_over}
+use Rattle.osi_fair.proofs.Vocabulary.{is_refused, fresh, packet_begins, Connection, Left, all_passed, Passing}
+use Rattle.osi_fair.proofs.small_facts_that_many_lemmas_use.{both}
 use Rattle.osi_fair.proofs.what_holds_of_one_item.{HoldsOfEach, after_map}
 use Rattle.osi_fair.proofs.all_are_judged_unless_one_broke.{IsJudged, all_judged}
 use Rattle.osi_fair.proofs.a_reference_names_one_connection.{all_apart, fresh_apart, no_item}
 use Rattle.osi_fair.proofs.one_request_waits.{begun_live, one_waits}
-
-both : (a b : Bool) → a ≡ true → b ≡ true → (a && b) ≡ true
-both true b h k = k
-both false b h k = cc
+use Rattle.osi_fair.proofs.what_a_side_knows_stays.{same_item}
 
 pub all_from : (f : Connection → Bool) (cs : List Connection) → HoldsOfEach (λ (c : Connection). f c ≡ true) cs → list_all f cs ≡ true
 all_from f [] h = refl
 all_from f (c ∷ cs) h = both (f c) (list_all f cs) (h zero c refl) (all_from f cs (λ i e at. h (suc i) e at))
 
-same_item : (x y : Connection) → Some x ≡ Some y → x ≡ y
-same_item x y e = cc
-
 or_known : (a b c : Bool) → b ≡ true → (a || (b || c)) ≡ true
-or_known true b c h = refl
-or_known false true c h = refl
-or_known false false c h = cc
+or_known a b c h = grind arith
 
 pub refused_over : (c : Connection) → c.is_judged ≡ true → is_refused c.right.phase ≡ true → is_over Left (begins Left c) ≡ true
-refused_over c j h = both c.is_judged (is_over_by c.left c.right) j (or_known (is_refused c.left.phase) (is_refused c.right.phase)
-    (is_closed c.left.phase || (is_closing c.left.phase && (is_closing c.right.phase || is_closed c.right.phase))) h)
+refused_over c j h = grind (arith, both, or_known)
 
 module _ (ps : List Passing) (p : ℕ) (c : Connection) (none : (all_passed ps fresh).course.class ≡ None)
     (firm : (all_passed ps fresh).course.loose ≡ false) (at : slice_get (all_passed ps fresh).connections p ≡ Some c)

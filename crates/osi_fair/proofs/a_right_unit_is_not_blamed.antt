@@ -1,28 +1,15 @@
 -- A unit that is right on a connection is not blamed, however many connections there are.
 -- For the law of that name.
-use Rattle.std.proofs.Common.{◌≡◌, ◌∙◌, ℕ, zero, suc, ◌<◌, Bool, true, false, List, [], ◌∷◌, length, refl, sym, ap, subst, arith}
-use Rattle.std.proofs.Common.{Option, Some, None, IfSome, inl, inr, ◌⊎◌, if◌then◌else◌}
-use Rattle.std.proofs.Common.{◌≤◌, get_or, nat_lt}
-use Rattle.std.specs.Prelude.{cond, position, slice_get}
-use Rattle.std.specs.List.{position_or_len}
-use Rattle.std.proofs.lemmas.Bool.{lt-ltb, ltb-false, ltb-true}
-use Rattle.std.proofs.lemmas.List.Quantifiers.{position-Some}
-use Rattle.std.proofs.lemmas.List.Sums.{fails_before_first}
-use Rattle.std.proofs.lemmas.Option.{get_or_from_slice_get, slice_get_within}
-use Rattle.osi_tpdu.specs.Value.{Value, destination_of}
-use Rattle.osi_class.specs.declared.terms.Class.TheVariants.{Two}
-use Rattle.osi_rules.specs.declared.connections.Connection.{Connection}
-use Rattle.osi_rules.specs.declared.directions.Direction.{Direction}
-use Rattle.osi_rules.specs.declared.findings.Finding.{Finding}
-use Rattle.osi_rules.specs.declared.findings.Finding.TheVariants.{Kept, NotJudged}
-use Rattle.osi_rules.specs.Sides.{is_named}
-use Rattle.osi_rules.specs.Traffic.{State, class_for, fresh, found, is_stopped, takes, uses_source}
-use Rattle.osi_fair.specs.Following.{IsAtPlace}
-use Rattle.osi_fair.specs.Lines.{IsRight, finding_of}
-use Rattle.osi_fair.specs.Naming.{HoldsOfOne, Passing, all_passed}
+use Rattle.osi_fair.proofs.Vocabulary.{[], ap, arith, Bool, false, get_or, IfSome, length, List}
+use Rattle.osi_fair.proofs.Vocabulary.{Option, refl, Some, subst, suc, sym, true, zero, ℕ, ◌<◌, ◌∙◌, ◌∷◌, ◌≡◌, ◌≤◌, lt-ltb, ltb-false}
+use Rattle.osi_fair.proofs.Vocabulary.{ltb-true, position-Some, fails_before_first, get_or_from_slice_get, slice_get_within}
+use Rattle.osi_fair.proofs.Vocabulary.{position_or_len, position, slice_get, destination_of, Value, Two, is_named, class_for}
+use Rattle.osi_fair.proofs.Vocabulary.{fresh, is_stopped, Traffic as State, takes, uses_source, Connection, Direction, Finding}
+use Rattle.osi_fair.proofs.Vocabulary.{IsAtPlace, finding_of, IsRight, all_passed, HoldsOfOne, Passing}
 use Rattle.osi_fair.proofs.a_reference_names_one_connection.{names_one}
 use Rattle.osi_fair.proofs.a_unit_is_an_act_of_its_line.{found_is}
 use Rattle.osi_fair.proofs.what_holds_of_one_item.{first_true}
+use Rattle.osi_fair.proofs.a_called_end_is_judged_as_the_other_side_is.{IsNotBlamed}
 
 -- ---- the first item of which something holds
 
@@ -35,10 +22,7 @@ pub first_there : {X : Type 0} (f : X → Bool) (xs : List X) (p i : ℕ) (d : X
 first_there f xs p i d h = let (within, is, before) = position-Some f xs i d h in item_there xs i within
 
 not_before : (p q : ℕ) → (p < q → ⊥) → q ≤ p
-not_before p q h = elim (nat_lt p q) as (λ b. nat_lt p q ≡ b → q ≤ p) [
-  | true ↦ λ e. absurd (h (ltb-true p q e))
-  | false ↦ λ e. ltb-false p q e
-] refl
+not_before p q h = grind (arith, ltb-true, ltb-false)
 
 fails_there : {X : Type 0} (f : X → Bool) (xs : List X) (p : ℕ) (x : X) → slice_get xs p ≡ Some x → f x ≡ true →
     p < position_or_len f xs → ⊥
@@ -50,33 +34,19 @@ fails_there f xs p x at h before =
 -- if it holds of one, there is a first
 pub is_first : {X : Type 0} (f : X → Bool) (xs : List X) (p : ℕ) (x : X) → slice_get xs p ≡ Some x → f x ≡ true →
     position f xs ≡ Some (position_or_len f xs)
-is_first f xs p x at h =
-    let q = position_or_len f xs in
-    let within = slice_get_within xs p x at in
-    let last : q ≤ p = not_before p q (λ before. fails_there f xs p x at h before) in
-    ap (λ (b : Bool). cond b (Some q) None) (lt-ltb q (length xs) (omega arith))
+is_first f xs p x at h = grind (arith, slice_get_within, not_before, fails_there, lt-ltb)
 
 -- ---- a unit that is right
 
 same_item : {X : Type 0} (x y : X) → Some x ≡ Some y → x ≡ y
 same_item x y e = cc
 
-abbrev IsNotBlamed : Finding → Type 0
-IsNotBlamed f = (f ≡ Kept) ⊎ (f ≡ NotJudged)
-
 module _ (d : Direction) (v : Value) (s : State) (n p : ℕ) (c : Connection) (apart : HoldsOfOne (is_named d n) s.connections)
     (judged : is_stopped d s.course ≡ false) (class : class_for d s.course ≡ Some Two) (named : destination_of v ≡ Some n)
     (at : slice_get s.connections p ≡ Some c) (is_judged : c.is_judged ≡ true) (right : IsRight d c v) (is : is_named d n c ≡ true) where
   by_judged : (q : ℕ) (e : Connection) (b : Bool) → e.is_judged ≡ b → slice_get s.connections q ≡ Some e → is_named d n e ≡ true →
       IsNotBlamed (finding_of d s.course (uses_source d s.connections v) e v)
-  by_judged q e false j there so = inr (ap (λ (b : Bool). if b then found d s.course (uses_source d s.connections v) e v else NotJudged) j)
-  by_judged q e true j there so =
-      let place : p ≡ q = apart p q c e at there is_judged j is so in
-      let here : Some c ≡ Some e = sym at ∙ ap (λ (i : ℕ). slice_get s.connections i) place ∙ there in
-      let same : e ≡ c = sym (same_item c e here) in
-      inl (ap (λ (b : Bool). if b then found d s.course (uses_source d s.connections v) e v else NotJudged) j
-      ∙ ap (λ (x : Connection). found d s.course (uses_source d s.connections v) x v) same
-      ∙ right.kept s.course (uses_source d s.connections v))
+  by_judged q e b j there so = grind (arith, same_item)
 
   by_first : (q : ℕ) → position (is_named d n) s.connections ≡ Some q → IsNotBlamed (takes d v s).told.finding
   by_first q first =
@@ -87,8 +57,7 @@ module _ (d : Direction) (v : Value) (s : State) (n p : ℕ) (c : Connection) (a
 
 pub named_of : (o : Option ℕ) (n : ℕ) (d : Direction) (c : Connection) → o ≡ Some n → IfSome o (λ m. is_named d m c ≡ true) →
     is_named d n c ≡ true
-named_of None n d c e h = cc
-named_of (Some m) n d c e h = let same : m ≡ n = cc in subst (λ (x : ℕ). is_named d x c ≡ true) same h
+named_of o n d c e h = grind arith
 
 pub right_not_blamed : (ps : List Passing) (d : Direction) (v : Value) (n p : ℕ) (c : Connection) →
     is_stopped d (all_passed ps fresh).course ≡ false → class_for d (all_passed ps fresh).course ≡ Some Two → destination_of v ≡ Some n →

@@ -1,26 +1,14 @@
 -- What a carrier does in calls, one after the other, is events of its whole end: one by one, up to the call after which it has ended,
 -- and then nothing. For the law on packets.
-use Rattle.std.proofs.Common.{◌≡◌, ◌∙◌, ℕ, Bool, true, false, List, [], ◌∷◌, ◌++◌, take, drop, refl, sym, ap, subst, append_assoc}
-use Rattle.std.proofs.Common.{Option, Some, None, is_some, if◌then◌else◌}
-use Rattle.std.specs.List.{flat_map}
-use Rattle.std.proofs.lemmas.List.{append-nil, take-append-drop}
-use Rattle.osi_tpkt.specs.Stream.{ArePackets}
-use Rattle.osi_tpkt.specs.declared.cutting.Fed.{Fed}
-use Rattle.osi_tpkt.proofs.the_packets_are_those_of_the_stream.{packets_joined}
-use Rattle.osi_tpdu.specs.Value.{Value}
-use Rattle.osi_class.specs.Link.{Standing}
-use Rattle.osi_carrier.specs.Calls.{Tells, closed_on, sent_on}
-use Rattle.osi_carrier.specs.Happenings.{Happening}
-use Rattle.osi_carrier.specs.Packets.{Carrying, Feeds}
-use Rattle.osi_carrier.specs.Runs.{Call, Calls, UserCall, breaks, calling, carried_in, carrying, closes, connects, feeding, put_back, sends}
-use Rattle.osi_carrier.specs.Runs.{sends_all, telling, told_in, used_in, user_does}
-use Rattle.osi_carrier.specs.State.{State, ends}
-use Rattle.osi_carrier.specs.declared.ends.EndReason.{EndReason}
-use Rattle.osi_carrier.proofs.stream.a_carrier_does_what_its_packets_do.{back_joined}
-use Rattle.osi_rules.specs.declared.directions.Direction.{Direction}
-use Rattle.osi_fair.specs.Calls.{AreFedFrom, IsRun, MadeAlong, MayMake}
-use Rattle.osi_fair.specs.Pieces.{units_in}
-use Rattle.osi_fair.specs.Wholes.{Becomes, MayCall, Whole}
+use Rattle.osi_fair.proofs.Vocabulary.{arith}
+use Rattle.osi_fair.proofs.Vocabulary.{[], ap, append_assoc, drop, is_some, List, None, Option, refl, Some, subst, sym}
+use Rattle.osi_fair.proofs.Vocabulary.{take, true, ℕ, ◌++◌, ◌∙◌, ◌∷◌, ◌≡◌, append-nil, take-append-drop, flat_map, packets_joined}
+use Rattle.osi_fair.proofs.Vocabulary.{ArePackets, Fed, Value, back_joined, Tells, Happening, Carrying, Feeds}
+use Rattle.osi_fair.proofs.Vocabulary.{Call, calling, Calls, carried_in, feeding, put_back}
+use Rattle.osi_fair.proofs.Vocabulary.{telling, told_in, used_in, user_does, UserCall, EndReason, Direction}
+use Rattle.osi_fair.proofs.Vocabulary.{AreFedFrom, IsRun, MadeAlong, MayMake, units_in, Becomes, MayCall, Whole}
+use Rattle.osi_carrier.specs.State.{State}
+use Rattle.osi_fair.proofs.small_facts_that_many_lemmas_use.{differ}
 use Rattle.osi_fair.proofs.a_packet_is_events.{then_so}
 use Rattle.osi_fair.proofs.a_piece_is_events.{feeds_on, units_join}
 use Rattle.osi_fair.proofs.how_a_calling_end_asks.{all_none, may_so, none_over}
@@ -28,31 +16,19 @@ use Rattle.osi_fair.proofs.what_is_in_front_of_a_whole_end.{Comes, calls_front, 
 
 -- ---- after the end nothing changes
 
-differ : {A : Type 0} (b : Bool) → b ≡ true → b ≡ false → A
-differ b h k = absurd (cc)
-
 user_stays : (call : UserCall) (s : State) → is_some s.ended ≡ true → MayCall call s → user_does call s ≡ s
-user_stays (connects this other) s h may = differ (is_some s.ended) h (may_so s may).0
-user_stays (sends r tsdu) s h may = ap (λ (o : Option (ℕ × Standing)). sent_on r tsdu o s) (none_over s h r)
-user_stays (sends_all r tsdus) s h may = (all_none r tsdus s (none_over s h)).0
-user_stays (closes r reason) s h may = ap (λ (o : Option (ℕ × Standing)). closed_on r reason o s) (none_over s h r)
-user_stays (breaks reason) s h may = ap (λ (b : Bool). if b then s else ends reason s) h
+user_stays call s h may = grind (arith, differ, may_so, none_over, all_none)
 
 -- but for what is reported and sent
 abbrev IsBehind : List Happening → List ℕ → State → State → Type 0
 IsBehind e o old new = put_back e o new ≡ old
 
 told_behind : (event : Option Happening) (old new : State) → Tells event old new → IsBehind (told_in (telling event)) [] old new
-told_behind None old new h = h.1
-told_behind (Some event) old new h = sym h
+told_behind event old new h = grind arith
 
 call_stays : (old : Carrying) (call : Call) (new : Carrying) → is_some old.state.ended ≡ true → Calls old call new → MayMake old call →
     IsBehind (told_in call) (carried_in call) old.state new.state
-call_stays old (feeding piece fed) new h calls may = ap (λ (c : Carrying). c.state) (calls.over h).1
-call_stays old (telling event) new h calls may = told_behind event old.state new.state calls.0
-call_stays old (carrying octets) new h calls may = ap (λ (c : Carrying). c.state) (sym calls)
-call_stays old (calling call) new h calls may =
-    ap (λ (c : Carrying). c.state) calls ∙ user_stays call old.state h may
+call_stays old call new h calls may = grind (arith, told_behind, user_stays)
 
 -- it has still ended
 still_over : (e : List Happening) (o : List ℕ) (old new : State) → IsBehind e o old new → is_some old.ended ≡ true →
@@ -70,8 +46,7 @@ all_stay old (call ∷ calls) new h (mid, first, may, more) =
 
 over_after : (old : Carrying) (calls : List Call) (new : Carrying) → is_some old.state.ended ≡ true → MadeAlong old calls new →
     is_some new.state.ended ≡ true
-over_after old calls new h along =
-    still_over (flat_map told_in calls) (flat_map carried_in calls) old.state new.state (all_stay old calls new h along) h
+over_after old calls new h along = grind (arith, still_over, all_stay)
 
 -- ---- one call
 
@@ -88,16 +63,15 @@ record Step (d : Direction) (old : Carrying) (call : Call) (mid : Carrying) : Ty
 
 comes_nil : (d : Direction) (e : List Happening) (o : List ℕ) (w : Whole) (s : State) (later : List Value) → Comes d e o w s later →
     Comes d (e ++ []) (o ++ []) w s later
-comes_nil d e o w s later h =
-    subst (λ (x : List Happening). Comes d x (o ++ []) w s later) (sym (append-nil e))
-    (subst (λ (x : List ℕ). Comes d e x w s later) (sym (append-nil o)) h)
+comes_nil d e o w s later h = search (arith, append-nil)
 
 -- nothing is taken
 held_cut : (held : List ℕ) → ArePackets [] (held ++ []) held
 held_cut held = append-nil held
 
 -- what is reported or sent now comes in front
-back_step : (d : Direction) (old : Carrying) (call : Call) (mid : Carrying) → IsBehind (told_in call) (carried_in call) old.state mid.state →
+back_step : (d : Direction) (old : Carrying) (call : Call) (mid : Carrying) →
+    IsBehind (told_in call) (carried_in call) old.state mid.state →
     mid.held.octets ≡ old.held.octets → used_in call ≡ [] →
     ((stream : List ℕ) (calls : List Call) → AreFedFrom stream (call ∷ calls) → AreFedFrom stream calls) → Step d old call mid
 back_step d old call mid behind held used from = record {
@@ -147,18 +121,11 @@ fed_step d old piece fed mid h =
     }
 
 step_so : (d : Direction) (old : Carrying) (call : Call) (mid : Carrying) → Calls old call mid → MayMake old call → Step d old call mid
-step_so d old (feeding piece fed) mid h may = fed_step d old piece fed mid h
-step_so d old (telling event) mid h may =
-    back_step d old (telling event) mid (told_behind event old.state mid.state h.0) (ap (λ held. held.octets) h.1) refl
-    (λ stream calls f. f)
-step_so d old (carrying octets) mid h may =
-    back_step d old (carrying octets) mid (ap (λ (c : Carrying). c.state) (sym h)) (ap (λ (c : Carrying). c.held.octets) (sym h)) refl
-    (λ stream calls f. f)
-step_so d old (calling call) mid h may = user_step d old call mid h may
+step_so d old call mid h may = search (arith, fed_step, back_step, told_behind, user_step)
 
 -- ---- calls one after the other
 
-no_end : {A : Type 0} (o : Option EndReason) → is_some o ≡ true → o ≡ None → A
+pub no_end : {A : Type 0} (o : Option EndReason) → is_some o ≡ true → o ≡ None → A
 no_end o h e = absurd (cc)
 
 -- the call ends the carrier

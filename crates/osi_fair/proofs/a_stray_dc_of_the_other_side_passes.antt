@@ -1,45 +1,24 @@
 -- A DC of the other side passes that answers nothing: the lines of its connection may take it, and nothing else changes.
 -- For the law on a whole end.
-use Rattle.std.proofs.Common.{◌≡◌, ◌≢◌, ◌∙◌, Bool, true, false, List, [], ◌∷◌, ◌++◌, refl, sym, ap, subst}
-use Rattle.std.proofs.Common.{Some}
-use Rattle.std.specs.Prelude.{◌&&◌, ◌==◌}
-use Rattle.osi_tpdu.specs.Value.{Value, Connect, HasFieldsInRange, request, destination_of}
-use Rattle.osi_class.specs.declared.terms.Class.TheVariants.{Two}
-use Rattle.osi_class.specs.declared.terms.Local.{Local}
-use Rattle.osi_rules.specs.declared.connections.Connection.{Connection}
-use Rattle.osi_rules.specs.declared.directions.Direction.TheVariants.{Right}
-use Rattle.osi_rules.specs.declared.findings.Finding.{Finding}
-use Rattle.osi_rules.specs.declared.findings.Finding.TheVariants.{NotJudged}
+use Rattle.osi_fair.proofs.Vocabulary.{arith}
+use Rattle.osi_fair.proofs.Vocabulary.{[], ap, Bool, false, List, refl, Some, subst, sym, true, ◌++◌, ◌∙◌, ◌∷◌, ◌≡◌, ◌≢◌, ◌&&◌, ◌==◌}
+use Rattle.osi_fair.proofs.Vocabulary.{Connect, destination_of, HasFieldsInRange, request, Value, Two, Local, reach_of, is_due, is_closing}
+use Rattle.osi_fair.proofs.Vocabulary.{is_open, found, Traffic, takes, Connection, Right, Finding, NotJudged, after_finding, finding_of}
+use Rattle.osi_fair.proofs.Vocabulary.{Line, Whole}
 use Rattle.osi_rules.specs.declared.findings.Reach.TheVariants as reach
-use Rattle.osi_rules.specs.declared.halves.Phase.{Phase}
-use Rattle.osi_rules.specs.declared.halves.Phase.TheVariants.{Silent, Open, Refused, Closing, Closed}
-use Rattle.osi_rules.specs.Reaches.{reach_of}
-use Rattle.osi_rules.specs.Rows.{is_due}
-use Rattle.osi_rules.specs.Sides.{is_closing, is_open}
-use Rattle.osi_rules.specs.Traffic.{State as Traffic, found, takes}
-use Rattle.osi_fair.specs.Lines.{Line, after_finding, finding_of, passes_other}
-use Rattle.osi_fair.specs.Wholes.{Whole}
+use Rattle.osi_fair.specs.Lines.{passes_other}
+use Rattle.osi_fair.proofs.small_facts_that_many_lemmas_use.{and_first, and_second, differ, is_false, judged_same, open_or_closing}
 use Rattle.osi_fair.proofs.a_dc_for_a_stray_dr_passes.{not_due}
-use Rattle.osi_fair.proofs.no_two_open_connections_have_one_peer.{and_first, and_second, differ, left_open}
+use Rattle.osi_fair.proofs.no_two_open_connections_have_one_peer.{left_open}
 use Rattle.osi_fair.proofs.a_unit_of_the_other_side_passes.{dc_no_cc}
-use Rattle.osi_fair.proofs.what_has_come_with_one_unit_more.{all_add, early_more, following_other, row_add, waiting_dc}
+use Rattle.osi_fair.proofs.what_has_come_with_one_unit_more.{early_more, following_other, row_add, waiting_dc}
 use Rattle.osi_fair.proofs.each_connection_has_its_line.{AreGiven, Followed, Following, IsAnswer, IsAsking, IsNoCc, all_so, is_tracked}
 use Rattle.osi_fair.proofs.each_connection_has_its_line.{tracks_on}
 use Rattle.osi_fair.proofs.what_becomes_of_a_connection.{IsIdle}
 use Rattle.osi_fair.proofs.what_keeps_names_apart.{Sound}
-use Rattle.osi_fair.proofs.what_the_other_side_closes.{IsSane, judged_same}
+use Rattle.osi_fair.proofs.what_the_other_side_closes.{IsSane}
 use Rattle.osi_fair.proofs.which_units_are_for_a_connection.{is_dc, named_is, names}
-
-not_so : (b : Bool) → (b ≡ true → ⊥) → b ≡ false
-not_so true h = absurd (h refl)
-not_so false h = refl
-
-open_or_closing : (p : Phase) → is_open p ≡ true → is_closing p ≡ true → ⊥
-open_or_closing Open h k = cc
-open_or_closing Silent h k = cc
-open_or_closing Refused h k = cc
-open_or_closing Closing h k = cc
-open_or_closing Closed h k = cc
+use Rattle.osi_fair.proofs.what_is_live_at_a_called_end.{all_add}
 
 module _ (local : Local) (w : Whole) (f : Followed local w) (sane : IsSane w.tap) (firm : w.tap.course.loose ≡ false) (v : Value)
     (ranges : HasFieldsInRange v) (t : IsIdle v w.tap (takes Right v w.tap)) where
@@ -52,7 +31,7 @@ module _ (local : Local) (w : Whole) (f : Followed local w) (sane : IsSane w.tap
   -- it is not due on a connection that left has not closed
   spared : (c : Connection) → c.is_judged ≡ true → Sound c → is_tracked c ≡ true → finding_of Right w.tap.course false c v ≡ NotJudged
   spared c judged sound tracked =
-      let none : is_due Right c t.source ≡ false = not_so (is_due Right c t.source) (λ h.
+      let none : is_due Right c t.source ≡ false = is_false (is_due Right c t.source) (λ h.
       open_or_closing c.left.phase (left_open c tracked) (sound.right_knows.closing
       (and_first (is_closing c.seen_by_right.phase) (t.source == c.right.reference)
       (and_second (is_open c.right.phase) (is_closing c.seen_by_right.phase && (t.source == c.right.reference)) h)))) in
@@ -103,11 +82,7 @@ module _ (local : Local) (w : Whole) (f : Followed local w) (sane : IsSane w.tap
       following_other local w.put w.begun w.tap.course.strays w.tap.course.strays w.end w.coming c v (λ h. h) g e
 
   still_asking : (x : Connect) → IsAsking local w.end w.coming x → IsAsking local w.end more x
-  still_asking x a = record {
-    left = a.left;
-    early = early_more x.source w.coming v dc (names x.source v) refl a.early;
-    row = a.row;
-  }
+  still_asking x a = search (arith, early_more, dc)
 
   idle_so : Followed local (record w { coming = more })
   idle_so = record {

@@ -1,41 +1,24 @@
 -- A unit of the other side passes at the tap of a whole called end, for one of its connections, or a DC that answers nothing.
 -- For the law on a whole called end.
-use Rattle.std.proofs.Common.{◌≡◌, ◌≢◌, ◌∙◌, ◌≤◌, ◌<◌, ℕ, zero, suc, Bool, true, false, List, [], ◌∷◌, ◌++◌, set, refl, sym, ap, subst}
-use Rattle.std.proofs.Common.{arith, Option, Some, None, inl, inr, ◌⊎◌, if◌then◌else◌}
-use Rattle.std.specs.Prelude.{◌&&◌, ◌||◌, ◌==◌, not, slice_get}
-use Rattle.std.specs.List.{AllByRecursion}
-use Rattle.std.proofs.lemmas.Bool.{eqb-true}
-use Rattle.std.proofs.lemmas.List.{append-nil}
-use Rattle.osi_tpdu.specs.Value.{Value, Connect, HasFieldsInRange, request, confirm, disconnect, disconnected, data0, data2, acknowledge}
-use Rattle.osi_tpdu.specs.Value.{destination_of, error}
-use Rattle.osi_class.specs.Link.{Standing}
-use Rattle.osi_class.specs.declared.terms.Class.{Class}
-use Rattle.osi_class.specs.declared.terms.Class.TheVariants.{Two}
-use Rattle.osi_class.specs.declared.terms.Local.{Local}
-use Rattle.osi_rules.specs.declared.connections.Connection.{Connection}
-use Rattle.osi_rules.specs.declared.courses.Course.{Course}
-use Rattle.osi_rules.specs.declared.directions.Direction.TheVariants.{Left, Right}
-use Rattle.osi_rules.specs.declared.findings.Finding.{Finding}
-use Rattle.osi_rules.specs.declared.findings.Finding.TheVariants.{Broke, NotJudged}
-use Rattle.osi_rules.specs.declared.findings.Reach.{Reach}
+use Rattle.osi_fair.proofs.Vocabulary.{[], ap, arith, Bool, false, if◌then◌else◌, inl, inr, List, None, Option, refl, set, Some, subst, sym}
+use Rattle.osi_fair.proofs.Vocabulary.{true, ℕ, ◌++◌, ◌<◌, ◌∙◌, ◌∷◌, ◌≡◌, ◌≢◌, ◌≤◌, ◌⊎◌, eqb-true, append-nil, AllByRecursion, not}
+use Rattle.osi_fair.proofs.Vocabulary.{slice_get, ◌&&◌, ◌==◌, ◌||◌, acknowledge, confirm, Connect, data0, data2, destination_of, disconnect}
+use Rattle.osi_fair.proofs.Vocabulary.{disconnected, error, HasFieldsInRange, request, Value, Standing, Class, Two, Local, is_applied}
+use Rattle.osi_fair.proofs.Vocabulary.{reach_of, first_failed, is_due, is_closed, is_closing, is_named, is_open, is_over, is_over_by}
+use Rattle.osi_fair.proofs.Vocabulary.{is_refused, is_silent, connection_after, course_after, found, found_on, is_stray}
+use Rattle.osi_fair.proofs.Vocabulary.{one_told, Outcome, reached, Traffic, takes, uses_source, Connection, Course, Left, Right, Finding}
+use Rattle.osi_fair.proofs.Vocabulary.{Broke, NotJudged, Reach, Half, Phase, after_finding, finding_of, Line}
+use Rattle.osi_fair.proofs.Vocabulary.{unit as passing, Whole}
 use Rattle.osi_rules.specs.declared.findings.Reach.TheVariants as reach
 use Rattle.osi_rules.specs.declared.findings.Rule.TheVariants as rule
-use Rattle.osi_rules.specs.declared.halves.Half.{Half}
-use Rattle.osi_rules.specs.declared.halves.Phase.{Phase}
-use Rattle.osi_rules.specs.declared.halves.Phase.TheVariants.{Silent, Open, Refused, Closing, Closed}
-use Rattle.osi_rules.specs.Reaches.{is_applied, reach_of}
-use Rattle.osi_rules.specs.Rows.{first_failed, is_due}
-use Rattle.osi_rules.specs.Sides.{is_closed, is_closing, is_named, is_open, is_over, is_over_by, is_refused, is_silent}
-use Rattle.osi_rules.specs.Traffic.{Outcome, State as Traffic, connection_after, course_after, closing_phase, found, found_on, is_stray}
-use Rattle.osi_rules.specs.Traffic.{one_told, reached, takes, uses_source}
-use Rattle.osi_fair.specs.Lines.{Line, after_finding, finding_of, passes_other}
-use Rattle.osi_fair.specs.Naming.{unit as passing}
-use Rattle.osi_fair.specs.Wholes.{Whole}
+use Rattle.osi_fair.specs.Lines.{passes_other}
+use Rattle.osi_fair.proofs.small_facts_that_many_lemmas_use.{all_add, both as is_both, closing_shuts, differ, judged_same, not_not}
+use Rattle.osi_fair.proofs.small_facts_that_many_lemmas_use.{number_is, or_left, or_right, same_cc, seen_after, set_none}
 use Rattle.osi_fair.proofs.how_a_unit_of_right_passes.{strays_more}
 use Rattle.osi_fair.proofs.all_are_judged_unless_one_broke.{IsJudged}
-use Rattle.osi_fair.proofs.each_connection_of_a_called_end.{Among, AreAbove, Asked, Called, IsDc, IsFor, Row, Running, Stand, Untagged}
-use Rattle.osi_fair.proofs.each_connection_of_a_called_end.{among_more, among_skip, answers, closes, comes, over, past, refuses, runs}
-use Rattle.osi_fair.proofs.each_connection_of_a_called_end.{talks}
+use Rattle.osi_fair.proofs.each_connection_of_a_called_end.{stands_at, Among, AreAbove, Asked, Called, IsDc, IsFor, Row, Running, Stand}
+use Rattle.osi_fair.proofs.each_connection_of_a_called_end.{Untagged, among_more, among_skip, answers, closes, comes, over, past, refuses}
+use Rattle.osi_fair.proofs.each_connection_of_a_called_end.{runs, talks}
 use Rattle.osi_fair.proofs.left_selects_no_class.{left_class}
 use Rattle.osi_fair.proofs.units_by_their_place.{Placed, at_join, first_at, units_at, values, values_join}
 use Rattle.osi_fair.proofs.what_holds_of_one_item.{HoldsOfEach}
@@ -50,85 +33,24 @@ use Rattle.osi_fair.proofs.which_unit_comes_to_a_called_end.{IsCalm, calm_before
 
 -- ---- small facts
 
-differ : {A : Type 0} (b : Bool) → b ≡ true → b ≡ false → A
-differ b h k = absurd (cc)
-
-number_is : (m n : ℕ) → Some m ≡ Some n → m ≡ n
-number_is m n e = cc
-
 named_parts : (a b c : Bool) → (not a && (not b && c)) ≡ true → (a ≡ false) × (b ≡ false) × (c ≡ true)
-named_parts false false true h = (refl, refl, refl)
-named_parts false false false h = cc
-named_parts false true c h = cc
-named_parts true b c h = cc
-
-is_both : (a b : Bool) → a ≡ true → b ≡ true → (a && b) ≡ true
-is_both true b h k = k
-is_both false b h k = cc
-
-set_none : {X : Type 0} (xs : List X) (p i : ℕ) (x : X) → slice_get (set xs p x) i ≡ None → slice_get xs i ≡ None
-set_none [] p i x h = h
-set_none (y ∷ ys) zero zero x h = absurd (cc)
-set_none (y ∷ ys) zero (suc i) x h = h
-set_none (y ∷ ys) (suc p) zero x h = absurd (cc)
-set_none (y ∷ ys) (suc p) (suc i) x h = set_none ys p i x h
-
-all_add : {X : Type 0} (P : X → Type 0) (vs : List X) (v : X) → AllByRecursion P vs → P v → AllByRecursion P (vs ++ v ∷ [])
-all_add P [] v a p = (p, tt)
-all_add P (u ∷ vs) v (one, more) p = (one, all_add P vs v more p)
+named_parts a b c h = grind arith
 
 off_over : (a b : Bool) → (a || b) ≡ true → a ≡ false → b ≡ true
-off_over true b h k = cc
-off_over false b h k = h
+off_over a b h k = grind arith
 
 refused_by : (p k : Phase) → is_refused k ≡ true →
     (is_refused p || (is_refused k || (is_closed p || (is_closing p && (is_closing k || is_closed k))))) ≡ true
-refused_by Refused k h = refl
-refused_by Silent Refused h = refl
-refused_by Open Refused h = refl
-refused_by Closing Refused h = refl
-refused_by Closed Refused h = refl
-refused_by p Silent h = cc
-refused_by p Open h = cc
-refused_by p Closing h = cc
-refused_by p Closed h = cc
+refused_by p k h = grind arith
 
 refused_over : (mine : Half) (k : Phase) → is_refused k ≡ true →
     (is_refused mine.phase || (is_refused k || (is_closed mine.phase || (is_closing mine.phase && (is_closing k || is_closed k))))) ≡ true
 refused_over mine k h = refused_by mine.phase k h
 
-or_left : (a b : Bool) → (a || b) ≡ false → a ≡ false
-or_left true b h = cc
-or_left false b h = refl
-
-or_right : (a b : Bool) → (a || b) ≡ false → b ≡ false
-or_right true b h = cc
-or_right false b h = h
-
-not_not : (b : Bool) → not b ≡ false → b ≡ true
-not_not true h = refl
-not_not false h = cc
-
-judged_same : (j : Bool) (g : Finding) → j ≡ true → (if j then g else NotJudged) ≡ g
-judged_same true g h = refl
-judged_same false g h = cc
-
-closing_shuts : (was : Bool) (half : Half) → is_open (closing_phase was half).phase ≡ false
-closing_shuts true half = refl
-closing_shuts false half = refl
-
 -- right has closed only what left had closed
 closed_not : (p mine : Phase) → is_silent p ≡ false → is_open p ≡ false → is_refused p ≡ false → is_closing p ≡ false →
     (is_closed p ≡ true → is_closing mine ≡ true) → is_open mine ≡ true → ⊥
-closed_not Silent mine a b c d k h = cc
-closed_not Open mine a b c d k h = cc
-closed_not Refused mine a b c d k h = cc
-closed_not Closing mine a b c d k h = cc
-closed_not Closed Open a b c d k h = cc (k refl)
-closed_not Closed Silent a b c d k h = cc
-closed_not Closed Refused a b c d k h = cc
-closed_not Closed Closing a b c d k h = cc
-closed_not Closed Closed a b c d k h = cc
+closed_not p mine a b c d k h = grind arith
 
 connection_not : {A : Type 0} → reach.Nothing ≡ reach.Connection → A
 connection_not e = absurd (cc e)
@@ -137,29 +59,14 @@ connection_not e = absurd (cc e)
 dc_applied : (due strays : Bool) → strays ≡ false → (g : Finding) →
     g ≡ first_failed ((due || not strays, NotJudged) ∷ (due, Broke rule.NothingToAnswer) ∷ []) → reach_of (Some Two) g ≡ reach.Nothing →
     is_applied g ≡ true
-dc_applied true false h g e k = ap is_applied e
-dc_applied false false h g e k = connection_not (sym k ∙ ap (λ (f : Finding). reach_of (Some Two) f) e)
-dc_applied due true h g e k = cc
+dc_applied due strays h g e k = grind (arith, connection_not)
 
-cc_not_applied : {A : Type 0} (j : Bool) → is_applied (if j then Broke rule.WrongForm else NotJudged) ≡ true → A
-cc_not_applied true h = absurd (cc h)
-cc_not_applied false h = absurd (cc h)
+pub cc_not_applied : {A : Type 0} (j : Bool) → is_applied (if j then Broke rule.WrongForm else NotJudged) ≡ true → A
+cc_not_applied j h = grind arith
 
 open_by : (s : Traffic) (c : Connection) (v : Value) (applied : Bool) → is_applied (found_on Left s c v) ≡ applied →
     is_open (connection_after Left v applied reach.Nothing c).left.phase ≡ true → is_open c.left.phase ≡ true
-open_by s c v false e h = h
-open_by s c (request x) true e h = h
-open_by s c (confirm destination x) true e h = cc_not_applied c.is_judged e
-open_by s c (disconnect destination source reason user) true e h =
-    differ (is_open (closing_phase (is_silent c.left.phase) c.left).phase) h (closing_shuts (is_silent c.left.phase) c.left)
-open_by s c (disconnected destination source) true e h = absurd (cc h)
-open_by s c (data0 end user) true e h = h
-open_by s c (data2 destination number end user) true e h = h
-open_by s c (acknowledge credit destination number) true e h = h
-open_by s c (error destination cause) true e h = absurd (cc h)
-
-same_confirm : (m n : ℕ) (x y : Connect) → confirm m x ≡ confirm n y → x ≡ y
-same_confirm m n x y e = cc
+open_by s c v applied e h = grind (arith, cc_not_applied, differ, closing_shuts)
 
 above_not : (last n a b : ℕ) → n ≤ last → last < a → a ≡ b → b ≡ n → ⊥
 above_not last n a b up above e same = omega arith
@@ -169,7 +76,7 @@ answers_above : (given last n : ℕ) (vs : List Value) → n ≤ last → AreAbo
 answers_above given last n [] up h = tt
 answers_above given last n (request x ∷ vs) up h = (λ m y e. absurd (cc e), answers_above given last n vs up h)
 answers_above given last n (confirm destination x ∷ vs) up (above, h) = (
-  λ m y e same. absurd (above_not last n x.source y.source up above (ap (λ (z : Connect). z.source) (same_confirm destination m x y e))
+  λ m y e same. absurd (above_not last n x.source y.source up above (ap (λ (z : Connect). z.source) (same_cc destination m x y e))
       same),
   answers_above given x.source n vs (omega arith) h,
 )
@@ -186,17 +93,6 @@ answers_above given last n (error destination cause ∷ vs) up h = (λ m y e. ab
 
 nothing_not : reach.Nothing ≡ reach.Everything → ⊥
 nothing_not e = cc
-
-seen_after : (c : Connection) (v : Value) (b : Bool) (course : Course) → (course_after Left c v b course).class_seen ≡ course.class_seen
-seen_after c (request x) b course = refl
-seen_after c (confirm destination x) true course = refl
-seen_after c (confirm destination x) false course = refl
-seen_after c (disconnect destination source reason user) b course = refl
-seen_after c (disconnected destination source) b course = refl
-seen_after c (data0 end user) b course = refl
-seen_after c (data2 destination number end user) b course = refl
-seen_after c (acknowledge credit destination number) b course = refl
-seen_after c (error destination cause) b course = refl
 
 -- ---- all connections
 
@@ -219,8 +115,7 @@ module _ (local : Local) (w : Whole) (f : Called local w) (apart : AreApart w.ta
   calm = calm_before w.tap.course (takes Left v w.tap).state.course lasts calm_after
 
   pub those_more : (r : ℕ) → names r v ≡ false → those r more ≡ those r w.coming
-  those_more r e = those_join r w.coming (v ∷ []) ∙ ap (λ (l : List Value). those r w.coming ++ l) (first_left r v [] e)
-      ∙ append-nil (those r w.coming)
+  those_more r e = grind (arith, those_join, first_left, append-nil)
 
   pub row_other : (r peer : ℕ) (link : Option Standing) (line : List Value) → names r v ≡ false → Row w.end w.coming r peer link line →
       Row w.end more r peer link line
@@ -249,44 +144,8 @@ module _ (local : Local) (w : Whole) (f : Called local w) (apart : AreApart w.ta
       Row w.end w.coming r peer link line → Row w.end more r peer link line) where
     pub stand_on : (i : ℕ) (c : Connection) (mine was : List Value) (begun : Bool) → asks i ≡ was →
         Stand local f.shut w.end w.coming mine was begun o c → Stand local f.shut w.end more mine (asks i) begun o c
-    stand_on i c mine was begun same (comes x a none ask e) = comes x a none (λ lasts. same ∙ ask lasts) e
-    stand_on i c mine was begun same (refuses x a reason is none e seen) = refuses x a reason is (same ∙ none) e seen
-    stand_on i c mine was begun same (answers h none) = answers (record {
-      x = h.x;
-      size = h.size;
-      r = h.r;
-      index = h.index;
-      asked = h.asked;
-      selected = h.selected;
-      link = h.link;
-      more = h.more;
-      come = h.come;
-      mine_is = h.mine_is;
-      acts = h.acts;
-      along = h.along;
-      seen = h.seen;
-      row = rows h.r h.x.source h.link h.come h.index h.row;
-      shut_is = h.shut_is;
-    }) (same ∙ none)
-    stand_on i c mine was begun same (runs g none) = runs (record {
-      r = g.r;
-      peer = g.peer;
-      index = g.index;
-      line = g.line;
-      tap = g.tap;
-      put = g.put;
-      begun_is = g.begun_is;
-      first = g.first;
-      acts = g.acts;
-      opened = g.opened;
-      along = g.along;
-      there = g.there;
-      right = g.right;
-      left = g.left;
-      row = rows g.r g.peer g.line.link g.line.coming g.index g.row;
-      shut_is = g.shut_is;
-    }) (same ∙ none)
-    stand_on i c mine was begun same (past silent up none ask un off) = past silent up none (same ∙ ask) un off
+    stand_on i c mine was begun same = stands_at local f.shut w.end w.end w.coming more mine was (asks i) begun o c
+        (λ x ask lasts. same ∙ ask lasts) (λ none. same ∙ none) rows (λ r e un. un)
 
   -- ---- a DC that answers nothing
 
@@ -356,12 +215,10 @@ module _ (local : Local) (w : Whole) (f : Called local w) (apart : AreApart w.ta
     course_is = ap (λ (o : Outcome). o.state.course) is
 
     no_reach : (j : Option Class) → reach_of j found_so ≡ reach.Nothing
-    no_reach j = calm_reach j w.tap.course.class_seen found_so (course_after Left c v (is_applied found_so) w.tap.course)
-        (subst IsCalm course_is calm_after)
+    no_reach j = grind (arith, calm_reach, course_is)
 
     conns : (takes Left v w.tap).state.connections ≡ set cs q next
-    conns = ap (λ (o : Outcome). o.state.connections) is
-        ∙ ap (λ (r : Reach). set cs q (connection_after Left v (is_applied found_so) r c)) (no_reach w.tap.course.class_seen)
+    conns = grind (arith, no_reach)
 
     sound : Sound c
     sound = apart.sound q c at (judged q c at)
@@ -477,9 +334,7 @@ module _ (local : Local) (w : Whole) (f : Called local w) (apart : AreApart w.ta
 
     two_by : (i : ℕ) (x : Connection) → ((i ≡ q) × (x ≡ next)) ⊎ ((i ≡ q → ⊥) × (slice_get cs i ≡ Some x)) → is_open x.right.phase ≡ true →
         (takes Left v w.tap).state.course.class ≡ Some Two
-    two_by i x (inl (same, so)) up =
-        lasts.two (f.two q c at (ap (λ (h : Half). is_open h.phase) (sym (ap (λ (y : Connection). y.right) so ∙ next_right)) ∙ up))
-    two_by i x (inr (other, there)) up = lasts.two (f.two i x there up)
+    two_by i x h up = grind (arith, lasts, next_right)
 
     course_same : ((takes Left v w.tap).state.course.class ≡ w.tap.course.class)
         × ((takes Left v w.tap).state.course.class_seen ≡ w.tap.course.class_seen)
@@ -510,13 +365,7 @@ module _ (local : Local) (w : Whole) (f : Called local w) (apart : AreApart w.ta
 
     run_ref : (i : ℕ) (x : Connection) (o : Option ℕ) (mine asks : List Value) (begun : Bool) → is_open x.right.phase ≡ true →
         Stand local f.shut w.end w.coming mine asks begun o x → o ≡ Some x.right.reference
-    run_ref i x o mine asks begun up (comes y a none ask e) = differ (is_open x.right.phase) up (ap (λ (h : Half). is_open h.phase) a.right)
-    run_ref i x o mine asks begun up (refuses y a reason m none e seen) =
-        differ (is_open x.right.phase) up (ap (λ (h : Half). is_open h.phase) a.right)
-    run_ref i x o mine asks begun up (answers h none) =
-        differ (is_open x.right.phase) up (ap (λ (h : Half). is_open h.phase) h.asked.right)
-    run_ref i x o mine asks begun up (runs g none) = g.index ∙ ap (λ (j : ℕ). Some j) (sym g.right)
-    run_ref i x o mine asks begun up (past silent not_up none ask un off) = differ (is_open x.right.phase) up not_up
+    run_ref i x o mine asks begun up k = grind (arith, differ)
 
     other_ref : (i : ℕ) (x : Connection) → ((i ≡ q) × (x ≡ next)) ⊎ ((i ≡ q → ⊥) × (slice_get cs i ≡ Some x)) →
         is_open next.left.phase ≡ false → is_open x.left.phase ≡ true → is_open x.right.phase ≡ true → x.right.reference ≡ n → ⊥
@@ -592,14 +441,7 @@ module _ (local : Local) (w : Whole) (f : Called local w) (apart : AreApart w.ta
 
     timely_so : (takes Left v w.tap).state.course.strays ≡ false → Timely w.end w.coming cs (values f.tagged) → (u : Value) → v ≡ u →
         TimelyNow
-    timely_so none h (request x) e = absurd (not_cr x e)
-    timely_so none h (confirm destination x) e = timely_nothing h (ap shuts_of e) (ap dr_for e)
-    timely_so none h (data0 end user) e = timely_nothing h (ap shuts_of e) (ap dr_for e)
-    timely_so none h (data2 destination number end user) e = timely_nothing h (ap shuts_of e) (ap dr_for e)
-    timely_so none h (acknowledge credit destination number) e = timely_nothing h (ap shuts_of e) (ap dr_for e)
-    timely_so none h (error destination cause) e = timely_nothing h (ap shuts_of e) (ap dr_for e)
-    timely_so none h (disconnect destination source reason user) e = dr_so none h destination source reason user e
-    timely_so none h (disconnected destination source) e = dc_so none h destination source e
+    timely_so none h u e = grind (arith, not_cr, dr_so, dc_so, timely_nothing)
 
     pub for_one_so : Called local after
     for_one_so = record {

@@ -1,56 +1,38 @@
 -- A unit of a whole called end passes: a CC, a DR that refuses a CR, or a unit of an open connection. Each is right.
 -- For the law on a whole called end.
-use Rattle.std.proofs.Common.{◌≡◌, ◌∙◌, ◌≤◌, ◌<◌, ℕ, Bool, true, false, List, [], ◌∷◌, ◌++◌, set, refl, sym, ap, subst, arith, Option}
-use Rattle.std.proofs.Common.{Some, None, drop, inl, inr, ◌⊎◌, is_some}
-use Rattle.std.specs.Prelude.{◌&&◌, ◌||◌, ◌==◌, position, slice_get}
-use Rattle.std.specs.List.{AllByRecursion, list_any, position_or_len}
-use Rattle.std.proofs.lemmas.Bool.{eq-eqb}
-use Rattle.osi_tpdu.specs.Value.{Value, Connect, confirm, disconnect, error, destination_of}
-use Rattle.osi_class.specs.Link.{Standing}
-use Rattle.osi_class.specs.declared.terms.Class.{Class}
-use Rattle.osi_class.specs.declared.terms.Class.TheVariants.{Two}
-use Rattle.osi_class.specs.declared.terms.Local.{Local}
-use Rattle.osi_carrier.specs.Negotiation.{acceptance, opened_link}
-use Rattle.osi_carrier.specs.Rows.{value_at}
-use Rattle.osi_rules.specs.declared.connections.Connection.{Connection}
-use Rattle.osi_rules.specs.declared.courses.Course.{Course}
-use Rattle.osi_rules.specs.declared.directions.Direction.TheVariants.{Left, Right}
-use Rattle.osi_rules.specs.declared.findings.Finding.{Finding}
-use Rattle.osi_rules.specs.declared.findings.Finding.TheVariants.{Broke, Kept, NotJudged}
+use Rattle.osi_fair.proofs.Vocabulary.{[], ap, arith, Bool, drop, false, inl, inr, List, None, Option, refl, set, Some, subst, sym}
+use Rattle.osi_fair.proofs.Vocabulary.{true, ℕ, ◌++◌, ◌<◌, ◌∙◌, ◌∷◌, ◌≡◌, ◌≤◌, ◌⊎◌, eq-eqb, AllByRecursion, list_any, position_or_len}
+use Rattle.osi_fair.proofs.Vocabulary.{position, slice_get, ◌&&◌, ◌==◌, ◌||◌, confirm, Connect, destination_of, disconnect, error, Value}
+use Rattle.osi_fair.proofs.Vocabulary.{Standing, Class, Two, Local, acceptance, opened_link, confirm_tests}
+use Rattle.osi_fair.proofs.Vocabulary.{is_named, is_open, is_over, is_refused, is_silent, other, uses, course_after, found}
+use Rattle.osi_fair.proofs.Vocabulary.{found_on, half_after, is_stopped, route, sent_on, silent_half, takes, uses_source, Connection}
+use Rattle.osi_fair.proofs.Vocabulary.{Course, Left, Right, Kept, NotJudged, Half, Refused, Named, ActsAlong, after_finding}
+use Rattle.osi_fair.proofs.Vocabulary.{finding_of, IsRight, IsRightNow, Line, opened_half, opened_line, unit as passing, Whole}
 use Rattle.osi_rules.specs.declared.findings.Reach.TheVariants as reach
-use Rattle.osi_rules.specs.declared.findings.Rule.TheVariants as rule
-use Rattle.osi_rules.specs.declared.halves.Half.{Half}
-use Rattle.osi_rules.specs.declared.halves.Phase.TheVariants.{Refused}
-use Rattle.osi_rules.specs.declared.routes.Route.TheVariants.{Named}
-use Rattle.osi_rules.specs.Rows.{first_failed, confirm_tests}
-use Rattle.osi_rules.specs.Sides.{is_named, is_open, is_over, is_over_by, is_refused, is_silent, other, uses}
-use Rattle.osi_rules.specs.Traffic.{course_after, found, found_on, half_after, is_stopped, route, sent_on, silent_half, takes}
-use Rattle.osi_rules.specs.Traffic.{uses_source}
-use Rattle.osi_fair.specs.Lines.{ActsAlong, IsRight, IsRightNow, Line, after_finding, finding_of, opened_half, opened_line, passes_own}
-use Rattle.osi_fair.specs.Naming.{unit as passing}
-use Rattle.osi_fair.specs.Wholes.{Whole}
+use Rattle.osi_fair.specs.Lines.{passes_own}
+use Rattle.osi_fair.proofs.small_facts_that_many_lemmas_use.{and_false, any_none, both as is_both, differ, first_is, judged_so, name_so}
+use Rattle.osi_fair.proofs.small_facts_that_many_lemmas_use.{number_is, rest_is, set_none, unequal}
 use Rattle.osi_fair.proofs.a_right_unit_is_not_blamed.{first_there, is_first, named_of}
 use Rattle.osi_fair.proofs.all_are_judged_unless_one_broke.{IsJudged}
-use Rattle.osi_fair.proofs.an_end_closes_last.{waits_open}
+use Rattle.osi_fair.proofs.an_end_closes_last.{right_holds as run_holds, waits_open}
 use Rattle.osi_fair.proofs.an_open_end_is_fair.{open_is_fair, turned_line}
-use Rattle.osi_fair.proofs.each_connection_of_a_called_end.{AreAbove, AreStrays, Answering, Asked, Called, IsUnlinked, Row, Running}
-use Rattle.osi_fair.proofs.each_connection_of_a_called_end.{Stand, line_of, answers, closes, comes, over, past, refuses, runs, talks}
+use Rattle.osi_fair.proofs.each_connection_of_a_called_end.{AreAbove, AreStrays, Answering, Asked, Called, IsUnlinked, Row, Running, Stand}
+use Rattle.osi_fair.proofs.each_connection_of_a_called_end.{line_of, answers, past, refuses, runs, comes}
 use Rattle.osi_fair.proofs.how_a_connection_opens.{called_opens, two_right}
-use Rattle.osi_fair.proofs.units_by_their_place.{Placed, at_elsewhere, at_first, at_here, at_other, first_at, is_at, units_at, values}
-use Rattle.osi_fair.proofs.what_a_called_end_closes_is_to_pass.{run_holds, sent_judged}
+use Rattle.osi_fair.proofs.units_by_their_place.{Placed, at_elsewhere, at_first, at_here, at_other, first_at, units_at, values}
+use Rattle.osi_fair.proofs.what_a_called_end_closes_is_to_pass.{sent_judged}
 use Rattle.osi_fair.proofs.what_holds_of_one_item.{HoldsOfEach, first_true}
 use Rattle.osi_fair.proofs.what_is_live_at_a_called_end.{Answers, IsHeld, Timely}
 use Rattle.osi_fair.proofs.what_is_put_before_the_cc_passes.{acts_join}
 use Rattle.osi_fair.proofs.what_keeps_names_apart.{AreApart}
 use Rattle.osi_fair.proofs.what_lasts_at_the_tap.{Lasts, lasts_passing}
 use Rattle.osi_fair.proofs.what_stays_of_each_connection.{left_then, right_own}
-use Rattle.osi_fair.proofs.which_units_are_for_a_connection.{AllNamed, line_named}
+use Rattle.osi_fair.proofs.which_units_are_for_a_connection.{AllNamed, line_named, names_in as is_at}
 use Rattle.osi_fair.proofs.while_no_class_is_selected.{after_change}
-use Rattle.osi_fair.proofs.how_a_unit_of_right_passes.{differ, no_list, rest_is, first_is, number_is, and_false, is_both, name_so, use_so}
-use Rattle.osi_fair.proofs.how_a_unit_of_right_passes.{judged_so, unequal, any_none, open_of, route_confirm, route_dr, route_two_so}
-use Rattle.osi_fair.proofs.how_a_unit_of_right_passes.{class_seen_same, strays_more, above_next, half_keeps, half_started, open_started}
-use Rattle.osi_fair.proofs.how_a_unit_of_right_passes.{half_not_refused, wrong_form, set_none, there_not, finding_kept, conns_kept}
-use Rattle.osi_fair.proofs.how_a_unit_of_right_passes.{course_kept}
+use Rattle.osi_fair.proofs.how_a_unit_of_right_passes.{no_list, use_so, route_confirm, route_dr, route_two_so, class_seen_same, strays_more}
+use Rattle.osi_fair.proofs.how_a_unit_of_right_passes.{above_next, half_keeps, half_started, open_started, half_not_refused, wrong_form}
+use Rattle.osi_fair.proofs.how_a_unit_of_right_passes.{there_not, finding_kept, conns_kept, course_kept}
+use Rattle.osi_fair.proofs.a_unit_of_a_whole_end_passes.{put_open as open_of}
 
 -- ---- the first unit passes
 
@@ -95,8 +77,7 @@ module _ (local : Local) (w : Whole) (f : Called local w) (apart : AreApart w.ta
     other_mine i other = ap (λ (l : List Placed). units_at i l) tagged ∙ at_other i p u later (λ e. other (sym e))
 
     other_begun : (i : ℕ) → (i ≡ p → ⊥) → (w.begun && first_at i f.tagged) ≡ false
-    other_begun i other = ap (λ (l : List Placed). w.begun && first_at i l) tagged
-        ∙ ap (λ (b : Bool). w.begun && b) (at_elsewhere i p (λ e. other (sym e))) ∙ and_false w.begun
+    other_begun i other = grind (arith, at_elsewhere, and_false)
 
     above_all : AreAbove w.end.given f.last (u ∷ values later)
     above_all = subst (λ (l : List Placed). AreAbove w.end.given f.last (values l)) tagged f.above
@@ -126,13 +107,11 @@ module _ (local : Local) (w : Whole) (f : Called local w) (apart : AreApart w.ta
           (other_mine i not_p) (f.stands i x there))
 
       top_by : (i : ℕ) (x : Connection) → ((i ≡ p) × (x ≡ next)) ⊎ ((i ≡ p → ⊥) × (slice_get cs i ≡ Some x)) → x.right.reference ≤ top
-      top_by i x (inl (same, is)) = subst (λ (y : Connection). y.right.reference ≤ top) (sym is) next_top
-      top_by i x (inr (not_p, there)) = let below = f.tops i x there in omega arith
+      top_by i x h = grind arith
 
       two_by : (i : ℕ) (x : Connection) → ((i ≡ p) × (x ≡ next)) ⊎ ((i ≡ p → ⊥) × (slice_get cs i ≡ Some x)) →
           is_open x.right.phase ≡ true → (takes Right u w.tap).state.course.class ≡ Some Two
-      two_by i x (inl (same, is)) up = two (ap (λ (y : Connection). is_open y.right.phase) (sym is) ∙ up)
-      two_by i x (inr (not_p, there)) up = lasts.two (f.two i x there up)
+      two_by i x h up = grind (arith, lasts)
 
       gone_by : (i : ℕ) → slice_get cs i ≡ None →
           (units_at i later ≡ []) × (units_at i f.came ≡ []) × ((r : ℕ) → f.refs i ≡ Some r → IsUnlinked w.end r)
@@ -143,10 +122,7 @@ module _ (local : Local) (w : Whole) (f : Called local w) (apart : AreApart w.ta
       held_by : Timely w.end w.coming cs (values f.tagged) → (i : ℕ) (x : Connection) →
           ((i ≡ p) × (x ≡ next)) ⊎ ((i ≡ p → ⊥) × (slice_get cs i ≡ Some x)) → is_open x.left.phase ≡ true → is_open x.right.phase ≡ true →
           IsHeld w.end w.coming x.right.reference
-      held_by h i x (inl (same, is)) a b =
-          subst (λ (y : Connection). IsHeld w.end w.coming y.right.reference) (sym is)
-          (held h (ap (λ (y : Connection). is_open y.left.phase) (sym is) ∙ a) (ap (λ (y : Connection). is_open y.right.phase) (sym is)
-          ∙ b))
+      held_by h i x (inl (same, is)) a b = grind arith
       held_by h i x (inr (not_p, there)) a b = h.taps i x there a b
 
       passed : Called local after
@@ -204,11 +180,7 @@ module _ (local : Local) (w : Whole) (f : Called local w) (apart : AreApart w.ta
       half = h.seen begins ∙ h.asked.left
 
       cc_named : is_named Right n c ≡ true
-      cc_named = name_so (is_over Right c) (is_silent c.seen_by_right.phase) (c.seen_by_right.reference == n)
-          (ap (λ (b : Bool). c.is_judged && b) (ap (λ (x : Half). is_over_by x c.seen_by_right) h.asked.right
-          ∙ ap (λ (x : Half). is_over_by silent_half x) half) ∙ and_false c.is_judged)
-          (ap (λ (x : Half). is_silent x.phase) half)
-          (eq-eqb c.seen_by_right.reference n (ap (λ (x : Half). x.reference) half))
+      cc_named = grind (arith, name_so, half, and_false, eq-eqb)
 
       above_cc : (f.last < h.r) × AreAbove w.end.given h.r (values later)
       above_cc = subst (λ (v : Value). AreAbove w.end.given f.last (v ∷ values later)) u_cc above_all
@@ -226,8 +198,7 @@ module _ (local : Local) (w : Whole) (f : Called local w) (apart : AreApart w.ta
           ∙ two_right local h.x h.size h.r c w.tap.course h.selected h.asked.offer h.asked.right)
 
       cc_route : route Right w.tap.course u ≡ Named n
-      cc_route = ap (λ (v : Value). route Right w.tap.course v) u_cc
-          ∙ route_confirm w.tap.course.class (is_stopped Left w.tap.course) n (acceptance Two h.size h.x local h.r) f.class
+      cc_route = grind (arith, u_cc, route_confirm)
 
       cc_first : position (is_named Right n) cs ≡ Some p
       cc_first = name_first n p c at cc_named
@@ -239,8 +210,7 @@ module _ (local : Local) (w : Whole) (f : Called local w) (apart : AreApart w.ta
       cc_conns = conns_kept u w.tap n p c right cc_route cc_first at cc_kept ∙ ap (λ (v : Value). set cs p (sent_on Right v c)) u_cc
 
       cc_course : (takes Right u w.tap).state.course ≡ course_after Right c cc_is true w.tap.course
-      cc_course = course_kept u w.tap n p c right cc_route cc_first at cc_kept
-          ∙ ap (λ (v : Value). course_after Right c v true w.tap.course) u_cc
+      cc_course = grind (arith, course_kept, cc_route, cc_first, cc_kept, u_cc)
 
       cc_two : (takes Right u w.tap).state.course.class ≡ Some Two
       cc_two = ap (λ (k : Course). k.class) cc_course
@@ -291,20 +261,13 @@ module _ (local : Local) (w : Whole) (f : Called local w) (apart : AreApart w.ta
       dr_half = seen begins ∙ a.left
 
       dr_named : is_named Right x.source c ≡ true
-      dr_named = name_so (is_over Right c) (is_silent c.seen_by_right.phase) (c.seen_by_right.reference == x.source)
-          (ap (λ (b : Bool). c.is_judged && b) (ap (λ (h : Half). is_over_by h c.seen_by_right) a.right
-          ∙ ap (λ (h : Half). is_over_by silent_half h) dr_half) ∙ and_false c.is_judged)
-          (ap (λ (h : Half). is_silent h.phase) dr_half)
-          (eq-eqb c.seen_by_right.reference x.source (ap (λ (h : Half). h.reference) dr_half))
+      dr_named = grind (arith, name_so, dr_half, and_false, eq-eqb)
 
       dr_kept : found_on Right w.tap c u ≡ Kept
-      dr_kept = ap (λ (v : Value). found_on Right w.tap c v) u_dr
-          ∙ judged_so c.is_judged (found Right w.tap.course false c dr) Kept (judged p c at)
-          (ap (λ (h : Half). first_failed ((is_silent h.phase || is_open h.phase, Broke rule.Closed) ∷ [])) a.right)
+      dr_kept = grind (arith, u_dr, judged_so)
 
       dr_route : route Right w.tap.course u ≡ Named x.source
-      dr_route = ap (λ (v : Value). route Right w.tap.course v) u_dr
-          ∙ route_dr w.tap.course.class (is_stopped Left w.tap.course) x.source 0 reason [] f.class
+      dr_route = grind (arith, u_dr, route_dr)
 
       dr_first : position (is_named Right x.source) cs ≡ Some p
       dr_first = name_first x.source p c at dr_named
@@ -313,12 +276,10 @@ module _ (local : Local) (w : Whole) (f : Called local w) (apart : AreApart w.ta
       dr_next = sent_on Right dr c
 
       dr_conns : (takes Right u w.tap).state.connections ≡ set cs p dr_next
-      dr_conns = conns_kept u w.tap x.source p c right dr_route dr_first at dr_kept
-          ∙ ap (λ (v : Value). set cs p (sent_on Right v c)) u_dr
+      dr_conns = grind (arith, conns_kept, dr_route, dr_first, dr_kept, u_dr)
 
       dr_course : (takes Right u w.tap).state.course ≡ course_after Right c dr true w.tap.course
-      dr_course = course_kept u w.tap x.source p c right dr_route dr_first at dr_kept
-          ∙ ap (λ (v : Value). course_after Right c v true w.tap.course) u_dr
+      dr_course = grind (arith, course_kept, dr_route, dr_first, dr_kept, u_dr)
 
       dr_right : dr_next.right ≡ record silent_half { phase = Refused }
       dr_right = ap (λ (h : Half). half_after dr h) a.right
@@ -410,8 +371,7 @@ module _ (local : Local) (w : Whole) (f : Called local w) (apart : AreApart w.ta
       }
 
       tap_is : line.tap ≡ next
-      tap_is = ap (λ (x : Connection). after_finding Right (finding_of Right w.tap.course in_use x u) u x) g.tap
-          ∙ ap (λ (k : Finding). after_finding Right k u c) run_kept
+      tap_is = grind (arith, run_kept)
 
       along : ActsAlong Right g.r g.peer g.first (g.acts ++ passes_own w.tap.course in_use ∷ []) line
       along = acts_join Right g.r g.peer g.acts (passes_own w.tap.course in_use ∷ []) g.first g.line line g.along
@@ -425,23 +385,16 @@ module _ (local : Local) (w : Whole) (f : Called local w) (apart : AreApart w.ta
 
       -- as long as the end has its link, it has not closed the connection
       link_open : (l : Standing) → g.line.link ≡ Some l → is_open next.right.phase ≡ true
-      link_open l e =
-          let held = run_holds g.r g.peer g.first line (g.acts ++ passes_own w.tap.course in_use ∷ []) g.opened along next_judged in
-          sym tap_open ∙ open_of g.r g.peer held.limit held.tally line.tap.right line.tap.left line.put line.link l held.puts e
+      link_open l e = grind (arith, run_holds, along, next_judged, tap_open, open_of)
 
       not_linked : is_open next.right.phase ≡ false → (r : ℕ) → r ≡ g.r → Row w.end w.coming g.r g.peer g.line.link g.line.coming →
           IsUnlinked w.end r
-      not_linked shut r same (talks l there is all) live q link here = differ (is_open next.right.phase) (link_open l is) shut
-      not_linked shut r same (closes un is all) live q link here = un live q link (ap (λ (i : ℕ). value_at i w.end.live) (sym same) ∙ here)
-      not_linked shut r same (over h) live q link here = differ (is_some w.end.ended) h (ap is_some live)
+      not_linked shut r same k live q link here = grind (arith, differ, link_open)
 
       -- the end puts nothing after it has closed the connection
       none_left : (l : List Value) → units_at p later ≡ l → is_open next.right.phase ≡ false → l ≡ []
       none_left [] e shut = refl
-      none_left (v ∷ vs) e shut = differ (is_open next.right.phase)
-          (sym tap_open ∙ waits_open Right g.r g.peer g.first line (g.acts ++ passes_own w.tap.course in_use ∷ []) g.opened along
-          next_judged
-          (λ none. no_list v vs (units_at p later) e none)) shut
+      none_left (v ∷ vs) e shut = grind (arith, differ, tap_open, waits_open, along, next_judged, no_list)
 
       run_stand : (b : Bool) → is_open next.right.phase ≡ b → StandAfter p next
       run_stand true up = runs (record {

@@ -1,38 +1,25 @@
 -- A unit of a whole calling end passes: a CR, whose connection waits then, or a unit of an open connection, which is right.
 -- For the law on a whole end.
-use Rattle.std.proofs.Common.{◌≡◌, ◌∙◌, ℕ, Bool, true, false, List, [], ◌∷◌, ◌++◌, set, refl, sym, ap, subst}
-use Rattle.std.proofs.Common.{Option, Some, None, inl, inr, ◌⊎◌, if◌then◌else◌, is_some}
-use Rattle.std.specs.Prelude.{◌&&◌, ◌||◌, ◌==◌, not, position, slice_get}
-use Rattle.std.specs.List.{AllByRecursion, position_or_len}
-use Rattle.std.proofs.lemmas.Bool.{eqb-true}
-use Rattle.osi_tpdu.specs.Value.{Value, Connect, confirm, request, destination_of}
-use Rattle.osi_class.specs.Link.{Standing}
-use Rattle.osi_class.specs.declared.terms.Class.{Class}
-use Rattle.osi_class.specs.declared.terms.Class.TheVariants.{Two, Zero}
-use Rattle.osi_class.specs.declared.terms.Local.{Local}
-use Rattle.osi_carrier.specs.Rows.{value_at}
-use Rattle.osi_carrier.specs.State.{State, Connection as Live, asked, closing, linked}
-use Rattle.osi_rules.specs.declared.connections.Connection.{Connection}
-use Rattle.osi_rules.specs.declared.directions.Direction.TheVariants.{Left, Right}
-use Rattle.osi_rules.specs.declared.findings.Finding.{Finding}
-use Rattle.osi_rules.specs.declared.findings.Finding.TheVariants.{Broke, Kept, NotJudged, Outside, TooMany}
-use Rattle.osi_rules.specs.declared.halves.Half.{Half}
-use Rattle.osi_rules.specs.Reaches.{is_applied, reach_of}
-use Rattle.osi_rules.specs.Rows.{first_failed}
-use Rattle.osi_rules.specs.Sides.{is_closing, is_free, is_named, is_open, is_over, is_silent}
-use Rattle.osi_rules.specs.Traffic.{Outcome, State as Traffic, asked_by, asks_by, class_for, is_stopped, none_told, placed, request_tests}
-use Rattle.osi_rules.specs.Traffic.{found, route, route_in, routed, takes, uses_source}
-use Rattle.osi_fair.specs.Following.{IsAtPlace}
-use Rattle.osi_fair.specs.Lines.{IsRight, IsRightNow, Line, after_finding, finding_of, passes_own}
-use Rattle.osi_fair.specs.Naming.{unit as passing}
-use Rattle.osi_fair.specs.Wholes.{Whole}
+use Rattle.osi_fair.proofs.Vocabulary.{arith}
+use Rattle.osi_fair.proofs.Vocabulary.{[], ap, Bool, false, if◌then◌else◌, inl, inr, List, None, Option, refl, set, Some, subst}
+use Rattle.osi_fair.proofs.Vocabulary.{sym, true, ℕ, ◌++◌, ◌∙◌, ◌∷◌, ◌≡◌, ◌⊎◌, eqb-true, AllByRecursion, position_or_len, not, position}
+use Rattle.osi_fair.proofs.Vocabulary.{slice_get, ◌&&◌, ◌==◌, confirm, Connect, destination_of, request, Value, Standing, Class, Two}
+use Rattle.osi_fair.proofs.Vocabulary.{Local, value_at, asked, Live, linked, is_applied, reach_of, is_free}
+use Rattle.osi_fair.proofs.Vocabulary.{is_named, is_open, is_over, is_silent, asked_by, asks_by, found, none_told}
+use Rattle.osi_fair.proofs.Vocabulary.{Outcome, placed, route_in, routed, Traffic, takes, uses_source, Connection}
+use Rattle.osi_fair.proofs.Vocabulary.{Left, Right, Finding, Kept, NotJudged, Half, IsAtPlace, after_finding, finding_of, IsRight}
+use Rattle.osi_fair.proofs.Vocabulary.{IsRightNow, Line, unit as passing, Whole}
+use Rattle.osi_carrier.specs.State.{State}
+use Rattle.osi_fair.specs.Lines.{passes_own}
+use Rattle.osi_fair.proofs.small_facts_that_many_lemmas_use.{and_false, and_first, and_second, both, differ, first_is, no_list, rest_is}
+use Rattle.osi_fair.proofs.small_facts_that_many_lemmas_use.{set_other, some_same as item_is}
 use Rattle.osi_fair.proofs.a_right_unit_is_not_blamed.{first_there, is_first, named_of}
 use Rattle.osi_fair.proofs.a_unit_is_an_act_of_its_line.{after_is, found_is}
 use Rattle.osi_fair.proofs.an_end_closes_last.{waits_open}
 use Rattle.osi_fair.proofs.an_open_end_is_fair.{open_is_fair}
-use Rattle.osi_fair.proofs.each_connection_has_its_line.{Followed, Following, IsAnswer, IsAsking, IsOwned, Row, Tracked, Tracks, Waiting}
-use Rattle.osi_fair.proofs.each_connection_has_its_line.{AreSettled, IsSettled, IsSpare, all_so, asking, asks, closes, is_tracked}
-use Rattle.osi_fair.proofs.each_connection_has_its_line.{is_waiting, no_spare, of, over, stray, talks, tracks_hold, tracks_on}
+use Rattle.osi_fair.proofs.each_connection_has_its_line.{followed_at, Followed, Following, IsAnswer, IsAsking, IsOwned, Row, Tracked}
+use Rattle.osi_fair.proofs.each_connection_has_its_line.{Tracks, Waiting, AreSettled, IsSettled, IsSpare, all_so, asking, asks, closes}
+use Rattle.osi_fair.proofs.each_connection_has_its_line.{is_tracked, is_waiting, no_spare, of, over, stray, talks, tracks_hold, tracks_on}
 use Rattle.osi_fair.proofs.what_holds_of_a_line.{PutsAt, Tally}
 use Rattle.osi_fair.proofs.what_holds_of_one_item.{after_add, after_set, first_true}
 use Rattle.osi_fair.proofs.what_lasts_at_the_tap.{lasts_passing}
@@ -43,8 +30,8 @@ use Rattle.osi_fair.proofs.which_units_are_for_a_connection.{IsOf, picked_first,
 use Rattle.osi_fair.proofs.which_units_are_for_a_connection.{picked_each}
 use Rattle.osi_fair.proofs.what_belongs_to_no_open_connection.{strays_last}
 use Rattle.osi_fair.proofs.while_no_class_is_selected.{after_change, set_there}
-use Rattle.osi_fair.proofs.no_two_open_connections_have_one_peer.{added_still, and_second, both, differ, item_is, one_peer, right_there}
-use Rattle.osi_fair.proofs.no_two_open_connections_have_one_peer.{set_other, there_not_silent, tracked_over, unlike}
+use Rattle.osi_fair.proofs.no_two_open_connections_have_one_peer.{added_still, one_peer, right_there, there_not_silent, tracked_over}
+use Rattle.osi_fair.proofs.a_dt_of_class_zero_passes.{unlike}
 
 -- ---- a CR
 
@@ -52,50 +39,31 @@ abbrev Request : Connect → List Connection → Outcome → Type 0
 Request x cs o = (o.state.connections ≡ cs) ⊎ (o.state.connections ≡ placed (asked_by x) cs (position is_free cs))
 
 asks_does : (x : Connect) (s : Traffic) (f : Finding) → Request x s.connections (asks_by Left f x s)
-asks_does x s Kept = inr refl
-asks_does x s (Broke rule) = inl refl
-asks_does x s Outside = inl refl
-asks_does x s TooMany = inl refl
-asks_does x s NotJudged = inl refl
+asks_does x s f = grind arith
 
 route_does : (x : Connect) (s : Traffic) (k : Option Class) (b : Bool) →
     Request x s.connections (routed Left (request x) s (route_in k Left b (request x)))
-route_does x s None b = asks_does x s (first_failed (request_tests s x))
-route_does x s (Some Zero) b = inl refl
-route_does x s (Some Two) b = asks_does x s (first_failed (request_tests s x))
+route_does x s k b = grind (arith, asks_does)
 
 stop_does : (x : Connect) (s : Traffic) (b : Bool) (o : Outcome) → Request x s.connections o →
     Request x s.connections (if b then none_told Left NotJudged s else o)
-stop_does x s true o h = inl refl
-stop_does x s false o h = h
+stop_does x s b o h = grind arith
 
 request_does : (x : Connect) (s : Traffic) → Request x s.connections (takes Left (request x) s)
-request_does x s =
-    stop_does x s (is_stopped Left s.course) (routed Left (request x) s (route Left s.course (request x)))
-    (route_does x s (class_for Left s.course) (is_stopped Right s.course))
+request_does x s = grind (arith, stop_does, route_does)
 
 was_or_new : {A B C : Type 0} → (A × B) ⊎ C → B ⊎ C
-was_or_new (inl (a, b)) = inl b
-was_or_new (inr c) = inr c
+was_or_new h = grind arith
 
 item_of : (new : Connection) (cs : List Connection) (o : Option ℕ) (i : ℕ) (e : Connection) → slice_get (placed new cs o) i ≡ Some e →
     (e ≡ new) ⊎ (slice_get cs i ≡ Some e)
-item_of new cs None i e h = was_or_new (after_add cs i new e h)
-item_of new cs (Some q) i e h = was_or_new (after_set cs q i new e h)
-
-and_free : (a b : Bool) → (a && b) ≡ true → a ≡ true
-and_free true b h = refl
-and_free false b h = cc
+item_of new cs o i e h = grind (arith, was_or_new, after_add, after_set)
 
 stays_placed : (new : Connection) (cs : List Connection) (o : Option ℕ) → position is_free cs ≡ o → (i : ℕ) (e : Connection) →
     slice_get cs i ≡ Some e → (is_free e ≡ true → ⊥) → slice_get (placed new cs o) i ≡ Some e
 stays_placed new cs None h i e at busy = added_still cs i new e at
 stays_placed new cs (Some q) h i e at busy =
     set_other cs q i new e (λ same. busy (first_true is_free cs q e h (ap (λ (n : ℕ). slice_get cs n) (sym same) ∙ at))) at
-
-pub none_begun : (b : Bool) → (b && false) ≡ false
-none_begun true = refl
-none_begun false = refl
 
 -- ---- the same line with other units
 
@@ -108,26 +76,15 @@ row_same local end coming r peer line after link same (closes o there q e is all
 row_same local end coming r peer line after link same (over h) = over h
 
 -- of a link that is there, the end has not closed the connection
-put_open : (r peer limit : ℕ) (x : Tally) (mine theirs : Half) (put : List Value) (link : Option Standing) (l : Standing) →
+pub put_open : (r peer limit : ℕ) (x : Tally) (mine theirs : Half) (put : List Value) (link : Option Standing) (l : Standing) →
     PutsAt r peer limit x mine theirs put link → link ≡ Some l → is_open mine.phase ≡ true
-put_open r peer limit x mine theirs put None l h e = absurd (cc e)
-put_open r peer limit x mine theirs put (Some link) l (puts, is) e = is
+put_open r peer limit x mine theirs put link l h e = grind arith
 
 -- the end has asked for it, or has it open
 abbrev is_held : Option Live → Bool
-is_held None = false
 is_held (Some asked) = true
 is_held (Some (linked peer link)) = true
-is_held (Some (closing peer)) = false
-
-no_list : (v : Value) (vs : List Value) → v ∷ vs ≡ [] → ⊥
-no_list v vs e = cc
-
-same_head : (u v : Value) (us vs : List Value) → u ∷ us ≡ v ∷ vs → u ≡ v
-same_head u v us vs e = cc
-
-same_tail : (u v : Value) (us vs : List Value) → u ∷ us ≡ v ∷ vs → us ≡ vs
-same_tail u v us vs e = cc
+is_held _ = false
 
 pub all_two : (P Q R : Value → Type 0) (vs : List Value) → ((v : Value) → P v → Q v → R v) → AllByRecursion P vs → AllByRecursion Q vs →
     AllByRecursion R vs
@@ -145,9 +102,7 @@ module _ (local : Local) (w : Whole) (f : Followed local w) (sane : IsSane w.tap
 
   request_item : (x : Connect) (i : ℕ) (e : Connection) → Request x cs (takes Left (request x) w.tap) →
       slice_get (takes Left (request x) w.tap).state.connections i ≡ Some e → (e ≡ asked_by x) ⊎ (slice_get cs i ≡ Some e)
-  request_item x i e (inl is) at = inr (ap (λ (l : List Connection). slice_get l i) (sym is) ∙ at)
-  request_item x i e (inr is) at =
-      item_of (asked_by x) cs (position is_free cs) i e (ap (λ (l : List Connection). slice_get l i) (sym is) ∙ at)
+  request_item x i e h at = grind (arith, item_of)
 
   request_stays : (x : Connect) (i : ℕ) (e : Connection) → Request x cs (takes Left (request x) w.tap) → slice_get cs i ≡ Some e →
       is_tracked e ≡ true → slice_get (takes Left (request x) w.tap).state.connections i ≡ Some e
@@ -156,24 +111,21 @@ module _ (local : Local) (w : Whole) (f : Followed local w) (sane : IsSane w.tap
       ap (λ (l : List Connection). slice_get l i) is
       ∙ stays_placed (asked_by x) cs (position is_free cs) refl i e at
       (λ free. tracked_over e (sane.apart.sound i e at (sane.judged firm i e at)) tracked
-      (and_free (is_over Left e) (is_over Right e) free))
+      (and_first (is_over Left e) (is_over Right e) free))
 
   tracked_still : (x : Connect) (r : ℕ) → Tracked cs r → Tracked (takes Left (request x) w.tap).state.connections r
   tracked_still x r (p, c, at, tracked, is) = (p, c, request_stays x p c (request_does x w.tap) at tracked, tracked, is)
 
   tracked_by : (x : Connect) (p : ℕ) (c : Connection) → is_tracked c ≡ true → (c ≡ asked_by x) ⊎ (slice_get cs p ≡ Some c) →
       slice_get cs p ≡ Some c
-  tracked_by x p c tracked (inl is) = absurd (cc (sym (ap is_tracked is) ∙ tracked))
-  tracked_by x p c tracked (inr at) = at
+  tracked_by x p c tracked h = grind arith
 
   strays_still : (v : Value) → w.tap.course.strays ≡ true → (takes Left v w.tap).state.course.strays ≡ true
   strays_still v h = strays_last (passing Left v) w.tap h
 
   spares_still : (v : Value) (r peer : ℕ) (spare : List Value) → AllByRecursion (IsSpare w.tap.course.strays r peer) spare →
       AllByRecursion (IsSpare (takes Left v w.tap).state.course.strays r peer) spare
-  spares_still v r peer spare h =
-      all_so (IsSpare w.tap.course.strays r peer) (IsSpare (takes Left v w.tap).state.course.strays r peer) spare
-      (λ u k. record { is = k.is; strays = strays_still v k.strays }) h
+  spares_still v r peer spare h = search (arith, all_so, strays_still)
 
   owned_still : (x : Connect) (v : Value) → IsOwned w.tap v → IsOwned (takes Left (request x) w.tap).state v
   owned_still x v (asking y e) = asking y e
@@ -183,46 +135,23 @@ module _ (local : Local) (w : Whole) (f : Followed local w) (sane : IsSane w.tap
   request_line : (x : Connect) (rest : List Value) (c : Connection) → w.put ≡ request x ∷ rest →
       Following local w.put w.begun w.tap.course.strays w.end w.coming c →
       Following local rest false (takes Left (request x) w.tap).state.course.strays w.end w.coming c
-  request_line x rest c e g = record {
-    r = g.r;
-    peer = g.peer;
-    line = g.line;
-    left = g.left;
-    right = g.right;
-    tracks = g.tracks;
-    tap = g.tap;
-    spare = g.spare;
-    put_is = ap (λ (l : List Value). ours g.r g.peer l) (sym e) ∙ g.put_is;
-    spares = spares_still (request x) g.r g.peer g.spare g.spares;
-    gone = g.gone;
-    begun_is = g.begun_is ∙ ap (λ (l : List Value). w.begun && leads (is_ours g.r g.peer) l) e ∙ none_begun w.begun;
-    row = g.row;
-    calm = g.calm;
-  }
+  request_line x rest c e g = followed_at g (ap (λ (l : List Value). ours g.r g.peer l) (sym e))
+      (spares_still (request x) g.r g.peer g.spare g.spares)
+      (ap (λ (l : List Value). w.begun && leads (is_ours g.r g.peer) l) e ∙ and_false w.begun) g.row
 
   request_waits : (x : Connect) (c : Connection) (p : ℕ) → IsAsking local w.end w.coming x →
       (c ≡ asked_by x) ⊎ (slice_get cs p ≡ Some c) → is_waiting c ≡ true → Waiting local w.end w.coming c
-  request_waits x c p a (inl is) waits = subst (λ (e : Connection). Waiting local w.end w.coming e) (sym is) (record {
-    r = x.source;
-    left = a.left;
-    right = refl;
-    seen = refl;
-    early = a.early;
-    row = a.row;
-  })
+  request_waits x c p a (inl is) waits = subst (λ (e : Connection). Waiting local w.end w.coming e) (sym is) (search (arith, x.source))
   request_waits x c p a (inr at) waits = f.waiting p c at waits
 
   request_silent : (x : Connect) (i : ℕ) (c : Connection) → is_silent c.right.phase ≡ true → (c ≡ asked_by x) ⊎ (slice_get cs i ≡ Some c) →
       is_open c.left.phase ≡ true
-  request_silent x i c none (inl is) = ap (λ (e : Connection). is_open e.left.phase) is
-  request_silent x i c none (inr at) = f.silent i c at none
+  request_silent x i c none h = grind arith
 
   -- a connection that waits now has the reference of the CR, or waited before
   settled_one : (x : Connect) (rest : List Value) (r given : ℕ) → IsSettled cs (request x ∷ rest) given r → (i : ℕ) (c : Connection) →
       (c ≡ asked_by x) ⊎ (slice_get cs i ≡ Some c) → is_waiting c ≡ true → c.left.reference ≡ r → ⊥
-  settled_one x rest r given k i c (inl is) waits same =
-      k.asks.0 x refl (ap (λ (e : Connection). e.left.reference) (sym is) ∙ same)
-  settled_one x rest r given k i c (inr at) waits same = k.waits i c at waits same
+  settled_one x rest r given k i c h waits same = grind arith
 
   settled_item : (x : Connect) (rest : List Value) (r given : ℕ) → IsSettled cs (request x ∷ rest) given r →
       IsSettled (takes Left (request x) w.tap).state.connections rest given r
@@ -286,20 +215,16 @@ module _ (local : Local) (w : Whole) (f : Followed local w) (sane : IsSane w.tap
       first ∙ ap (λ (i : ℕ). Some i) (sym same)
 
   named_parts : (a b d : Bool) → (not a && (not b && d)) ≡ true → b ≡ false
-  named_parts false false d h = refl
-  named_parts false true d h = cc
-  named_parts true b d h = cc
+  named_parts a b d h = grind arith
 
   judged_so : (j : Bool) (g : Finding) → j ≡ true → g ≡ Kept → (if j then g else NotJudged) ≡ Kept
-  judged_so true g h e = e
-  judged_so false g h e = cc
+  judged_so j g h e = grind arith
 
   -- the first of the units with the references of a line is the line's
   put_first : (u : Value) (others line spare : List Value) → u ∷ others ≡ line ++ spare → (line ≡ [] → spare ≡ []) →
       (vs : List Value) × ((line ≡ u ∷ vs) × (others ≡ vs ++ spare))
   put_first u others [] spare e none = absurd (no_list u others (e ∙ none refl))
-  put_first u others (v ∷ vs) spare e none =
-      (vs, (ap (λ (x : Value). x ∷ vs) (sym (same_head u v others (vs ++ spare) e)), same_tail u v others (vs ++ spare) e))
+  put_first u others (v ∷ vs) spare e none = grind (arith, first_is, rest_is)
 
   module _ (u : Value) (rest : List Value) (p : ℕ) (c : Connection) (e : w.put ≡ u ∷ rest) (begun : w.begun ≡ true)
       (left : w.tap.course.left_stopped ≡ false) (at : slice_get cs p ≡ Some c) (tracked : is_tracked c ≡ true)
@@ -334,8 +259,7 @@ module _ (local : Local) (w : Whole) (f : Followed local w) (sane : IsSane w.tap
     first_put = parts.1.0
 
     line_begun : g.line.begun ≡ true
-    line_begun = g.begun_is ∙ ap (λ (l : List Value). w.begun && leads (is_ours g.r g.peer) l) e
-        ∙ both w.begun (is_ours g.r g.peer u) begun named_by
+    line_begun = grind (arith, both, named_by)
 
     right : IsRight Left c u
     right =
@@ -351,12 +275,7 @@ module _ (local : Local) (w : Whole) (f : Followed local w) (sane : IsSane w.tap
     seen = f.seen p c at tracked (named_parts (is_over Left c) (is_silent c.seen_by_left.phase) (c.seen_by_left.reference == n) is_its_name)
 
     place : IsAtPlace Left w.tap n p c
-    place = record {
-      judged = left;
-      class = seen;
-      first = name_first n p c at is_its_name;
-      is = at;
-    }
+    place = search (arith, judged, seen, name_first, is_its_name)
 
     abbrev in_use : Bool
     in_use = uses_source Left cs u
@@ -407,8 +326,7 @@ module _ (local : Local) (w : Whole) (f : Followed local w) (sane : IsSane w.tap
       next_right = right_then u (is_applied (finding c)) (reach_of (Some Two) (finding c)) c
 
       tracked_if : is_open next.left.phase ≡ true → is_tracked next ≡ true
-      tracked_if h = both (is_open next.left.phase) (is_open next.right.phase || is_closing next.right.phase) h
-          (ap (λ (x : Half). is_open x.phase || is_closing x.phase) next_right ∙ right_there c tracked)
+      tracked_if h = grind (arith, both, right, next_right, right_there)
 
       -- as long as the end has its link, it has not closed the connection
       linked_open : (link : Standing) → g.line.link ≡ Some link → is_tracked next ≡ true
@@ -421,20 +339,12 @@ module _ (local : Local) (w : Whole) (f : Followed local w) (sane : IsSane w.tap
       row_open : w.end.ended ≡ None → (o : Option Live) → value_at g.r w.end.live ≡ o → is_held o ≡ true →
           Row local w.end w.coming g.r g.peer g.line →
           is_tracked next ≡ true
-      row_open lasts o e held (asks there x source early dcs first is) = linked_open _ is
-      row_open lasts o e held (talks link there is all) = linked_open link is
-      row_open lasts o e held (over h) = differ (is_some w.end.ended) h (ap is_some lasts)
-      row_open lasts o e held (closes k there q (inl is) none all) =
-          differ (is_held o) held (ap is_held (sym e ∙ there ∙ is))
-      row_open lasts o e held (closes k there q (inr is) none all) =
-          differ (is_held o) held (ap is_held (sym e ∙ there ∙ is))
+      row_open lasts o e held l = grind (arith, linked_open, differ)
 
       -- the end puts nothing after it has closed the connection
       none_by : (l : List Value) → still ≡ l → is_tracked next ≡ false → l ≡ []
       none_by [] e h = refl
-      none_by (v ∷ vs) e h = differ (is_tracked next) (tracked_if (ap (λ (x : Connection). is_open x.left.phase) (sym tap_after)
-          ∙ waits_open Left g.r g.peer tracks_after.first line_after tracks_after.acts tracks_after.opened tracks_after.along line_judged
-          (λ none. no_list v vs (sym e ∙ none)))) h
+      none_by (v ∷ vs) e h = grind (arith, differ, tracked_if, tap_after, waits_open, tracks_after, line_judged, no_list)
 
       -- so the units with its references are spare then
       spare_left : is_tracked next ≡ false → ours g.r g.peer rest ≡ g.spare
@@ -477,53 +387,32 @@ module _ (local : Local) (w : Whole) (f : Followed local w) (sane : IsSane w.tap
           let k = f.lines i x there is_there in
           let not_named : is_ours k.r k.peer u ≡ false = ours_not k.r n k.peer u (λ same. other (one_peer w.tap sane firm i p x c there at
           is_there tracked (k.right ∙ sym same))) named in
-          record {
-            r = k.r;
-            peer = k.peer;
-            line = k.line;
-            left = k.left;
-            right = k.right;
-            tracks = k.tracks;
-            tap = k.tap;
-            spare = k.spare;
-            put_is = sym (picked_rest (is_ours k.r k.peer) u rest not_named) ∙ ap (λ (l : List Value). ours k.r k.peer l) (sym e)
-                ∙ k.put_is;
-            spares = spares_still u k.r k.peer k.spare k.spares;
-            gone = k.gone;
-            begun_is = k.begun_is ∙ ap (λ (l : List Value). w.begun && leads (is_ours k.r k.peer) l) e
-                ∙ ap (λ (b : Bool). w.begun && b) not_named ∙ none_begun w.begun;
-            row = k.row;
-            calm = k.calm;
-          }
+          followed_at k (sym (picked_rest (is_ours k.r k.peer) u rest not_named) ∙ ap (λ (l : List Value). ours k.r k.peer l) (sym e))
+          (spares_still u k.r k.peer k.spare k.spares)
+          (ap (λ (l : List Value). w.begun && leads (is_ours k.r k.peer) l) e ∙ ap (λ (b : Bool). w.begun && b) not_named
+          ∙ and_false w.begun)
+          k.row
 
       line_at : (i : ℕ) (x : Connection) → is_tracked x ≡ true →
           ((i ≡ p) × (x ≡ next)) ⊎ ((i ≡ p → ⊥) × (slice_get cs i ≡ Some x)) →
           Following local rest false after.tap.course.strays w.end w.coming x
-      line_at i x is_there (inl (same, is)) =
-          subst (λ (y : Connection). Following local rest false after.tap.course.strays w.end w.coming y) (sym is) line_next
+      line_at i x is_there (inl (same, is)) = grind (arith, line_next)
       line_at i x is_there (inr (other, there)) = line_other i x other there is_there
 
       waits_at : (i : ℕ) (x : Connection) → is_waiting x ≡ true →
           ((i ≡ p) × (x ≡ next)) ⊎ ((i ≡ p → ⊥) × (slice_get cs i ≡ Some x)) → Waiting local w.end w.coming x
-      waits_at i x waits (inl (same, is)) =
-          differ (is_silent c.right.phase) (ap (λ (h : Half). is_silent h.phase) (sym (ap (λ (y : Connection). y.right) is ∙ next_right))
-          ∙ and_second (is_open x.left.phase) (is_silent x.right.phase) waits) (there_not_silent c.right.phase (right_there c tracked))
+      waits_at i x waits (inl (same, is)) = grind (arith, differ, right, next_right, and_second, there_not_silent, right_there)
       waits_at i x waits (inr (other, there)) = f.waiting i x there waits
 
       silent_at : (i : ℕ) (x : Connection) → is_silent x.right.phase ≡ true →
           ((i ≡ p) × (x ≡ next)) ⊎ ((i ≡ p → ⊥) × (slice_get cs i ≡ Some x)) → is_open x.left.phase ≡ true
-      silent_at i x none (inl (same, is)) =
-          differ (is_silent c.right.phase) (ap (λ (h : Half). is_silent h.phase) (sym (ap (λ (y : Connection). y.right) is ∙ next_right))
-          ∙ none) (there_not_silent c.right.phase (right_there c tracked))
-      silent_at i x none (inr (other, there)) = f.silent i x there none
+      silent_at i x none h = grind (arith, differ, right, next_right, there_not_silent, right_there)
 
       -- ---- the place of each connection
 
       tracked_one : (r i : ℕ) (x : Connection) → slice_get cs i ≡ Some x → is_tracked x ≡ true → x.left.reference ≡ r →
           (c.left.reference ≡ r → is_tracked next ≡ true) → (b : Bool) → (i == p) ≡ b → Tracked (takes Left u w.tap).state.connections r
-      tracked_one r i x there is_there is k true h =
-          let so = ap (λ (y : Connection). y.left.reference) (sym (same_one i x (eqb-true i p h) there)) ∙ is in
-          (p, next, next_at, k so, next_left ∙ so)
+      tracked_one r i x there is_there is k true h = grind (arith, same_one, eqb-true, next_at, next_left)
       tracked_one r i x there is_there is k false h = (i, x, other_at i x (unlike i p h) there, is_there, is)
 
       tracked_next : (r : ℕ) → Tracked cs r → (c.left.reference ≡ r → is_tracked next ≡ true) →
@@ -532,9 +421,7 @@ module _ (local : Local) (w : Whole) (f : Followed local w) (sane : IsSane w.tap
 
       tracked_was : (r i : ℕ) (x : Connection) → is_tracked x ≡ true → x.left.reference ≡ r →
           ((i ≡ p) × (x ≡ next)) ⊎ ((i ≡ p → ⊥) × (slice_get cs i ≡ Some x)) → Tracked cs r
-      tracked_was r i x is_there is (inl (same, so)) =
-          (p, c, at, tracked, sym next_left ∙ ap (λ (y : Connection). y.left.reference) (sym so) ∙ is)
-      tracked_was r i x is_there is (inr (other, there)) = (i, x, there, is_there, is)
+      tracked_was r i x is_there is h = grind (arith, next_left)
 
       -- a unit that is still to pass for the connection that has just been closed is a spare DC
       abbrev IsSpareIf : Value → Type 0
@@ -584,10 +471,7 @@ module _ (local : Local) (w : Whole) (f : Followed local w) (sane : IsSane w.tap
 
       not_waiting : (i : ℕ) (x : Connection) → is_waiting x ≡ true →
           ((i ≡ p) × (x ≡ next)) ⊎ ((i ≡ p → ⊥) × (slice_get cs i ≡ Some x)) → slice_get cs i ≡ Some x
-      not_waiting i x waits (inl (same, is)) =
-          differ (is_silent c.right.phase) (ap (λ (h : Half). is_silent h.phase) (sym (ap (λ (y : Connection). y.right) is ∙ next_right))
-          ∙ and_second (is_open x.left.phase) (is_silent x.right.phase) waits) (there_not_silent c.right.phase (right_there c tracked))
-      not_waiting i x waits (inr (other, there)) = there
+      not_waiting i x waits h = grind (arith, differ, right, next_right, and_second, there_not_silent, right_there)
 
       settled_next : (v : Value) → AreSettled cs w.put w.end.given v → AreSettled after.tap.connections rest w.end.given v
       settled_next v h m source is =

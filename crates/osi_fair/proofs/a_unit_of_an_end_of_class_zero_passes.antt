@@ -1,38 +1,21 @@
 -- A unit passes of a called end that has selected class 0: the CC, or a DT. Each is right.
 -- For the law on a whole called end.
-use Rattle.std.proofs.Common.{◌≡◌, ◌∙◌, ◌≤◌, ◌+◌, ◌-◌, ◌^◌, ℕ, Bool, true, false, List, ◌∷◌, set, refl, sym, ap, subst, arith, length}
-use Rattle.std.proofs.Common.{option_map, IfSome, Option, Some, None, inl, inr, ◌⊎◌, if◌then◌else◌}
-use Rattle.std.specs.Prelude.{◌&&◌, ◌||◌, ◌==◌, not, min, position, slice_get}
-use Rattle.std.specs.List.{list_any, position_or_len}
-use Rattle.std.proofs.Math.Nat.{pow-le-pow_right}
-use Rattle.std.proofs.lemmas.Bool.{eq-eqb}
-use Rattle.osi_tpdu.specs.Limits.{size_code}
-use Rattle.osi_tpdu.specs.Value.{Value, Connect, request, confirm, disconnect, disconnected, data0, data2, acknowledge, error}
-use Rattle.osi_class.specs.Limits.{longest_tsdu}
-use Rattle.osi_class.specs.Negotiation.{accept, keeps_flow_control, proposes, proposes_zero_alone, refuse, selected_by, selected_size}
-use Rattle.osi_class.specs.declared.terms.Class.TheVariants.{Two, Zero}
-use Rattle.osi_class.specs.declared.terms.Local.{Local}
-use Rattle.osi_carrier.specs.Negotiation.{acceptance, unit_octets}
-use Rattle.osi_rules.specs.declared.connections.Connection.{Connection}
-use Rattle.osi_rules.specs.declared.courses.Course.{Course}
-use Rattle.osi_rules.specs.declared.directions.Direction.TheVariants.{Left, Right}
-use Rattle.osi_rules.specs.declared.findings.Finding.TheVariants.{Kept}
-use Rattle.osi_rules.specs.declared.halves.Half.{Half}
-use Rattle.osi_rules.specs.declared.halves.Phase.{Phase}
-use Rattle.osi_rules.specs.declared.halves.Phase.TheVariants.{Silent, Open, Refused, Closing, Closed}
-use Rattle.osi_rules.specs.declared.routes.Route.TheVariants.{Named}
-use Rattle.osi_rules.specs.Sides.{is_closed, is_closing, is_live, is_named, is_open, is_over, is_over_by, is_refused, is_silent, uses}
-use Rattle.osi_rules.specs.Traffic.{course_after, found, found_on, is_stopped}
-use Rattle.osi_rules.specs.Traffic.{route, sent_on, silent_half, takes, uses_source}
-use Rattle.osi_fair.specs.Lines.{opened_half}
-use Rattle.osi_fair.specs.Wholes.{Whole}
+use Rattle.osi_fair.proofs.Vocabulary.{ap, arith, Bool, false, IfSome, if◌then◌else◌, inl, length, List, None, Option, option_map}
+use Rattle.osi_fair.proofs.Vocabulary.{refl, set, Some, subst, sym, true, ℕ, ◌+◌, ◌-◌, ◌^◌, ◌∙◌, ◌∷◌, ◌≡◌, ◌≤◌, ◌⊎◌, pow-le-pow_right}
+use Rattle.osi_fair.proofs.Vocabulary.{eq-eqb, list_any, position_or_len, min, not, position, slice_get, ◌&&◌, ◌==◌, ◌||◌, size_code}
+use Rattle.osi_fair.proofs.Vocabulary.{confirm, Connect, data0, Value, longest_tsdu, accept, keeps_flow_control, proposes}
+use Rattle.osi_fair.proofs.Vocabulary.{proposes_zero_alone, refuse, selected_by, selected_size, Two, Zero, Local, acceptance, unit_octets}
+use Rattle.osi_fair.proofs.Vocabulary.{is_closed, is_closing, is_live, is_named, is_open, is_over, is_over_by, is_refused, is_silent, uses}
+use Rattle.osi_fair.proofs.Vocabulary.{course_after, found, found_on, is_stopped, route, sent_on, takes, uses_source}
+use Rattle.osi_fair.proofs.Vocabulary.{Connection, Course, Left, Right, Kept, Half, Phase, Named, opened_half, Whole}
+use Rattle.osi_fair.proofs.small_facts_that_many_lemmas_use.{and_false, and_not, any_none, both as is_both, first_is, judged_so, name_so}
+use Rattle.osi_fair.proofs.small_facts_that_many_lemmas_use.{rest_is, unequal}
 use Rattle.osi_fair.proofs.a_dt_of_class_zero_passes.{begun_so, dt_conns, dt_course, dt_kept, only_first}
 use Rattle.osi_fair.proofs.a_right_unit_is_not_blamed.{first_there, is_first}
 use Rattle.osi_fair.proofs.all_are_judged_unless_one_broke.{IsJudged}
 use Rattle.osi_fair.proofs.each_connection_of_a_called_end.{Asked}
 use Rattle.osi_fair.proofs.how_a_connection_opens.{zero_right}
-use Rattle.osi_fair.proofs.how_a_unit_of_right_passes.{and_false, any_none, conns_kept, course_kept, finding_kept, is_both}
-use Rattle.osi_fair.proofs.how_a_unit_of_right_passes.{judged_so, name_so, route_confirm, unequal, use_so}
+use Rattle.osi_fair.proofs.how_a_unit_of_right_passes.{conns_kept, course_kept, finding_kept, route_confirm, use_so}
 use Rattle.osi_fair.proofs.what_an_end_does_in_class_zero.{IsInZero, zero_next, zero_puts}
 use Rattle.osi_fair.proofs.what_a_link_does.{begun_by}
 use Rattle.osi_fair.proofs.what_an_end_puts_in_class_zero.{PutsData}
@@ -41,59 +24,27 @@ use Rattle.osi_fair.proofs.what_holds_of_one_item.{HoldsOfEach, first_true}
 use Rattle.osi_fair.proofs.what_keeps_names_apart.{AreApart}
 use Rattle.osi_fair.proofs.while_no_class_is_selected.{after_change, set_there}
 use Rattle.osi_fair.proofs.a_called_end_selects_class_zero.{Selected, Selecting}
+use Rattle.osi_fair.proofs.a_calling_end_goes_on_in_class_zero.{least}
 
 -- ---- small facts
 
-first_is : (u v : Value) (xs ys : List Value) → u ∷ xs ≡ v ∷ ys → u ≡ v
-first_is u v xs ys e = cc
-
-rest_is : (u v : Value) (xs ys : List Value) → u ∷ xs ≡ v ∷ ys → xs ≡ ys
-rest_is u v xs ys e = cc
-
 refused_over : (p k : Phase) → is_refused p ≡ true →
     (is_refused p || (is_refused k || (is_closed p || (is_closing p && (is_closing k || is_closed k))))) ≡ true
-refused_over Refused k h = refl
-refused_over Silent k h = cc
-refused_over Open k h = cc
-refused_over Closing k h = cc
-refused_over Closed k h = cc
+refused_over p k h = grind arith
 
 there_not : (p : Phase) → is_there p ≡ true → is_refused p ≡ true → ⊥
-there_not Open h k = cc
-there_not Closing h k = cc
-there_not Closed h k = cc
-there_not Silent h k = cc
-there_not Refused h k = cc
+there_not p h k = grind arith
 
 open_live : (p k mine : Phase) → is_open p ≡ true → is_there mine ≡ true → (is_refused k ≡ true → is_refused mine ≡ true) →
     (is_refused p || (is_refused k || (is_closed p || (is_closing p && (is_closing k || is_closed k))))) ≡ false
-open_live Open Refused mine h there a = absurd (there_not mine there (a refl))
-open_live Open Silent mine h there a = refl
-open_live Open Open mine h there a = refl
-open_live Open Closing mine h there a = refl
-open_live Open Closed mine h there a = refl
-open_live Silent k mine h there a = cc
-open_live Refused k mine h there a = cc
-open_live Closing k mine h there a = cc
-open_live Closed k mine h there a = cc
+open_live p k mine h there a = grind (arith, there_not)
 
 not_false : (b : Bool) → b ≡ false → not b ≡ true
-not_false true h = cc
-not_false false h = refl
-
-and_not : (a b : Bool) → b ≡ false → (a && b) ≡ false
-and_not true b h = h
-and_not false b h = refl
+not_false b h = grind arith
 
 zero_chosen : (a b z : Bool) (s size : Option ℕ) →
     (if a then accept Two s else (if b then accept Zero s else (if z then refuse 0 else refuse 130))) ≡ accept Zero size → s ≡ size
-zero_chosen true b z s size e = absurd (cc e)
-zero_chosen false true z s size e = cc
-zero_chosen false false true s size e = absurd (cc e)
-zero_chosen false false false s size e = absurd (cc e)
-
-least : (a b : ℕ) → 7 ≤ a → 7 ≤ b → 7 ≤ min a b
-least a b h k = omega arith
+zero_chosen a b z s size e = grind arith
 
 two_power : (n code : ℕ) → 7 ≤ n → (7 ≤ code) × (code ≤ 13) → 2 ^ 7 ≤ 2 ^ (min code n)
 two_power n code k h =
@@ -102,9 +53,7 @@ two_power n code k h =
 fits_selected : (o : Option ℕ) (n : ℕ) → IfSome o (λ code. (7 ≤ code) × (code ≤ 13)) → 7 ≤ n →
     IfSome (option_map (λ code. 2 ^ code) (option_map (λ code. min code n) o)) (λ most. (unit_octets (option_map (λ code. min code n) o) -
     3) + 3 ≤ most)
-fits_selected None n h k = tt
-fits_selected (Some code) n h k =
-    let p : 2 ^ 7 ≤ 2 ^ (min code n) = two_power n code k h in omega arith
+fits_selected o n h k = grind (arith, two_power)
 
 fits_cc : (x : Connect) (local : Local) (size : Option ℕ) (c : Connection) → Asked x c → selected_by x local ≡ accept Zero size →
     IfSome (option_map (λ code. 2 ^ code) size) (λ most. (unit_octets size - 3) + 3 ≤ most)
@@ -147,11 +96,7 @@ module _ (local : Local) (w : Whole) (apart : AreApart w.tap.connections) (judge
     half = f.seen begun ∙ f.asked.left
 
     cc_named : is_named Right f.x.source f.c ≡ true
-    cc_named = name_so (is_over Right f.c) (is_silent f.c.seen_by_right.phase) (f.c.seen_by_right.reference == f.x.source)
-        (ap (λ (b : Bool). f.c.is_judged && b) (ap (λ (x : Half). is_over_by x f.c.seen_by_right) f.asked.right
-        ∙ ap (λ (x : Half). is_over_by silent_half x) half) ∙ and_false f.c.is_judged)
-        (ap (λ (x : Half). is_silent x.phase) half)
-        (eq-eqb f.c.seen_by_right.reference f.x.source (ap (λ (x : Half). x.reference) half))
+    cc_named = grind (arith, name_so, half, and_false, eq-eqb)
 
     unused_so : list_any (λ (e : Connection). uses Right f.r e) all ≡ false
     unused_so = any_none (λ (e : Connection). uses Right f.r e) all (λ i e there.
@@ -175,8 +120,7 @@ module _ (local : Local) (w : Whole) (apart : AreApart w.tap.connections) (judge
     cc_next = sent_on Right cc_is f.c
 
     cc_conns : (takes Right u w.tap).state.connections ≡ set all f.p cc_next
-    cc_conns = conns_kept u w.tap f.x.source f.p f.c right cc_route cc_first f.at cc_kept
-        ∙ ap (λ (v : Value). set all f.p (sent_on Right v f.c)) u_cc
+    cc_conns = grind (arith, conns_kept, cc_route, cc_first, cc_kept, u_cc)
 
     cc_course : (takes Right u w.tap).state.course ≡ course_after Right f.c cc_is true w.tap.course
     cc_course = course_kept u w.tap f.x.source f.p f.c right cc_route cc_first f.at cc_kept
@@ -184,8 +128,7 @@ module _ (local : Local) (w : Whole) (apart : AreApart w.tap.connections) (judge
 
     not_there : {A : Type 0} (i : ℕ) (e : Connection) → ((i ≡ f.p) × (e ≡ cc_next)) ⊎ ((i ≡ f.p → ⊥) × (slice_get all i ≡ Some e)) →
         (i ≡ f.p → ⊥) → (slice_get all i ≡ Some e → A) → A
-    not_there i e (inl (same, so)) other k = absurd (other same)
-    not_there i e (inr (not_p, there)) other k = k there
+    not_there i e h other k = grind arith
 
     pub selecting_passes : IsFine × Selected passed
     selecting_passes = (
@@ -228,12 +171,10 @@ module _ (local : Local) (w : Whole) (apart : AreApart w.tap.connections) (judge
       dt_next = sent_on Right (data0 end user) f.c
 
       fine : (takes Right u w.tap).told.finding ≡ Kept
-      fine = ap (λ (v : Value). (takes Right v w.tap).told.finding) is
-          ∙ dt_kept Right w.tap f.p f.c f.at (judged f.p f.c f.at) right f.class only f.limit f.fits end user puts.0 puts.1
+      fine = grind (arith, dt_kept, only)
 
       conns : (takes Right u w.tap).state.connections ≡ set all f.p dt_next
-      conns = ap (λ (v : Value). (takes Right v w.tap).state.connections) is
-          ∙ dt_conns Right w.tap f.p f.c f.at (judged f.p f.c f.at) right f.class only f.limit f.fits end user puts.0 puts.1
+      conns = grind (arith, dt_conns, only)
 
       course : (takes Right u w.tap).state.course ≡ w.tap.course
       course = ap (λ (v : Value). (takes Right v w.tap).state.course) is
@@ -241,8 +182,7 @@ module _ (local : Local) (w : Whole) (apart : AreApart w.tap.connections) (judge
 
       apart_of : {A : Type 0} (i : ℕ) (e : Connection) → ((i ≡ f.p) × (e ≡ dt_next)) ⊎ ((i ≡ f.p → ⊥) × (slice_get all i ≡ Some e)) →
           (i ≡ f.p → ⊥) → (slice_get all i ≡ Some e → A) → A
-      apart_of i e (inl (same, so)) other k = absurd (other same)
-      apart_of i e (inr (not_p, there)) other k = k there
+      apart_of i e h other k = grind arith
 
       dt_passes : IsFine × Selected passed
       dt_passes = (
@@ -268,13 +208,7 @@ module _ (local : Local) (w : Whole) (apart : AreApart w.tap.connections) (judge
 
     dt_by : (v : Value) → u ≡ v → PutsData f.limit (λ b. Unit {0}) f.c.right.begun (v ∷ rest) → IsFine × Selected passed
     dt_by (data0 end user) e puts = dt_passes end user e puts
-    dt_by (request x) e puts = absurd puts
-    dt_by (confirm destination x) e puts = absurd puts
-    dt_by (disconnect destination source reason user) e puts = absurd puts
-    dt_by (disconnected destination source) e puts = absurd puts
-    dt_by (data2 destination number end user) e puts = absurd puts
-    dt_by (acknowledge credit destination number) e puts = absurd puts
-    dt_by (error destination cause) e puts = absurd puts
+    dt_by _ e puts = absurd puts
 
     pub selected_passes : IsFine × Selected passed
     selected_passes = dt_by u refl (subst (PutsData f.limit (λ b. Unit {0}) f.c.right.begun) put

@@ -1,46 +1,24 @@
 -- A unit of the other side passes at the tap of a whole calling end: what it does to the line of its connection, and to no other.
 -- For the law on a whole end.
-use Rattle.std.proofs.Common.{◌≡◌, ◌≢◌, ◌∙◌, ℕ, ◌<◌, Bool, true, false, List, [], ◌∷◌, ◌++◌, set, refl, sym, ap, subst, arith}
-use Rattle.std.proofs.Common.{Option, Some, None, inl, inr, ◌⊎◌, if◌then◌else◌, is_some}
-use Rattle.std.specs.Prelude.{◌&&◌, ◌||◌, ◌==◌, not, slice_get}
-use Rattle.std.specs.List.{AllByRecursion, list_any}
-use Rattle.std.proofs.lemmas.Bool.{eqb-true}
-use Rattle.osi_tpdu.specs.Value.{Value, Connect, HasFieldsInRange, request, confirm, disconnect, disconnected, data0, data2, acknowledge}
-use Rattle.osi_tpdu.specs.Value.{error}
-use Rattle.osi_tpdu.specs.Value.{destination_of}
-use Rattle.osi_class.specs.declared.terms.Class.{Class}
-use Rattle.osi_class.specs.declared.terms.Class.TheVariants.{Two, Zero}
-use Rattle.osi_class.specs.declared.terms.Local.{Local}
-use Rattle.osi_carrier.specs.Negotiation.{agreed_size, opened_link}
-use Rattle.osi_carrier.specs.Rows.{value_at}
-use Rattle.osi_carrier.specs.State.{asked}
-use Rattle.osi_rules.specs.declared.connections.Connection.{Connection}
-use Rattle.osi_rules.specs.declared.courses.Course.{Course}
-use Rattle.osi_rules.specs.declared.directions.Direction.TheVariants.{Right}
-use Rattle.osi_rules.specs.declared.findings.Finding.{Finding}
-use Rattle.osi_rules.specs.declared.findings.Finding.TheVariants.{Broke, Kept}
-use Rattle.osi_rules.specs.declared.findings.Reach.{Reach}
+use Rattle.osi_fair.proofs.Vocabulary.{[], ap, arith, Bool, false, if◌then◌else◌, inl, inr, is_some, List, None, Option, refl, set, Some}
+use Rattle.osi_fair.proofs.Vocabulary.{subst, sym, true, ℕ, ◌++◌, ◌<◌, ◌∙◌, ◌∷◌, ◌≡◌, ◌≢◌, ◌⊎◌, eqb-true, AllByRecursion, list_any}
+use Rattle.osi_fair.proofs.Vocabulary.{slice_get, ◌&&◌, ◌==◌, ◌||◌, confirm, Connect, destination_of, HasFieldsInRange, request, Value}
+use Rattle.osi_fair.proofs.Vocabulary.{Class, Two, Zero, Local, agreed_size, opened_link, value_at, asked, is_applied, reach_of, is_closed}
+use Rattle.osi_fair.proofs.Vocabulary.{is_closing, is_open, is_over, is_over_by, is_refused, is_silent, uses, class_for, class_of}
+use Rattle.osi_fair.proofs.Vocabulary.{connection_after, course_after, found_on, half_after, judged_on, Outcome, reached, sent_on, takes}
+use Rattle.osi_fair.proofs.Vocabulary.{uses_source, Connection, Course, Right, Finding, Broke, Kept, Reach, Half, Phase}
+use Rattle.osi_fair.proofs.Vocabulary.{after_finding, finding_of, Line, opened_line, unit as passing, Whole}
 use Rattle.osi_rules.specs.declared.findings.Reach.TheVariants as reach
 use Rattle.osi_rules.specs.declared.findings.Rule.TheVariants as rule
-use Rattle.osi_rules.specs.declared.halves.Half.{Half}
-use Rattle.osi_rules.specs.declared.halves.Phase.{Phase}
-use Rattle.osi_rules.specs.declared.halves.Phase.TheVariants.{Silent, Open, Refused, Closing, Closed}
-use Rattle.osi_rules.specs.Reaches.{is_applied, reach_of}
-use Rattle.osi_rules.specs.Sides.{is_closed, is_closing, is_open, is_over, is_over_by, is_refused, is_silent, uses}
-use Rattle.osi_rules.specs.Traffic.{Outcome, class_for, class_of, closing_phase, connection_after}
-use Rattle.osi_rules.specs.Traffic.{course_after, found_on, half_after, reached}
-use Rattle.osi_rules.specs.Traffic.{judged_on, sent_on, takes, uses_source}
-use Rattle.osi_fair.specs.Lines.{Line, after_finding, finding_of, opened_line, passes_other}
-use Rattle.osi_fair.specs.Naming.{unit as passing}
-use Rattle.osi_fair.specs.Wholes.{Whole}
+use Rattle.osi_fair.specs.Lines.{passes_other}
+use Rattle.osi_fair.proofs.small_facts_that_many_lemmas_use.{and_false as none_begun, and_first, and_not, and_second, both, differ, no_two}
+use Rattle.osi_fair.proofs.small_facts_that_many_lemmas_use.{not_both, set_other, some_same as item_is}
 use Rattle.osi_fair.proofs.a_request_of_a_whole_end_is_new.{Newer}
-use Rattle.osi_fair.proofs.a_unit_of_a_whole_end_passes.{none_begun}
-use Rattle.osi_fair.proofs.no_two_open_connections_have_one_peer.{and_first, and_second, both, differ, item_is, left_open, right_there}
+use Rattle.osi_fair.proofs.no_two_open_connections_have_one_peer.{left_open, right_there, there_not_silent, uses_tracked}
 use Rattle.osi_fair.proofs.a_unit_of_a_whole_end_passes.{all_two}
-use Rattle.osi_fair.proofs.no_two_open_connections_have_one_peer.{set_other, there_not_silent, unlike, uses_tracked}
-use Rattle.osi_fair.proofs.each_connection_has_its_line.{Followed, Following, IsAnswer, IsAsking, IsNoCc, IsOwned, Tracked}
-use Rattle.osi_fair.proofs.each_connection_has_its_line.{AreGiven, AreSettled, Waiting, all_so, asking, asks, is_tracked}
-use Rattle.osi_fair.proofs.each_connection_has_its_line.{is_waiting, of, stray, tracks_on}
+use Rattle.osi_fair.proofs.each_connection_has_its_line.{Followed, Following, IsAnswer, IsAsking, IsNoCc, IsOwned, Tracked, AreGiven}
+use Rattle.osi_fair.proofs.each_connection_has_its_line.{AreSettled, Waiting, all_so, asking, asks, is_tracked, is_waiting, of, stray}
+use Rattle.osi_fair.proofs.each_connection_has_its_line.{tracks_on}
 use Rattle.osi_fair.proofs.how_a_connection_opens.{calling_opens}
 use Rattle.osi_fair.proofs.references_of_requests_rise.{Rise, rise_from}
 use Rattle.osi_fair.proofs.what_holds_of_one_item.{none_true}
@@ -50,14 +28,16 @@ use Rattle.osi_fair.proofs.what_stays_of_each_connection.{left_then, right_judge
 use Rattle.osi_fair.proofs.what_belongs_to_no_open_connection.{strays_last}
 use Rattle.osi_fair.proofs.what_the_other_side_closes.{IsFirm, IsSane, is_name}
 use Rattle.osi_fair.proofs.which_requests_are_put.{asked_among}
-use Rattle.osi_fair.proofs.which_units_are_for_a_connection.{IsOf, dc_not_ours, is_dc, is_ours, leads_none, named_not, named_so}
-use Rattle.osi_fair.proofs.which_units_are_for_a_connection.{names}
+use Rattle.osi_fair.proofs.which_units_are_for_a_connection.{IsOf, dc_not_ours, is_dc, is_ours, leads_none, named_not, named_so, names}
 use Rattle.osi_fair.proofs.which_units_are_for_a_connection.{picked_more, ours_not, picked_none, those}
 use Rattle.osi_fair.proofs.while_no_class_is_selected.{after_change, set_there}
-use Rattle.osi_fair.proofs.what_becomes_of_a_connection.{Answered, Told, answered, cc_waits, not_selected, open_stays, opens}
-use Rattle.osi_fair.proofs.what_becomes_of_a_connection.{refused, waits_on}
-use Rattle.osi_fair.proofs.what_has_come_with_one_unit_more.{all_add, early_other, following_other, row_add, row_or, spares_on, waiting_dc}
+use Rattle.osi_fair.proofs.what_becomes_of_a_connection.{Answered, Told, answered, cc_waits, not_selected, open_stays, opens, refused}
+use Rattle.osi_fair.proofs.what_becomes_of_a_connection.{waits_on}
+use Rattle.osi_fair.proofs.what_has_come_with_one_unit_more.{early_other, following_other, row_add, row_or, spares_on, waiting_dc}
 use Rattle.osi_fair.proofs.what_has_come_with_one_unit_more.{waiting_other}
+use Rattle.osi_fair.proofs.how_a_unit_of_right_passes.{half_started}
+use Rattle.osi_fair.proofs.a_dt_of_class_zero_passes.{unlike}
+use Rattle.osi_fair.proofs.what_is_live_at_a_called_end.{all_add}
 
 -- ---- the CRs that are to pass
 
@@ -66,15 +46,7 @@ same_request x y e = cc
 
 rise_parts : (n : ℕ) (v : Value) (vs : List Value) → Rise n (asked_among (v ∷ vs)) →
     ((x : Connect) → v ≡ request x → n < x.source) × Rise n (asked_among vs)
-rise_parts n (request x) vs (above, rise) =
-    (λ y e. subst (λ (c : Connect). n < c.source) (same_request x y e) above, rise_from n x.source (asked_among vs) (omega arith) rise)
-rise_parts n (confirm destination x) vs rise = (λ y e. absurd (cc e), rise)
-rise_parts n (disconnect destination source reason user) vs rise = (λ y e. absurd (cc e), rise)
-rise_parts n (disconnected destination source) vs rise = (λ y e. absurd (cc e), rise)
-rise_parts n (data0 end user) vs rise = (λ y e. absurd (cc e), rise)
-rise_parts n (data2 destination number end user) vs rise = (λ y e. absurd (cc e), rise)
-rise_parts n (acknowledge credit destination number) vs rise = (λ y e. absurd (cc e), rise)
-rise_parts n (error destination cause) vs rise = (λ y e. absurd (cc e), rise)
+rise_parts n v vs rise = grind (arith, same_request, rise_from)
 
 rise_all : (n : ℕ) (vs : List Value) → Rise n (asked_among vs) →
     AllByRecursion (λ (v : Value). (x : Connect) → v ≡ request x → n < x.source) vs
@@ -84,94 +56,35 @@ rise_all n (v ∷ vs) h = let (one, more) = rise_parts n v vs h in (one, rise_al
 -- ---- phases
 
 refused_parts : (p : Phase) → is_refused p ≡ true → ((is_open p || is_closing p) ≡ false) × (is_silent p ≡ false)
-refused_parts Refused h = (refl, refl)
-refused_parts Silent h = cc
-refused_parts Open h = cc
-refused_parts Closing h = cc
-refused_parts Closed h = cc
-
-and_not : (a b : Bool) → b ≡ false → (a && b) ≡ false
-and_not true b h = h
-and_not false b h = refl
-
-and_first_not : (a b : Bool) → a ≡ false → (a && b) ≡ false
-and_first_not true b h = cc
-and_first_not false b h = refl
+refused_parts p h = grind arith
 
 refused_over : (k : Phase) (p : Phase) → is_refused p ≡ true →
     (is_refused p || (is_refused k || (is_closed p || (is_closing p && (is_closing k || is_closed k))))) ≡ true
-refused_over k Refused h = refl
-refused_over k Silent h = cc
-refused_over k Open h = cc
-refused_over k Closing h = cc
-refused_over k Closed h = cc
+refused_over k p h = grind arith
 
 closed_over : (k : Phase) → (is_refused k || (true || (false && (is_closing k || is_closed k)))) ≡ true
-closed_over Refused = refl
-closed_over Silent = refl
-closed_over Open = refl
-closed_over Closing = refl
-closed_over Closed = refl
-
-not_both : (past rest : Bool) → past ≡ true → (not past && rest) ≡ true → ⊥
-not_both true rest h k = cc
-not_both false rest h k = cc
-
-closing_not_silent : (was : Bool) (half : Half) → is_silent (closing_phase was half).phase ≡ false
-closing_not_silent true half = refl
-closing_not_silent false half = refl
-
-half_not_silent : (v : Value) (half : Half) → is_silent half.phase ≡ false → is_silent (half_after v half).phase ≡ false
-half_not_silent (request x) half h = h
-half_not_silent (confirm destination x) half h = refl
-half_not_silent (disconnect destination source reason user) half h = closing_not_silent (is_silent half.phase) half
-half_not_silent (disconnected destination source) half h = refl
-half_not_silent (data0 end user) half h = h
-half_not_silent (data2 destination number end user) half h = h
-half_not_silent (acknowledge credit destination number) half h = h
-half_not_silent (error destination cause) half h = refl
+closed_over k = grind arith
 
 course_same : (c : Connection) (v : Value) (b : Bool) (course : Course) → ((m : ℕ) (x : Connect) → v ≡ confirm m x → ⊥) →
     (course_after Right c v b course).class ≡ course.class
-course_same c (request x) b course h = refl
-course_same c (confirm destination x) b course h = absurd (h destination x refl)
-course_same c (disconnect destination source reason user) b course h = refl
-course_same c (disconnected destination source) b course h = refl
-course_same c (data0 end user) b course h = refl
-course_same c (data2 destination number end user) b course h = refl
-course_same c (acknowledge credit destination number) b course h = refl
-course_same c (error destination cause) b course h = refl
+course_same c v b course h = grind arith
 
 known_judged : (r : Reach) (c : Connection) → (judged_on r c).seen_by_left ≡ c.seen_by_left
-known_judged reach.Nothing c = refl
-known_judged reach.Connection c = refl
-known_judged reach.Side c = refl
-known_judged reach.Everything c = refl
+known_judged r c = grind arith
 
 known_sized : (v : Value) (c : Connection) → (sent_on Right v c).seen_by_left ≡ c.seen_by_left
-known_sized (request x) c = refl
-known_sized (confirm destination x) c = refl
-known_sized (disconnect destination source reason user) c = refl
-known_sized (disconnected destination source) c = refl
-known_sized (data0 end user) c = refl
-known_sized (data2 destination number end user) c = refl
-known_sized (acknowledge credit destination number) c = refl
-known_sized (error destination cause) c = refl
+known_sized v c = grind arith
 
 -- what left knows stays as right sends
 known_then : (v : Value) (applied : Bool) (r : Reach) (c : Connection) →
     (connection_after Right v applied r c).seen_by_left ≡ c.seen_by_left
-known_then v true r c = known_judged r (sent_on Right v c) ∙ known_sized v c
-known_then v false r c = known_judged r c
+known_then v applied r c = grind (arith, known_judged, known_sized)
 
 pub dc_no_cc : (v : Value) → is_dc v ≡ true → (m : ℕ) (x : Connect) → v ≡ confirm m x → ⊥
 dc_no_cc v dc m x e = cc (sym (ap is_dc e) ∙ dc)
 
 reached_same : (r : Reach) (course : Course) → (reached Right r course).class ≡ course.class
-reached_same reach.Nothing c = refl
-reached_same reach.Connection c = refl
-reached_same reach.Side c = refl
-reached_same reach.Everything c = refl
+reached_same r c = grind arith
 
 data Kind (c : Connection) : Type 0 where
   stands : is_tracked c ≡ true → Kind c
@@ -236,28 +149,16 @@ module _ (local : Local) (w : Whole) (f : Followed local w) (sane : IsSane w.tap
   nxt_at = ap (λ (l : List Connection). slice_get l t.q) conns ∙ set_there cs t.q nxt c t.at
 
   not_over : is_over Right c ≡ true → ⊥
-  not_over gone_so = not_both (is_over Right c)
-      (not (is_silent c.seen_by_right.phase) && (c.seen_by_right.reference == t.n)) gone_so t.named
+  not_over gone_so = grind (arith, not_both)
 
   over_so : is_over_by c.right c.seen_by_right ≡ true → ⊥
   over_so h = not_over (both c.is_judged (is_over_by c.right c.seen_by_right) judged_c h)
 
   by_phase : (p : Phase) → c.right.phase ≡ p → is_open c.left.phase ≡ true → Kind c
-  by_phase Open e h = stands (both (is_open c.left.phase) (is_open c.right.phase || is_closing c.right.phase) h
-      (ap (λ (p : Phase). is_open p || is_closing p) e))
-  by_phase Closing e h = stands (both (is_open c.left.phase) (is_open c.right.phase || is_closing c.right.phase) h
-      (ap (λ (p : Phase). is_open p || is_closing p) e))
-  by_phase Silent e h = waits_yet (both (is_open c.left.phase) (is_silent c.right.phase) h (ap is_silent e)) (ap is_silent e)
-      (and_not (is_open c.left.phase) (is_open c.right.phase || is_closing c.right.phase) (ap (λ (p : Phase). is_open p || is_closing p) e))
-  by_phase Refused e h = absurd (over_so (refused_over c.seen_by_right.phase c.right.phase (ap is_refused e)))
-  by_phase Closed e h =
-      absurd (over_so (ap (λ (p : Phase). is_refused p || (is_refused c.seen_by_right.phase || (is_closed p
-      || (is_closing p && (is_closing c.seen_by_right.phase || is_closed c.seen_by_right.phase))))) e
-      ∙ closed_over c.seen_by_right.phase))
+  by_phase p e h = grind (arith, both, and_not, over_so, refused_over, closed_over)
 
   past_silent : (b : Bool) → is_silent c.right.phase ≡ b → is_open c.left.phase ≡ false → b ≡ false
-  past_silent true e h = differ (is_open c.left.phase) (f.silent t.q c t.at e) h
-  past_silent false e h = refl
+  past_silent b e h = grind (arith, differ)
 
   kind_by : (b : Bool) → is_open c.left.phase ≡ b → Kind c
   kind_by true e = by_phase c.right.phase refl e
@@ -277,10 +178,7 @@ module _ (local : Local) (w : Whole) (f : Followed local w) (sane : IsSane w.tap
         ((m : ℕ) (x : Connect) → v ≡ confirm m x → ⊥) → Next
 
   no_cc : is_silent c.right.phase ≡ false → (m : ℕ) (x : Connect) → v ≡ confirm m x → ⊥
-  no_cc h m x e =
-      cc_waits w.tap c judged_c sound_c m x h
-      (subst (λ (u : Value). IsFirm (reached Right (reach_of (class_for Right w.tap.course) (found_on Right w.tap c u))
-      (course_after Right c u (is_applied (found_on Right w.tap c u)) w.tap.course))) e firm_so)
+  no_cc h m x e = grind (arith, cc_waits, judged_c, sound_c, firm_so)
 
   line_on : (tracked : is_tracked c ≡ true) → nxt.right.reference ≡ c.right.reference → IsNoCc v →
       Following local w.put w.begun strays_after w.end more nxt
@@ -353,8 +251,7 @@ module _ (local : Local) (w : Whole) (f : Followed local w) (sane : IsSane w.tap
 
   fine_reach : (k : Option Class) (g : Finding) → (g ≡ Kept) ⊎ (g ≡ Broke rule.LargerSize) →
       (is_applied g ≡ true) × (reach_of k g ≡ reach.Nothing)
-  fine_reach k g (inl e) = (ap is_applied e, ap (λ (a : Finding). reach_of k a) e)
-  fine_reach k g (inr e) = (ap is_applied e, ap (λ (a : Finding). reach_of k a) e)
+  fine_reach k g h = grind arith
 
   same_name : (m : ℕ) (x : Connect) → v ≡ confirm m x → m ≡ t.n
   same_name m x e = let both_named : Some m ≡ Some t.n = sym (ap destination_of e) ∙ t.dest in cc
@@ -405,9 +302,7 @@ module _ (local : Local) (w : Whole) (f : Followed local w) (sane : IsSane w.tap
       ∙ ap (λ (a : Class). Some a) (class_opened x two))
 
   refused_so : is_refused nxt.right.phase ≡ true → is_tracked c ≡ false → ((m : ℕ) (x : Connect) → v ≡ confirm m x → ⊥) → Next
-  refused_so h not_tracked none =
-      let (a, b) = refused_parts nxt.right.phase h in
-      gone not_tracked (and_not (is_open nxt.left.phase) (is_open nxt.right.phase || is_closing nxt.right.phase) a) b none
+  refused_so h not_tracked none = grind (arith, refused_parts, and_not)
 
   by_answer : is_waiting c ≡ true → is_tracked c ≡ false → Answered w.tap c judged_c sound_c v → Next
   by_answer waiting not_tracked (opens m x e right_so two unused) =
@@ -416,11 +311,10 @@ module _ (local : Local) (w : Whole) (f : Followed local w) (sane : IsSane w.tap
   by_answer waiting not_tracked (waits_on dc same) = quiet not_tracked same dc
 
   right_after : (b : Bool) → is_applied found_so ≡ b → nxt.right ≡ (if b then half_after v c.right else c.right)
-  right_after true e = ap (λ (b : Bool). (connection_after Right v b far c).right) e ∙ right_own v far c
-  right_after false e = ap (λ (b : Bool). (connection_after Right v b far c).right) e ∙ right_judged far c
+  right_after b e = grind (arith, right_own, right_judged)
 
   still_not_silent : (b : Bool) → is_applied found_so ≡ b → is_silent c.right.phase ≡ false → is_silent nxt.right.phase ≡ false
-  still_not_silent true e h = ap (λ (x : Half). is_silent x.phase) (right_after true e) ∙ half_not_silent v c.right h
+  still_not_silent true e h = ap (λ (x : Half). is_silent x.phase) (right_after true e) ∙ half_started v c.right h
   still_not_silent false e h = ap (λ (x : Half). is_silent x.phase) (right_after false e) ∙ h
 
   by_kind : Kind c → Next
@@ -429,8 +323,8 @@ module _ (local : Local) (w : Whole) (f : Followed local w) (sane : IsSane w.tap
       by_answer waiting not_tracked (answered w.tap c judged_c sound_c v t.n t.dest silent
       (not_selected w.tap c judged_c sound_c v (λ h. none_zero (ap (λ (k : Course). k.class) course_is ∙ h))) firm_so)
   by_kind (is_past not_open not_silent_c) =
-      gone (and_first_not (is_open c.left.phase) (is_open c.right.phase || is_closing c.right.phase) not_open)
-      (and_first_not (is_open nxt.left.phase) (is_open nxt.right.phase || is_closing nxt.right.phase)
+      gone (no_two (is_open c.left.phase) (is_open c.right.phase || is_closing c.right.phase) not_open)
+      (no_two (is_open nxt.left.phase) (is_open nxt.right.phase || is_closing nxt.right.phase)
       (ap (λ (h : Half). is_open h.phase) nxt_left ∙ not_open))
       (still_not_silent (is_applied found_so) refl not_silent_c) (no_cc not_silent_c)
 
@@ -470,24 +364,13 @@ module _ (local : Local) (w : Whole) (f : Followed local w) (sane : IsSane w.tap
 
   -- what waits now waited before
   was_waiting : (i : ℕ) (x : Connection) → is_silent x.right.phase ≡ true → Next → Item i x → slice_get cs i ≡ Some x
-  was_waiting i x silent k (inr (other, there)) = there
-  was_waiting i x silent (quiet a still dc) (inl (same, is)) =
-      ap (λ (j : ℕ). slice_get cs j) same ∙ t.at ∙ ap (λ (y : Connection). Some y) (sym (is ∙ still))
-  was_waiting i x silent (goes_on a b right none line) (inl (same, is)) =
-      differ (is_silent nxt.right.phase) (ap (λ (y : Connection). is_silent y.right.phase) (sym is) ∙ silent)
-      (there_not_silent nxt.right.phase (right_there nxt b))
-  was_waiting i x silent (opened a before b line row class) (inl (same, is)) =
-      differ (is_silent nxt.right.phase) (ap (λ (y : Connection). is_silent y.right.phase) (sym is) ∙ silent)
-      (there_not_silent nxt.right.phase (right_there nxt b))
-  was_waiting i x silent (gone a b later none) (inl (same, is)) =
-      differ (is_silent nxt.right.phase) (ap (λ (y : Connection). is_silent y.right.phase) (sym is) ∙ silent) later
+  was_waiting i x silent k h = grind (arith, differ, there_not_silent, right_there)
 
   waits_silent : (x : Connection) → is_waiting x ≡ true → is_silent x.right.phase ≡ true
   waits_silent x waiting = and_second (is_open x.left.phase) (is_silent x.right.phase) waiting
 
   not_quiet : {A : Type 0} (x : Connection) → is_waiting x ≡ true → is_silent nxt.right.phase ≡ false → x ≡ nxt → A
-  not_quiet x waiting later is =
-      differ (is_silent nxt.right.phase) (ap (λ (y : Connection). is_silent y.right.phase) (sym is) ∙ waits_silent x waiting) later
+  not_quiet x waiting later is = grind (arith, differ, waits_silent)
 
   waits_at : (i : ℕ) (x : Connection) → is_waiting x ≡ true → Next → Item i x → Waiting local w.end more x
   waits_at i x waiting k (inr (other, there)) =
@@ -504,10 +387,7 @@ module _ (local : Local) (w : Whole) (f : Followed local w) (sane : IsSane w.tap
 
   -- of a connection that was open
   was_open : (A : Type 0) → is_tracked c ≡ true → (is_tracked nxt ≡ true → nxt.right.reference ≡ c.right.reference → A) → Next → A
-  was_open A tracked k (goes_on a b right none line) = k b right
-  was_open A tracked k (opened a silent b line row class) = differ (is_tracked c) tracked a
-  was_open A tracked k (gone a b silent none) = differ (is_tracked c) tracked a
-  was_open A tracked k (quiet a still dc) = differ (is_tracked c) tracked a
+  was_open A tracked k h = grind (arith, differ)
 
   nxt_reference : nxt.left.reference ≡ c.left.reference
   nxt_reference = ap (λ (h : Half). h.reference) nxt_left
@@ -515,10 +395,7 @@ module _ (local : Local) (w : Whole) (f : Followed local w) (sane : IsSane w.tap
   tracked_one : (r i : ℕ) (x : Connection) → slice_get cs i ≡ Some x → is_tracked x ≡ true → x.left.reference ≡ r → (b : Bool) →
       (i == t.q) ≡ b → Tracked (takes Right v w.tap).state.connections r
   tracked_one r i x there tracked is false h = (i, x, other_at i x (unlike i t.q h) there, tracked, is)
-  tracked_one r i x there tracked is true h =
-      let so = same_one i x (eqb-true i t.q h) there in
-      was_open (Tracked (takes Right v w.tap).state.connections r) (ap is_tracked (sym so) ∙ tracked)
-      (λ still right. (t.q, nxt, nxt_at, still, nxt_reference ∙ ap (λ (y : Connection). y.left.reference) (sym so) ∙ is)) next_so
+  tracked_one r i x there tracked is true h = grind (arith, same_one, eqb-true, was_open, nxt_at, nxt_reference, next_so)
 
   tracked_to : (r : ℕ) → Tracked cs r → Tracked (takes Right v w.tap).state.connections r
   tracked_to r (i, x, there, tracked, is) = tracked_one r i x there tracked is (i == t.q) refl
@@ -560,9 +437,7 @@ module _ (local : Local) (w : Whole) (f : Followed local w) (sane : IsSane w.tap
   class_from r i x tracked is (quiet a still dc) (inl (same, so)) = differ (is_tracked c) (ap is_tracked (sym (so ∙ still)) ∙ tracked) a
 
   same_class : ((m : ℕ) (x : Connect) → v ≡ confirm m x → ⊥) → (takes Right v w.tap).state.course.class ≡ w.tap.course.class
-  same_class none =
-      ap (λ (k : Course). k.class) course_is ∙ reached_same far (course_after Right c v (is_applied found_so) w.tap.course)
-      ∙ course_same c v (is_applied found_so) w.tap.course none
+  same_class none = grind (arith, course_is, reached_same, course_same)
 
   zero_after : Next → ((takes Right v w.tap).state.course.class ≡ None) ⊎ ((takes Right v w.tap).state.course.class ≡ Some Two)
   zero_after (goes_on a b right none line) =

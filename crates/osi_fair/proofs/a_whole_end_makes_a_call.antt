@@ -1,54 +1,36 @@
 -- The user of a whole calling end makes a call: what it does to an open connection is acts of its line, and a CR waits to pass.
 -- For the law on a whole end.
-use Rattle.std.proofs.Common.{◌≡◌, ◌∙◌, ℕ, ◌+◌, ◌≤◌, Bool, true, false, List, [], ◌∷◌, ◌++◌, length, refl, sym, ap, subst}
-use Rattle.std.proofs.Common.{Option, Some, None, inl, inr, arith, is_some, if◌then◌else◌}
-use Rattle.std.specs.Prelude.{◌==◌, slice_get}
-use Rattle.std.specs.List.{AllByRecursion}
-use Rattle.std.proofs.lemmas.Bool.{eqb-true}
-use Rattle.std.proofs.lemmas.List.{append-nil}
-use Rattle.osi_tpdu.specs.Limits.{window_units}
-use Rattle.osi_tpdu.specs.Value.{Value, Connect, request, destination_of}
-use Rattle.osi_class.specs.Limits.{longest_tsdu}
-use Rattle.osi_class.specs.Link.{Standing, with_tsdu}
-use Rattle.osi_class.specs.declared.terms.Class.{Class}
-use Rattle.osi_class.specs.declared.terms.Class.TheVariants.{Two}
-use Rattle.osi_class.specs.declared.terms.Local.{Local}
-use Rattle.osi_carrier.specs.Calls.{asks as asks_for, closed_on, closed_with, closes as closes_in, ended_by, link_of, open_link}
-use Rattle.osi_carrier.specs.Calls.{sent, sent_all, sent_on}
-use Rattle.osi_carrier.specs.Negotiation.{proposal, proposal_by, proposes_two}
-use Rattle.osi_carrier.specs.Orderly.{IsOrderly}
-use Rattle.osi_carrier.specs.Pump.{pumped}
-use Rattle.osi_carrier.specs.Rows.{value_at}
-use Rattle.osi_carrier.specs.Runs.{UserCall, breaks, closes as closes_call, connects, sends, sends_all, user_does}
-use Rattle.osi_carrier.specs.State.{State, Connection as Live, asked, closing, linked, ends as ends_as}
-use Rattle.osi_carrier.specs.declared.ends.EndReason.{EndReason}
-use Rattle.osi_carrier.proofs.references.rows_after_a_change.{push_other, put_other}
-use Rattle.osi_carrier.proofs.references.what_a_change_leaves_there.{beyond, push_here, put_here}
-use Rattle.osi_rules.specs.declared.connections.Connection.{Connection}
-use Rattle.osi_rules.specs.declared.directions.Direction.TheVariants.{Left}
-use Rattle.osi_rules.specs.declared.halves.Half.{Half}
-use Rattle.osi_rules.specs.Traffic.{asked_by}
-use Rattle.osi_fair.specs.Following.{Follows, link_now}
-use Rattle.osi_fair.specs.Lines.{Line, opened_half}
-use Rattle.osi_fair.specs.Putting.{put_by, put_closing, put_sent, put_together}
-use Rattle.osi_fair.specs.Wholes.{MayCall, Whole}
+use Rattle.osi_fair.proofs.Vocabulary.{[], ap, arith, Bool, false, if◌then◌else◌, inl, inr, is_some, length, List, None, Option, refl, Some}
+use Rattle.osi_fair.proofs.Vocabulary.{subst, sym, true, ℕ, ◌++◌, ◌+◌, ◌∙◌, ◌∷◌, ◌≡◌, ◌≤◌, eqb-true, append-nil, AllByRecursion, slice_get}
+use Rattle.osi_fair.proofs.Vocabulary.{◌==◌, window_units, Connect, destination_of, request, Value, longest_tsdu, Standing, with_tsdu}
+use Rattle.osi_fair.proofs.Vocabulary.{Class, Two, Local, push_other, put_other, beyond, push_here, put_here, asks as asks_for, closed_on}
+use Rattle.osi_fair.proofs.Vocabulary.{closed_with, closes_in, ended_by, link_of, open_link, sent, sent_all, proposal, proposal_by}
+use Rattle.osi_fair.proofs.Vocabulary.{proposes_two, IsOrderly, pumped, value_at, breaks, closes_call, connects, sends, sends_all}
+use Rattle.osi_fair.proofs.Vocabulary.{user_does, UserCall, asked, closing, Live, ends as ends_as, linked, EndReason, asked_by, Connection}
+use Rattle.osi_fair.proofs.Vocabulary.{Left, Half, Follows, link_now, Line, opened_half, put_closing, put_sent, put_together, MayCall}
+use Rattle.osi_fair.proofs.Vocabulary.{Whole}
+use Rattle.osi_carrier.specs.Calls.{sent_on}
+use Rattle.osi_carrier.specs.State.{State}
+use Rattle.osi_fair.proofs.small_facts_that_many_lemmas_use.{differ, some_same as item_is}
 use Rattle.osi_fair.proofs.a_carrier_follows_lines.{follows_closed, follows_sent}
 use Rattle.osi_fair.proofs.a_request_of_a_whole_end_is_new.{Newer}
-use Rattle.osi_fair.proofs.no_two_open_connections_have_one_peer.{differ, item_is, one_peer, unlike}
+use Rattle.osi_fair.proofs.no_two_open_connections_have_one_peer.{one_peer}
 use Rattle.osi_fair.proofs.what_a_unit_leaves_at_a_calling_end.{Linked, ends, given_by, spare_none, still}
 use Rattle.osi_fair.proofs.calls_of_a_line_join.{follows_together, still_open}
-use Rattle.osi_fair.proofs.each_connection_has_its_line.{AreGiven, AreSettled, Followed, Following, IsAnswer, IsAsking, IsOwned, IsSettled}
-use Rattle.osi_fair.proofs.each_connection_has_its_line.{Row, Tracked}
-use Rattle.osi_fair.proofs.each_connection_has_its_line.{all_so, asking, asks, closes, over, is_tracked, talks, tracks_hold, tracks_on}
+use Rattle.osi_fair.proofs.each_connection_has_its_line.{followed_at, AreGiven, AreSettled, Followed, Following, IsAnswer, IsAsking}
+use Rattle.osi_fair.proofs.each_connection_has_its_line.{IsOwned, IsSettled, Row, Tracked, all_so, asking, asks, closes, over, is_tracked}
+use Rattle.osi_fair.proofs.each_connection_has_its_line.{talks, tracks_hold, tracks_on}
 use Rattle.osi_fair.proofs.how_a_connection_opens.{asked_so}
 use Rattle.osi_fair.proofs.references_of_requests_rise.{all_gives, closed_gives, sent_gives}
 use Rattle.osi_fair.proofs.what_a_calling_end_still_has.{OffersTwo}
 use Rattle.osi_fair.proofs.what_a_whole_end_takes.{IsAnswered, Owner, Puts, all_join, leads_more, of_line, settled_more, some_more}
-use Rattle.osi_fair.proofs.what_a_whole_end_takes.{units_ask}
-use Rattle.osi_fair.proofs.what_a_whole_end_takes.{units_owned, units_settled}
+use Rattle.osi_fair.proofs.what_a_whole_end_takes.{units_ask, units_owned, units_settled}
 use Rattle.osi_fair.proofs.what_the_other_side_closes.{IsSane}
 use Rattle.osi_fair.proofs.which_units_are_for_a_connection.{AllOurs, IsDc, all_ours, each_picked, is_dc, is_ours, last_ours, line_ours}
 use Rattle.osi_fair.proofs.which_units_are_for_a_connection.{named_is, names, none_ours, picked_other, ours, picked_join, those}
+use Rattle.osi_fair.proofs.a_dr_for_what_is_gone.{after_calling}
+use Rattle.osi_fair.proofs.a_called_end_makes_a_call.{all_none, all_open, open_of, row_of, rows_all, rows_sent}
+use Rattle.osi_fair.proofs.a_dt_of_class_zero_passes.{unlike}
 
 pub same_up : (n : ℕ) → n ≤ n
 same_up n = omega arith
@@ -165,22 +147,8 @@ module _ (local : Local) (w : Whole) (f : Followed local w) (sane : IsSane w.tap
   line_other : (p : ℕ) (c : Connection) → slice_get cs p ≡ Some c → is_tracked c ≡ true →
       (g : Following local w.put w.begun w.tap.course.strays w.end w.coming c) → (g.r ≡ n → ⊥) →
       Following local (w.put ++ units) w.begun w.tap.course.strays t w.coming c
-  line_other p c at tracked g other = record {
-    r = g.r;
-    peer = g.peer;
-    line = g.line;
-    left = g.left;
-    right = g.right;
-    tracks = g.tracks;
-    tap = g.tap;
-    spare = g.spare;
-    put_is = put_other_peer p c at tracked g.r g.peer g.right (λ e. other (sym g.left ∙ e)) owner ∙ g.put_is;
-    spares = g.spares;
-    gone = g.gone;
-    begun_is = g.begun_is ∙ leads_more w.begun (is_ours g.r g.peer) w.put units f.some;
-    row = row_other g.r g.peer g.line other g.row;
-    calm = g.calm;
-  }
+  line_other p c at tracked g other = followed_at g (put_other_peer p c at tracked g.r g.peer g.right (λ e. other (sym g.left ∙ e)) owner)
+      g.spares (leads_more w.begun (is_ours g.r g.peer) w.put units f.some) (row_other g.r g.peer g.line other g.row)
 
   line_by : (p : ℕ) (c : Connection) → slice_get cs p ≡ Some c → is_tracked c ≡ true →
       (g : Following local w.put w.begun w.tap.course.strays w.end w.coming c) → (b : Bool) → (g.r == n) ≡ b →
@@ -316,22 +284,8 @@ module _ (local : Local) (w : Whole) (f : Followed local w) (sane : IsSane w.tap
   line_c : (p : ℕ) (c : Connection) → slice_get w.tap.connections p ≡ Some c →
       Following local w.put w.begun w.tap.course.strays s w.coming c →
       Following local (w.put ++ request x ∷ []) w.begun w.tap.course.strays t w.coming c
-  line_c p c at g = record {
-    r = g.r;
-    peer = g.peer;
-    line = g.line;
-    left = g.left;
-    right = g.right;
-    tracks = g.tracks;
-    tap = g.tap;
-    spare = g.spare;
-    put_is = picked_other (is_ours g.r g.peer) w.put (request x) refl ∙ g.put_is;
-    spares = g.spares;
-    gone = g.gone;
-    begun_is = g.begun_is ∙ leads_more w.begun (is_ours g.r g.peer) w.put (request x ∷ []) f.some;
-    row = row_c g.r g.peer g.line (not_new p c at g.r g.left) g.row;
-    calm = g.calm;
-  }
+  line_c p c at g = followed_at g (picked_other (is_ours g.r g.peer) w.put (request x) refl) g.spares
+      (leads_more w.begun (is_ours g.r g.peer) w.put (request x ∷ []) f.some) (row_c g.r g.peer g.line (not_new p c at g.r g.left) g.row)
 
   -- only a DC may have come for a reference that was not given
   dc_by : (v : Value) (b : Bool) → is_dc v ≡ b → AreGiven s.given v → destination_of v ≡ Some r → is_dc v ≡ true
@@ -415,9 +369,6 @@ module _ (local : Local) (w : Whole) (f : Followed local w) (sane : IsSane w.tap
 
 -- ---- any call
 
-abbrev after_calling : Whole → UserCall → Whole
-after_calling w call = record w { end = user_does call w.end; put = w.put ++ put_by call w.end }
-
 -- it has no effect
 pub nothing_so : (local : Local) (w : Whole) (t : State) (units : List Value) → t ≡ w.end → units ≡ [] → Followed local w →
     Followed local (record w { end = t; put = w.put ++ units })
@@ -426,34 +377,10 @@ nothing_so local w t units same none f =
     (sym (ap (λ (l : List Value). w.put ++ l) none ∙ append-nil w.put))
     (subst (λ (e : State). Followed local (record w { end = e })) (sym same) f)
 
-open_of : (r peer : ℕ) (link : Standing) (s : State) → s.ended ≡ None → value_at r s.live ≡ Some (linked peer link) →
-    open_link r s ≡ Some (peer, link)
-open_of r peer link s lasts h =
-    ap (λ (o : Option EndReason). if◌then◌else◌ {A = Option (ℕ × Standing)} (is_some o) None (link_of (value_at r s.live))) lasts
-    ∙ ap link_of h
-
-same_pair : (a b : ℕ × Standing) → Some a ≡ Some b → a ≡ b
-same_pair a b e = cc
-
-row_of : (o : Option Live) (peer : ℕ) (link : Standing) → link_of o ≡ Some (peer, link) → o ≡ Some (linked peer link)
-row_of None peer link e = cc
-row_of (Some asked) peer link e = cc
-row_of (Some (linked q l)) peer link e = ap (λ (p : ℕ × Standing). Some (linked p.0 p.1)) (same_pair (q, l) (peer, link) e)
-row_of (Some (closing q)) peer link e = cc
-
 linked_of : (b : Bool) (o : Option Live) (peer : ℕ) (link : Standing) → (if b then None else link_of o) ≡ Some (peer, link) →
     o ≡ Some (linked peer link)
 linked_of true o peer link e = cc
 linked_of false o peer link e = row_of o peer link e
-
-rows_sent : (m r : ℕ) (tsdu : List ℕ) (o : Option (ℕ × Standing)) (s : State) → (m ≡ r → ⊥) →
-    value_at m (sent_on r tsdu o s).live ≡ value_at m s.live
-rows_sent m r tsdu None s other = refl
-rows_sent m r tsdu (Some (peer, link)) s other = put_other m r (linked peer (pumped (with_tsdu link tsdu))) s.live other
-
-rows_all : (m r : ℕ) (tsdus : List (List ℕ)) (s : State) → (m ≡ r → ⊥) → value_at m (sent_all r tsdus s).live ≡ value_at m s.live
-rows_all m r [] s other = refl
-rows_all m r (tsdu ∷ tsdus) s other = rows_all m r tsdus (sent r tsdu s) other ∙ rows_sent m r tsdu (open_link r s) s other
 
 class_sent : (r : ℕ) (tsdu : List ℕ) (o : Option (ℕ × Standing)) (s : State) → (sent_on r tsdu o s).class ≡ s.class
 class_sent r tsdu None s = refl
@@ -462,24 +389,6 @@ class_sent r tsdu (Some (peer, link)) s = refl
 class_all : (r : ℕ) (tsdus : List (List ℕ)) (s : State) → (sent_all r tsdus s).class ≡ s.class
 class_all r [] s = refl
 class_all r (tsdu ∷ tsdus) s = class_all r tsdus (sent r tsdu s) ∙ class_sent r tsdu (open_link r s) s
-
--- the link after TSDUs that were sent together
-all_open : (r peer : ℕ) (tsdus : List (List ℕ)) (s : State) (link : Standing) → open_link r s ≡ Some (peer, link) →
-    (l : Standing) × (open_link r (sent_all r tsdus s) ≡ Some (peer, l))
-all_open r peer [] s link e = (link, e)
-all_open r peer (tsdu ∷ tsdus) s link e =
-    all_open r peer tsdus (sent r tsdu s) (pumped (with_tsdu link tsdu)) (still_open r peer tsdu s link e)
-
-all_none : (r : ℕ) (tsdus : List (List ℕ)) (s : State) → open_link r s ≡ None →
-    (sent_all r tsdus s ≡ s) × (put_together r tsdus s ≡ [])
-all_none r [] s h = (refl, refl)
-all_none r (tsdu ∷ tsdus) s h =
-    let same : sent r tsdu s ≡ s = ap (λ (o : Option (ℕ × Standing)). sent_on r tsdu o s) h in
-    let (a, b) = all_none r tsdus s h in (
-      ap (λ (t : State). sent_all r tsdus t) same ∙ a,
-      ap (λ (o : Option (ℕ × Standing)). put_sent tsdu o ++ put_together r tsdus (sent r tsdu s)) h
-          ∙ ap (λ (t : State). put_together r tsdus t) same ∙ b,
-    )
 
 broken : {A : Type 0} (reason : EndReason) (s : State) → s.ended ≡ None → (ended_by reason s).ended ≡ None → A
 broken reason s was h =

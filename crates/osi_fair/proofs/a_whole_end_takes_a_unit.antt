@@ -1,46 +1,29 @@
 -- A whole calling end takes a unit: what it was for its connection is an act of the line, and the other lines stay.
 -- For the law on a whole end.
-use Rattle.std.proofs.Common.{◌≡◌, ◌∙◌, ◌≤◌, ℕ, Bool, true, false, List, [], ◌∷◌, ◌++◌, refl, sym, ap, subst}
-use Rattle.std.proofs.Common.{Option, Some, None, inl, inr, ◌⊎◌, is_some}
-use Rattle.std.specs.Prelude.{slice_get}
-use Rattle.std.specs.List.{AllByRecursion}
-use Rattle.std.proofs.lemmas.List.{append-nil, append_assoc}
-use Rattle.osi_tpdu.specs.Value.{Value, Connect, confirm, disconnected}
-use Rattle.osi_tpdu.specs.Value.{destination_of}
-use Rattle.osi_class.specs.Link.{Standing}
-use Rattle.osi_class.specs.declared.terms.Class.TheVariants.{Two}
-use Rattle.osi_class.specs.declared.terms.Local.{Local}
-use Rattle.osi_carrier.specs.Negotiation.{agreed_size, opened_link}
-use Rattle.osi_carrier.specs.Orderly.{IsOrderly}
-use Rattle.osi_carrier.specs.React.{to_connection, to_unknown}
+use Rattle.osi_fair.proofs.Vocabulary.{arith}
+use Rattle.osi_fair.proofs.Vocabulary.{[], ap, Bool, false, inl, inr, is_some, List, None, Option, refl, Some, subst, sym, true, ℕ, ◌++◌}
+use Rattle.osi_fair.proofs.Vocabulary.{◌∙◌, ◌∷◌, ◌≡◌, ◌≤◌, ◌⊎◌, append-nil, AllByRecursion, slice_get, confirm, Connect, destination_of}
+use Rattle.osi_fair.proofs.Vocabulary.{disconnected, Value, Standing, Two, Local, changes_one, agreed_size, opened_link, IsOrderly}
+use Rattle.osi_fair.proofs.Vocabulary.{to_connection, to_unknown, value_at, asked, closing, Live, linked, Connection, Left, link_now}
+use Rattle.osi_fair.proofs.Vocabulary.{ignores, Line, put_at, put_for, Whole}
+use Rattle.std.proofs.lemmas.List.{append_assoc}
 unfoldable use Rattle.osi_carrier.specs.React.{react}
-use Rattle.osi_carrier.specs.Rows.{value_at}
-use Rattle.osi_carrier.specs.State.{State, Connection as Live, asked, closing, linked}
-use Rattle.osi_carrier.proofs.effects.a_unit_touches_one_connection.{changes_one}
-use Rattle.osi_rules.specs.declared.connections.Connection.{Connection}
-use Rattle.osi_rules.specs.declared.directions.Direction.TheVariants.{Left}
-use Rattle.osi_fair.specs.Following.{link_now}
-use Rattle.osi_fair.specs.Lines.{Line, ignores}
-use Rattle.osi_fair.specs.Putting.{put_at, put_for}
-use Rattle.osi_fair.specs.Wholes.{Whole}
+use Rattle.osi_carrier.specs.State.{State}
+use Rattle.osi_fair.proofs.small_facts_that_many_lemmas_use.{differ, number_is as same_number, same_cc}
 use Rattle.osi_fair.proofs.a_carrier_follows_lines.{follows_open}
 use Rattle.osi_fair.proofs.a_request_of_a_whole_end_is_new.{unit_gives}
-use Rattle.osi_fair.proofs.no_two_open_connections_have_one_peer.{differ}
-use Rattle.osi_fair.proofs.each_connection_has_its_line.{AreGiven, Followed, Following, IsAnswer, IsNoCc, IsSpare, Row, Tracked, asks}
-use Rattle.osi_fair.proofs.each_connection_has_its_line.{closes}
-use Rattle.osi_fair.proofs.each_connection_has_its_line.{is_tracked}
-use Rattle.osi_fair.proofs.each_connection_has_its_line.{over, talks, tracks_hold, tracks_on}
-use Rattle.osi_fair.proofs.what_a_calling_end_still_has.{IsLive, OffersTwo, SelectsTwo, unit_after}
-use Rattle.osi_fair.proofs.what_a_whole_end_takes.{Puts, all_join, leads_more, nothing, of_line, of_none}
-use Rattle.osi_fair.proofs.what_a_whole_end_takes.{taken_so}
+use Rattle.osi_fair.proofs.each_connection_has_its_line.{followed_at, AreGiven, Followed, Following, IsAnswer, IsNoCc, IsSpare, Row}
+use Rattle.osi_fair.proofs.each_connection_has_its_line.{Tracked, asks, closes, is_tracked, over, talks, tracks_hold, tracks_on}
+use Rattle.osi_fair.proofs.what_a_calling_end_still_has.{OffersTwo, SelectsTwo, unit_after}
+use Rattle.osi_fair.proofs.what_a_whole_end_takes.{Puts, all_join, leads_more, nothing, of_line, of_none, taken_so}
 use Rattle.osi_fair.proofs.what_the_other_side_closes.{IsDr, IsSane, closed_by}
 use Rattle.osi_fair.proofs.which_units_are_for_a_connection.{AllOurs, all_ours, picked_first, is_dc, is_ours, last_ours, line_ours}
-use Rattle.osi_fair.proofs.which_units_are_for_a_connection.{named_so, names, picked_more, picked_other, ours, ours_is, picked_join, those}
+use Rattle.osi_fair.proofs.which_units_are_for_a_connection.{named_so, picked_more, picked_other, ours, ours_is, picked_join, those}
 use Rattle.osi_fair.proofs.what_a_unit_leaves_at_a_calling_end.{Asks, Closes, Kind, Linked, Named, asked_so, by_number, closing_so, dc_is}
 use Rattle.osi_fair.proofs.what_a_unit_leaves_at_a_calling_end.{dc_stays, disconnects, dr_closes, drops, early_dc, early_parts, ends}
 use Rattle.osi_fair.proofs.what_a_unit_leaves_at_a_calling_end.{given_by, kind_of, linked_so, named_by, no_answer, no_disconnect, not_open}
-use Rattle.osi_fair.proofs.what_a_unit_leaves_at_a_calling_end.{opened, or_strays, same_cc, same_number, spare_none, stays, still}
-use Rattle.osi_fair.proofs.what_a_unit_leaves_at_a_calling_end.{unknown_puts, unknown_so}
+use Rattle.osi_fair.proofs.what_a_unit_leaves_at_a_calling_end.{opened, or_strays, spare_none, stays, still, unknown_puts, unknown_so}
+use Rattle.osi_fair.proofs.what_is_live_at_a_called_end.{IsLive}
 
 module _ (local : Local) (w : Whole) (f : Followed local w) (sane : IsSane w.tap) (firm : w.tap.course.loose ≡ false)
     (offers : OffersTwo w.end) (orderly : IsOrderly w.end) (local_is : w.end.local ≡ local) (was : w.end.ended ≡ None) (u : Value)
@@ -75,8 +58,7 @@ module _ (local : Local) (w : Whole) (f : Followed local w) (sane : IsSane w.tap
   class_so = (unit_after u s offers selects).class
 
   first_n : (r : ℕ) → r ≡ n → those r w.coming ≡ u ∷ those n later
-  first_n r same =
-      ap (λ (i : ℕ). those i w.coming) same ∙ ap (λ (l : List Value). those n l) come ∙ picked_first (names n) u later (named_so n u k.dest)
+  first_n r same = grind (arith, picked_first, named_so)
 
   abbrev Mine : Type 0
   Mine = (p : ℕ) (c : Connection) → slice_get cs p ≡ Some c → is_tracked c ≡ true →
@@ -86,8 +68,7 @@ module _ (local : Local) (w : Whole) (f : Followed local w) (sane : IsSane w.tap
   MineLinked = (peer : ℕ) (link : Standing) → value_at n t.live ≡ Some (linked peer link) → Tracked cs n × (t.class ≡ Some Two)
 
   asked_dc : is_dc u ≡ true → value_at n s.live ≡ Some asked → value_at n t.live ≡ Some asked
-  asked_dc dc here =
-      ap (λ (y : State). value_at n y.live) (k.is ∙ ap (λ (o : Option Live). to_connection n o u s) here) ∙ dc_stays n u s dc here
+  asked_dc dc here = grind (arith, dc_stays)
 
   all : Mine → MineLinked → Puts w.tap s n units → Followed local after
   all mine linked_mine owner =
@@ -241,38 +222,14 @@ module _ (local : Local) (w : Whole) (f : Followed local w) (sane : IsSane w.tap
       ap (λ (m : Local). linked x.source (opened_link Two (agreed_size x.parameters.size m) m x.credit)) h
       ∙ ap (λ (z : Connect). linked z.source (opened_link Two (agreed_size z.parameters.size local) local z.credit)) x_is
       ∙ ap (λ (i : ℕ). linked i (opened_link Two (agreed_size y.parameters.size local) local y.credit)) source in
-      record {
-        r = g.r;
-        peer = g.peer;
-        line = g.line;
-        left = g.left;
-        right = g.right;
-        tracks = g.tracks;
-        tap = g.tap;
-        spare = g.spare;
-        put_is = no_units none g.r g.peer ∙ g.put_is;
-        spares = g.spares;
-        gone = g.gone;
-        begun_is = g.begun_is ∙ leads_more w.begun (is_ours g.r g.peer) w.put units f.some;
-        row = talks (opened_link Two (agreed_size y.parameters.size local) local y.credit)
-            (ap (λ (i : ℕ). value_at i t.live) same ∙ there ∙ ap (λ (a : Live). Some a) (link_is s.local local_is)) is
-            (later_is g.r same ∙ coming);
-        calm = g.calm;
-      }
+      followed_at g (no_units none g.r g.peer) g.spares (leads_more w.begun (is_ours g.r g.peer) w.put units f.some)
+      (talks (opened_link Two (agreed_size y.parameters.size local) local y.credit) (ap (λ (i : ℕ). value_at i t.live) same ∙ there
+      ∙ ap (λ (a : Live). Some a) (link_is s.local local_is)) is (later_is g.r same ∙ coming))
 
   -- what comes first for a connection that is asked for is its CC
   other_row : {A : Type 0} → is_dc u ≡ false → ((x : Connect) → u ≡ confirm n x → ⊥) → value_at n s.live ≡ Some asked → (r peer : ℕ)
       (line : Line) → r ≡ n → Row local s w.coming r peer line → A
-  other_row no_dc none here r peer line same (over h) = differ (is_some s.ended) h (ap is_some was)
-  other_row no_dc none here r peer line same (talks link a is come_all) =
-      absurd (cc (sym here ∙ ap (λ (i : ℕ). value_at i s.live) (sym same) ∙ a))
-  other_row no_dc none here r peer line same (closes o a i (inl h) gone come_all) =
-      absurd (cc (sym here ∙ ap (λ (i : ℕ). value_at i s.live) (sym same) ∙ a ∙ h))
-  other_row no_dc none here r peer line same (closes o a i (inr h) gone come_all) =
-      absurd (cc (sym here ∙ ap (λ (i : ℕ). value_at i s.live) (sym same) ∙ a ∙ h))
-  other_row no_dc none here r peer line same (asks a y source early dcs first is) =
-      let (first_so, coming) = (early_parts early u (confirm r y) (those n later) line.coming dcs (sym (first_n r same) ∙ first)).1 no_dc in
-      absurd (none y (first_so ∙ ap (λ (i : ℕ). confirm i y) same))
+  other_row no_dc none here r peer line same k = grind (arith, differ, early_parts, first_n)
 
   -- a DC before the CC
   early_row : units ≡ [] → is_dc u ≡ true → value_at n s.live ≡ Some asked → value_at n t.live ≡ Some asked → (c : Connection)
@@ -288,22 +245,8 @@ module _ (local : Local) (w : Whole) (f : Followed local w) (sane : IsSane w.tap
   early_row none dc here there c g same (asks a y source early dcs first is) =
       let (more, (more_dcs, rest)) = (early_parts early u (confirm g.r y) (those n later) g.line.coming dcs
       (sym (first_n g.r same) ∙ first)).0 dc refl in
-      record {
-        r = g.r;
-        peer = g.peer;
-        line = g.line;
-        left = g.left;
-        right = g.right;
-        tracks = g.tracks;
-        tap = g.tap;
-        spare = g.spare;
-        put_is = no_units none g.r g.peer ∙ g.put_is;
-        spares = g.spares;
-        gone = g.gone;
-        begun_is = g.begun_is ∙ leads_more w.begun (is_ours g.r g.peer) w.put units f.some;
-        row = asks (ap (λ (i : ℕ). value_at i t.live) same ∙ there) y source more more_dcs (later_is g.r same ∙ rest) is;
-        calm = g.calm;
-      }
+      followed_at g (no_units none g.r g.peer) g.spares (leads_more w.begun (is_ours g.r g.peer) w.put units f.some)
+      (asks (ap (λ (i : ℕ). value_at i t.live) same ∙ there) y source more more_dcs (later_is g.r same ∙ rest) is)
 
   head_answer : (x : Connect) → u ≡ confirm n x → Tracked cs n
   head_answer x e = ((subst (AllByRecursion (λ (v : Value). IsAnswer cs s v)) come f.answers).0 n x e was).0
@@ -386,12 +329,9 @@ module _ (local : Local) (w : Whole) (f : Followed local w) (sane : IsSane w.tap
       Row local s w.coming g.r g.peer g.line → Grown c
   grown_by peer link here two p c at g same (over h) = differ (is_some s.ended) h (ap is_some was)
   grown_by peer link here two p c at g same (talks l r is come_all) = grows peer link here two p c at g same l r is come_all
-  grown_by peer link here two p c at g same (asks r x source early dcs first is) =
-      absurd (cc (sym here ∙ ap (λ (i : ℕ). value_at i s.live) (sym same) ∙ r))
-  grown_by peer link here two p c at g same (closes o r i (inl h) gone come_all) =
-      absurd (cc (sym here ∙ ap (λ (i : ℕ). value_at i s.live) (sym same) ∙ r ∙ h))
-  grown_by peer link here two p c at g same (closes o r i (inr h) gone come_all) =
-      absurd (cc (sym here ∙ ap (λ (i : ℕ). value_at i s.live) (sym same) ∙ r ∙ h))
+  grown_by peer link here two p c at g same (asks r x source early dcs first is) = grind arith
+  grown_by peer link here two p c at g same (closes o r i (inl h) gone come_all) = grind arith
+  grown_by peer link here two p c at g same (closes o r i (inr h) gone come_all) = grind arith
 
   at_linked : (peer : ℕ) (link : Standing) → value_at n s.live ≡ Some (linked peer link) → Followed local after
   at_linked peer link here =
@@ -404,10 +344,7 @@ module _ (local : Local) (w : Whole) (f : Followed local w) (sane : IsSane w.tap
       (record { up = given_by n s.given s.live (linked peer link) orderly.up_to here; row = λ h. absurd (cc (sym here ∙ h)) }))
 
   by_row : (o : Option Live) → value_at n s.live ≡ o → Followed local after
-  by_row None here = at_gone here
-  by_row (Some asked) here = at_asked here
-  by_row (Some (linked peer link)) here = at_linked peer link here
-  by_row (Some (closing q)) here = at_closing q here
+  by_row o here = grind (arith, at_gone, at_asked, at_linked, at_closing)
 
 pub end_takes : (local : Local) (w : Whole) → Followed local w → IsSane w.tap → w.tap.course.loose ≡ false → OffersTwo w.end →
     IsOrderly w.end → w.end.local ≡ local → w.end.ended ≡ None → (u : Value) (later : List Value) → w.coming ≡ u ∷ later →

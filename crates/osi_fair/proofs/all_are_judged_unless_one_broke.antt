@@ -1,28 +1,16 @@
 -- While no side has broken a rule for which a connection is not judged any more, each is judged, and a name has one place.
 -- For the law on places.
-use Rattle.std.proofs.Common.{◌≡◌, ◌∙◌, ℕ, Bool, true, false, List, [], ◌∷◌, refl, sym, ap, Option, Some, None, if◌then◌else◌}
-use Rattle.std.specs.Prelude.{position, slice_get}
-use Rattle.std.specs.List.{position_or_len}
-use Rattle.osi_tpdu.specs.Value.{Value, Connect, request, confirm, disconnect, disconnected, data0, data2, acknowledge, error}
-use Rattle.osi_rules.specs.declared.connections.Connection.{Connection}
-use Rattle.osi_rules.specs.declared.courses.Course.{Course}
-use Rattle.osi_rules.specs.declared.directions.Direction.{Direction}
-use Rattle.osi_rules.specs.declared.directions.Direction.TheVariants.{Left, Right}
-use Rattle.osi_rules.specs.declared.findings.Finding.{Finding}
-use Rattle.osi_rules.specs.declared.findings.Finding.TheVariants.{Broke, Kept, NotJudged, Outside, TooMany}
-use Rattle.osi_rules.specs.declared.findings.Reach.{Reach}
-use Rattle.osi_rules.specs.declared.findings.Reach.TheVariants as reach
-use Rattle.osi_rules.specs.declared.halves.Half.{Half}
-use Rattle.osi_rules.specs.declared.routes.Route.{Route}
-use Rattle.osi_rules.specs.declared.routes.Route.TheVariants.{Asks, Named, Only, Unnamed}
-use Rattle.osi_rules.specs.Reaches.{is_applied, reach_of}
-use Rattle.osi_rules.specs.Rows.{first_failed}
-use Rattle.osi_rules.specs.Sides.{begins, is_free, is_live, is_named, own, sends}
-use Rattle.osi_rules.specs.Traffic.{Outcome, State, asked_by, asks_by, asks_kept, asks_of, at_found, at_place, class_for}
-use Rattle.osi_rules.specs.Traffic.{connection_after, course_after, course_after_none, course_begins, found_on, fresh, half_after}
-use Rattle.osi_rules.specs.Traffic.{is_stopped, judged_on, none_told, one_told, reached, refused_reach, request_tests, route, routed}
-use Rattle.osi_rules.specs.Traffic.{sent_on, sized, unnamed, unnamed_told}
-use Rattle.osi_fair.specs.Naming.{Passing, all_passed, packet, passes, rubbish, unit}
+use Rattle.osi_fair.proofs.Vocabulary.{arith}
+use Rattle.osi_fair.proofs.Vocabulary.{[], ap, Bool, false, if◌then◌else◌, List, None, Option, refl, Some, sym, true, ℕ, ◌∙◌, ◌∷◌, ◌≡◌}
+use Rattle.osi_fair.proofs.Vocabulary.{position_or_len, position, slice_get, Connect, request, Value, is_applied}
+use Rattle.osi_fair.proofs.Vocabulary.{reach_of, first_failed, begins, is_free, is_live, is_named, asked_by, asks_by, asks_kept}
+use Rattle.osi_fair.proofs.Vocabulary.{asks_of, at_found, at_place, class_for, connection_after, course_after, course_after_none}
+use Rattle.osi_fair.proofs.Vocabulary.{course_begins, found_on, fresh, is_stopped, judged_on, none_told, one_told, Outcome}
+use Rattle.osi_fair.proofs.Vocabulary.{reached, refused_reach, request_tests, route, routed, Traffic as State}
+use Rattle.osi_fair.proofs.Vocabulary.{unnamed_told, Connection, Course, Direction, Finding, Kept, NotJudged, Reach, Half}
+use Rattle.osi_fair.proofs.Vocabulary.{Route, Asks, Named, Only, Unnamed, all_passed, packet, passes, Passing, rubbish, unit}
+use Rattle.osi_rules.specs.Sides.{sends}
+use Rattle.osi_fair.proofs.small_facts_that_many_lemmas_use.{begins_judged, sized_judged}
 use Rattle.osi_fair.proofs.what_holds_of_one_item.{HoldsOfEach, each_add, each_map, each_set, first_true}
 use Rattle.osi_fair.proofs.a_reference_names_one_connection.{names_one, no_item}
 use Rattle.osi_fair.proofs.a_right_unit_is_not_blamed.{first_there, is_first}
@@ -37,70 +25,30 @@ AreJudged s = s.course.loose ≡ false → HoldsOfEach IsJudged s.connections
 
 -- it was so before that
 was_firm : (d : Direction) (r : Reach) (c : Course) → (reached d r c).loose ≡ false → c.loose ≡ false
-was_firm d reach.Nothing c h = h
-was_firm d reach.Connection c h = cc
-was_firm Left reach.Side c h = h
-was_firm Right reach.Side c h = h
-was_firm d reach.Everything c h = h
+was_firm d r c h = grind arith
 
 none_firm : (v : Value) (c : Course) → (course_after_none v c).loose ≡ c.loose
-none_firm (request x) c = refl
-none_firm (confirm destination x) c = refl
-none_firm (disconnect destination source reason user) c = refl
-none_firm (disconnected destination source) c = refl
-none_firm (data0 end user) c = refl
-none_firm (data2 destination number end user) c = refl
-none_firm (acknowledge credit destination number) c = refl
-none_firm (error destination cause) c = refl
+none_firm v c = grind arith
 
 after_firm : (d : Direction) (c : Connection) (v : Value) (applied : Bool) (course : Course) →
     (course_after d c v applied course).loose ≡ course.loose
-after_firm d c (confirm destination x) true course = refl
-after_firm d c (confirm destination x) false course = refl
-after_firm d c (disconnect destination source reason user) applied course = refl
-after_firm d c (request x) applied course = refl
-after_firm d c (disconnected destination source) applied course = refl
-after_firm d c (data0 end user) applied course = refl
-after_firm d c (data2 destination number end user) applied course = refl
-after_firm d c (acknowledge credit destination number) applied course = refl
-after_firm d c (error destination cause) applied course = refl
+after_firm d c v applied course = grind arith
 
 begun_firm : (d : Direction) (c : Course) → (course_begins d c).loose ≡ c.loose
-begun_firm Left c = refl
-begun_firm Right c = refl
+begun_firm d c = grind arith
 
 -- ---- a connection that is judged still is
 
-sized_judged : (v : Value) (c : Connection) → (sized v c).is_judged ≡ c.is_judged
-sized_judged (confirm destination x) c = refl
-sized_judged (request x) c = refl
-sized_judged (disconnect destination source reason user) c = refl
-sized_judged (disconnected destination source) c = refl
-sized_judged (data0 end user) c = refl
-sized_judged (data2 destination number end user) c = refl
-sized_judged (acknowledge credit destination number) c = refl
-sized_judged (error destination cause) c = refl
-
 sends_judged : (d : Direction) (half : Half) (c : Connection) → (sends d half c).is_judged ≡ c.is_judged
-sends_judged Left half c = refl
-sends_judged Right half c = refl
-
-begins_judged : (d : Direction) (c : Connection) → (begins d c).is_judged ≡ c.is_judged
-begins_judged Left c = refl
-begins_judged Right c = refl
+sends_judged d half c = grind arith
 
 reach_judged : (d : Direction) (r : Reach) (course : Course) (c : Connection) → (reached d r course).loose ≡ false →
     (judged_on r c).is_judged ≡ c.is_judged
-reach_judged d reach.Nothing course c h = refl
-reach_judged d reach.Connection course c h = cc
-reach_judged d reach.Side course c h = refl
-reach_judged d reach.Everything course c h = refl
+reach_judged d r course c h = grind arith
 
 after_judged : (d : Direction) (v : Value) (applied : Bool) (r : Reach) (course : Course) (c : Connection) →
     (reached d r course).loose ≡ false → (connection_after d v applied r c).is_judged ≡ c.is_judged
-after_judged d v true r course c h = reach_judged d r course (sent_on d v c) h
-    ∙ sized_judged v (sends d (half_after v (own d c)) c) ∙ sends_judged d (half_after v (own d c)) c
-after_judged d v false r course c h = reach_judged d r course c h
+after_judged d v applied r course c h = grind (arith, reach_judged, sized_judged, sends_judged)
 
 -- ---- by the way that a unit takes
 
@@ -108,9 +56,7 @@ to_none : (d : Direction) (f : Finding) (s : State) → AreJudged s → AreJudge
 to_none d f s a h = a (was_firm d (reach_of (class_for d s.course) f) s.course h)
 
 to_unnamed : (d : Direction) (v : Value) (s : State) → AreJudged s → AreJudged (unnamed_told d v s).state
-to_unnamed d v s a h =
-    let course = course_after_none v s.course in
-    a (sym (none_firm v s.course) ∙ was_firm d (reach_of (class_for d course) (unnamed s.course v)) course h)
+to_unnamed d v s a h = grind (arith, none_firm, was_firm)
 
 to_one : (d : Direction) (p : ℕ) (c : Connection) (v : Value) (s : State) → slice_get s.connections p ≡ Some c → AreJudged s →
     AreJudged (one_told d p c v s).state
@@ -137,20 +83,11 @@ placed_judged x s None a h = each_add IsJudged s.connections (asked_by x) (a h) 
 
 asking : (d : Direction) (f : Finding) (x : Connect) (s : State) → AreJudged s → AreJudged (asks_by d f x s).state
 asking d Kept x s a = placed_judged x s (position is_free s.connections) a
-asking d (Broke rule) x s a = to_none d (Broke rule) s a
-asking d Outside x s a = to_none d Outside s a
-asking d TooMany x s a = to_none d TooMany s a
-asking d NotJudged x s a = to_none d NotJudged s a
+asking d v x s a = to_none d v s a
 
 asks : (d : Direction) (v : Value) (s : State) → AreJudged s → AreJudged (asks_of d v s).state
 asks d (request x) s a = asking d (first_failed (request_tests s x)) x s a
-asks d (confirm destination x) s a = to_none d NotJudged s a
-asks d (disconnect destination source reason user) s a = to_none d NotJudged s a
-asks d (disconnected destination source) s a = to_none d NotJudged s a
-asks d (data0 end user) s a = to_none d NotJudged s a
-asks d (data2 destination number end user) s a = to_none d NotJudged s a
-asks d (acknowledge credit destination number) s a = to_none d NotJudged s a
-asks d (error destination cause) s a = to_none d NotJudged s a
+asks d _ s a = to_none d NotJudged s a
 
 by_route : (d : Direction) (v : Value) (s : State) (r : Route) → AreJudged s → AreJudged (routed d v s r).state
 by_route d v s Asks a = asks d v s a

@@ -1,64 +1,32 @@
 -- An open end of class 2 is fair, over every list of what happens to it and to the tap: at left, and then at right, which is left
 -- with the sides of the tap exchanged.
 -- For the law of that name.
-use Rattle.std.proofs.Common.{◌≡◌, ◌≢◌, ◌∙◌, ℕ, ◌+◌, ◌-◌, ◌≤◌, Bool, true, false, List, [], ◌∷◌, ◌++◌, arith, refl, sym, ap, subst}
-use Rattle.std.proofs.Common.{Option, Some, None, IfSome, if◌then◌else◌, ◌⊎◌, inl, inr}
-use Rattle.osi_tpdu.specs.Value.{Value, request, confirm, disconnect, disconnected, data0, data2, acknowledge, error}
-use Rattle.osi_class.specs.Link.{Standing, fresh_two, two_standing}
-use Rattle.osi_class.specs.declared.terms.Class.TheVariants.{Two}
-use Rattle.osi_rules.specs.declared.connections.Connection.{Connection}
-use Rattle.osi_rules.specs.declared.courses.Course.{Course}
-use Rattle.osi_rules.specs.declared.directions.Direction.{Direction}
-use Rattle.osi_rules.specs.declared.directions.Direction.TheVariants.{Left, Right}
-use Rattle.osi_rules.specs.declared.findings.Finding.{Finding}
-use Rattle.osi_rules.specs.declared.findings.Finding.TheVariants.{Kept, Broke, NotJudged}
-use Rattle.osi_rules.specs.declared.findings.Reach.{Reach}
-use Rattle.osi_rules.specs.declared.findings.Reach.TheVariants as reach
+use Rattle.osi_fair.proofs.Vocabulary.{[], ap, arith, Bool, false, IfSome, inl, inr, List, Option, refl, Some, subst}
+use Rattle.osi_fair.proofs.Vocabulary.{sym, true, ℕ, ◌+◌, ◌-◌, ◌∙◌, ◌∷◌, ◌≡◌, ◌≤◌, ◌⊎◌, Value, fresh_two}
+use Rattle.osi_fair.proofs.Vocabulary.{Standing, two_standing, Two, is_applied, reach_of, is_open, other, connection_after, found}
+use Rattle.osi_fair.proofs.Vocabulary.{judged_on, sent_on, Connection, Course, Direction, Left, Right, Finding, Broke, Kept}
+use Rattle.osi_fair.proofs.Vocabulary.{Reach, Half, Act, Acts, ActsAlong, after_finding, answers, begins_elsewhere, closes_with as closes}
+use Rattle.osi_fair.proofs.Vocabulary.{ignores, IsFair, IsOpened, IsRightNow, Line, moves}
 use Rattle.osi_rules.specs.declared.findings.Rule.TheVariants as rule
-use Rattle.osi_rules.specs.declared.halves.Half.{Half}
-use Rattle.osi_rules.specs.Reaches.{is_applied, reach_of}
-use Rattle.osi_rules.specs.Sides.{other, is_open}
-use Rattle.osi_rules.specs.Traffic.{found, sent_on, judged_on, connection_after}
-use Rattle.osi_fair.specs.Lines.{begins_elsewhere}
-use Rattle.osi_fair.specs.Lines.{Line, Act, moves, closes, ignores, answers, begins_own, passes_own, begins_other, passes_other}
-use Rattle.osi_fair.specs.Lines.{Acts, ActsAlong}
-use Rattle.osi_fair.specs.Lines.{IsFair, IsOpened, IsRightNow, finding_of, after_finding}
+use Rattle.osi_fair.specs.Lines.{begins_own, passes_own, begins_other, passes_other}
 use Rattle.osi_fair.proofs.what_holds_of_a_line.{Holds, PutsAt, TakesAt, Tally, is_there}
 use Rattle.osi_fair.proofs.what_an_end_does_to_a_line.{moves_hold, closes_hold, ignores_hold, answers_hold}
 use Rattle.osi_fair.proofs.what_passes_of_an_end.{begins_own_holds, begins_other_holds, elsewhere_holds, first_is, is_kept}
 use Rattle.osi_fair.proofs.what_passes_of_an_end.{passes_own_holds}
 use Rattle.osi_fair.proofs.what_each_unit_of_the_other_side_does.{passes_other_holds}
+use Rattle.osi_fair.proofs.Vocabulary.{if◌then◌else◌, NotJudged, finding_of}
 
 -- ---- a connection that is judged was judged before
 
 sent_judged : (d : Direction) (v : Value) (c : Connection) → (sent_on d v c).is_judged ≡ c.is_judged
-sent_judged Left (request x) c = refl
-sent_judged Left (confirm destination x) c = refl
-sent_judged Left (disconnect destination source reason user) c = refl
-sent_judged Left (disconnected destination source) c = refl
-sent_judged Left (data0 end user) c = refl
-sent_judged Left (data2 destination number end user) c = refl
-sent_judged Left (acknowledge credit destination number) c = refl
-sent_judged Left (error destination cause) c = refl
-sent_judged Right (request x) c = refl
-sent_judged Right (confirm destination x) c = refl
-sent_judged Right (disconnect destination source reason user) c = refl
-sent_judged Right (disconnected destination source) c = refl
-sent_judged Right (data0 end user) c = refl
-sent_judged Right (data2 destination number end user) c = refl
-sent_judged Right (acknowledge credit destination number) c = refl
-sent_judged Right (error destination cause) c = refl
+sent_judged d v c = grind arith
 
-on_judged : (r : Reach) (c : Connection) → (judged_on r c).is_judged ≡ true → c.is_judged ≡ true
-on_judged reach.Nothing c h = h
-on_judged reach.Connection c h = cc
-on_judged reach.Side c h = h
-on_judged reach.Everything c h = h
+pub on_judged : (r : Reach) (c : Connection) → (judged_on r c).is_judged ≡ true → c.is_judged ≡ true
+on_judged r c h = grind arith
 
 judged_before : (d : Direction) (v : Value) (a : Bool) (r : Reach) (c : Connection) → (connection_after d v a r c).is_judged ≡ true →
     c.is_judged ≡ true
-judged_before d v true r c h = sym (sent_judged d v c) ∙ on_judged r (sent_on d v c) h
-judged_before d v false r c h = on_judged r c h
+judged_before d v a r c h = grind (arith, sent_judged, on_judged)
 
 was_judged : (d : Direction) (f : Finding) (v : Value) (c : Connection) → (after_finding d f v c).is_judged ≡ true → c.is_judged ≡ true
 was_judged d f v c h = judged_before d v (is_applied f) (reach_of (Some Two) f) c h
@@ -100,8 +68,7 @@ all_keep r peer (act ∷ acts) old new (mid, a, more) h = all_keep r peer acts m
 -- ---- as it begins
 
 fits_most : (o : Option ℕ) (size : ℕ) → 5 ≤ size → IfSome o (λ most. size ≤ most) → IfSome o (λ most. size - 5 + 5 ≤ most)
-fits_most None size h k = tt
-fits_most (Some most) size h k = omega arith
+fits_most o size h k = grind arith
 
 pub opened_holds : (r peer : ℕ) (line : Line) → IsOpened Left r peer line → Holds r peer line
 opened_holds r peer line o =
@@ -116,16 +83,7 @@ opened_holds r peer line o =
       limit = o.size - 5;
       tally = x;
       noted = 0;
-      ordered = record {
-        heard_noted = omega arith;
-        noted_passed = omega arith;
-        passed_sent = omega arith;
-        few = omega arith;
-        within = omega arith;
-        shown_acked = omega arith;
-        acked_came = omega arith;
-        tellable = omega arith;
-      };
+      ordered = omega arith;
       taps = record {
         next = ap (λ (h : Half). h.next) o.sent;
         awaited = ap (λ (h : Half). h.awaited) o.sent;
@@ -176,33 +134,14 @@ abbrev pub turned_line : Line → Line
 turned_line line = record line { tap = turned line.tap }
 
 sent_turned : (d : Direction) (v : Value) (c : Connection) → turned (sent_on d v c) ≡ sent_on (other d) v (turned c)
-sent_turned Left (request x) c = refl
-sent_turned Left (confirm destination x) c = refl
-sent_turned Left (disconnect destination source reason user) c = refl
-sent_turned Left (disconnected destination source) c = refl
-sent_turned Left (data0 end user) c = refl
-sent_turned Left (data2 destination number end user) c = refl
-sent_turned Left (acknowledge credit destination number) c = refl
-sent_turned Left (error destination cause) c = refl
-sent_turned Right (request x) c = refl
-sent_turned Right (confirm destination x) c = refl
-sent_turned Right (disconnect destination source reason user) c = refl
-sent_turned Right (disconnected destination source) c = refl
-sent_turned Right (data0 end user) c = refl
-sent_turned Right (data2 destination number end user) c = refl
-sent_turned Right (acknowledge credit destination number) c = refl
-sent_turned Right (error destination cause) c = refl
+sent_turned d v c = grind arith
 
 on_turned : (r : Reach) (c : Connection) → turned (judged_on r c) ≡ judged_on r (turned c)
-on_turned reach.Nothing c = refl
-on_turned reach.Connection c = refl
-on_turned reach.Side c = refl
-on_turned reach.Everything c = refl
+on_turned r c = grind arith
 
 after_turned : (d : Direction) (v : Value) (a : Bool) (r : Reach) (c : Connection) →
     turned (connection_after d v a r c) ≡ connection_after (other d) v a r (turned c)
-after_turned d v true r c = on_turned r (sent_on d v c) ∙ ap (λ (x : Connection). judged_on r x) (sent_turned d v c)
-after_turned d v false r c = on_turned r c
+after_turned d v a r c = grind (arith, on_turned, sent_turned)
 
 finding_turned : (d : Direction) (f : Finding) (v : Value) (c : Connection) →
     turned (after_finding d f v c) ≡ after_finding (other d) f v (turned c)
@@ -211,14 +150,7 @@ finding_turned d f v c = after_turned d v (is_applied f) (reach_of (Some Two) f)
 -- what is found of this side's units but a CC, of which nothing is claimed here
 kept_turned : (course : Course) (in_use : Bool) (c : Connection) (v : Value) → found Left course in_use (turned c) v ≡ Kept →
     found Right course in_use c v ≡ Kept
-kept_turned course in_use c (request x) e = e
-kept_turned course in_use c (confirm destination x) e = cc
-kept_turned course in_use c (disconnect destination source reason user) e = e
-kept_turned course in_use c (disconnected destination source) e = e
-kept_turned course in_use c (data0 end user) e = e
-kept_turned course in_use c (data2 destination number end user) e = e
-kept_turned course in_use c (acknowledge credit destination number) e = e
-kept_turned course in_use c (error destination cause) e = e
+kept_turned course in_use c v e = grind arith
 
 right_turned : (c : Connection) (put : List Value) → IsRightNow Left (turned c) put → IsRightNow Right c put
 right_turned c [] h = h
@@ -229,51 +161,18 @@ right_turned c (unit ∷ units) h = record {
 
 found_other : (course : Course) (in_use : Bool) (c : Connection) (v : Value) →
     (found Left course in_use c v ≡ found Right course in_use (turned c) v) ⊎ (found Left course in_use c v ≡ Broke rule.WrongForm)
-found_other course in_use c (request x) = inl refl
-found_other course in_use c (confirm destination x) = inr refl
-found_other course in_use c (disconnect destination source reason user) = inl refl
-found_other course in_use c (disconnected destination source) = inl refl
-found_other course in_use c (data0 end user) = inl refl
-found_other course in_use c (data2 destination number end user) = inl refl
-found_other course in_use c (acknowledge credit destination number) = inl refl
-found_other course in_use c (error destination cause) = inl refl
+found_other course in_use c v = grind arith
 
 own_turned : (r peer : ℕ) (course : Course) (in_use : Bool) (old new : Line) → Acts Right r peer (passes_own course in_use) old new →
     old.tap.is_judged ≡ true → Holds r peer (turned_line old) →
     Acts Left r peer (passes_own course in_use) (turned_line old) (turned_line new)
-own_turned r peer course in_use old new (unit, first, begun, new_is) was h =
-    let right = first_is (turned old.tap) old.put new.put unit first (h.under_way begun) in
-    let here : finding_of Right course in_use old.tap unit ≡ Kept =
-    ap (λ (b : Bool). if b then found Right course in_use old.tap unit else NotJudged) was
-    ∙ kept_turned course in_use old.tap unit (right.kept course in_use) in
-    let there : finding_of Left course in_use (turned old.tap) unit ≡ Kept = is_kept course in_use (turned old.tap) unit was right in
-    let after : turned (after_finding Right (finding_of Right course in_use old.tap unit) unit old.tap)
-    ≡ after_finding Left (finding_of Left course in_use (turned old.tap) unit) unit (turned old.tap) =
-    finding_turned Right (finding_of Right course in_use old.tap unit) unit old.tap
-    ∙ ap (λ (f : Finding). after_finding Left f unit (turned old.tap)) (here ∙ sym there) in (
-      unit,
-      first,
-      begun,
-      ap turned_line new_is
-          ∙ ap (λ (c : Connection). record (turned_line old) { put = new.put; begun = false; tap = c }) after,
-    )
+own_turned r peer course in_use old new k was h = grind (arith, first_is, kept_turned, is_kept, finding_turned)
 
 other_turned : (r peer : ℕ) (course : Course) (in_use : Bool) (unit : Value) (old new : Line) →
     Acts Right r peer (passes_other course in_use unit) old new →
     found Left course in_use old.tap unit ≡ found Right course in_use (turned old.tap) unit →
     Acts Left r peer (passes_other course in_use unit) (turned_line old) (turned_line new)
-other_turned r peer course in_use unit old new (range, named, some, new_is) e =
-    let same : finding_of Left course in_use old.tap unit ≡ finding_of Right course in_use (turned old.tap) unit =
-    ap (λ (f : Finding). if old.tap.is_judged then f else NotJudged) e in
-    let after : turned (after_finding Left (finding_of Left course in_use old.tap unit) unit old.tap)
-    ≡ after_finding Right (finding_of Right course in_use (turned old.tap) unit) unit (turned old.tap) =
-    finding_turned Left (finding_of Left course in_use old.tap unit) unit old.tap
-    ∙ ap (λ (f : Finding). after_finding Right f unit (turned old.tap)) same in (
-      range,
-      named,
-      subst (λ (f : Finding). reach_of (Some Two) f ≢ reach.Everything) same some,
-      ap turned_line new_is ∙ ap (λ (c : Connection). record (turned_line old) { tap = c; coming = old.coming ++ unit ∷ [] }) after,
-    )
+other_turned r peer course in_use unit old new h e = grind (arith, finding_turned)
 
 -- a CC of the calling side: its connection is not judged any more
 not_judged : (c : Connection) (unit : Value) (f : Finding) → f ≡ Broke rule.WrongForm → (after_finding Left f unit c).is_judged ≡ false
@@ -324,21 +223,7 @@ all_turned r peer [] old new e h = subst (λ (l : Line). Keeps r peer l) (sym (a
 all_turned r peer (act ∷ acts) old new (mid, a, more) h = all_turned r peer acts mid new more (act_turned r peer act old mid a h)
 
 pub opened_turned : (r peer : ℕ) (line : Line) → IsOpened Right r peer line → IsOpened Left r peer (turned_line line)
-opened_turned r peer line o = record {
-  size = o.size;
-  window = o.window;
-  credit = o.credit;
-  link = o.link;
-  put = o.put;
-  begun = o.begun;
-  coming = o.coming;
-  sent = o.sent;
-  came = o.came;
-  noted = o.noted;
-  most = o.most;
-  least = o.least;
-  some = o.some;
-}
+opened_turned r peer line o = search (arith)
 
 right_is_fair : (r peer : ℕ) (begin line : Line) (acts : List Act) → IsOpened Right r peer begin → ActsAlong Right r peer begin acts line →
     IsFair Right line
@@ -348,5 +233,4 @@ right_is_fair r peer begin line acts o along begun judged =
 
 pub open_is_fair : (d : Direction) (r peer : ℕ) (begin line : Line) (acts : List Act) → IsOpened d r peer begin →
     ActsAlong d r peer begin acts line → IsFair d line
-open_is_fair Left r peer begin line acts o along = left_is_fair r peer begin line acts o along
-open_is_fair Right r peer begin line acts o along = right_is_fair r peer begin line acts o along
+open_is_fair d r peer begin line acts o along = grind (arith, left_is_fair, right_is_fair)

@@ -1,33 +1,21 @@
 -- Each connection of a calling end that is open at the tap has its line: what that says, and that it stays so as packets begin.
 -- For the law on a whole end.
-use Rattle.std.proofs.Common.{◌≡◌, ◌≢◌, ◌∙◌, ◌≤◌, ℕ, Bool, true, false, List, [], ◌∷◌, ◌++◌, map, refl, sym, ap, subst}
-use Rattle.std.proofs.Common.{Option, Some, None, ◌⊎◌, is_some}
-use Rattle.std.specs.Prelude.{◌&&◌, ◌||◌, option_map, slice_get}
-use Rattle.std.specs.List.{AllByRecursion}
-use Rattle.std.proofs.lemmas.Option.{slice_get-map}
-use Rattle.osi_tpdu.specs.Limits.{window_units}
-use Rattle.osi_tpdu.specs.Value.{Value, Connect, request, confirm, disconnected, destination_of}
-use Rattle.osi_class.specs.Link.{Standing}
-use Rattle.osi_class.specs.declared.terms.Class.{Class}
-use Rattle.osi_class.specs.declared.terms.Class.TheVariants.{Two}
-use Rattle.osi_class.specs.declared.terms.Local.{Local}
-use Rattle.osi_carrier.specs.Negotiation.{agreed_size, opened_link}
-use Rattle.osi_carrier.specs.Rows.{value_at}
-use Rattle.osi_carrier.specs.State.{State, Connection as Live, asked, closing, linked}
-use Rattle.osi_carrier.specs.declared.ends.EndReason.{EndReason}
-use Rattle.osi_rules.specs.declared.connections.Connection.{Connection}
-use Rattle.osi_rules.specs.declared.directions.Direction.{Direction}
-use Rattle.osi_rules.specs.declared.directions.Direction.TheVariants.{Left, Right}
-use Rattle.osi_rules.specs.declared.halves.Half.{Half}
-use Rattle.osi_rules.specs.Sides.{begins, is_closing, is_open, is_silent}
-use Rattle.osi_rules.specs.Traffic.{State as Traffic, asked_by, packet_begins, silent_half}
-use Rattle.osi_fair.specs.Lines.{Act, ActsAlong, IsOpened, Line, begins_elsewhere, begins_other, begins_own, opened_half}
-use Rattle.osi_fair.specs.Wholes.{Whole}
+use Rattle.osi_fair.proofs.Vocabulary.{arith}
+use Rattle.osi_fair.proofs.Vocabulary.{[], ap, Bool, false, is_some, List, map, None, Option, option_map, refl, Some, subst, sym, true, ℕ}
+use Rattle.osi_fair.proofs.Vocabulary.{◌++◌, ◌∙◌, ◌∷◌, ◌≡◌, ◌≢◌, ◌≤◌, ◌⊎◌, slice_get-map, AllByRecursion, slice_get, ◌&&◌, ◌||◌}
+use Rattle.osi_fair.proofs.Vocabulary.{window_units, confirm, Connect, destination_of, disconnected, request, Value, Standing, Class, Two}
+use Rattle.osi_fair.proofs.Vocabulary.{Local, agreed_size, opened_link, value_at, asked, closing, Live, linked, begins, is_closing, is_open}
+use Rattle.osi_fair.proofs.Vocabulary.{is_silent, asked_by, packet_begins, silent_half, Traffic, Connection, Direction, Left, Right, Half}
+use Rattle.osi_fair.proofs.Vocabulary.{Act, ActsAlong, begins_elsewhere, IsOpened, Line, opened_half, Whole}
+use Rattle.osi_carrier.specs.State.{State}
+use Rattle.osi_fair.specs.Lines.{begins_other}
+use Rattle.osi_fair.proofs.small_facts_that_many_lemmas_use.{and_first, begun_left, begun_right, course_class}
 use Rattle.osi_fair.proofs.an_end_closes_last.{left_holds}
 use Rattle.osi_fair.proofs.what_holds_of_a_line.{Holds}
 use Rattle.osi_fair.proofs.what_holds_of_one_item.{HoldsOfEach, after_map}
 use Rattle.osi_fair.proofs.what_is_put_before_the_cc_passes.{acts_join}
 use Rattle.osi_fair.proofs.which_units_are_for_a_connection.{IsDc, IsOf, close_waits, is_dc, is_ours, leads, ours, some_picked, those}
+use Rattle.osi_fair.specs.Lines.{begins_own}
 
 -- ---- a line since its connection was opened
 
@@ -104,6 +92,14 @@ pub record Following (local : Local) (put : List Value) (begun strays : Bool) (e
   pub row : Row local end coming r peer line
   pub calm : AllByRecursion IsNoCc line.coming
 
+-- it is so at another end too, if the units that are to pass and that have come for it are as they were
+pub followed_at : {local : Local} {put puts : List Value} {b a s t : Bool} {end after : State} {coming later : List Value} {c : Connection}
+    (g : Following local put b s end coming c) → ours g.r g.peer puts ≡ ours g.r g.peer put →
+    AllByRecursion (IsSpare t g.r g.peer) g.spare →
+    (b && leads (is_ours g.r g.peer) put) ≡ (a && leads (is_ours g.r g.peer) puts) → Row local after later g.r g.peer g.line →
+    Following local puts a t after later c
+followed_at g same spares begun row = search (arith, (same ∙ g.put_is), spares, (g.begun_is ∙ begun), row)
+
 -- a connection whose CR waits for its answer
 pub record Waiting (local : Local) (end : State) (coming : List Value) (c : Connection) : Type 0 where
   pub r : ℕ
@@ -167,10 +163,6 @@ pub record Followed (local : Local) (w : Whole) : Type 0 where
 
 -- ---- a packet begins
 
-pub no_end : (o : Option EndReason) → is_some o ≡ false → o ≡ None
-no_end None e = refl
-no_end (Some x) e = absurd (cc e)
-
 begun_row : (local : Local) (end : State) (coming : List Value) (r peer : ℕ) (line : Line) (b : Bool) (c : Connection) →
     Row local end coming r peer line → Row local end coming r peer (record line { begun = b; tap = c })
 begun_row local end coming r peer line b c (asks there x source early dcs first link) = asks there x source early dcs first link
@@ -179,8 +171,7 @@ begun_row local end coming r peer line b c (closes o there q e is same) = closes
 begun_row local end coming r peer line b c (over h) = over h
 
 no_first : (line : Line) (spare : List Value) → line.put ++ spare ≢ [] → (line.put ≡ [] → spare ≡ []) → line.put ≢ []
-no_first line spare some none e =
-    some (ap (λ (l : List Value). l ++ spare) e ∙ none e)
+no_first line spare some none e = grind arith
 
 left_begins : (local : Local) (put : List Value) (strays : Bool) (end : State) (coming : List Value) (c : Connection) (b : Bool) →
     (f : Following local put false strays end coming c) → (f.line.put ≡ [] → f.spare ≡ []) → leads (is_ours f.r f.peer) put ≡ b →
@@ -227,51 +218,26 @@ right_begins : (local : Local) (put : List Value) (b strays : Bool) (end : State
     Following local put b strays end coming c → Following local put b strays end coming (begins Right c)
 right_begins local put b strays end coming c f =
     let after = record f.line { tap = begins Right f.line.tap } in
-    record {
-      r = f.r;
-      peer = f.peer;
-      line = after;
-      left = f.left;
-      right = f.right;
-      tracks = tracks_on f.r f.peer f.line after (begins_other ∷ []) f.tracks (after, refl, refl);
-      tap = ap (begins Right) f.tap;
-      spare = f.spare;
-      put_is = f.put_is;
-      spares = f.spares;
-      gone = f.gone;
-      begun_is = f.begun_is;
-      row = begun_row local end coming f.r f.peer f.line f.line.begun (begins Right f.line.tap) f.row;
-      calm = f.calm;
-    }
-
-course_class : (d : Direction) (s : Traffic) → (packet_begins d s).course.class ≡ s.course.class
-course_class Left s = refl
-course_class Right s = refl
+    search (
+      arith,
+      after,
+      (tracks_on f.r f.peer f.line after (begins_other ∷ []) f.tracks (after, refl, refl)),
+      (ap (begins Right) f.tap),
+      (begun_row local end coming f.r f.peer f.line f.line.begun (begins Right f.line.tap) f.row),
+    )
 
 course_strays : (d : Direction) (s : Traffic) → (packet_begins d s).course.strays ≡ s.course.strays
-course_strays Left s = refl
-course_strays Right s = refl
+course_strays d s = grind arith
 
 tracked_begins : (d : Direction) (c : Connection) → is_tracked (begins d c) ≡ is_tracked c
-tracked_begins Left c = refl
-tracked_begins Right c = refl
+tracked_begins d c = grind arith
 
 waiting_begins : (d : Direction) (c : Connection) → is_waiting (begins d c) ≡ is_waiting c
-waiting_begins Left c = refl
-waiting_begins Right c = refl
-
-begun_left : (d : Direction) (c : Connection) → (begins d c).left ≡ c.left
-begun_left Left c = refl
-begun_left Right c = refl
-
-begun_right : (d : Direction) (c : Connection) → (begins d c).right ≡ c.right
-begun_right Left c = refl
-begun_right Right c = refl
+waiting_begins d c = grind arith
 
 begun_seen : (d : Direction) (c : Connection) (r window : ℕ) → c.left ≡ opened_half r window → c.seen_by_right.next ≡ 0 →
     (begins d c).seen_by_right.next ≡ 0
-begun_seen Left c r window e h = h
-begun_seen Right c r window e h = ap (λ (x : Half). x.next) e
+begun_seen d c r window e h = grind arith
 
 waits_begun : (local : Local) (d : Direction) (end : State) (coming : List Value) (c : Connection) → Waiting local end coming c →
     Waiting local end coming (begins d c)
@@ -374,10 +340,6 @@ followed_begins local d w b some f k = record {
       (λ v. settled_at d w.tap.connections w.put w.end.given v) f.settled;
 }
 
-and_first : (a b : Bool) → (a && b) ≡ true → a ≡ true
-and_first true b h = refl
-and_first false b h = cc
-
 -- what the line of a connection that is open at the tap has put comes before the spare DCs
 none_by : (spare : List Value) (put : List Value) → (spare ≢ [] → put ≡ [] → ⊥) → put ≡ [] → spare ≡ []
 none_by [] put h e = refl
@@ -402,6 +364,4 @@ own_begins local w judged e some f =
     (no_spare local w.put w.coming false s w.end c (judged i c at) tracked h) refl)
 
 pub other_begins : (local : Local) (w : Whole) → Followed local w → Followed local (record w { tap = packet_begins Right w.tap })
-other_begins local w f =
-    followed_begins local Right w w.begun f.some f (λ i c at tracked g.
-    right_begins local w.put w.begun w.tap.course.strays w.end w.coming c g)
+other_begins local w f = search (arith, followed_begins, right_begins)

@@ -1,33 +1,21 @@
 -- Each connection at the tap of a called end: its CR has not been answered, its answer is to pass, or its line goes on.
 -- For the law on a whole called end.
-use Rattle.std.proofs.Common.{◌≡◌, ◌≢◌, ◌∙◌, ◌≤◌, ◌<◌, ℕ, Bool, true, false, List, [], ◌∷◌, ◌++◌, refl, sym, ap, subst, Option, Some}
-use Rattle.std.proofs.Common.{None, inl, inr, ◌⊎◌, is_some}
-use Rattle.std.specs.Prelude.{◌&&◌, ◌||◌, option_map, slice_get}
-use Rattle.std.specs.List.{AllByRecursion}
-use Rattle.std.proofs.lemmas.Option.{slice_get-map}
-use Rattle.osi_tpdu.specs.Value.{Value, Connect, IsConnect, request, confirm, disconnect, disconnected, data0, data2, acknowledge, error}
-use Rattle.osi_tpdu.specs.Value.{destination_of}
-use Rattle.osi_class.specs.Link.{Standing}
-use Rattle.osi_class.specs.Negotiation.{accept, selected_by}
-use Rattle.osi_class.specs.declared.terms.Class.{Class}
-use Rattle.osi_class.specs.declared.terms.Class.TheVariants.{Two}
-use Rattle.osi_class.specs.declared.terms.Local.{Local}
-use Rattle.osi_carrier.specs.Negotiation.{acceptance, opened_link}
-use Rattle.osi_carrier.specs.Rows.{value_at}
-use Rattle.osi_carrier.specs.State.{State, linked}
-use Rattle.osi_rules.specs.declared.connections.Connection.{Connection}
-use Rattle.osi_rules.specs.declared.directions.Direction.{Direction}
-use Rattle.osi_rules.specs.declared.directions.Direction.TheVariants.{Left, Right}
-use Rattle.osi_rules.specs.declared.halves.Half.{Half}
-use Rattle.osi_rules.specs.Sides.{begins, is_open, is_refused, is_silent}
-use Rattle.osi_rules.specs.Traffic.{State as Traffic, offer_of, packet_begins, silent_half}
-use Rattle.osi_fair.specs.Lines.{Act, ActsAlong, IsOpened, Line, begins_elsewhere, begins_other, begins_own, opened_half, opened_line}
-use Rattle.osi_fair.specs.Wholes.{Whole}
-use Rattle.osi_fair.proofs.units_by_their_place.{Placed, first_at, is_at, units_at, values}
+use Rattle.osi_fair.proofs.Vocabulary.{arith}
+use Rattle.osi_fair.proofs.Vocabulary.{[], ap, Bool, false, inl, inr, is_some, List, None, Option, option_map, refl, Some, subst, sym, true}
+use Rattle.osi_fair.proofs.Vocabulary.{ℕ, ◌++◌, ◌<◌, ◌∙◌, ◌∷◌, ◌≡◌, ◌≢◌, ◌≤◌, ◌⊎◌, slice_get-map, AllByRecursion, slice_get, ◌&&◌, ◌||◌}
+use Rattle.osi_fair.proofs.Vocabulary.{acknowledge, confirm, Connect, data0, data2, destination_of, disconnect, disconnected, error}
+use Rattle.osi_fair.proofs.Vocabulary.{IsConnect, request, Value, Standing, accept, selected_by, Class, Two, Local, acceptance, opened_link}
+use Rattle.osi_fair.proofs.Vocabulary.{value_at, linked, begins, is_open, is_refused, is_silent, offer_of, packet_begins, silent_half}
+use Rattle.osi_fair.proofs.Vocabulary.{Traffic, Connection, Direction, Left, Right, Half, Act, ActsAlong, begins_elsewhere, IsOpened, Line}
+use Rattle.osi_fair.proofs.Vocabulary.{opened_half, opened_line, Whole}
+use Rattle.osi_carrier.specs.State.{State}
+use Rattle.osi_fair.specs.Lines.{begins_other, begins_own}
+use Rattle.osi_fair.proofs.small_facts_that_many_lemmas_use.{begun_left, begun_right, course_class, no_list, or_last}
+use Rattle.osi_fair.proofs.units_by_their_place.{Placed, first_at, units_at, values}
 use Rattle.osi_fair.proofs.what_holds_of_one_item.{after_map}
 use Rattle.osi_fair.proofs.what_is_live_at_a_called_end.{IsHeld, Timely}
 use Rattle.osi_fair.proofs.what_is_put_before_the_cc_passes.{acts_join}
-use Rattle.osi_fair.proofs.which_units_are_for_a_connection.{keep, those}
+use Rattle.osi_fair.proofs.which_units_are_for_a_connection.{those}
 
 -- ---- what has come for a line
 
@@ -135,6 +123,54 @@ pub data Stand (local : Local) (shut : ℕ → Bool) (end : State) (coming mine 
   past : is_silent c.right.phase ≡ false → is_open c.right.phase ≡ false → mine ≡ [] → asks ≡ [] →
       ((r : ℕ) → o ≡ Some r → IsUnlinked end r) → IsPast o c → Stand local shut end coming mine asks begun o c
 
+-- it stands so at another end too, if what that end has of it and what has come for it are as they were
+module _ (local : Local) (shut : ℕ → Bool) (end after : State) (coming later mine asks waits : List Value) (begun : Bool) (o : Option ℕ)
+    (c : Connection) where
+  pub stands_at : ((x : Connect) → (end.ended ≡ None → asks ≡ request x ∷ []) → after.ended ≡ None → waits ≡ request x ∷ []) →
+      (asks ≡ [] → waits ≡ []) →
+      ((r peer : ℕ) (link : Option Standing) (come : List Value) → o ≡ Some r → Row end coming r peer link come →
+      Row after later r peer link come) →
+      ((r : ℕ) → o ≡ Some r → IsUnlinked end r → IsUnlinked after r) →
+      Stand local shut end coming mine asks begun o c → Stand local shut after later mine waits begun o c
+  stands_at ask still rows un (comes x a none asked e) = comes x a none (ask x asked) e
+  stands_at ask still rows un (refuses x a reason is none e seen) = refuses x a reason is (still none) e seen
+  stands_at ask still rows un (answers h none) = answers (record {
+    x = h.x;
+    size = h.size;
+    r = h.r;
+    index = h.index;
+    asked = h.asked;
+    selected = h.selected;
+    link = h.link;
+    more = h.more;
+    come = h.come;
+    mine_is = h.mine_is;
+    acts = h.acts;
+    along = h.along;
+    seen = h.seen;
+    row = rows h.r h.x.source h.link h.come h.index h.row;
+    shut_is = h.shut_is;
+  }) (still none)
+  stands_at ask still rows un (runs g none) = runs (record {
+    r = g.r;
+    peer = g.peer;
+    index = g.index;
+    line = g.line;
+    tap = g.tap;
+    put = g.put;
+    begun_is = g.begun_is;
+    first = g.first;
+    acts = g.acts;
+    opened = g.opened;
+    along = g.along;
+    there = g.there;
+    right = g.right;
+    left = g.left;
+    row = rows g.r g.peer g.line.link g.line.coming g.index g.row;
+    shut_is = g.shut_is;
+  }) (still none)
+  stands_at ask still rows un (past silent up is none gone off) = past silent up is (still none) (λ r e. un r e (gone r e)) off
+
 -- ---- all
 
 -- a DC for a DR which closed nothing: its reference is gone, and no unit of that connection comes after it
@@ -215,13 +251,8 @@ pub record Called (local : Local) (w : Whole) : Type 0 where
 
 -- ---- a packet begins
 
-or_right : (a b : Bool) → b ≡ true → (a || b) ≡ true
-or_right true b h = refl
-or_right false b h = h
-
 off_left : (o : Option ℕ) (c : Connection) → IsPast o c → IsPast o (begins Left c)
-off_left o c (inl e) = inl e
-off_left o c (inr (refused, seen)) = inr (refused, or_right (is_silent c.right.phase) (is_refused c.right.phase) refused)
+off_left o c h = grind (arith, or_last)
 
 module _ (local : Local) (shut : ℕ → Bool) (end : State) (coming mine asks : List Value) (o : Option ℕ) where
   -- it is of another connection, or of the other side
@@ -251,6 +282,10 @@ module _ (local : Local) (shut : ℕ → Bool) (end : State) (coming mine asks :
   asked_begins Left x c a = record { range = a.range; offer = a.offer; left = a.left; right = a.right; known = a.right }
   asked_begins Right x c a = record { range = a.range; offer = a.offer; left = a.left; right = a.right; known = a.known }
 
+  answer_begins : (d : Direction) (b was : Bool) (c : Connection) → Answering local shut end coming mine was o c →
+      (b ≡ true → (begins d c).seen_by_right ≡ (begins d c).left) → Answering local shut end coming mine b o (begins d c)
+  answer_begins d b was c h seen = search (arith, asked_begins)
+
   tap_begins : (d : Direction) (b : Bool) (c : Connection) (h : Running shut end coming mine b o c) →
       record h.line { tap = begins d h.line.tap } ≡ record h.line { tap = begins d c }
   tap_begins d b c h = ap (λ (e : Connection). record h.line { tap = begins d e }) h.tap
@@ -259,23 +294,7 @@ module _ (local : Local) (shut : ℕ → Bool) (end : State) (coming mine asks :
       (begins Left c)
   other_begins_one b c (comes x a none ask i) = comes x (asked_begins Left x c a) none ask i
   other_begins_one b c (refuses x a reason is none i seen) = refuses x (asked_begins Left x c a) reason is none i seen
-  other_begins_one b c (answers h none) = answers (record {
-    x = h.x;
-    size = h.size;
-    r = h.r;
-    index = h.index;
-    asked = asked_begins Left h.x c h.asked;
-    selected = h.selected;
-    link = h.link;
-    more = h.more;
-    come = h.come;
-    mine_is = h.mine_is;
-    acts = h.acts;
-    along = h.along;
-    seen = h.seen;
-    row = h.row;
-    shut_is = h.shut_is;
-  }) none
+  other_begins_one b c (answers h none) = answers (answer_begins Left b b c h h.seen) none
   other_begins_one b c (runs h none) =
       runs (run_begins b c (begins Left c) begins_other h (record h.line { tap = begins Left c }, sym (tap_begins Left b c h), refl) refl
       refl) none
@@ -286,23 +305,7 @@ module _ (local : Local) (shut : ℕ → Bool) (end : State) (coming mine asks :
       o (begins Right c)
   elsewhere_begins_one c (comes x a none ask i) = comes x (asked_begins Right x c a) none ask i
   elsewhere_begins_one c (refuses x a reason is none i seen) = refuses x (asked_begins Right x c a) reason is none i (λ h. refl)
-  elsewhere_begins_one c (answers h none) = answers (record {
-    x = h.x;
-    size = h.size;
-    r = h.r;
-    index = h.index;
-    asked = asked_begins Right h.x c h.asked;
-    selected = h.selected;
-    link = h.link;
-    more = h.more;
-    come = h.come;
-    mine_is = h.mine_is;
-    acts = h.acts;
-    along = h.along;
-    seen = λ k. refl;
-    row = h.row;
-    shut_is = h.shut_is;
-  }) none
+  elsewhere_begins_one c (answers h none) = answers (answer_begins Right false false c h (λ k. refl)) none
   elsewhere_begins_one c (runs h none) =
       runs (run_begins false c (begins Right c) begins_elsewhere h
       (record h.line { tap = begins Right c }, (h.begun_is, sym (tap_begins Right false c h)), refl) refl refl) none
@@ -312,23 +315,7 @@ module _ (local : Local) (shut : ℕ → Bool) (end : State) (coming mine asks :
       true o (begins Right c)
   own_begins_one c some (comes x a none ask i) = comes x (asked_begins Right x c a) none ask i
   own_begins_one c some (refuses x a reason is none i seen) = refuses x (asked_begins Right x c a) reason is none i (λ h. refl)
-  own_begins_one c some (answers h none) = answers (record {
-    x = h.x;
-    size = h.size;
-    r = h.r;
-    index = h.index;
-    asked = asked_begins Right h.x c h.asked;
-    selected = h.selected;
-    link = h.link;
-    more = h.more;
-    come = h.come;
-    mine_is = h.mine_is;
-    acts = h.acts;
-    along = h.along;
-    seen = λ k. refl;
-    row = h.row;
-    shut_is = h.shut_is;
-  }) none
+  own_begins_one c some (answers h none) = answers (answer_begins Right true false c h (λ k. refl)) none
   own_begins_one c some (runs h none) =
       let line = record h.line { begun = true; tap = begins Right c } in
       runs (record {
@@ -363,35 +350,16 @@ module _ (local : Local) (shut : ℕ → Bool) (end : State) (coming mine asks :
 -- ---- all connections, as a packet begins
 
 map_none : (d : Direction) (o : Option Connection) → option_map (begins d) o ≡ None → o ≡ None
-map_none d None e = refl
-map_none d (Some c) e = absurd (cc e)
-
-begun_right : (d : Direction) (c : Connection) → (begins d c).right ≡ c.right
-begun_right Left c = refl
-begun_right Right c = refl
-
-begun_left : (d : Direction) (c : Connection) → (begins d c).left ≡ c.left
-begun_left Left c = refl
-begun_left Right c = refl
-
-course_class : (d : Direction) (s : Traffic) → (packet_begins d s).course.class ≡ s.course.class
-course_class Left s = refl
-course_class Right s = refl
+map_none d o e = grind arith
 
 course_strays : (d : Direction) (s : Traffic) → (packet_begins d s).course.strays ≡ s.course.strays
-course_strays Left s = refl
-course_strays Right s = refl
-
-no_list : (v : Value) (vs : List Value) → v ∷ vs ≡ [] → ⊥
-no_list v vs e = cc
+course_strays d s = grind arith
 
 some_by : (v : Value) (vs l : List Value) → l ≡ v ∷ vs → l ≢ []
 some_by v vs l e = λ h. no_list v vs (sym e ∙ h)
 
 pub first_some : (p : ℕ) (ts : List Placed) → first_at p ts ≡ true → units_at p ts ≢ []
-first_some p [] h = absurd (cc h)
-first_some p (t ∷ ts) h = some_by t.1 (units_at p ts) (keep (is_at p t.0) t.1 (units_at p ts))
-    (ap (λ (b : Bool). keep b t.1 (units_at p ts)) h)
+first_some p ts h = grind (arith, some_by)
 
 module _ (local : Local) (w : Whole) (f : Called local w) where
   abbrev StandsBy : Bool → ℕ → Connection → Type 0
@@ -452,9 +420,7 @@ module _ (local : Local) (w : Whole) (f : Called local w) where
   }
 
   pub other_begins : Called local (record w { tap = packet_begins Left w.tap })
-  other_begins = begins_all Left w.begun f.some f.class (λ h. h) (λ p c h.
-      other_begins_one local f.shut w.end w.coming (units_at p f.tagged) (units_at p f.came) (f.refs p) (w.begun && first_at p f.tagged) c
-      h)
+  other_begins = search (arith, begins_all, other_begins_one)
 
   own_by : (p : ℕ) (b : Bool) → first_at p f.tagged ≡ b → (c : Connection) →
       Stand local f.shut w.end w.coming (units_at p f.tagged) (units_at p f.came) false (f.refs p) c →

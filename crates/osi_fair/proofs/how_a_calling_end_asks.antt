@@ -1,29 +1,18 @@
 -- What a calling end does while no class is selected: it asks for one connection, and for no other.
 -- For the law on requests.
-use Rattle.std.proofs.Common.{◌≡◌, ◌∙◌, ℕ, ◌+◌, Bool, true, false, List, [], ◌∷◌, ◌++◌, refl, sym, ap, subst}
-use Rattle.std.proofs.Common.{Option, Some, None, if◌then◌else◌, is_some}
-use Rattle.std.specs.Prelude.{◌==◌, ◌&&◌, ◌||◌, is_none, not}
-use Rattle.std.proofs.lemmas.Bool.{eq-eqb}
-use Rattle.osi_tpdu.specs.Value.{Value, Connect, request, confirm, disconnect, disconnected, data0, data2, acknowledge, error}
-use Rattle.osi_class.specs.Link.{Standing}
-use Rattle.osi_class.specs.Negotiation.{lists}
-use Rattle.osi_class.specs.declared.terms.Class.{Class}
-use Rattle.osi_class.specs.declared.terms.Local.{Local}
-use Rattle.osi_carrier.specs.Calls.{class_error, closed_on, link_of, may_connect, open_link, or_else, room_error, sent, sent_all, sent_on}
-use Rattle.osi_carrier.specs.Negotiation.{alternatives, proposal, proposal_by, proposes_two, proposes_zero}
-use Rattle.osi_carrier.specs.React.{before_class, in_class, react_by, to_connection}
+use Rattle.osi_fair.proofs.Vocabulary.{arith}
+use Rattle.osi_fair.proofs.Vocabulary.{[], ap, Bool, false, if◌then◌else◌, is_some, List, None, Option, refl, Some, subst, sym, true, ℕ}
+use Rattle.osi_fair.proofs.Vocabulary.{◌++◌, ◌+◌, ◌∙◌, ◌∷◌, ◌≡◌, eq-eqb, not, ◌||◌, Connect, disconnect, disconnected, error}
+use Rattle.osi_fair.proofs.Vocabulary.{request, Value, Standing, lists, Class, Local, class_error, link_of, may_connect}
+use Rattle.osi_fair.proofs.Vocabulary.{open_link, or_else, room_error, sent, sent_all, alternatives, proposal, proposal_by, proposes_two}
+use Rattle.osi_fair.proofs.Vocabulary.{before_class, to_connection, Rows, value_at, without, breaks}
+use Rattle.osi_fair.proofs.Vocabulary.{closes_call as closes, connects, sends, sends_all, user as by_user, user_does, UserCall, asked}
+use Rattle.osi_fair.proofs.Vocabulary.{Live as Connection, ends, EndReason, OpenError, Ended, NotCaller, offer_of, Offer}
+use Rattle.osi_fair.proofs.Vocabulary.{asks_with, put_at, put_before, put_by, put_for, put_sent, put_together, MayCall}
+use Rattle.osi_carrier.specs.Calls.{sent_on}
 unfoldable use Rattle.osi_carrier.specs.React.{react}
-use Rattle.osi_carrier.specs.Rows.{Rows, value_at, without}
-use Rattle.osi_carrier.specs.Runs.{UserCall, breaks, closes, connects, sends, sends_all, user as by_user, user_does}
-use Rattle.osi_carrier.specs.State.{Connection, State, asked, ends}
-use Rattle.osi_carrier.specs.declared.ends.EndReason.{EndReason}
-use Rattle.osi_carrier.specs.declared.faults.OpenError.{OpenError}
-use Rattle.osi_carrier.specs.declared.faults.OpenError.TheVariants.{Ended, Negotiating, NotCaller}
-use Rattle.osi_rules.specs.declared.connections.Offer.{Offer}
-use Rattle.osi_rules.specs.Traffic.{offer_of}
-use Rattle.osi_fair.specs.Asking.{asks_with}
-use Rattle.osi_fair.specs.Putting.{put_at, put_before, put_by, put_closing, put_for, put_in, put_sent, put_together}
-use Rattle.osi_fair.specs.Wholes.{MayCall}
+use Rattle.osi_carrier.specs.State.{State}
+use Rattle.osi_fair.proofs.small_facts_that_many_lemmas_use.{and_second, differ, or_last}
 use Rattle.osi_fair.proofs.while_no_class_is_selected.{IsDc, IsRefusal}
 
 abbrev pub IsOver : State → Type 0
@@ -44,12 +33,10 @@ one r = (r, asked) ∷ []
 module _ (rows : Rows Connection) (unit : Value) (s : State) (is : IsCalling rows s) where
   pub react_is : react unit s ≡ before_class true unit s
   unfolding react
-  react_is = ap (λ (o : Option EndReason). react_by (is_some o) unit s) is.lasts ∙ ap (λ (k : Option Class). in_class k unit s) is.class
-      ∙ ap (λ (b : Bool). before_class b unit s) is.caller
+  react_is = grind arith
 
   pub put_is : put_for unit s ≡ put_before true unit s
-  put_is = ap (λ (o : Option EndReason). if is_some o then [] else put_in s.class unit s) is.lasts
-      ∙ ap (λ (k : Option Class). put_in k unit s) is.class ∙ ap (λ (b : Bool). put_before b unit s) is.caller
+  put_is = grind arith
 
 -- the end has put nothing, and is so after the unit
 pub record Puts (P : State → Type 0) (unit : Value) (s : State) : Type 0 where
@@ -61,32 +48,21 @@ pub puts : (P : State → Type 0) (rows : Rows Connection) (unit : Value) (s : S
 puts P rows unit s is none h = record { put = put_is rows unit s is ∙ none; after = subst P (sym (react_is rows unit s is)) h }
 
 pub dc_ends : (rows : Rows Connection) (unit : Value) (s : State) → IsDc unit → IsCalling rows s → Puts IsOver unit s
-dc_ends rows (request c) s h is = absurd h
-dc_ends rows (confirm destination c) s h is = absurd h
-dc_ends rows (disconnect destination source reason user) s h is = absurd h
 dc_ends rows (disconnected destination source) s h is = puts IsOver rows (disconnected destination source) s is refl refl
-dc_ends rows (data0 end user) s h is = absurd h
-dc_ends rows (data2 destination number end user) s h is = absurd h
-dc_ends rows (acknowledge credit destination number) s h is = absurd h
-dc_ends rows (error destination cause) s h is = absurd h
+dc_ends rows _ s h is = absurd h
 
 -- after the end a unit changes nothing
 pub over_takes : (unit : Value) (s : State) → IsOver s → (react unit s ≡ s) × (put_for unit s ≡ [])
 unfolding react
-over_takes unit s h = (
-  ap (λ (b : Bool). react_by b unit s) h,
-  ap (λ (b : Bool). if b then [] else put_in s.class unit s) h,
-)
+over_takes unit s h = grind arith
 
 -- ---- its CR is refused
 
 value_one : (r : ℕ) (s : State) → IsCalling (one r) s → value_at r s.live ≡ Some asked
-value_one r s is = ap (λ (rows : Rows Connection). value_at r rows) is.live
-    ∙ ap (λ (b : Bool). if◌then◌else◌ {A = Option Connection} b (Some asked) None) (eq-eqb r r refl)
+value_one r s is = grind (arith, eq-eqb)
 
 gone_one : (r : ℕ) (s : State) → IsCalling (one r) s → without r s.live ≡ []
-gone_one r s is = ap (λ (rows : Rows Connection). without r rows) is.live
-    ∙ ap (λ (b : Bool). if◌then◌else◌ {A = Rows Connection} b [] ((r, asked) ∷ [])) (eq-eqb r r refl)
+gone_one r s is = grind (arith, eq-eqb)
 
 -- it may ask again
 abbrev pub Again : State → State → Type 0
@@ -103,40 +79,30 @@ refused_takes r unit s is a none b h =
 
 pub refusal_takes : (r : ℕ) (unit : Value) (s : State) → IsRefusal r unit → IsCalling (one r) s → Puts (Again s) unit s
 refusal_takes r (request c) s h is = absurd h
-refusal_takes r (confirm destination c) s h is = absurd h
 refusal_takes r (disconnect destination source reason user) s e is =
     refused_takes r (disconnect destination source reason user) s is
     (ap (λ (n : ℕ). put_at n (value_at n s.live) (disconnect destination source reason user) s.class) e) refl
     (ap (λ (n : ℕ). to_connection n (value_at n s.live) (disconnect destination source reason user) s) e)
     (record { lasts = is.lasts; caller = is.caller; class = is.class; live = gone_one r s is }, refl)
-refusal_takes r (disconnected destination source) s h is = absurd h
-refusal_takes r (data0 end user) s h is = absurd h
-refusal_takes r (data2 destination number end user) s h is = absurd h
-refusal_takes r (acknowledge credit destination number) s h is = absurd h
 refusal_takes r (error destination cause) s e is =
     refused_takes r (error destination cause) s is
     (ap (λ (n : ℕ). put_at n (value_at n s.live) (error destination cause) s.class) e) refl
     (ap (λ (n : ℕ). to_connection n (value_at n s.live) (error destination cause) s) e)
     (record { lasts = is.lasts; caller = is.caller; class = is.class; live = gone_one r s is }, refl)
+refusal_takes r _ s h is = absurd h
 
 -- ---- a call
 
 -- the error of a request
 error_of : (caller gone : Bool) (e room : Option OpenError) →
     (if not caller then Some NotCaller else (if gone then Some Ended else or_else e room)) ≡ None → (gone ≡ false) × (e ≡ None)
-error_of false gone e room h = cc
-error_of true true e room h = cc
-error_of true false None room h = (refl, refl)
-error_of true false (Some e) room h = cc
+error_of caller gone e room h = grind arith
 
 pub may_so : (s : State) → may_connect s ≡ None → (is_some s.ended ≡ false) × (class_error s.class s.live ≡ None)
 may_so s h = error_of s.is_caller (is_some s.ended) (class_error s.class s.live) (room_error s) h
 
-never : {A : Type 0} (e : OpenError) (o : Option OpenError) → o ≡ Some e → o ≡ None → A
+pub never : {A : Type 0} (e : OpenError) (o : Option OpenError) → o ≡ Some e → o ≡ None → A
 never e o h k = absurd (cc)
-
-both_ways : {A : Type 0} (b : Bool) → b ≡ true → b ≡ false → A
-both_ways b h k = absurd (cc)
 
 abbrev pub NoneOpen : State → Type 0
 NoneOpen s = (q : ℕ) → open_link q s ≡ None
@@ -157,55 +123,39 @@ pub data Idle (call : UserCall) (s : State) : Type 0 where
   broke : IsOver (user_does call s) → put_by call s ≡ [] → asks_with (by_user call) s ≡ [] → Idle call s
 
 ended_over : (b : Bool) (reason : EndReason) (s : State) → is_some s.ended ≡ b → IsOver (if b then s else ends reason s)
-ended_over true reason s h = h
-ended_over false reason s h = refl
+ended_over b reason s h = grind arith
 
 sends_none : (r : ℕ) (tsdu : List ℕ) (s : State) → NoneOpen s → Idle (sends r tsdu) s
-sends_none r tsdu s none =
-    same (ap (λ (o : Option (ℕ × Standing)). sent_on r tsdu o s) (none r))
-    (ap (λ (o : Option (ℕ × Standing)). put_sent tsdu o) (none r)) refl
+sends_none r tsdu s none = grind arith
 
 all_sends_none : (r : ℕ) (tsdus : List (List ℕ)) (s : State) → NoneOpen s → Idle (sends_all r tsdus) s
 all_sends_none r tsdus s none = let (a, b) = all_none r tsdus s none in same a b refl
 
 closes_none : (r reason : ℕ) (s : State) → NoneOpen s → Idle (closes r reason) s
-closes_none r reason s none =
-    same (ap (λ (o : Option (ℕ × Standing)). closed_on r reason o s) (none r))
-    (ap (λ (o : Option (ℕ × Standing)). put_closing r reason o s.class) (none r)) refl
+closes_none r reason s none = grind arith
 
 breaks_none : (reason : EndReason) (s : State) → Idle (breaks reason) s
 breaks_none reason s = broke (ended_over (is_some s.ended) reason s refl) refl refl
 
 -- a call for a connection is not accepted
 idle_call : (call : UserCall) (s : State) → NoneOpen s → (may_connect s ≡ None → ⊥) → MayCall call s → Idle call s
-idle_call (connects calling called) s none never may = absurd (never may)
-idle_call (sends r tsdu) s none never may = sends_none r tsdu s none
-idle_call (sends_all r tsdus) s none never may = all_sends_none r tsdus s none
-idle_call (closes r reason) s none never may = closes_none r reason s none
-idle_call (breaks reason) s none never may = breaks_none reason s
+idle_call call s none never may = grind (arith, sends_none, all_sends_none, closes_none, breaks_none)
 
 pub none_over : (s : State) → IsOver s → NoneOpen s
 none_over s h q = ap (λ (b : Bool). if◌then◌else◌ {A = Option (ℕ × Standing)} b None (link_of (value_at q s.live))) h
 
 pub over_calls : (call : UserCall) (s : State) → IsOver s → MayCall call s → Idle call s
-over_calls call s h may = idle_call call s (none_over s h) (λ k. both_ways (is_some s.ended) h (may_so s k).0) may
+over_calls call s h may = idle_call call s (none_over s h) (λ k. differ (is_some s.ended) h (may_so s k).0) may
 
 link_asked : (b : Bool) → link_of (if b then Some asked else None) ≡ None
-link_asked true = refl
-link_asked false = refl
+link_asked b = grind arith
 
 none_by : (rows : Rows Connection) (s : State) → IsCalling rows s → ((q : ℕ) → link_of (value_at q rows) ≡ None) → NoneOpen s
-none_by rows s is h q =
-    ap (λ (o : Option EndReason). if◌then◌else◌ {A = Option (ℕ × Standing)} (is_some o) None (link_of (value_at q s.live))) is.lasts
-    ∙ ap (λ (rows : Rows Connection). link_of (value_at q rows)) is.live ∙ h q
+none_by rows s is h q = grind arith
 
 -- an end whose CR is not answered asks for no other connection
 pub one_calls : (r : ℕ) (call : UserCall) (s : State) → IsCalling (one r) s → MayCall call s → Idle call s
-one_calls r call s is may =
-    idle_call call s (none_by (one r) s is (λ q. link_asked (r == q)))
-    (λ k. never Negotiating (class_error s.class s.live)
-    (ap (λ (c : Option Class). class_error c s.live) is.class ∙ ap (λ (rows : Rows Connection). class_error None rows) is.live)
-    (may_so s k).1) may
+one_calls r call s is may = grind (arith, idle_call, none_by, link_asked, never, may_so)
 
 -- a CR offers only classes that the end has, and class 0 if it has none
 pub record Offers (local : Local) (o : Offer) : Type 0 where
@@ -220,31 +170,14 @@ pub data Calls (call : UserCall) (s : State) : Type 0 where
 
 proposed : (two : Bool) (s : State) (calling called : Option (List ℕ)) →
     (proposal_by two s.local s.class calling called (s.given + 1)).source ≡ s.given + 1
-proposed true s calling called = refl
-proposed false s calling called = refl
+proposed two s calling called = grind arith
 
 listed : (zero : Bool) → (lists (alternatives zero) 0 || lists (alternatives zero) 1) ≡ true → zero ≡ true
-listed true h = refl
-listed false h = cc
-
-and_second : (a b : Bool) → (a && b) ≡ true → b ≡ true
-and_second true b h = h
-and_second false b h = cc
-
-or_second : (a b : Bool) → b ≡ true → (a || b) ≡ true
-or_second true b h = refl
-or_second false b h = h
+listed zero h = grind arith
 
 proposal_offers : (two : Bool) (local : Local) (held : Option Class) (calling called : Option (List ℕ)) (r : ℕ) → local.class2 ≡ two →
     Offers local (offer_of (proposal_by two local held calling called r))
-proposal_offers true local held calling called r e = record {
-  two = λ h. e;
-  zero = λ h. and_second (is_none held) (local.class0 || not local.class2) (listed (proposes_zero local held) h);
-}
-proposal_offers false local held calling called r e = record {
-  two = λ h. absurd (cc h);
-  zero = λ h. or_second local.class0 (not local.class2) (ap not e);
-}
+proposal_offers two local held calling called r e = search (arith, and_second, listed, or_last)
 
 none_calls_by : (call : UserCall) (s : State) → IsCalling [] s → NoneOpen s → MayCall call s → Calls call s
 none_calls_by (connects calling called) s is none may =

@@ -1,94 +1,52 @@
 -- A CC of a called end is right, and after a CC of class 2 the connection is open as a line begins.
 -- For the law of that name.
-use Rattle.std.proofs.Common.{◌≡◌, ◌∙◌, ℕ, ◌^◌, ◌≤◌, Bool, true, false, List, arith, refl, ap, subst}
-use Rattle.std.proofs.Common.{Option, Some, None, IfSome, option_map, if◌then◌else◌}
-use Rattle.std.specs.Prelude.{◌&&◌, ◌||◌, ◌==◌, min, nat_le, is_none}
-use Rattle.std.proofs.Math.Nat.{pow-le-pow_right}
-use Rattle.std.proofs.lemmas.Bool.{le-leb}
-use Rattle.osi_tpdu.specs.Limits.{size_code, window_units}
-use Rattle.osi_tpdu.specs.Value.{Connect, IsConnect, confirm}
-use Rattle.osi_class.specs.Negotiation.{accept, refuse, keeps_flow_control, proposes, proposes_zero_alone, selected_by}
-use Rattle.osi_class.specs.Negotiation.{selected_size}
-use Rattle.osi_class.specs.declared.terms.Class.{Class}
-use Rattle.osi_class.specs.declared.terms.Class.TheVariants.{Two, Zero}
-use Rattle.osi_class.specs.declared.terms.Local.{Local}
-use Rattle.osi_carrier.specs.Negotiation.{acceptance, agreed_size, opened_link, proposal, proposal_by, unit_octets}
-use Rattle.osi_rules.specs.declared.connections.Connection.{Connection}
-use Rattle.osi_rules.specs.declared.connections.Offer.{Offer}
-use Rattle.osi_rules.specs.declared.courses.Course.{Course}
-use Rattle.osi_rules.specs.declared.directions.Direction.TheVariants.{Left, Right}
-use Rattle.osi_rules.specs.declared.findings.Finding.TheVariants.{Kept}
-use Rattle.osi_rules.specs.declared.halves.Half.{Half}
-use Rattle.osi_rules.specs.declared.halves.Phase.TheVariants.{Open}
-use Rattle.osi_rules.specs.Rows.{code_named, confirm_tests}
-use Rattle.osi_rules.specs.Sides.{is_silent}
-use Rattle.osi_rules.specs.Traffic.{asked_by, found, offer_of, sent_on, silent_half}
-use Rattle.osi_fair.specs.Lines.{IsOpened, opened_half, opened_line}
+use Rattle.osi_fair.proofs.Vocabulary.{ap, arith, Bool, false, IfSome, if◌then◌else◌, List, None, Option, option_map, refl, Some, subst}
+use Rattle.osi_fair.proofs.Vocabulary.{true, ℕ, ◌^◌, ◌∙◌, ◌≡◌, ◌≤◌, pow-le-pow_right, le-leb, is_none, min, nat_le, ◌&&◌, ◌==◌, ◌||◌}
+use Rattle.osi_fair.proofs.Vocabulary.{size_code, window_units, confirm, Connect, IsConnect, accept, proposes}
+use Rattle.osi_fair.proofs.Vocabulary.{refuse, selected_by, selected_size, Class, Two, Zero, Local, acceptance}
+use Rattle.osi_fair.proofs.Vocabulary.{agreed_size, opened_link, proposal, proposal_by, unit_octets, code_named, confirm_tests, is_silent}
+use Rattle.osi_fair.proofs.Vocabulary.{asked_by, found, offer_of, sent_on, silent_half, Connection, Offer, Course, Left, Right, Kept, Half}
+use Rattle.osi_fair.proofs.Vocabulary.{Open, IsOpened, opened_half, opened_line}
+use Rattle.osi_fair.proofs.small_facts_that_many_lemmas_use.{and_first, and_second}
 use Rattle.osi_fair.proofs.what_is_right_passes_each_test.{is_right}
 
 -- ---- what was selected
 
-first_of : (a b : Bool) → (a && b) ≡ true → a ≡ true
-first_of true b h = refl
-first_of false b h = cc
-
-second_of : (a b : Bool) → (a && b) ≡ true → b ≡ true
-second_of true b h = h
-second_of false b h = cc
-
 two_chosen : (a b z : Bool) (s size : Option ℕ) →
     (if a then accept Two s else (if b then accept Zero s else (if z then refuse 0 else refuse 130))) ≡ accept Two size →
     (a ≡ true) × (s ≡ size)
-two_chosen true b z s size e = (refl, cc)
-two_chosen false true z s size e = cc
-two_chosen false false true s size e = cc
-two_chosen false false false s size e = cc
+two_chosen a b z s size e = grind arith
 
 zero_chosen : (a b z : Bool) (s size : Option ℕ) →
     (if a then accept Two s else (if b then accept Zero s else (if z then refuse 0 else refuse 130))) ≡ accept Zero size →
     (b ≡ true) × (s ≡ size)
-zero_chosen true b z s size e = cc
-zero_chosen false true z s size e = (refl, cc)
-zero_chosen false false true s size e = cc
-zero_chosen false false false s size e = cc
+zero_chosen a b z s size e = grind arith
 
 two_selected : (c : Connect) (local : Local) (size : Option ℕ) → selected_by c local ≡ accept Two size →
     (proposes c 2 ≡ true) × (selected_size c local ≡ size)
-two_selected c local size e =
-    let (a, b) = two_chosen (local.class2 && (proposes c 2 && keeps_flow_control c)) (local.class0 && proposes c 0) (proposes_zero_alone c)
-    (selected_size c local) size e in
-    (first_of (proposes c 2) (keeps_flow_control c) (second_of local.class2 (proposes c 2 && keeps_flow_control c) a), b)
+two_selected c local size e = search (arith, two_chosen, and_first, and_second)
 
 zero_selected : (c : Connect) (local : Local) (size : Option ℕ) → selected_by c local ≡ accept Zero size →
     (proposes c 0 ≡ true) × (selected_size c local ≡ size)
-zero_selected c local size e =
-    let (a, b) = zero_chosen (local.class2 && (proposes c 2 && keeps_flow_control c)) (local.class0 && proposes c 0) (proposes_zero_alone c)
-    (selected_size c local) size e in
-    (second_of local.class0 (proposes c 0) a, b)
+zero_selected c local size e = search (arith, zero_chosen, and_second)
 
 -- ---- a CC of this end is right
 
-or_left : (a b : Bool) → a ≡ true → (a || b) ≡ true
+pub or_left : (a b : Bool) → a ≡ true → (a || b) ≡ true
 or_left a b h = rw h refl
 
 both_with_true : (a b : Bool) → a ≡ true → (a && (b || true)) ≡ true
-both_with_true true true h = refl
-both_with_true true false h = refl
-both_with_true false b h = cc
+both_with_true a b h = grind arith
 
-both : (a b : Bool) → a ≡ true → b ≡ true → (a && b) ≡ true
+pub both : (a b : Bool) → a ≡ true → b ≡ true → (a && b) ≡ true
 both a b h k = rw (h, k) refl
 
 no_larger : (o : Option ℕ) (n : ℕ) → nat_le (code_named (option_map (λ code. min code n) o)) (code_named o) ≡ true
-no_larger None n = refl
-no_larger (Some code) n = le-leb (min code n) code (omega arith)
+no_larger o n = grind (arith, le-leb)
 
 size_right : (c : Connect) (local : Local) (size : Option ℕ) (offer : Offer) → offer ≡ offer_of c → selected_size c local ≡ size →
     nat_le (code_named size) offer.size_code ≡ true
-size_right c local size offer e same =
-    ap (λ (o : Offer). nat_le (code_named size) o.size_code) e
-    ∙ subst (λ (o : Option ℕ). nat_le (code_named o) (code_named c.parameters.size) ≡ true) same
-    (no_larger c.parameters.size (size_code local.size))
+size_right c local size offer e same = grind (arith, no_larger)
 
 pub two_right : (local : Local) (c : Connect) (size : Option ℕ) (r : ℕ) (t : Connection) (course : Course) →
     selected_by c local ≡ accept Two size →
@@ -127,17 +85,14 @@ at_least_five (Some code) h = let p : 2 ^ 7 ≤ 2 ^ code = pow-le-pow_right {n =
 
 lowered : (o : Option ℕ) (n : ℕ) → IfSome o (λ code. (7 ≤ code) × (code ≤ 13)) → 7 ≤ n →
     IfSome (option_map (λ code. min code n) o) (λ code. 7 ≤ code)
-lowered None n h k = tt
-lowered (Some code) n h k = omega arith
+lowered o n h k = grind arith
 
 within_size : (o : Option ℕ) (n : ℕ) →
     IfSome (option_map (λ code. 2 ^ code) o) (λ most. unit_octets (option_map (λ code. min code n) o) ≤ most)
-within_size None n = tt
-within_size (Some code) n = pow-le-pow_right {n = 2} (omega arith) (omega arith)
+within_size o n = grind (arith, pow-le-pow_right)
 
 at_size : (o : Option ℕ) → IfSome (option_map (λ code. 2 ^ code) o) (λ most. unit_octets o ≤ most)
-at_size None = tt
-at_size (Some code) = omega arith
+at_size o = grind arith
 
 -- ---- the line
 

@@ -1,30 +1,18 @@
 -- The stages of a whole calling end: no connection is asked for, a CR waits to pass, or for its answer, then class 0 or class 2.
 -- For the laws on requests and on whole calling ends.
-use Rattle.std.proofs.Common.{◌≡◌, ◌≢◌, ◌∙◌, ℕ, Bool, true, false, List, [], ◌∷◌, ◌++◌, map, refl, sym, ap, subst, append_assoc}
-use Rattle.std.proofs.Common.{Option, Some, None, inl, inr, ◌⊎◌, is_some, if◌then◌else◌}
-use Rattle.std.specs.Prelude.{◌%◌, ◌==◌, ◌&&◌, ◌||◌, not, slice_get}
-use Rattle.std.specs.List.{AllByRecursion, list_all, list_any}
-use Rattle.std.proofs.lemmas.Bool.{eqb-true}
-use Rattle.osi_tpdu.specs.Value.{Value, Connect, HasFieldsInRange, IsConnect, request, confirm}
-use Rattle.osi_class.specs.declared.terms.Class.TheVariants.{Two, Zero}
-use Rattle.osi_class.specs.declared.terms.Local.{Local}
-use Rattle.osi_carrier.specs.React.{react}
-use Rattle.osi_carrier.specs.Rows.{Rows}
-use Rattle.osi_carrier.specs.Runs.{UserCall, user_does}
-use Rattle.osi_carrier.specs.State.{State, Connection as Live}
-use Rattle.osi_rules.specs.declared.connections.Connection.{Connection}
-use Rattle.osi_rules.specs.declared.connections.Offer.{Offer}
-use Rattle.osi_rules.specs.declared.directions.Direction.TheVariants.{Left, Right}
-use Rattle.osi_rules.specs.declared.findings.Finding.TheVariants.{Broke, NotJudged, TooMany}
+use Rattle.osi_fair.proofs.Vocabulary.{[], ap, append_assoc, Bool, false, if◌then◌else◌, inl, inr, is_some, List, map, None, Option, refl}
+use Rattle.osi_fair.proofs.Vocabulary.{Some, subst, sym, true, ℕ, ◌%◌, ◌++◌, ◌∙◌, ◌∷◌, ◌≡◌, ◌≢◌, ◌⊎◌, eqb-true, AllByRecursion, list_all}
+use Rattle.osi_fair.proofs.Vocabulary.{list_any, not, slice_get, ◌&&◌, ◌==◌, ◌||◌, confirm, Connect, HasFieldsInRange, IsConnect, request}
+use Rattle.osi_fair.proofs.Vocabulary.{Value, Two, Zero, Local, react, Rows, user_does, UserCall, Live, first_failed, is_inside, is_offered}
+use Rattle.osi_fair.proofs.Vocabulary.{begins, is_over, uses, class_of, has_place, is_not_judged, offer_of, packet_begins}
+use Rattle.osi_fair.proofs.Vocabulary.{refused as not_read, request_tests, Traffic, takes, Connection, Offer, Left, Right, Broke, NotJudged}
+use Rattle.osi_fair.proofs.Vocabulary.{TooMany, packet, rubbish, unit as passing, put_by, put_for, arrives, calls, Event, Happens, MayCall}
+use Rattle.osi_fair.proofs.Vocabulary.{passes_rubbish, Whole}
+use Rattle.osi_carrier.specs.State.{State}
 use Rattle.osi_rules.specs.declared.findings.Rule.TheVariants as rule
-use Rattle.osi_rules.specs.Rows.{first_failed, is_inside, is_offered, selects_expedited}
-use Rattle.osi_rules.specs.Sides.{begins, is_over, uses}
-use Rattle.osi_rules.specs.Traffic.{State as Traffic, class_of, has_place, is_not_judged, offer_of, packet_begins, refused as not_read}
-use Rattle.osi_rules.specs.Traffic.{request_tests, takes}
-use Rattle.osi_fair.specs.Naming.{packet, rubbish, unit as passing}
-use Rattle.osi_fair.specs.Putting.{put_by, put_for}
-use Rattle.osi_fair.specs.Wholes.{Event, Happens, MayCall, Whole, arrives, begins_other, begins_own, calls, passes_other, passes_own}
-use Rattle.osi_fair.specs.Wholes.{passes_rubbish}
+use Rattle.osi_rules.specs.Rows.{selects_expedited}
+use Rattle.osi_fair.specs.Wholes.{begins_other, begins_own, passes_other, passes_own}
+use Rattle.osi_fair.proofs.small_facts_that_many_lemmas_use.{differ}
 use Rattle.osi_fair.proofs.a_new_reference_is_not_in_use.{Passed}
 use Rattle.osi_fair.proofs.a_refused_request_waits_no_more.{all_from}
 use Rattle.osi_fair.proofs.a_request_of_a_whole_end_is_new.{IsUnused, Newer, next_unused}
@@ -35,9 +23,9 @@ use Rattle.osi_fair.proofs.how_a_calling_end_asks.{one_calls, over_calls, over_t
 use Rattle.osi_fair.proofs.what_holds_of_one_item.{HoldsOfEach}
 use Rattle.osi_fair.proofs.what_lasts_at_the_tap.{lasts_passing}
 use Rattle.osi_fair.proofs.while_no_class_is_selected.{AllOver, Answer, Asked, GoesOn, IsDc, IsDone, IsRefusal, Waits, asks_passed}
-use Rattle.osi_fair.proofs.while_no_class_is_selected.{calm_tap, confirmed_tap}
-use Rattle.osi_fair.proofs.while_no_class_is_selected.{confirms, done_begins, done_takes, over_begins, over_still, refuses, says_nothing}
-use Rattle.osi_fair.proofs.while_no_class_is_selected.{waits_begins, waits_takes}
+use Rattle.osi_fair.proofs.while_no_class_is_selected.{calm_tap, confirmed_tap, confirms, done_begins, done_takes, over_begins, over_still}
+use Rattle.osi_fair.proofs.while_no_class_is_selected.{refuses, says_nothing, waits_begins, waits_takes}
+use Rattle.osi_fair.proofs.a_dr_for_what_is_gone.{after_arriving, after_calling}
 
 abbrev AreDcs : List Value → Type 0
 AreDcs units = AllByRecursion IsDc units
@@ -81,31 +69,25 @@ pub data Stage (local : Local) (w : Whole) : Type 0 where
 
 -- ---- the end takes a unit
 
-differ : {A : Type 0} (b : Bool) → b ≡ true → b ≡ false → A
-differ b h k = absurd (cc)
-
 none_more : (put more units : List Value) → put ≡ units → more ≡ [] → put ++ more ≡ units ++ []
 none_more put more units a b = ap (λ (l : List Value). l ++ more) a ∙ ap (λ (l : List Value). units ++ l) b
 
 first_of : (u v : Value) (xs ys : List Value) → u ∷ xs ≡ v ∷ ys → (v ≡ u) × (ys ≡ xs)
 first_of u v xs ys e = (cc, cc)
 
-abbrev after_taking : Whole → Value → List Value → Whole
-after_taking w unit later = record w { end = react unit w.end; put = w.put ++ put_for unit w.end; coming = later }
-
 ended_taking : (local : Local) (w : Whole) (unit : Value) (later : List Value) → w.put ≡ [] → put_for unit w.end ≡ [] →
-    IsOver (react unit w.end) → Stage local (after_taking w unit later)
+    IsOver (react unit w.end) → Stage local (after_arriving w unit later)
 ended_taking local w unit later put none h = ended (none_more w.put (put_for unit w.end) [] put none) h
 
 -- a DC ends it
 dc_taking : (local : Local) (w : Whole) (rows : Rows Live) (unit : Value) (later : List Value) → w.put ≡ [] → Calling local rows w.end →
-    IsDc unit → Stage local (after_taking w unit later)
+    IsDc unit → Stage local (after_arriving w unit later)
 dc_taking local w rows unit later none is dc =
     let p = dc_ends rows unit w.end dc is.0 in ended_taking local w unit later none p.put p.after
 
 asks_taking : (local : Local) (w : Whole) (unit : Value) (later : List Value) (x : Connect) (cs : List Connection) (strays : Bool) →
     w.put ≡ request x ∷ [] → CallsOrOver local x.source w.end → Offers local (offer_of x) → w.tap ≡ calm_tap cs strays →
-    HoldsOfEach IsDone cs → IsDc unit → AreDcs later → (w.begun ≡ true → AllOver cs) → Stage local (after_taking w unit later)
+    HoldsOfEach IsDone cs → IsDc unit → AreDcs later → (w.begun ≡ true → AllOver cs) → Stage local (after_arriving w unit later)
 asks_taking local w unit later x cs strays put (inl h) offers tap done dc dcs begun =
     let (e, none) = over_takes unit w.end h in
     asks x (none_more w.put (put_for unit w.end) (request x ∷ []) put none) (inl (ap (λ (s : State). is_some s.ended) e ∙ h)) offers cs
@@ -116,7 +98,7 @@ asks_taking local w unit later x cs strays put (inr is) offers tap done dc dcs b
 
 cc_taking : (local : Local) (w : Whole) (r n : ℕ) (x : Connect) (later : List Value) (after : State) → Calling local (one r) w.end →
     w.put ≡ [] → w.begun ≡ false → (x.class == 2) ≡ false → HasZero local → react (confirm n x) w.end ≡ after → IsZeroed after [] false w.tap →
-    Stage local (after_taking w (confirm n x) later)
+    Stage local (after_arriving w (confirm n x) later)
 cc_taking local w r n x later after is none not_begun class has so z =
     let puts : w.put ++ put_for (confirm n x) w.end ≡ [] = none_more w.put (put_for (confirm n x) w.end) [] none
     (confirm_takes n r x w.end is.0 class).put in
@@ -127,10 +109,10 @@ cc_taking local w r n x later after is none not_begun class has so z =
 answered_taking : (local : Local) (w : Whole) (unit : Value) (later : List Value) (r : ℕ) (dcs : List Value) (n : ℕ) (x : Connect)
     (more : List Value) (after : State) → Calling local (one r) w.end → w.put ≡ [] → w.begun ≡ false →
     unit ∷ later ≡ dcs ++ confirm n x ∷ more → AreDcs dcs → (x.class == 2) ≡ false → HasZero local →
-    react (confirm n x) w.end ≡ after → IsZeroed after [] false w.tap → Stage local (after_taking w unit later)
+    react (confirm n x) w.end ≡ after → IsZeroed after [] false w.tap → Stage local (after_arriving w unit later)
 answered_taking local w unit later r [] n x more after is none not_begun e dcs class has so z =
     let (same_unit, others) = first_of unit (confirm n x) later more e in
-    subst (λ (v : Value). Stage local (after_taking w v later)) same_unit
+    subst (λ (v : Value). Stage local (after_arriving w v later)) same_unit
     (cc_taking local w r n x later after is none not_begun class has so z)
 answered_taking local w unit later r (d ∷ dcs) n x more after is none not_begun e (dc, others) class has so z =
     let (same_unit, rest) = first_of unit d later (dcs ++ confirm n x ∷ more) e in
@@ -138,7 +120,7 @@ answered_taking local w unit later r (d ∷ dcs) n x more after is none not_begu
 
 refusal_taking : (local : Local) (w : Whole) (v : Value) (more : List Value) (r : ℕ) (cs : List Connection) (strays : Bool) →
     Calling local (one r) w.end → w.put ≡ [] → w.begun ≡ false → w.tap ≡ calm_tap cs strays → HoldsOfEach IsDone cs → IsRefusal r v →
-    AreDcs more → Stage local (after_taking w v more)
+    AreDcs more → Stage local (after_arriving w v more)
 refusal_taking local w v more r cs strays is none not_begun tap done refusal dcs =
     let p = refusal_takes r v w.end refusal is.0 in
     quiet (p.after.0, p.after.1 ∙ is.1) (none_more w.put (put_for v w.end) [] none p.put) not_begun cs strays tap done dcs
@@ -146,17 +128,17 @@ refusal_taking local w v more r cs strays is none not_begun tap done refusal dcs
 refused_taking : (local : Local) (w : Whole) (unit : Value) (later : List Value) (r : ℕ) (cs : List Connection) (strays : Bool)
     (dcs : List Value) (v : Value) (more : List Value) → Calling local (one r) w.end → w.put ≡ [] → w.begun ≡ false →
     w.tap ≡ calm_tap cs strays → HoldsOfEach IsDone cs → unit ∷ later ≡ dcs ++ v ∷ more → AreDcs dcs → IsRefusal r v → AreDcs more →
-    Stage local (after_taking w unit later)
+    Stage local (after_arriving w unit later)
 refused_taking local w unit later r cs strays [] v more is none not_begun tap done e dcs refusal dcs_too =
     let (same_unit, others) = first_of unit v later more e in
-    subst (λ (u : Value). Stage local (after_taking w u later)) same_unit
+    subst (λ (u : Value). Stage local (after_arriving w u later)) same_unit
     (refusal_taking local w v later r cs strays is none not_begun tap done refusal (subst AreDcs others dcs_too))
 refused_taking local w unit later r cs strays (d ∷ dcs) v more is none not_begun tap done e (dc, others) refusal dcs_too =
     let (same_unit, rest) = first_of unit d later (dcs ++ v ∷ more) e in
     dc_taking local w (one r) unit later none is (subst IsDc same_unit dc)
 
 taking : (local : Local) (w : Whole) (unit : Value) (later : List Value) → w.coming ≡ unit ∷ later → Stage local w →
-    Stage local (after_taking w unit later)
+    Stage local (after_arriving w unit later)
 taking local w unit later e (ended none h) =
     let (same_end, puts) = over_takes unit w.end h in
     ended_taking local w unit later none puts (ap (λ (s : State). is_some s.ended) same_end ∙ h)
@@ -174,9 +156,6 @@ taking local w unit later e (zero has z) = zero has (zeroed_takes w.end w.put w.
 taking local w unit later e (known two seen has) = known two seen has
 
 -- ---- its user makes a call
-
-abbrev after_calling : Whole → UserCall → Whole
-after_calling w call = record w { end = user_does call w.end; put = w.put ++ put_by call w.end }
 
 ended_calling : (local : Local) (w : Whole) (call : UserCall) → w.put ≡ [] → put_by call w.end ≡ [] → IsOver (user_does call w.end) →
     Stage local (after_calling w call)

@@ -1,24 +1,14 @@
 -- No CR of a whole calling end is blamed, whatever happens.
 -- For the law of that name.
-use Rattle.std.proofs.Common.{◌≡◌, ◌∙◌, ℕ, Bool, true, false, List, [], ◌∷◌, refl, sym, subst, arith}
-use Rattle.std.proofs.Common.{◌⊎◌}
-use Rattle.osi_tpdu.specs.Value.{Value, Connect, request}
-use Rattle.osi_class.specs.declared.terms.Local.{Local}
-use Rattle.osi_rules.specs.declared.connections.Connection.{Connection}
-use Rattle.osi_rules.specs.declared.directions.Direction.TheVariants.{Left, Right}
-use Rattle.osi_rules.specs.declared.findings.Finding.{Finding}
-use Rattle.osi_rules.specs.declared.findings.Finding.TheVariants.{Kept, TooMany}
-use Rattle.osi_rules.specs.Rows.{first_failed}
-use Rattle.osi_rules.specs.Traffic.{State as Traffic, is_stopped, request_tests, takes}
-use Rattle.osi_fair.specs.Naming.{packet, rubbish, unit as passing}
-use Rattle.osi_fair.specs.Wholes.{Event, HappenAlong, Happens, Whole, arrives, begin, begins_other, begins_own, calls, passes_other}
-use Rattle.osi_fair.specs.Wholes.{passes_own}
-use Rattle.osi_fair.specs.Wholes.{passes_rubbish}
+use Rattle.osi_fair.proofs.Vocabulary.{[], arith, Bool, false, List, refl, subst, sym, true, ℕ, ◌∙◌, ◌∷◌, ◌≡◌, ◌⊎◌, Connect, request, Value}
+use Rattle.osi_fair.proofs.Vocabulary.{Local, first_failed, is_stopped, request_tests, Traffic, takes, Connection, Left, Right, Finding}
+use Rattle.osi_fair.proofs.Vocabulary.{Kept, TooMany, packet, rubbish, unit as passing, arrives, begin, calls, Event, HappenAlong, Happens}
+use Rattle.osi_fair.proofs.Vocabulary.{passes_rubbish, Whole}
+use Rattle.osi_fair.specs.Wholes.{begins_other, begins_own, passes_other, passes_own}
 use Rattle.osi_fair.proofs.a_new_reference_is_not_in_use.{Passed, asked_finding, asked_is, tests_pass}
 use Rattle.osi_fair.proofs.a_reference_names_one_connection.{no_item}
 use Rattle.osi_fair.proofs.a_request_of_a_whole_end_is_new.{IsUnused, Newer, next_unused, still_newer}
-use Rattle.osi_fair.proofs.how_requests_go_on.{Stage, answered, asks, calm_passes, ended, known, quiet, refused, still_staged, waits}
-use Rattle.osi_fair.proofs.how_requests_go_on.{zero}
+use Rattle.osi_fair.proofs.how_requests_go_on.{Stage, asks, calm_passes, known, quiet, still_staged, zero, answered, ended, refused, waits}
 use Rattle.osi_fair.proofs.what_an_end_does_in_class_zero.{anyhow, zero_puts}
 use Rattle.osi_fair.proofs.what_an_end_puts_in_class_zero.{PutsData}
 use Rattle.osi_fair.proofs.what_lasts_at_the_tap.{lasts_passing}

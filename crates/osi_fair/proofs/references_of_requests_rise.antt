@@ -1,26 +1,14 @@
 -- The CRs that a carrier writes have references that rise, and each is above those of the CRs before it.
 -- For the law on new references.
-use Rattle.std.proofs.Common.{◌≡◌, ◌∙◌, ℕ, ◌<◌, ◌≤◌, Bool, true, false, List, [], ◌∷◌, ◌++◌, refl, subst, arith}
-use Rattle.std.proofs.Common.{Option, Some, None, Result, Ok, Err, if◌then◌else◌, is_some}
-use Rattle.std.specs.List.{AllByRecursion}
-use Rattle.osi_tpdu.specs.Packet.{units_of}
-use Rattle.osi_tpdu.specs.Value.{Value}
-use Rattle.osi_tpdu.specs.declared.faults.TpduFault.{TpduFault}
-use Rattle.osi_class.specs.Link.{Standing}
-use Rattle.osi_class.specs.declared.terms.Class.{Class}
-use Rattle.osi_class.specs.declared.terms.Class.TheVariants.{Two, Zero}
-use Rattle.osi_carrier.specs.Calls.{closed_on, closed_with, ended_by, open_link, sent, sent_all, sent_on}
-use Rattle.osi_carrier.specs.Calls.{closes as closes_in}
-use Rattle.osi_carrier.specs.Orderly.{connection_of}
+use Rattle.osi_fair.proofs.Vocabulary.{[], arith, Bool, if◌then◌else◌, List, None, Option, refl, Result, Some}
+use Rattle.osi_fair.proofs.Vocabulary.{subst, ℕ, ◌++◌, ◌<◌, ◌∙◌, ◌∷◌, ◌≡◌, ◌≤◌, AllByRecursion, units_of, Value, TpduFault, Standing}
+use Rattle.osi_fair.proofs.Vocabulary.{Class, effect, How, closed_on, closes_in, open_link, sent, sent_all}
+use Rattle.osi_fair.proofs.Vocabulary.{connection_of, acts_by, react, reacts, RiseBy, does}
+use Rattle.osi_fair.proofs.Vocabulary.{ends, EndReason, all_written, asks_with, Two, Zero}
+use Rattle.osi_carrier.specs.Calls.{sent_on}
 unfoldable use Rattle.osi_carrier.specs.Packets.{after_packet}
-use Rattle.osi_carrier.specs.Packets.{acts_by}
-use Rattle.osi_carrier.specs.React.{react, reacts}
-use Rattle.osi_carrier.specs.Rising.{RiseBy}
-use Rattle.osi_carrier.specs.Runs.{Act, breaks, closes, connects, does, packet, sends, sends_all, user}
-use Rattle.osi_carrier.specs.State.{State, ends}
-use Rattle.osi_carrier.specs.declared.ends.EndReason.{EndReason}
-use Rattle.osi_carrier.proofs.effects.a_unit_touches_one_connection.{How, effect}
-use Rattle.osi_fair.specs.Asking.{all_written, asks_with}
+use Rattle.osi_carrier.specs.Runs.{Act}
+use Rattle.osi_carrier.specs.State.{State}
 
 -- ---- how many references were given
 
@@ -35,16 +23,14 @@ units_rise (unit ∷ units) s =
     omega arith
 
 packet_by : (units : Result (List Value) TpduFault) (s : State) → s.given ≤ (acts_by units s).given
-packet_by (Ok units) s = units_rise units s
-packet_by (Err fault) s = omega arith
+packet_by units s = grind (arith, units_rise)
 
 packet_rises : (unit : List ℕ) (s : State) → s.given ≤ (after_packet s unit).given
 unfolding after_packet
 packet_rises unit s = packet_by (units_of unit) s
 
 pub sent_gives : (r : ℕ) (tsdu : List ℕ) (o : Option (ℕ × Standing)) (s : State) → (sent_on r tsdu o s).given ≡ s.given
-sent_gives r tsdu None s = refl
-sent_gives r tsdu (Some (peer, link)) s = refl
+sent_gives r tsdu o s = grind arith
 
 pub all_gives : (r : ℕ) (tsdus : List (List ℕ)) (s : State) → (sent_all r tsdus s).given ≡ s.given
 all_gives r [] s = refl
@@ -60,8 +46,7 @@ closed_gives r reason None s = refl
 closed_gives r reason (Some (peer, link)) s = class_gives r peer reason s.class s
 
 pub ended_gives : (over : Bool) (reason : EndReason) (s : State) → (if over then s else ends reason s).given ≡ s.given
-ended_gives true reason s = refl
-ended_gives false reason s = refl
+ended_gives over reason s = grind arith
 
 pub not_less : (m n : ℕ) → n ≡ m → m ≤ n
 not_less m n e = omega arith
@@ -76,18 +61,7 @@ rise_from m n [] h k = tt
 rise_from m n (r ∷ rs) h (above, more) = (omega arith, more)
 
 act_rises : (act : Act) (s : State) (rs : List ℕ) → Rise (does act s).given rs → Rise s.given (asks_with act s ++ rs)
-act_rises (packet unit) s rs h = rise_from s.given (after_packet s unit).given rs (packet_rises unit s) h
-act_rises (user (connects calling called)) s rs h = (omega arith, h)
-act_rises (user (sends r tsdu)) s rs h =
-    rise_from s.given (sent r tsdu s).given rs (not_less s.given (sent r tsdu s).given (sent_gives r tsdu (open_link r s) s)) h
-act_rises (user (sends_all r tsdus)) s rs h =
-    rise_from s.given (sent_all r tsdus s).given rs (not_less s.given (sent_all r tsdus s).given (all_gives r tsdus s)) h
-act_rises (user (closes r reason)) s rs h =
-    rise_from s.given (closed_with r reason s).given rs
-    (not_less s.given (closed_with r reason s).given (closed_gives r reason (open_link r s) s)) h
-act_rises (user (breaks reason)) s rs h =
-    rise_from s.given (ended_by reason s).given rs
-    (not_less s.given (ended_by reason s).given (ended_gives (is_some s.ended) reason s)) h
+act_rises act s rs h = grind (arith, rise_from, packet_rises, not_less, sent_gives, all_gives, closed_gives, ended_gives)
 
 all_rise : (acts : List Act) (s : State) → Rise s.given (all_written acts s)
 all_rise [] s = tt

@@ -1,30 +1,18 @@
 -- As long as the other side is judged, an end is: what is right stops nothing, and what stops the end stops both sides.
 -- For the law on a whole end.
-use Rattle.std.proofs.Common.{◌≡◌, ◌∙◌, ℕ, Bool, true, false, refl, ap, Option, Some, None, inl, inr, ◌⊎◌, if◌then◌else◌}
-use Rattle.std.specs.Prelude.{◌||◌, position, slice_get}
-use Rattle.osi_tpdu.specs.Value.{Value, Connect, request, confirm, disconnect, disconnected, data0, data2, acknowledge, error}
-use Rattle.osi_class.specs.declared.terms.Class.{Class}
-use Rattle.osi_class.specs.declared.terms.Class.TheVariants.{Two, Zero}
-use Rattle.osi_rules.specs.declared.connections.Connection.{Connection}
-use Rattle.osi_rules.specs.declared.directions.Direction.{Direction}
-use Rattle.osi_rules.specs.declared.directions.Direction.TheVariants.{Left, Right}
-use Rattle.osi_rules.specs.declared.findings.Finding.{Finding}
-use Rattle.osi_rules.specs.declared.findings.Finding.TheVariants.{Broke, Kept, NotJudged, Outside, TooMany}
-use Rattle.osi_rules.specs.declared.findings.Reach.{Reach}
+use Rattle.osi_fair.proofs.Vocabulary.{arith}
+use Rattle.osi_fair.proofs.Vocabulary.{ap, Bool, false, if◌then◌else◌, inl, inr, None, Option, refl, Some, true, ℕ, ◌∙◌, ◌≡◌, ◌⊎◌, position}
+use Rattle.osi_fair.proofs.Vocabulary.{slice_get, ◌||◌, Connect, request, Value, Class, stops_are_said, reach_by, reach_of}
+use Rattle.osi_fair.proofs.Vocabulary.{first_failed, is_live, is_named, asks_by, asks_of, at_found, at_place, class_for, course_after_none}
+use Rattle.osi_fair.proofs.Vocabulary.{is_stopped, none_told, one_told, Outcome, reached, refused, request_tests, route, routed}
+use Rattle.osi_fair.proofs.Vocabulary.{Traffic as State, stops_by, takes, unnamed_told, Connection, Direction, Left, Right, Finding, Kept}
+use Rattle.osi_fair.proofs.Vocabulary.{NotJudged, TooMany, Reach, Route, Asks, Named, Only, Unnamed}
 use Rattle.osi_rules.specs.declared.findings.Reach.TheVariants as reach
-use Rattle.osi_rules.specs.declared.routes.Route.{Route}
-use Rattle.osi_rules.specs.declared.routes.Route.TheVariants.{Asks, Named, Only, Unnamed}
-use Rattle.osi_rules.specs.Reaches.{reach_by, reach_of}
-use Rattle.osi_rules.specs.Rows.{first_failed}
-use Rattle.osi_rules.specs.Sides.{is_live, is_named}
-use Rattle.osi_rules.specs.Traffic.{Outcome, State, asks_by, asks_of, at_found, at_place, class_for, course_after_none, is_stopped}
-use Rattle.osi_rules.specs.Traffic.{none_told, one_told}
-use Rattle.osi_rules.specs.Traffic.{reached, refused, request_tests, route, routed, stops_by, takes, unnamed_told}
-use Rattle.osi_rules.proofs.a_stop_is_said.{stops_are_said}
+use Rattle.osi_fair.proofs.small_facts_that_many_lemmas_use.{differ}
 
 -- ---- how far a unit reaches is by what is found of it
 
-abbrev IsBy : Outcome → Type 0
+abbrev pub IsBy : Outcome → Type 0
 IsBy o = (k : Option Class) × (o.told.reach ≡ reach_of k o.told.finding)
 
 to_none : (d : Direction) (f : Finding) (s : State) → IsBy (none_told d f s)
@@ -46,20 +34,11 @@ at_any d v s (Some p) = at_one d v s p (slice_get s.connections p)
 
 asking : (d : Direction) (f : Finding) (c : Connect) (s : State) → IsBy (asks_by d f c s)
 asking d Kept c s = (None, refl)
-asking d (Broke rule) c s = to_none d (Broke rule) s
-asking d Outside c s = to_none d Outside s
-asking d TooMany c s = to_none d TooMany s
-asking d NotJudged c s = to_none d NotJudged s
+asking d v c s = to_none d v s
 
 asks : (d : Direction) (v : Value) (s : State) → IsBy (asks_of d v s)
 asks d (request c) s = asking d (first_failed (request_tests s c)) c s
-asks d (confirm destination c) s = to_none d NotJudged s
-asks d (disconnect destination source reason user) s = to_none d NotJudged s
-asks d (disconnected destination source) s = to_none d NotJudged s
-asks d (data0 end user) s = to_none d NotJudged s
-asks d (data2 destination number end user) s = to_none d NotJudged s
-asks d (acknowledge credit destination number) s = to_none d NotJudged s
-asks d (error destination cause) s = to_none d NotJudged s
+asks d _ s = to_none d NotJudged s
 
 by_route : (d : Direction) (v : Value) (s : State) (r : Route) → IsBy (routed d v s r)
 by_route d v s Asks = asks d v s
@@ -71,7 +50,7 @@ if_judged : (b : Bool) (d : Direction) (v : Value) (s : State) (r : Route) → I
 if_judged true d v s r = to_none d NotJudged s
 if_judged false d v s r = by_route d v s r
 
-told_by : (d : Direction) (v : Value) (s : State) → IsBy (takes d v s)
+pub told_by : (d : Direction) (v : Value) (s : State) → IsBy (takes d v s)
 told_by d v s = if_judged (is_stopped d s.course) d v s (route d s.course v)
 
 -- ---- a unit of the end
@@ -81,25 +60,16 @@ abbrev pub IsMild : Finding → Type 0
 IsMild f = (f ≡ Kept) ⊎ ((f ≡ TooMany) ⊎ (f ≡ NotJudged))
 
 all_or_none : (k : Option Class) (f : Finding) → IsMild f → (reach_of k f ≡ reach.Nothing) ⊎ (reach_of k f ≡ reach.Everything)
-all_or_none k f (inl e) = inl (ap (reach_of k) e)
-all_or_none k f (inr (inl e)) = inr (ap (reach_of k) e)
-all_or_none k f (inr (inr e)) = inl (ap (reach_of k) e)
-
-differ : {A : Type 0} (b : Bool) → b ≡ true → b ≡ false → A
-differ b h k = absurd (cc)
+all_or_none k f h = grind arith
 
 own_by : (v : Value) (s : State) → ((takes Left v s).told.reach ≡ reach.Nothing) ⊎ ((takes Left v s).told.reach ≡ reach.Everything) →
     s.course.left_stopped ≡ false → (takes Left v s).state.course.right_stopped ≡ false →
     (takes Left v s).state.course.left_stopped ≡ false
-own_by v s (inl e) left right =
-    stops_are_said Left v s Left ∙ ap (λ (r : Reach). stops_by Left r Left || s.course.left_stopped) e ∙ left
-own_by v s (inr e) left right =
-    differ (takes Left v s).state.course.right_stopped
-    (stops_are_said Left v s Right ∙ ap (λ (r : Reach). stops_by Left r Right || s.course.right_stopped) e) right
+own_by v s (inl e) left right = grind (arith, stops_are_said)
+own_by v s (inr e) left right = grind (arith, differ, stops_are_said)
 
 same_reach : (r q : Reach) → r ≡ q → (q ≡ reach.Nothing) ⊎ (q ≡ reach.Everything) → (r ≡ reach.Nothing) ⊎ (r ≡ reach.Everything)
-same_reach r q e (inl h) = inl (e ∙ h)
-same_reach r q e (inr h) = inr (e ∙ h)
+same_reach r q e k = grind arith
 
 pub own_judged : (v : Value) (s : State) → IsMild (takes Left v s).told.finding → s.course.left_stopped ≡ false →
     (takes Left v s).state.course.right_stopped ≡ false → (takes Left v s).state.course.left_stopped ≡ false
@@ -112,15 +82,11 @@ own_judged v s mild left right =
 
 other_by : (r : Reach) (v : Value) (s : State) → (takes Right v s).told.reach ≡ r → s.course.left_stopped ≡ false →
     (takes Right v s).state.course.right_stopped ≡ false → (takes Right v s).state.course.left_stopped ≡ false
-other_by reach.Nothing v s e left right =
-    stops_are_said Right v s Left ∙ ap (λ (r : Reach). stops_by Right r Left || s.course.left_stopped) e ∙ left
-other_by reach.Connection v s e left right =
-    stops_are_said Right v s Left ∙ ap (λ (r : Reach). stops_by Right r Left || s.course.left_stopped) e ∙ left
-other_by reach.Side v s e left right =
-    stops_are_said Right v s Left ∙ ap (λ (r : Reach). stops_by Right r Left || s.course.left_stopped) e ∙ left
 other_by reach.Everything v s e left right =
     differ (takes Right v s).state.course.right_stopped
     (stops_are_said Right v s Right ∙ ap (λ (r : Reach). stops_by Right r Right || s.course.right_stopped) e) right
+other_by _ v s e left right =
+    stops_are_said Right v s Left ∙ ap (λ (r : Reach). stops_by Right r Left || s.course.left_stopped) e ∙ left
 
 pub other_judged : (v : Value) (s : State) → s.course.left_stopped ≡ false → (takes Right v s).state.course.right_stopped ≡ false →
     (takes Right v s).state.course.left_stopped ≡ false
@@ -128,9 +94,7 @@ other_judged v s left right = other_by (takes Right v s).told.reach v s refl lef
 
 rubbish_by : (k : Option Class) (s : State) → s.course.left_stopped ≡ false →
     (reached Right (reach_by k false) s.course).right_stopped ≡ false → (reached Right (reach_by k false) s.course).left_stopped ≡ false
-rubbish_by None s left right = cc
-rubbish_by (Some Zero) s left right = left
-rubbish_by (Some Two) s left right = cc
+rubbish_by k s left right = grind arith
 
 pub rubbish_judged : (s : State) → s.course.left_stopped ≡ false → (refused Right s).course.right_stopped ≡ false →
     (refused Right s).course.left_stopped ≡ false

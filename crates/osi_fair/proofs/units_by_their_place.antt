@@ -1,27 +1,24 @@
 -- Units in order, each with the place at the tap of the connection that it is of: the units of one place.
 -- For the law on a whole called end.
-use Rattle.std.proofs.Common.{◌≡◌, ◌≢◌, ◌∙◌, ℕ, Bool, true, false, List, [], ◌∷◌, ◌++◌, refl, ap, Option, Some, None}
-use Rattle.std.specs.Prelude.{◌==◌, ◌&&◌}
-use Rattle.std.proofs.lemmas.Bool.{eq-eqb, eqb-true}
-use Rattle.osi_tpdu.specs.Value.{Value}
-use Rattle.osi_fair.proofs.which_units_are_for_a_connection.{keep}
+use Rattle.osi_fair.proofs.Vocabulary.{arith}
+use Rattle.osi_fair.proofs.Vocabulary.{[], ap, Bool, false, List, None, Option, refl, Some, true, ℕ, ◌++◌, ◌∙◌, ◌∷◌, ◌≡◌, ◌≢◌, eq-eqb, ◌&&◌}
+use Rattle.osi_fair.proofs.Vocabulary.{◌==◌, Value}
+use Rattle.osi_fair.proofs.small_facts_that_many_lemmas_use.{unequal}
+use Rattle.osi_fair.proofs.which_units_are_for_a_connection.{keep, keep_join, names_in}
+pub use Rattle.osi_fair.proofs.which_units_are_for_a_connection.{names_in as is_at}
 
 -- a unit, and the place of its connection; none if it is of no connection
 abbrev pub Placed : Type 0
 Placed = Option ℕ × Value
 
-abbrev pub is_at : ℕ → Option ℕ → Bool
-is_at p None = false
-is_at p (Some q) = q == p
-
 abbrev pub units_at : ℕ → List Placed → List Value
 units_at p [] = []
-units_at p (t ∷ ts) = keep (is_at p t.0) t.1 (units_at p ts)
+units_at p (t ∷ ts) = keep (names_in p t.0) t.1 (units_at p ts)
 
 -- the first unit is of this place
 abbrev pub first_at : ℕ → List Placed → Bool
 first_at p [] = false
-first_at p (t ∷ ts) = is_at p t.0
+first_at p (t ∷ ts) = names_in p t.0
 
 abbrev pub values : List Placed → List Value
 values [] = []
@@ -31,14 +28,10 @@ abbrev pub all_at : Option ℕ → List Value → List Placed
 all_at o [] = []
 all_at o (v ∷ vs) = (o, v) ∷ all_at o vs
 
-keep_join : (b : Bool) (v : Value) (xs ys : List Value) → keep b v (xs ++ ys) ≡ keep b v xs ++ ys
-keep_join true v xs ys = refl
-keep_join false v xs ys = refl
-
 pub at_join : (p : ℕ) (xs ys : List Placed) → units_at p (xs ++ ys) ≡ units_at p xs ++ units_at p ys
 at_join p [] ys = refl
 at_join p (x ∷ xs) ys =
-    ap (λ (l : List Value). keep (is_at p x.0) x.1 l) (at_join p xs ys) ∙ keep_join (is_at p x.0) x.1 (units_at p xs) (units_at p ys)
+    ap (λ (l : List Value). keep (names_in p x.0) x.1 l) (at_join p xs ys) ∙ keep_join (names_in p x.0) x.1 (units_at p xs) (units_at p ys)
 
 pub values_join : (xs ys : List Placed) → values (xs ++ ys) ≡ values xs ++ values ys
 values_join [] ys = refl
@@ -48,15 +41,11 @@ pub values_all : (o : Option ℕ) (vs : List Value) → values (all_at o vs) ≡
 values_all o [] = refl
 values_all o (v ∷ vs) = ap (λ (l : List Value). v ∷ l) (values_all o vs)
 
-pub at_here : (p : ℕ) → is_at p (Some p) ≡ true
+pub at_here : (p : ℕ) → names_in p (Some p) ≡ true
 at_here p = eq-eqb p p refl
 
-unlike_by : (q p : ℕ) (b : Bool) → (q == p) ≡ b → (q ≡ p → ⊥) → b ≡ false
-unlike_by q p true e h = absurd (h (eqb-true q p e))
-unlike_by q p false e h = refl
-
-pub at_elsewhere : (p q : ℕ) → (q ≡ p → ⊥) → is_at p (Some q) ≡ false
-at_elsewhere p q h = unlike_by q p (q == p) refl h
+pub at_elsewhere : (p q : ℕ) → (q ≡ p → ⊥) → names_in p (Some q) ≡ false
+at_elsewhere p q h = unequal q p (q == p) refl h
 
 pub at_first : (p : ℕ) (v : Value) (ts : List Placed) → units_at p ((Some p, v) ∷ ts) ≡ v ∷ units_at p ts
 at_first p v ts = ap (λ (b : Bool). keep b v (units_at p ts)) (at_here p)
@@ -78,6 +67,4 @@ all_nowhere p (v ∷ vs) = all_nowhere p vs
 
 pub first_more : (b : Bool) (p : ℕ) (ts more : List Placed) → (b ≡ true → values ts ≢ []) →
     (b && first_at p (ts ++ more)) ≡ (b && first_at p ts)
-first_more false p ts more h = refl
-first_more true p [] more h = absurd (h refl refl)
-first_more true p (t ∷ ts) more h = refl
+first_more b p ts more h = grind arith

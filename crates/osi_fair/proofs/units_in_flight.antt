@@ -1,10 +1,8 @@
 -- Units that an end has put and that have not passed the tap, and units that have passed it and that the end has not taken.
 -- For the laws on a line: DTs and AKs are counted, and their numbers are those counts modulo 128.
-use Rattle.std.proofs.Common.{◌≡◌, ◌∙◌, ℕ, ◌+◌, ◌%◌, ◌<◌, ◌≤◌, Bool, true, false, List, [], ◌∷◌, ◌++◌, length, arith, sym}
-use Rattle.osi_tpdu.specs.Value.{Value, request, confirm, disconnect, disconnected, data0, data2, acknowledge, error}
-use Rattle.osi_class.specs.Limits.{longest_tsdu}
-use Rattle.osi_rules.specs.declared.halves.Phase.{Phase}
-use Rattle.osi_rules.specs.Sides.{is_open, is_closing}
+use Rattle.osi_fair.proofs.Vocabulary.{[], arith, Bool, false, length, List, sym, true, ℕ, ◌%◌, ◌++◌, ◌+◌, ◌<◌, ◌∙◌, ◌∷◌, ◌≡◌, ◌≤◌}
+use Rattle.osi_fair.proofs.Vocabulary.{acknowledge, data2, disconnect, disconnected, Value, longest_tsdu, is_closing, is_open, Phase}
+use Rattle.osi_fair.proofs.Vocabulary.{request, confirm, data0, error}
 use Rattle.osi_fair.proofs.what_a_link_does.{begun_by}
 
 -- ---- units that were put

@@ -1,38 +1,24 @@
 -- A called end that has closed an open connection has put the unit that closes it: as long as the tap has not seen it, it is to
 -- pass. For the law on a whole called end.
-use Rattle.std.proofs.Common.{◌≡◌, ◌≢◌, ◌∙◌, ℕ, Bool, true, false, List, [], ◌∷◌, ◌++◌, refl, sym, ap, subst, Option, Some, None}
-use Rattle.std.proofs.Common.{if◌then◌else◌}
-use Rattle.osi_tpdu.specs.Value.{Value, request, confirm, disconnect, disconnected, data0, data2, acknowledge, error}
-use Rattle.osi_class.specs.Link.{Standing}
-use Rattle.osi_class.specs.declared.terms.Class.TheVariants.{Two}
-use Rattle.osi_rules.specs.declared.connections.Connection.{Connection}
-use Rattle.osi_rules.specs.declared.directions.Direction.TheVariants.{Left, Right}
-use Rattle.osi_rules.specs.declared.findings.Finding.{Finding}
-use Rattle.osi_rules.specs.declared.findings.Finding.TheVariants.{Kept, NotJudged}
-use Rattle.osi_rules.specs.declared.findings.Reach.{Reach}
+use Rattle.osi_fair.proofs.Vocabulary.{arith}
+use Rattle.osi_fair.proofs.Vocabulary.{[], ap, Bool, false, if◌then◌else◌, List, None, Option, refl, Some, subst, sym, true, ℕ, ◌++◌, ◌∙◌}
+use Rattle.osi_fair.proofs.Vocabulary.{◌∷◌, ◌≡◌, ◌≢◌, disconnect, disconnected, Value, Standing, Two, is_applied, reach_of}
+use Rattle.osi_fair.proofs.Vocabulary.{is_open, connection_after, found, half_after, sent_on, Connection, Left, Right, Finding}
+use Rattle.osi_fair.proofs.Vocabulary.{Kept, NotJudged, Reach, Half, Act, Acts, ActsAlong, after_finding, answers, begins_elsewhere}
+use Rattle.osi_fair.proofs.Vocabulary.{closes_with as closes, finding_of, ignores, IsOpened, IsRight, IsRightNow, Line, moves}
 use Rattle.osi_rules.specs.declared.findings.Reach.TheVariants as reach
-use Rattle.osi_rules.specs.declared.halves.Half.{Half}
-use Rattle.osi_rules.specs.Reaches.{is_applied, reach_of}
-use Rattle.osi_rules.specs.Sides.{is_open, is_silent}
-use Rattle.osi_rules.specs.Traffic.{closing_phase, connection_after, found, half_after, judged_on, sent_on}
-use Rattle.osi_fair.specs.Lines.{Act, Acts, ActsAlong, IsOpened, IsRight, IsRightNow, Line, after_finding, answers, begins_elsewhere}
-use Rattle.osi_fair.specs.Lines.{begins_other, begins_own, closes, finding_of, ignores, moves, passes_other, passes_own}
+use Rattle.osi_fair.specs.Lines.{begins_other, begins_own, passes_other, passes_own}
+use Rattle.osi_fair.proofs.small_facts_that_many_lemmas_use.{closing_shuts, differ, first_is, no_list, rest_is}
 use Rattle.osi_fair.proofs.an_end_closes_last.{waits_open}
-use Rattle.osi_fair.proofs.an_open_end_is_fair.{all_turned, open_is_fair, opened_holds, opened_turned, turned_line}
-use Rattle.osi_fair.proofs.what_holds_of_a_line.{Holds}
+use Rattle.osi_fair.proofs.an_open_end_is_fair.{on_judged, open_is_fair}
 use Rattle.osi_fair.proofs.what_is_put_before_the_cc_passes.{acts_join}
 use Rattle.osi_fair.proofs.what_stays_of_each_connection.{right_own, right_then}
 
 -- a DR or a DC
 abbrev pub IsCloser : Value → Type 0
-IsCloser (request x) = ⊥
-IsCloser (confirm destination x) = ⊥
 IsCloser (disconnect destination source reason user) = Unit {0}
 IsCloser (disconnected destination source) = Unit {0}
-IsCloser (data0 end user) = ⊥
-IsCloser (data2 destination number end user) = ⊥
-IsCloser (acknowledge credit destination number) = ⊥
-IsCloser (error destination cause) = ⊥
+IsCloser _ = ⊥
 
 -- it is the last
 abbrev EndsIn : List Value → Type 0
@@ -42,89 +28,36 @@ EndsIn vs = (first : List Value) × (v : Value) × (vs ≡ first ++ v ∷ []) ×
 abbrev Waits : Line → Type 0
 Waits line = line.tap.is_judged ≡ true → line.link ≡ None → is_open line.tap.right.phase ≡ true → EndsIn line.put
 
-differ : {A : Type 0} (b : Bool) → b ≡ true → b ≡ false → A
-differ b h k = absurd (cc)
-
 no_some : {A : Type 0} (l : Standing) (o : Option Standing) → o ≡ Some l → o ≡ None → A
 no_some l o h k = absurd (cc)
 
-no_list : (v : Value) (vs : List Value) → v ∷ vs ≡ [] → ⊥
-no_list v vs e = cc
-
-first_is : (u v : Value) (xs ys : List Value) → u ∷ xs ≡ v ∷ ys → u ≡ v
-first_is u v xs ys e = cc
-
-rest_is : (u v : Value) (xs ys : List Value) → u ∷ xs ≡ v ∷ ys → xs ≡ ys
-rest_is u v xs ys e = cc
-
-on_judged : (r : Reach) (c : Connection) → (judged_on r c).is_judged ≡ true → c.is_judged ≡ true
-on_judged reach.Nothing c h = h
-on_judged reach.Connection c h = cc
-on_judged reach.Side c h = h
-on_judged reach.Everything c h = h
-
 pub sent_judged : (v : Value) (c : Connection) → (sent_on Right v c).is_judged ≡ c.is_judged
-sent_judged (request x) c = refl
-sent_judged (confirm destination x) c = refl
-sent_judged (disconnect destination source reason user) c = refl
-sent_judged (disconnected destination source) c = refl
-sent_judged (data0 end user) c = refl
-sent_judged (data2 destination number end user) c = refl
-sent_judged (acknowledge credit destination number) c = refl
-sent_judged (error destination cause) c = refl
+sent_judged v c = grind arith
 
 other_judged : (v : Value) (c : Connection) → (sent_on Left v c).is_judged ≡ c.is_judged
-other_judged (request x) c = refl
-other_judged (confirm destination x) c = refl
-other_judged (disconnect destination source reason user) c = refl
-other_judged (disconnected destination source) c = refl
-other_judged (data0 end user) c = refl
-other_judged (data2 destination number end user) c = refl
-other_judged (acknowledge credit destination number) c = refl
-other_judged (error destination cause) c = refl
+other_judged v c = grind arith
 
 own_was : (v : Value) (applied : Bool) (r : Reach) (c : Connection) → (connection_after Right v applied r c).is_judged ≡ true →
     c.is_judged ≡ true
-own_was v true r c h = sym (sent_judged v c) ∙ on_judged r (sent_on Right v c) h
-own_was v false r c h = on_judged r c h
+own_was v applied r c h = grind (arith, sent_judged, on_judged)
 
 other_was : (v : Value) (applied : Bool) (r : Reach) (c : Connection) → (connection_after Left v applied r c).is_judged ≡ true →
     c.is_judged ≡ true
-other_was v true r c h = sym (other_judged v c) ∙ on_judged r (sent_on Left v c) h
-other_was v false r c h = on_judged r c h
+other_was v applied r c h = grind (arith, other_judged, on_judged)
 
 judged_so : (j : Bool) (g : Finding) → j ≡ true → g ≡ Kept → (if j then g else NotJudged) ≡ Kept
-judged_so true g h e = e
-judged_so false g h e = cc
-
-closing_shuts : (was : Bool) (half : Half) → is_open (closing_phase was half).phase ≡ false
-closing_shuts true half = refl
-closing_shuts false half = refl
+judged_so j g h e = grind arith
 
 -- after it this side is not open
 closer_shuts : (v : Value) (half : Half) → IsCloser v → is_open (half_after v half).phase ≡ false
-closer_shuts (request x) half h = absurd h
-closer_shuts (confirm destination x) half h = absurd h
-closer_shuts (disconnect destination source reason user) half h = closing_shuts (is_silent half.phase) half
-closer_shuts (disconnected destination source) half h = refl
-closer_shuts (data0 end user) half h = absurd h
-closer_shuts (data2 destination number end user) half h = absurd h
-closer_shuts (acknowledge credit destination number) half h = absurd h
-closer_shuts (error destination cause) half h = absurd h
+closer_shuts v half h = grind (arith, closing_shuts)
 
 -- ---- act by act
-
--- what holds of a line, seen from the other side
-pub run_holds : (r peer : ℕ) (begin line : Line) (acts : List Act) → IsOpened Right r peer begin → ActsAlong Right r peer begin acts line →
-    line.tap.is_judged ≡ true → Holds r peer (turned_line line)
-run_holds r peer begin line acts o along judged =
-    all_turned r peer acts begin line along (λ _. opened_holds r peer (turned_line begin) (opened_turned r peer begin o)) judged
 
 module _ (r peer : ℕ) (begin : Line) (opened : IsOpened Right r peer begin) where
   passes_by : (unit : Value) (rest first : List Value) (v : Value) (half : Half) → unit ∷ rest ≡ first ++ v ∷ [] → IsCloser v →
       is_open (half_after unit half).phase ≡ true → EndsIn rest
-  passes_by unit rest [] v half e k up =
-      differ (is_open (half_after unit half).phase) up (closer_shuts unit half (subst IsCloser (sym (first_is unit v rest [] e)) k))
+  passes_by unit rest [] v half e k up = grind (arith, differ, closer_shuts, first_is)
   passes_by unit rest (y ∷ ys) v half e k up = (ys, v, rest_is unit y rest (ys ++ v ∷ []) e, k)
 
   waits_by : (act : Act) (done : List Act) (old new : Line) → ActsAlong Right r peer begin done old → Acts Right r peer act old new →

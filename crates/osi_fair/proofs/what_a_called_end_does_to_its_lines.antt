@@ -1,48 +1,27 @@
 -- What a called end does to its lines: it takes a unit or makes a call on an open connection, takes a unit for a connection that is
 -- not open, or ends. For the law on a whole called end.
-use Rattle.std.proofs.Common.{◌≡◌, ◌≢◌, ◌∙◌, ◌≤◌, ℕ, Bool, true, false, List, [], ◌∷◌, ◌++◌, refl, sym, ap, subst, Option, Some}
-use Rattle.std.proofs.Common.{None, is_some}
-use Rattle.std.specs.Prelude.{◌&&◌, ◌==◌, slice_get}
-use Rattle.std.specs.List.{AllByRecursion}
-use Rattle.std.proofs.lemmas.Bool.{eq-eqb, eqb-true}
-use Rattle.std.proofs.lemmas.List.{append-nil}
-use Rattle.osi_tpdu.specs.Value.{Value, Connect, request, confirm, disconnect, disconnected, data0, data2, acknowledge, error}
-use Rattle.osi_class.specs.Link.{Standing}
-use Rattle.osi_class.specs.declared.terms.Class.TheVariants.{Two}
-use Rattle.osi_class.specs.declared.terms.Local.{Local}
-use Rattle.osi_carrier.specs.Negotiation.{acceptance, opened_link}
-use Rattle.osi_carrier.specs.Rows.{value_at}
-use Rattle.osi_carrier.specs.State.{State, Connection as Live, linked}
-use Rattle.osi_rules.specs.declared.connections.Connection.{Connection}
-use Rattle.osi_rules.specs.declared.directions.Direction.TheVariants.{Right}
-use Rattle.osi_fair.specs.Following.{Follows, link_now}
-use Rattle.osi_fair.specs.Lines.{ActsAlong, IsOpened, Line, opened_line}
-use Rattle.osi_fair.specs.Wholes.{Whole}
-use Rattle.osi_fair.proofs.each_connection_of_a_called_end.{Among, AreAbove, AreStrays, Answering, Called, IsFor, IsStray, IsUnlinked}
-use Rattle.osi_fair.proofs.each_connection_of_a_called_end.{Row, Running, Stand, Untagged, answers, closes, comes, line_of, over, past}
-use Rattle.osi_fair.proofs.each_connection_of_a_called_end.{refuses, runs, talks}
+use Rattle.osi_fair.proofs.Vocabulary.{arith}
+use Rattle.osi_fair.proofs.Vocabulary.{[], ap, Bool, false, is_some, List, None, Option, refl, Some, subst, sym, true, ℕ, ◌++◌, ◌∙◌, ◌∷◌}
+use Rattle.osi_fair.proofs.Vocabulary.{◌≡◌, ◌≢◌, ◌≤◌, eqb-true, append-nil, AllByRecursion, slice_get, ◌&&◌, ◌==◌, acknowledge, confirm}
+use Rattle.osi_fair.proofs.Vocabulary.{Connect, data0, data2, disconnect, disconnected, error, request, Value, Standing, Two, Local}
+use Rattle.osi_fair.proofs.Vocabulary.{acceptance, opened_link, value_at, Live, linked, Connection, Right, Follows, link_now, ActsAlong}
+use Rattle.osi_fair.proofs.Vocabulary.{IsOpened, Line, opened_line, Whole}
+use Rattle.osi_carrier.specs.State.{State}
+use Rattle.osi_fair.proofs.small_facts_that_many_lemmas_use.{differ, no_number, number_is}
+use Rattle.osi_fair.proofs.each_connection_of_a_called_end.{stands_at, Among, AreAbove, AreStrays, Answering, Called, IsFor, IsStray}
+use Rattle.osi_fair.proofs.each_connection_of_a_called_end.{IsUnlinked, Row, Running, Stand, Untagged, answers, closes, comes, line_of}
+use Rattle.osi_fair.proofs.each_connection_of_a_called_end.{over, past, refuses, runs, talks}
 use Rattle.osi_fair.proofs.units_by_their_place.{Placed, all_at, all_elsewhere, all_here, at_join, first_at, first_more, units_at, values}
 use Rattle.osi_fair.proofs.units_by_their_place.{values_all, values_join}
 use Rattle.osi_fair.proofs.what_is_live_at_a_called_end.{Timely, timely_puts}
 use Rattle.osi_fair.proofs.what_is_put_before_the_cc_passes.{acts_join}
 use Rattle.osi_fair.proofs.which_units_are_for_a_connection.{those}
+use Rattle.osi_fair.proofs.a_dt_of_class_zero_passes.{unlike}
 
 -- ---- small facts
 
-differ : {A : Type 0} (b : Bool) → b ≡ true → b ≡ false → A
-differ b h k = absurd (cc)
-
-number_is : (m n : ℕ) → Some m ≡ Some n → m ≡ n
-number_is m n e = cc
-
-no_number : {A : Type 0} (o : Option ℕ) (n : ℕ) → o ≡ None → o ≡ Some n → A
-no_number o n e h = absurd (cc)
-
 no_link : {A : Type 0} (o : Option Standing) (l : Standing) → o ≡ Some l → o ≡ None → A
 no_link o l h e = absurd (cc)
-
-unlike : (q p : ℕ) → (q == p) ≡ false → q ≡ p → ⊥
-unlike q p h e = differ (q == p) (ap (λ (x : ℕ). x == p) e ∙ eq-eqb p p refl) h
 
 link_none : {A : Type 0} (o : Option Live) (q : ℕ) (l : Standing) → link_now o ≡ None → o ≡ Some (linked q l) → A
 link_none o q l h e = no_link (link_now o) l (ap link_now e) h
@@ -136,9 +115,7 @@ module _ (local : Local) (w : Whole) (f : Called local w) (t : State) (units : L
   begun_same i = first_more w.begun i f.tagged (all_at (Some p) units) f.some
 
   mine_other : (i : ℕ) → (i ≡ p → ⊥) → units_at i tagged ≡ units_at i f.tagged
-  mine_other i other = at_join i f.tagged (all_at (Some p) units)
-      ∙ ap (λ (vs : List Value). units_at i f.tagged ++ vs) (all_elsewhere i p units (λ e. other (sym e))) ∙ append-nil
-      (units_at i f.tagged)
+  mine_other i other = grind (arith, at_join, all_elsewhere, append-nil)
 
   mine_here : units_at p tagged ≡ units_at p f.tagged ++ units
   mine_here = at_join p f.tagged (all_at (Some p) units) ∙ ap (λ (vs : List Value). units_at p f.tagged ++ vs) (all_here p units)
@@ -161,45 +138,9 @@ module _ (local : Local) (w : Whole) (f : Called local w) (t : State) (units : L
 
   stand_other : (i : ℕ) (c : Connection) (mine : List Value) (begun : Bool) → (i ≡ p → ⊥) →
       Stand local f.shut s w.coming mine (units_at i f.came) begun (f.refs i) c → StandThen mine begun i c
-  stand_other i c mine begun other (comes x a none ask e) = comes x a none (λ lasts. asks i ∙ ask was) e
-  stand_other i c mine begun other (refuses x a reason is none e seen) = refuses x a reason is (asks i ∙ none) e seen
-  stand_other i c mine begun other (answers h none) = answers (record {
-    x = h.x;
-    size = h.size;
-    r = h.r;
-    index = h.index;
-    asked = h.asked;
-    selected = h.selected;
-    link = h.link;
-    more = h.more;
-    come = h.come;
-    mine_is = h.mine_is;
-    acts = h.acts;
-    along = h.along;
-    seen = h.seen;
-    row = row_other h.r h.x.source h.link h.come (not_n i h.r other h.index) h.row;
-    shut_is = h.shut_is;
-  }) (asks i ∙ none)
-  stand_other i c mine begun other (runs g none) = runs (record {
-    r = g.r;
-    peer = g.peer;
-    index = g.index;
-    line = g.line;
-    tap = g.tap;
-    put = g.put;
-    begun_is = g.begun_is;
-    first = g.first;
-    acts = g.acts;
-    opened = g.opened;
-    along = g.along;
-    there = g.there;
-    right = g.right;
-    left = g.left;
-    row = row_other g.r g.peer g.line.link g.line.coming (not_n i g.r other g.index) g.row;
-    shut_is = g.shut_is;
-  }) (asks i ∙ none)
-  stand_other i c mine begun other (past silent up none ask un off) =
-      past silent up none (asks i ∙ ask) (λ r e. unlinked_still r (not_n i r other e) (un r e)) off
+  stand_other i c mine begun other = stands_at local f.shut s t w.coming coming mine (units_at i f.came) (units_at i came) begun
+      (f.refs i) c (λ x ask lasts. asks i ∙ ask was) (λ none. asks i ∙ none)
+      (λ r peer link come e. row_other r peer link come (not_n i r other e)) (λ r e. unlinked_still r (not_n i r other e))
 
   stand_else : (i : ℕ) (c : Connection) → (i ≡ p → ⊥) → slice_get w.tap.connections i ≡ Some c → StandNow i c
   stand_else i c other at =
@@ -222,9 +163,7 @@ module _ (local : Local) (w : Whole) (f : Called local w) (t : State) (units : L
     took_so : Took n peer s t coming units come
 
   goes : (peer : ℕ) (link : Option Standing) (come : List Value) → Row s w.coming n peer link come → Goes peer link come
-  goes peer link come (talks k there is among) = record { k = k; there = there; is = is; took_so = took peer k there come among }
-  goes peer link come (closes un is among) = absurd (un was q l here)
-  goes peer link come (over h) = differ (is_some s.ended) h (ap is_some was)
+  goes peer link come l = search (arith, differ)
 
   shut_not : (peer r : ℕ) (link : Option Standing) (come : List Value) → Goes peer link come → (f.shut r ≡ true → link ≡ None) →
       f.shut r ≡ true → link_now (value_at n t.live) ≡ None
@@ -323,26 +262,13 @@ module _ (local : Local) (w : Whole) (f : Called local w) (t : State) (units : L
       (mine_other i (unlike i p e) ∙ a, asks i ∙ b, λ r k. unlinked_still r (not_n i r (unlike i p e) k) (d r k))
 
   linked_by : (r peer : ℕ) (k : Standing) (b : Bool) → (r == n) ≡ b → value_at r t.live ≡ Some (linked peer k) → f.refs (f.home r) ≡ Some r
-  linked_by r peer k true e there =
-      let same = eqb-true r n e in
-      ap (λ (j : ℕ). f.refs (f.home j)) same ∙ index ∙ ap (λ (j : ℕ). Some j) (sym same)
-  linked_by r peer k false e there = f.linked_at was r peer k (sym (rows r (unlike r n e)) ∙ there)
+  linked_by r peer k b e there = grind (arith, eqb-true, index, unlike)
 
   -- the end puts nothing for a connection that it has closed
   shut_n : (c : Connection) →
       Stand local f.shut s w.coming (units_at p f.tagged) (units_at p f.came) (w.begun && first_at p f.tagged) (Some n) c →
       f.shut n ≡ true → ⊥
-  shut_n c (comes x a none ask e) h = no_number (Some n) n e refl
-  shut_n c (refuses x a reason is none e seen) h = no_number (Some n) n e refl
-  shut_n c (answers k none) h =
-      let r_is : k.r ≡ n = number_is k.r n (sym k.index) in
-      let g = goes k.x.source k.link k.come (subst (λ (i : ℕ). Row s w.coming i k.x.source k.link k.come) r_is k.row) in
-      no_link k.link g.k g.is (k.shut_is (ap f.shut r_is ∙ h))
-  shut_n c (runs k none) h =
-      let r_is : k.r ≡ n = number_is k.r n (sym k.index) in
-      let g = goes k.peer k.line.link k.line.coming (subst (λ (i : ℕ). Row s w.coming i k.peer k.line.link k.line.coming) r_is k.row) in
-      no_link k.line.link g.k g.is (k.shut_is (ap f.shut r_is ∙ h))
-  shut_n c (past silent up none ask un off) h = un n refl was q l here
+  shut_n c l h = grind (arith, no_number, number_is, index, goes, no_link)
 
   shut_at : (o : Option Connection) → slice_get w.tap.connections p ≡ o → f.shut n ≡ true → ⊥
   shut_at None e h = (f.beyond p e).2 n index was q l here
@@ -350,9 +276,7 @@ module _ (local : Local) (w : Whole) (f : Called local w) (t : State) (units : L
       (w.begun && first_at p f.tagged) o c) index (f.stands p c e)) h
 
   stray_home : (m : ℕ) → f.shut m ≡ true → f.refs (f.home m) ≡ Some m → f.home m ≡ p → ⊥
-  stray_home m h e same =
-      let is : m ≡ n = number_is m n (sym e ∙ ap (λ (j : ℕ). f.refs j) same ∙ index) in
-      shut_at (slice_get w.tap.connections p) refl (ap f.shut (sym is) ∙ h)
+  stray_home m h e same = grind (arith, number_is, index, shut_at)
 
   stray_still : (v : Value) (later : List Placed) → IsStray f.shut s f.refs f.home w.tap.course.strays v later →
       IsStray f.shut t f.refs f.home w.tap.course.strays v (later ++ all_at (Some p) units)

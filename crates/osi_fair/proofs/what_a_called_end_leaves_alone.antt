@@ -1,40 +1,25 @@
 -- A called end takes a unit for a connection that it does not have open, or it ends: what that is for its connections.
 -- For the law on a whole called end.
-use Rattle.std.proofs.Common.{◌≡◌, ◌≢◌, ◌∙◌, ◌≤◌, ℕ, Bool, true, false, List, [], ◌∷◌, ◌++◌, refl, sym, ap, subst, Option, Some}
-use Rattle.std.proofs.Common.{None, inl, inr, ◌⊎◌, is_some}
-use Rattle.std.specs.Prelude.{◌&&◌, ◌==◌, slice_get}
-use Rattle.std.specs.List.{AllByRecursion}
-use Rattle.std.proofs.lemmas.Bool.{eq-eqb, eqb-true}
-use Rattle.std.proofs.lemmas.List.{append-nil}
-use Rattle.osi_tpdu.specs.Value.{Value, Connect, confirm}
-use Rattle.osi_class.specs.Link.{Standing}
-use Rattle.osi_class.specs.declared.terms.Class.TheVariants.{Two}
-use Rattle.osi_class.specs.declared.terms.Local.{Local}
-use Rattle.osi_carrier.specs.Negotiation.{opened_link}
-use Rattle.osi_carrier.specs.Rows.{value_at}
-use Rattle.osi_carrier.specs.State.{State, linked}
-use Rattle.osi_rules.specs.declared.connections.Connection.{Connection}
-use Rattle.osi_rules.specs.declared.directions.Direction.TheVariants.{Right}
-use Rattle.osi_fair.specs.Lines.{Act, ActsAlong, Line, ignores, opened_line}
-use Rattle.osi_fair.specs.Wholes.{Whole}
-use Rattle.osi_fair.proofs.each_connection_of_a_called_end.{Among, AreAbove, AreStrays, Called, IsFor, IsStray, IsUnlinked, Row, Stand}
-use Rattle.osi_fair.proofs.each_connection_of_a_called_end.{Untagged, answers, closes, comes, line_of, over, past, refuses, runs, talks}
+use Rattle.osi_fair.proofs.Vocabulary.{arith}
+use Rattle.osi_fair.proofs.Vocabulary.{[], ap, Bool, false, inl, inr, is_some, List, None, Option, refl, Some, subst, sym, true, ℕ, ◌++◌}
+use Rattle.osi_fair.proofs.Vocabulary.{◌∙◌, ◌∷◌, ◌≡◌, ◌≢◌, ◌≤◌, ◌⊎◌, eqb-true, append-nil, AllByRecursion, slice_get, ◌&&◌, ◌==◌, confirm}
+use Rattle.osi_fair.proofs.Vocabulary.{Connect, Value, Standing, Two, Local, opened_link, value_at, linked, Connection, Right, Act}
+use Rattle.osi_fair.proofs.Vocabulary.{ActsAlong, ignores, Line, opened_line, Whole}
+use Rattle.osi_carrier.specs.State.{State}
+use Rattle.osi_fair.proofs.small_facts_that_many_lemmas_use.{differ}
+use Rattle.osi_fair.proofs.each_connection_of_a_called_end.{stands_at, Among, AreAbove, AreStrays, Called, IsFor, IsStray, IsUnlinked, Row}
+use Rattle.osi_fair.proofs.each_connection_of_a_called_end.{Stand, Untagged, answers, closes, comes, line_of, over, past, refuses, runs}
+use Rattle.osi_fair.proofs.each_connection_of_a_called_end.{talks}
 use Rattle.osi_fair.proofs.units_by_their_place.{Placed, all_at, all_nowhere, at_join, first_at, first_more, units_at, values, values_all}
 use Rattle.osi_fair.proofs.units_by_their_place.{values_join}
 use Rattle.osi_fair.proofs.what_a_called_end_does_to_its_lines.{above_more, some_more, strays_keep}
 use Rattle.osi_fair.proofs.what_is_live_at_a_called_end.{Timely, timely_puts}
 use Rattle.osi_fair.proofs.what_is_put_before_the_cc_passes.{acts_join}
 use Rattle.osi_fair.proofs.which_units_are_for_a_connection.{those}
-
-differ : {A : Type 0} (b : Bool) → b ≡ true → b ≡ false → A
-differ b h k = absurd (cc)
-
-unlike : (q p : ℕ) → (q == p) ≡ false → q ≡ p → ⊥
-unlike q p h e = differ (q == p) (ap (λ (x : ℕ). x == p) e ∙ eq-eqb p p refl) h
+use Rattle.osi_fair.proofs.a_dt_of_class_zero_passes.{unlike}
 
 either : (A B C : Type 0) → (A → C) → (B → C) → A ⊎ B → C
-either A B C f g (inl a) = f a
-either A B C f g (inr b) = g b
+either A B C f g h = grind arith
 
 -- ---- a unit for a connection that is not open
 
@@ -57,8 +42,7 @@ module _ (local : Local) (w : Whole) (f : Called local w) (t : State) (units : L
   tagged = f.tagged ++ all_at None units
 
   unlinked_by : (r : ℕ) (b : Bool) → (r == n) ≡ b → IsUnlinked s r → IsUnlinked t r
-  unlinked_by r true e h lasts q l there = gone_then q l (ap (λ (i : ℕ). value_at i t.live) (sym (eqb-true r n e)) ∙ there)
-  unlinked_by r false e h lasts q l there = h was q l (sym (rows r (unlike r n e)) ∙ there)
+  unlinked_by r b e h lasts q l there = grind (arith, eqb-true, unlike)
 
   unlinked_still : (r : ℕ) → IsUnlinked s r → IsUnlinked t r
   unlinked_still r h = unlinked_by r (r == n) refl h
@@ -108,12 +92,7 @@ module _ (local : Local) (w : Whole) (f : Called local w) (t : State) (units : L
   }
 
   step_mine : (r peer : ℕ) (link : Option Standing) (come : List Value) → r ≡ n → Row s w.coming r peer link come → Step r peer link come
-  step_mine r peer link come same (talks k there is among) =
-      absurd (gone peer k (ap (λ (i : ℕ). value_at i s.live) (sym same) ∙ there))
-  step_mine r peer link come same (closes un is among) =
-      ignores_it r peer link come same is (unlinked_still r un)
-      (subst (Among come) (ap (λ (i : ℕ). those i w.coming) same ∙ first) among)
-  step_mine r peer link come same (over h) = differ (is_some s.ended) h (ap is_some was)
+  step_mine r peer link come same l = grind (arith, ignores_it, unlinked_still, differ)
 
   step_by : (r peer : ℕ) (link : Option Standing) (come : List Value) (b : Bool) → (r == n) ≡ b → (f.shut r ≡ true → link ≡ None) →
       Row s w.coming r peer link come → Step r peer link come
@@ -174,8 +153,7 @@ module _ (local : Local) (w : Whole) (f : Called local w) (t : State) (units : L
       past silent up none (asks i ∙ ask) (λ r e. unlinked_still r (un r e)) off
 
   mine_same : (i : ℕ) → units_at i tagged ≡ units_at i f.tagged
-  mine_same i = at_join i f.tagged (all_at None units)
-      ∙ ap (λ (vs : List Value). units_at i f.tagged ++ vs) (all_nowhere i units) ∙ append-nil (units_at i f.tagged)
+  mine_same i = grind (arith, at_join, all_nowhere, append-nil)
 
   begun_same : (i : ℕ) → (w.begun && first_at i tagged) ≡ (w.begun && first_at i f.tagged)
   begun_same i = first_more w.begun i f.tagged (all_at None units) f.some
@@ -188,8 +166,7 @@ module _ (local : Local) (w : Whole) (f : Called local w) (t : State) (units : L
       (stand_on i c (units_at i f.tagged) (w.begun && first_at i f.tagged) (f.stands i c at)))
 
   linked_by : (r peer : ℕ) (k : Standing) (b : Bool) → (r == n) ≡ b → value_at r t.live ≡ Some (linked peer k) → f.refs (f.home r) ≡ Some r
-  linked_by r peer k true e there = absurd (gone_then peer k (ap (λ (i : ℕ). value_at i t.live) (sym (eqb-true r n e)) ∙ there))
-  linked_by r peer k false e there = f.linked_at was r peer k (sym (rows r (unlike r n e)) ∙ there)
+  linked_by r peer k b e there = grind (arith, eqb-true, unlike)
 
   stray_still : (v : Value) (later : List Placed) → IsStray f.shut s f.refs f.home w.tap.course.strays v later →
       IsStray shut t f.refs f.home w.tap.course.strays v (later ++ all_at None units)
@@ -255,57 +232,12 @@ module _ (local : Local) (w : Whole) (f : Called local w) (t : State) (coming : 
   stand_over : (i : ℕ) (c : Connection) (mine : List Value) (begun : Bool) →
       Stand local f.shut w.end w.coming mine (units_at i f.came) begun (f.refs i) c →
       Stand local f.shut t coming mine (units_at i came) begun (f.refs i) c
-  stand_over i c mine begun (comes x a none ask e) = comes x a none (λ lasts. not_last lasts) e
-  stand_over i c mine begun (refuses x a reason is none e seen) = refuses x a reason is (asks i none) e seen
-  stand_over i c mine begun (answers h none) = answers (record {
-    x = h.x;
-    size = h.size;
-    r = h.r;
-    index = h.index;
-    asked = h.asked;
-    selected = h.selected;
-    link = h.link;
-    more = h.more;
-    come = h.come;
-    mine_is = h.mine_is;
-    acts = h.acts;
-    along = h.along;
-    seen = h.seen;
-    row = over gone;
-    shut_is = h.shut_is;
-  }) (asks i none)
-  stand_over i c mine begun (runs h none) = runs (record {
-    r = h.r;
-    peer = h.peer;
-    index = h.index;
-    line = h.line;
-    tap = h.tap;
-    put = h.put;
-    begun_is = h.begun_is;
-    first = h.first;
-    acts = h.acts;
-    opened = h.opened;
-    along = h.along;
-    there = h.there;
-    right = h.right;
-    left = h.left;
-    row = over gone;
-    shut_is = h.shut_is;
-  }) (asks i none)
-  stand_over i c mine begun (past silent up none ask un off) = past silent up none (asks i ask) (λ r e lasts. not_last lasts) off
+  stand_over i c mine begun = stands_at local f.shut w.end t w.coming coming mine (units_at i f.came) (units_at i came) begun (f.refs i) c
+      (λ x ask lasts. not_last lasts) (asks i) (λ r peer link come e row. over gone) (λ r e un lasts. not_last lasts)
 
   stray_over : (v : Value) (later : List Placed) → IsStray f.shut w.end f.refs f.home w.tap.course.strays v later →
       IsStray f.shut t f.refs f.home w.tap.course.strays v (later ++ [])
-  stray_over v later a = record {
-    m = a.m;
-    n = a.n;
-    is = a.is;
-    strays_is = a.strays_is;
-    given = subst (λ (i : ℕ). a.n ≤ i) (sym given) a.given;
-    positive = a.positive;
-    shut_is = a.shut_is;
-    none = λ e. ap (λ (l : List Placed). units_at (f.home a.n) l) (append-nil later) ∙ a.none e;
-  }
+  stray_over v later a = search (arith, append-nil)
 
   pub is_over : Called local (record w { end = t; coming = coming })
   is_over = record {

@@ -1,20 +1,11 @@
 -- What a call of a link of class 2 does to its numbers and to what it has still to send.
 -- For the laws on a line.
-use Rattle.std.proofs.Common.{◌≡◌, ◌∙◌, ℕ, ◌+◌, ◌-◌, ◌<◌, ◌≤◌, Bool, true, false, List, [], ◌∷◌, ◌++◌, length, take, drop, arith}
-use Rattle.std.proofs.Common.{refl, sym, ap}
-use Rattle.std.proofs.Common.{Option, Some, None, Result, Ok, Err, IfSome, IfOk, nat_lt, if◌then◌else◌, length-take, length-drop}
-use Rattle.std.proofs.lemmas.Bool.{ltb-true, ltb-false}
-use Rattle.osi_tpdu.specs.Value.{Value, data2, acknowledge}
-use Rattle.osi_class.specs.Ends.{Ends}
-use Rattle.osi_class.specs.Flow.{Flow, steps_before, acknowledged, is_awaited, ack_number, after_acked}
-use Rattle.osi_class.specs.Joining.{Joining, joined}
-use Rattle.osi_class.specs.Limits.{longest_tsdu}
-use Rattle.osi_class.specs.Link.{Standing, Given, part0, part2, ack, given_part, next_by, next, with_joined, with_sender, taken_by, taken}
-use Rattle.osi_class.specs.Link.{taken_flow, sent_flow, two_standing}
-use Rattle.osi_class.specs.Tsdus.{Part, give}
-use Rattle.osi_class.specs.declared.faults.LinkFault.{LinkFault}
-use Rattle.osi_class.specs.declared.faults.LinkFault.TheVariants.{OutOfSequence, CreditReduced}
-use Rattle.osi_class.proofs.between.parts_stay_in_order.{choose_some, choose_ok, at_some, at_ok}
+use Rattle.osi_fair.proofs.Vocabulary.{[], ap, arith, Bool, drop, false, IfOk, IfSome, length, length-drop, length-take}
+use Rattle.osi_fair.proofs.Vocabulary.{List, nat_lt, None, Ok, Option, refl, Result, Some, sym, take, true, ℕ, ◌++◌, ◌+◌, ◌-◌, ◌<◌, ◌∙◌}
+use Rattle.osi_fair.proofs.Vocabulary.{◌∷◌, ◌≡◌, ◌≤◌, ltb-false, ltb-true, acknowledge, data2, Value, at_ok, at_some, choose_ok}
+use Rattle.osi_fair.proofs.Vocabulary.{choose_some, Ends, ack_number, acknowledged, after_acked, Flow, steps_before}
+use Rattle.osi_fair.proofs.Vocabulary.{Joining, longest_tsdu, ack, Given, given_part, next, next_by, part0, part2, sent_flow, Standing}
+use Rattle.osi_fair.proofs.Vocabulary.{taken, taken_by, taken_flow, with_joined, with_sender, give, Part, LinkFault}
 
 -- ---- TSDUs that are not too long
 
@@ -28,8 +19,7 @@ HaveRoom begun [] = begun ≡ 0
 HaveRoom begun (tsdu ∷ tsdus) = (begun + length tsdu ≤ longest_tsdu) × AreShort tsdus
 
 pub room_at_first : (tsdus : List (List ℕ)) → AreShort tsdus → HaveRoom 0 tsdus
-room_at_first [] h = refl
-room_at_first (tsdu ∷ tsdus) (a, b) = (omega arith, b)
+room_at_first tsdus h = grind arith
 
 short_more : (tsdus : List (List ℕ)) (tsdu : List ℕ) → AreShort tsdus → length tsdu ≤ longest_tsdu → AreShort (tsdus ++ tsdu ∷ [])
 short_more [] tsdu h k = (k, tt)
@@ -37,8 +27,7 @@ short_more (x ∷ tsdus) tsdu (a, b) k = (a, short_more tsdus tsdu b k)
 
 pub room_more : (begun : ℕ) (tsdus : List (List ℕ)) (tsdu : List ℕ) → HaveRoom begun tsdus → length tsdu ≤ longest_tsdu →
     HaveRoom begun (tsdus ++ tsdu ∷ [])
-room_more begun [] tsdu h k = (omega arith, tt)
-room_more begun (x ∷ tsdus) tsdu (a, b) k = (a, short_more tsdus tsdu b k)
+room_more begun tsdus tsdu h k = grind (arith, short_more)
 
 abbrev pub begun_by : (begun : ℕ) (end : Bool) → ℕ → ℕ
 begun_by begun true octets = 0
@@ -53,18 +42,15 @@ pub record Gives (limit begun : ℕ) (end : Bool) (octets : List ℕ) (rest : Li
 abbrev GivesPart : (limit begun : ℕ) → Part × List (List ℕ) → Type 0
 GivesPart limit begun ((end, octets), rest) = Gives limit begun end octets rest
 
-front_fits : (limit : ℕ) (tsdu : List ℕ) → limit < length tsdu → length (take limit tsdu) ≡ limit
+pub front_fits : (limit : ℕ) (tsdu : List ℕ) → limit < length tsdu → length (take limit tsdu) ≡ limit
 front_fits limit tsdu h = simp length-take (omega arith)
 
-rest_is : (limit : ℕ) (tsdu : List ℕ) → limit < length tsdu → limit + length (drop limit tsdu) ≡ length tsdu
+pub rest_is : (limit : ℕ) (tsdu : List ℕ) → limit < length tsdu → limit + length (drop limit tsdu) ≡ length tsdu
 rest_is limit tsdu h = simp length-drop (omega arith)
 
 part_gives : (limit begun : ℕ) (tsdu : List ℕ) (more : List (List ℕ)) → begun + length tsdu ≤ longest_tsdu → AreShort more →
     limit < length tsdu → Gives limit begun false (take limit tsdu) (drop limit tsdu ∷ more)
-part_gives limit begun tsdu more a b less =
-    let n = front_fits limit tsdu less in
-    let m = rest_is limit tsdu less in
-    record { fits = omega arith; short = omega arith; room = (omega arith, b) }
+part_gives limit begun tsdu more a b less = search (arith, front_fits, rest_is)
 
 -- however many octets of the first have been given
 abbrev GivesOf : (limit : ℕ) (unsent : List (List ℕ)) → Part × List (List ℕ) → Type 0
@@ -93,15 +79,7 @@ gives_data e f credit None h = tt
 gives_data e f credit (Some ((end, octets), rest)) h = (credit, refl, refl, refl, h)
 
 next_gives : (e : Ends) (f : Flow) → IfSome (next_by e (Some f)) (DoesGive e f)
-next_gives e f =
-    choose_some (DoesGive e f) (nat_lt 0 f.receiver.waiting)
-    (Some (ack (ack_number f.receiver) f.receiver.window, two_standing e (record f { receiver = after_acked f.receiver })))
-    (if nat_lt 0 f.sender.credit then given_part e (Some (sent_flow f)) (Some f.sender.next) (give e.limit e.unsent) else None)
-    (λ t. (ltb-true 0 f.receiver.waiting t, refl, refl, refl, refl))
-    (λ _. choose_some (DoesGive e f) (nat_lt 0 f.sender.credit)
-    (given_part e (Some (sent_flow f)) (Some f.sender.next) (give e.limit e.unsent)) None
-    (λ t. gives_data e f (ltb-true 0 f.sender.credit t) (give e.limit e.unsent) (gives_a_part e.limit e.unsent))
-    (λ _. tt))
+next_gives e f = grind (arith, choose_some, ltb-true, gives_data, gives_a_part)
 
 pub gives_so : (old new : Standing) (f : Flow) (unit : Given) → old.flow ≡ Some f → next old ≡ Some (unit, new) →
     DoesGive old.ends f (unit, new)
@@ -130,41 +108,14 @@ DoesTake e f unit new = ⊥
 
 takes_data : (e : Ends) (f : Flow) (destination number : ℕ) (end : Bool) (octets : List ℕ) (r : Result Joining LinkFault) →
     IfOk (with_joined e (Some (taken_flow f)) r) (DoesTake e f (data2 destination number end octets))
-takes_data e f destination number end octets (Err fault) = tt
-takes_data e f destination number end octets (Ok joining) = (refl, refl, refl)
+takes_data e f destination number end octets r = grind arith
 
 takes_ack : (e : Ends) (f : Flow) (credit destination number : ℕ) →
     IfOk (with_sender e f (acknowledged f.sender number credit)) (DoesTake e f (acknowledge credit destination number))
-takes_ack e f credit destination number =
-    let left = steps_before f.sender.next number in
-    elim (nat_lt f.sender.unacknowledged left) as (λ b. nat_lt f.sender.unacknowledged left ≡ b →
-    IfOk (with_sender e f (if b then Err OutOfSequence else (if nat_lt credit (f.sender.credit + left) then Err CreditReduced
-    else Ok (record { next = f.sender.next; unacknowledged = left; credit = credit - left }))))
-    (DoesTake e f (acknowledge credit destination number))) [
-      | true ↦ λ h. tt
-      | false ↦ λ h. elim (nat_lt credit (f.sender.credit + left)) as (λ b. nat_lt credit (f.sender.credit + left) ≡ b →
-          IfOk (with_sender e f (if b then Err CreditReduced else Ok (record {
-            next = f.sender.next;
-            unacknowledged = left;
-            credit =
-                credit - left;
-          })))
-          (DoesTake e f (acknowledge credit destination number))) [
-            | true ↦ λ k. tt
-            | false ↦ λ k. (ltb-false f.sender.unacknowledged left h, ltb-false credit (f.sender.credit + left) k, refl, refl)
-          ] refl
-    ] refl
+takes_ack e f credit destination number = search (arith, ltb-false)
 
 takes_by : (e : Ends) (f : Flow) (unit : Value) → IfOk (taken_by e (Some f) unit) (DoesTake e f unit)
-takes_by e f (data2 destination number end octets) =
-    choose_ok (DoesTake e f (data2 destination number end octets)) (is_awaited f.receiver number)
-    (with_joined e (Some (taken_flow f)) (joined e.joining end octets)) (Err OutOfSequence)
-    (λ t. takes_data e f destination number end octets (joined e.joining end octets))
-    (λ _. tt)
-takes_by e f (acknowledge credit destination number) = takes_ack e f credit destination number
-takes_by e f _ = tt
+takes_by e f unit = grind (arith, choose_ok, takes_data, takes_ack)
 
 pub takes_so : (old new : Standing) (f : Flow) (unit : Value) → old.flow ≡ Some f → taken old unit ≡ Ok new → DoesTake old.ends f unit new
-takes_so old new f unit is e =
-    at_ok (DoesTake old.ends f unit) (taken_by old.ends (Some f) unit) new (takes_by old.ends f unit)
-    (sym (ap (λ (o : Option Flow). taken_by old.ends o unit) is) ∙ e)
+takes_so old new f unit is e = grind (arith, at_ok, takes_by)

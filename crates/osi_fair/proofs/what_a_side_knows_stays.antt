@@ -1,69 +1,36 @@
 -- A connection that is not over for a side keeps its place. What the side knows of the other stays known, and what it closed is closed.
 -- For the law on places.
-use Rattle.std.proofs.Common.{◌≡◌, ◌∙◌, ℕ, Bool, true, false, List, ◌∷◌, drop, length, refl, sym, ap, subst, Option, Some, None}
-use Rattle.std.proofs.Common.{inl, inr, ◌⊎◌, if◌then◌else◌, arith}
-use Rattle.std.specs.Prelude.{◌&&◌, ◌||◌, ◌==◌, not, map, position, slice_get, slice_set}
-use Rattle.std.proofs.lemmas.Bool.{eqb-true}
-use Rattle.std.proofs.lemmas.Option.{slice_get_within}
-use Rattle.osi_tpdu.specs.Value.{Value, Connect, request, confirm, disconnect, disconnected, data0, data2, acknowledge, error}
-use Rattle.osi_rules.specs.declared.connections.Connection.{Connection}
-use Rattle.osi_rules.specs.declared.directions.Direction.{Direction}
-use Rattle.osi_rules.specs.declared.directions.Direction.TheVariants.{Left, Right}
-use Rattle.osi_rules.specs.declared.findings.Finding.{Finding}
-use Rattle.osi_rules.specs.declared.findings.Finding.TheVariants.{Broke, Kept, NotJudged, Outside, TooMany}
-use Rattle.osi_rules.specs.declared.findings.Reach.{Reach}
-use Rattle.osi_rules.specs.declared.findings.Reach.TheVariants as reach
+use Rattle.osi_fair.proofs.Vocabulary.{ap, arith, Bool, false, if◌then◌else◌, inl, inr, length, List, map, None, Option, refl, Some}
+use Rattle.osi_fair.proofs.Vocabulary.{subst, sym, true, ℕ, ◌∙◌, ◌∷◌, ◌≡◌, ◌⊎◌, eqb-true, slice_get_within, not, position, slice_get}
+use Rattle.osi_fair.proofs.Vocabulary.{slice_set, ◌&&◌, ◌==◌, ◌||◌, confirm, Connect, request, Value}
+use Rattle.osi_fair.proofs.Vocabulary.{is_applied, reach_of, first_failed, Test, begins, is_free, is_live, is_named, is_open}
+use Rattle.osi_fair.proofs.Vocabulary.{is_over, is_silent, other, own, seen, asked_by, asks_by, asks_of, at_found, at_place, class_for}
+use Rattle.osi_fair.proofs.Vocabulary.{closing_phase, connection_after, found, found_on, fresh, half_after, is_stopped, judged_on}
+use Rattle.osi_fair.proofs.Vocabulary.{none_told, Outcome, placed, request_tests, route, routed, sized, Traffic as State}
+use Rattle.osi_fair.proofs.Vocabulary.{uses_source, Connection, Direction, Finding, Broke, Kept, NotJudged, Reach, Half, Route}
+use Rattle.osi_fair.proofs.Vocabulary.{Asks, Named, Only, Unnamed, all_passed, packet, passes, Passing, rubbish, unit}
 use Rattle.osi_rules.specs.declared.findings.Rule.TheVariants as rule
-use Rattle.osi_rules.specs.declared.halves.Half.{Half}
-use Rattle.osi_rules.specs.declared.routes.Route.{Route}
-use Rattle.osi_rules.specs.declared.routes.Route.TheVariants.{Asks, Named, Only, Unnamed}
-use Rattle.osi_rules.specs.Reaches.{is_applied, reach_of}
-use Rattle.osi_rules.specs.Rows.{Test, confirm_tests, first_failed}
-use Rattle.osi_rules.specs.Sides.{begins, is_free, is_live, is_named, is_open, is_over, is_silent, other, own, seen, sends}
-use Rattle.osi_rules.specs.Traffic.{Outcome, State, asked_by, asks_by, asks_of, at_found, at_place, class_for}
-use Rattle.osi_rules.specs.Traffic.{closing_phase, found, uses_source}
-use Rattle.osi_rules.specs.Traffic.{connection_after, found_on, fresh, half_after, is_stopped, judged_on, none_told, placed}
-use Rattle.osi_rules.specs.Traffic.{request_tests, route, routed, sent_on, sized}
-use Rattle.osi_fair.specs.Naming.{Passing, all_passed, packet, passes, rubbish, unit}
+use Rattle.osi_rules.specs.Sides.{sends}
+use Rattle.osi_fair.proofs.small_facts_that_many_lemmas_use.{and_first, and_second, differ}
 use Rattle.osi_fair.proofs.what_holds_of_one_item.{HoldsOfEach, after_add, after_map, after_set, first_true}
 use Rattle.osi_fair.proofs.when_a_connection_has_a_name.{IsEarlier, earlier_same, three, three_make}
 use Rattle.osi_fair.proofs.what_keeps_names_apart.{Sound, SoundIf}
-use Rattle.osi_fair.proofs.a_reference_names_one_connection.{all_apart, applied_found, differ, fresh_apart, not_first}
+use Rattle.osi_fair.proofs.a_reference_names_one_connection.{all_apart, applied_found, fresh_apart, not_first}
 
 -- ---- a unit changes nothing that is known
 
 seen_judged : (d : Direction) (r : Reach) (c : Connection) → seen d (judged_on r c) ≡ seen d c
-seen_judged Left reach.Nothing c = refl
-seen_judged Left reach.Connection c = refl
-seen_judged Left reach.Side c = refl
-seen_judged Left reach.Everything c = refl
-seen_judged Right reach.Nothing c = refl
-seen_judged Right reach.Connection c = refl
-seen_judged Right reach.Side c = refl
-seen_judged Right reach.Everything c = refl
+seen_judged d r c = grind arith
 
 seen_sized : (d : Direction) (v : Value) (c : Connection) → seen d (sized v c) ≡ seen d c
-seen_sized Left (confirm destination x) c = refl
-seen_sized Right (confirm destination x) c = refl
-seen_sized d (request x) c = refl
-seen_sized d (disconnect destination source reason user) c = refl
-seen_sized d (disconnected destination source) c = refl
-seen_sized d (data0 end user) c = refl
-seen_sized d (data2 destination number end user) c = refl
-seen_sized d (acknowledge credit destination number) c = refl
-seen_sized d (error destination cause) c = refl
+seen_sized d v c = grind arith
 
 seen_sends : (d e : Direction) (half : Half) (c : Connection) → seen d (sends e half c) ≡ seen d c
-seen_sends Left Left half c = refl
-seen_sends Left Right half c = refl
-seen_sends Right Left half c = refl
-seen_sends Right Right half c = refl
+seen_sends d e half c = grind arith
 
 seen_after : (d e : Direction) (v : Value) (applied : Bool) (r : Reach) (c : Connection) →
     seen d (connection_after e v applied r c) ≡ seen d c
-seen_after d e v true r c = seen_judged d r (sent_on e v c) ∙ seen_sized d v (sends e (half_after v (own e c)) c)
-    ∙ seen_sends d e (half_after v (own e c)) c
-seen_after d e v false r c = seen_judged d r c
+seen_after d e v applied r c = grind (arith, seen_judged, seen_sized, seen_sends)
 
 -- ---- what a side has closed
 
@@ -71,77 +38,40 @@ abbrev HasEnded : Half → Type 0
 HasEnded half = (is_silent half.phase || is_open half.phase) ≡ false
 
 own_judged : (d : Direction) (r : Reach) (c : Connection) → own d (judged_on r c) ≡ own d c
-own_judged Left reach.Nothing c = refl
-own_judged Left reach.Connection c = refl
-own_judged Left reach.Side c = refl
-own_judged Left reach.Everything c = refl
-own_judged Right reach.Nothing c = refl
-own_judged Right reach.Connection c = refl
-own_judged Right reach.Side c = refl
-own_judged Right reach.Everything c = refl
+own_judged d r c = grind arith
 
 own_sized : (d : Direction) (v : Value) (c : Connection) → own d (sized v c) ≡ own d c
-own_sized Left (confirm destination x) c = refl
-own_sized Right (confirm destination x) c = refl
-own_sized d (request x) c = refl
-own_sized d (disconnect destination source reason user) c = refl
-own_sized d (disconnected destination source) c = refl
-own_sized d (data0 end user) c = refl
-own_sized d (data2 destination number end user) c = refl
-own_sized d (acknowledge credit destination number) c = refl
-own_sized d (error destination cause) c = refl
+own_sized d v c = grind arith
 
 closing_ended : (was : Bool) (half : Half) → HasEnded (closing_phase was half)
-closing_ended true half = refl
-closing_ended false half = refl
+closing_ended was half = grind arith
 
-form_first : (a : Bool) (ts : List Test) → is_applied (first_failed ((a, Broke rule.WrongForm) ∷ ts)) ≡ true → a ≡ true
-form_first true ts h = refl
-form_first false ts h = cc
+pub form_first : (a : Bool) (ts : List Test) → is_applied (first_failed ((a, Broke rule.WrongForm) ∷ ts)) ≡ true → a ≡ true
+form_first a ts h = grind arith
 
 silent_not : {A : Type 0} (silent live : Bool) → silent ≡ true → (silent || live) ≡ false → A
-silent_not true live h k = absurd (cc)
-silent_not false live h k = absurd (cc)
+silent_not silent live h k = grind arith
 
 confirm_not : {A : Type 0} (d : Direction) (s : State) (c : Connection) (destination : ℕ) (x : Connect) →
     is_applied (found d s.course (uses_source d s.connections (confirm destination x)) c (confirm destination x)) ≡ true →
     HasEnded (own d c) → A
-confirm_not Left s c destination x h e = absurd (cc)
-confirm_not Right s c destination x h e =
-    let in_use = uses_source Right s.connections (confirm destination x) in
-    silent_not (is_silent c.right.phase) (is_open c.right.phase)
-    (form_first (is_silent c.right.phase) (drop 1 (confirm_tests c s.course.class in_use x)) h) e
+confirm_not d s c destination x h e = grind (arith, silent_not, form_first)
 
 half_ended : (d : Direction) (s : State) (v : Value) (c : Connection) → is_applied (found_on d s c v) ≡ true → HasEnded (own d c) →
     HasEnded (half_after v (own d c))
-half_ended d s (confirm destination x) c h e = confirm_not d s c destination x
-    (applied_found c.is_judged (found d s.course (uses_source d s.connections (confirm destination x)) c (confirm destination x)) h) e
-half_ended d s (request x) c h e = e
-half_ended d s (disconnect destination source reason user) c h e = closing_ended (is_silent (own d c).phase) (own d c)
-half_ended d s (disconnected destination source) c h e = refl
-half_ended d s (data0 end user) c h e = e
-half_ended d s (data2 destination number end user) c h e = e
-half_ended d s (acknowledge credit destination number) c h e = e
-half_ended d s (error destination cause) c h e = refl
+half_ended d s v c h e = grind (arith, confirm_not, applied_found, closing_ended)
 
 sent_ended : (d b : Direction) (s : State) (v : Value) (c : Connection) → is_applied (found_on b s c v) ≡ true → HasEnded (own d c) →
     HasEnded (own d (sends b (half_after v (own b c)) c))
-sent_ended Left Left s v c h e = half_ended Left s v c h e
-sent_ended Left Right s v c h e = e
-sent_ended Right Left s v c h e = e
-sent_ended Right Right s v c h e = half_ended Right s v c h e
+sent_ended d b s v c h e = grind (arith, half_ended)
 
 after_ended : (applied : Bool) (d b : Direction) (s : State) (v : Value) (r : Reach) (c : Connection) →
     is_applied (found_on b s c v) ≡ applied → HasEnded (own d c) → HasEnded (own d (connection_after b v applied r c))
-after_ended true d b s v r c h e =
-    subst (λ (x : Half). HasEnded x)
-    (sym (own_judged d r (sent_on b v c) ∙ own_sized d v (sends b (half_after v (own b c)) c)))
-    (sent_ended d b s v c h e)
-after_ended false d b s v r c h e = subst (λ (x : Half). HasEnded x) (sym (own_judged d r c)) e
+after_ended applied d b s v r c h e = grind (arith, own_judged, own_sized, sent_ended)
 
 -- ---- the connection at a place, before and after
 
-same_item : (x y : Connection) → Some x ≡ Some y → x ≡ y
+pub same_item : (x y : Connection) → Some x ≡ Some y → x ≡ y
 same_item x y e = cc
 
 record KnowsStill (d : Direction) (c e : Connection) : Type 0 where
@@ -163,10 +93,7 @@ known_same d p cs c e at j live there = known_by d c e (same_item e c (sym there
 
 set_by : (d : Direction) (p q : ℕ) (cs : List Connection) (old new c e : Connection) → slice_get cs q ≡ Some old →
     KnowsStill d old new → slice_get cs p ≡ Some c → ((p ≡ q) × (e ≡ new)) ⊎ (slice_get cs p ≡ Some e) → KnowsStill d c e
-set_by d p q cs old new c e at h there (inl (same, is)) =
-    let was : old ≡ c = same_item old c (sym at ∙ ap (λ (i : ℕ). slice_get cs i) (sym same) ∙ there) in
-    subst (λ (x : Connection). KnowsStill d c x) (sym is) (subst (λ (x : Connection). KnowsStill d x new) was h)
-set_by d p q cs old new c e at h there (inr so) = known_by d c e (same_item e c (sym so ∙ there))
+set_by d p q cs old new c e at h there k = grind (arith, same_item, known_by)
 
 known_set : (d : Direction) (p q : ℕ) (cs : List Connection) (old new : Connection) → slice_get cs q ≡ Some old →
     KnowsStill d old new → Known d p cs (slice_set cs q new)
@@ -175,10 +102,7 @@ known_set d p q cs old new at h c e there j live so = set_by d p q cs old new c 
 -- ---- a packet begins
 
 begun_knows : (d b : Direction) (c : Connection) → Sound c → KnowsStill d c (begins b c)
-begun_knows Left Left c s = record { known = s.left_knows; ended = λ h. h }
-begun_knows Left Right c s = record { known = earlier_same c.seen_by_left; ended = λ h. h }
-begun_knows Right Left c s = record { known = earlier_same c.seen_by_right; ended = λ h. h }
-begun_knows Right Right c s = record { known = s.right_knows; ended = λ h. h }
+begun_knows d b c s = search (arith, earlier_same)
 
 known_begins : (d b : Direction) (p : ℕ) (cs : List Connection) → HoldsOfEach SoundIf cs → Known d p cs (map (begins b) cs)
 known_begins d b p cs sound c e at j live there =
@@ -188,17 +112,8 @@ known_begins d b p cs sound c e at j live there =
 
 -- ---- a CR takes the place of a connection that is over, or a new one
 
-first_so : (a b : Bool) → (a && b) ≡ true → a ≡ true
-first_so true b h = refl
-first_so false b h = cc
-
-second_so : (a b : Bool) → (a && b) ≡ true → b ≡ true
-second_so true b h = h
-second_so false b h = cc
-
 both : (d : Direction) (c : Connection) → is_free c ≡ true → is_over d c ≡ true
-both Left c h = first_so (is_over Left c) (is_over Right c) h
-both Right c h = second_so (is_over Left c) (is_over Right c) h
+both d c h = grind (arith, and_first, and_second)
 
 put_by : (d : Direction) (p q : ℕ) (cs : List Connection) (new c e : Connection) → position is_free cs ≡ Some q →
     slice_get cs p ≡ Some c → is_over d c ≡ false → ((p ≡ q) × (e ≡ new)) ⊎ (slice_get cs p ≡ Some e) → KnowsStill d c e
@@ -210,8 +125,7 @@ put_by d p q cs new c e first at live (inr so) =
 
 add_by : (d : Direction) (p : ℕ) (cs : List Connection) (new c e : Connection) → slice_get cs p ≡ Some c →
     ((p ≡ length cs) × (e ≡ new)) ⊎ (slice_get cs p ≡ Some e) → KnowsStill d c e
-add_by d p cs new c e at (inl (same, is)) = let within = slice_get_within cs p c at in absurd (omega arith)
-add_by d p cs new c e at (inr so) = known_by d c e (same_item e c (sym so ∙ at))
+add_by d p cs new c e at h = grind (arith, slice_get_within, known_by, same_item)
 
 known_placed : (d : Direction) (p : ℕ) (cs : List Connection) (new : Connection) (q : Option ℕ) → position is_free cs ≡ q →
     Known d p cs (placed new cs q)
@@ -241,20 +155,11 @@ module _ (d : Direction) (p : ℕ) (s : State) where
 
   asking : (b : Direction) (f : Finding) (x : Connect) → So (asks_by b f x s)
   asking b Kept x = known_placed d p s.connections (asked_by x) (position is_free s.connections) refl
-  asking b (Broke rule) x = known_same d p s.connections
-  asking b Outside x = known_same d p s.connections
-  asking b TooMany x = known_same d p s.connections
-  asking b NotJudged x = known_same d p s.connections
+  asking b _ x = known_same d p s.connections
 
   asks : (b : Direction) (v : Value) → So (asks_of b v s)
   asks b (request x) = asking b (first_failed (request_tests s x)) x
-  asks b (confirm destination x) = known_same d p s.connections
-  asks b (disconnect destination source reason user) = known_same d p s.connections
-  asks b (disconnected destination source) = known_same d p s.connections
-  asks b (data0 end user) = known_same d p s.connections
-  asks b (data2 destination number end user) = known_same d p s.connections
-  asks b (acknowledge credit destination number) = known_same d p s.connections
-  asks b (error destination cause) = known_same d p s.connections
+  asks b _ = known_same d p s.connections
 
   by_route : (b : Direction) (v : Value) (r : Route) → So (routed b v s r)
   by_route b v Asks = asks b v
@@ -277,9 +182,7 @@ module _ (d : Direction) (p : ℕ) (s : State) where
 still_named : (was over : Bool) (known now : Half) (n : ℕ) → IsEarlier known now →
     (not was && (not (is_silent known.phase) && (known.reference == n))) ≡ true → over ≡ false →
     (not over && (not (is_silent now.phase) && (now.reference == n))) ≡ true
-still_named was over known now n e h k =
-    let (a, b, c) = three was (is_silent known.phase) (known.reference == n) h in
-    three_make over (is_silent now.phase) (now.reference == n) k (e.there b) (ap (λ (x : ℕ). x == n) (sym (e.reference b)) ∙ c)
+still_named was over known now n e h k = grind (arith, three, three_make)
 
 pub name_stays : (ps : List Passing) (passing : Passing) (d : Direction) (n p : ℕ) (c e : Connection) →
     slice_get (all_passed ps fresh).connections p ≡ Some c →
@@ -303,14 +206,11 @@ ended_stays ps passing d p c e at there j live h =
 -- ---- the reference
 
 knows_own : (d : Direction) (c : Connection) → Sound c → IsEarlier (seen (other d) c) (own d c)
-knows_own Left c s = s.right_knows
-knows_own Right c s = s.left_knows
+knows_own d c s = grind arith
 
 named_so : (over : Bool) (known now : Half) (n : ℕ) → IsEarlier known now →
     (not over && (not (is_silent known.phase) && (known.reference == n))) ≡ true → (now.reference == n) ≡ true
-named_so over known now n e h =
-    let (a, b, c) = three over (is_silent known.phase) (known.reference == n) h in
-    ap (λ (x : ℕ). x == n) (sym (e.reference b)) ∙ c
+named_so over known now n e h = grind (arith, three)
 
 pub name_is_own : (ps : List Passing) (d : Direction) (n p : ℕ) (c : Connection) →
     slice_get (all_passed ps fresh).connections p ≡ Some c → c.is_judged ≡ true → is_named (other d) n c ≡ true →

@@ -1,33 +1,21 @@
 -- What the line of each connection of a whole calling end is after the end has taken a unit that names a connection.
 -- For the law on a whole end.
-use Rattle.std.proofs.Common.{◌≡◌, ◌≢◌, ◌∙◌, ◌≤◌, ℕ, Bool, true, false, List, [], ◌∷◌, ◌++◌, refl, sym, ap, subst, arith}
-use Rattle.std.proofs.Common.{Some, None, inl, inr, is_some}
-use Rattle.std.specs.Prelude.{◌&&◌, ◌==◌, slice_get}
-use Rattle.std.specs.List.{AllByRecursion}
-use Rattle.std.proofs.lemmas.Bool.{eqb-true}
-use Rattle.std.proofs.lemmas.List.{append-nil}
-use Rattle.osi_tpdu.specs.Value.{Value, Connect, confirm, disconnected, request, destination_of}
-use Rattle.osi_class.specs.Link.{Standing}
-use Rattle.osi_class.specs.declared.terms.Class.TheVariants.{Two}
-use Rattle.osi_class.specs.declared.terms.Local.{Local}
-use Rattle.osi_carrier.specs.Rows.{value_at}
-use Rattle.osi_carrier.specs.State.{State, asked, linked}
-use Rattle.osi_rules.specs.declared.connections.Connection.{Connection}
-use Rattle.osi_rules.specs.declared.halves.Half.{Half}
-use Rattle.osi_rules.specs.Traffic.{State as Traffic}
-use Rattle.osi_fair.specs.Lines.{Line}
-use Rattle.osi_fair.specs.Wholes.{Whole}
+use Rattle.osi_fair.proofs.Vocabulary.{[], ap, arith, Bool, false, is_some, List, None, refl, Some, subst, sym, true, ℕ, ◌++◌}
+use Rattle.osi_fair.proofs.Vocabulary.{◌∙◌, ◌∷◌, ◌≡◌, ◌≢◌, ◌≤◌, eqb-true, append-nil, AllByRecursion, slice_get, ◌&&◌, ◌==◌, confirm}
+use Rattle.osi_fair.proofs.Vocabulary.{Connect, destination_of, disconnected, request, Value, Standing, Two, Local, value_at, asked, linked}
+use Rattle.osi_fair.proofs.Vocabulary.{Traffic, Connection, Half, Line, Whole}
+use Rattle.osi_carrier.specs.State.{State}
+use Rattle.osi_fair.proofs.small_facts_that_many_lemmas_use.{differ, first_is, no_list, rest_is, some_same as item_is}
 use Rattle.osi_fair.proofs.a_unit_of_a_whole_end_passes.{all_two}
-use Rattle.osi_fair.proofs.no_two_open_connections_have_one_peer.{differ, item_is, one_peer, unlike}
-use Rattle.osi_fair.proofs.each_connection_has_its_line.{AreGiven, AreSettled, Followed, Following, IsAnswer, IsAsking, IsNoCc, IsOwned}
-use Rattle.osi_fair.proofs.each_connection_has_its_line.{IsSettled, Row, Tracked, Waiting, all_so, asks, closes, over, is_tracked, of}
-use Rattle.osi_fair.proofs.each_connection_has_its_line.{stray}
-use Rattle.osi_fair.proofs.each_connection_has_its_line.{talks}
+use Rattle.osi_fair.proofs.no_two_open_connections_have_one_peer.{one_peer}
+use Rattle.osi_fair.proofs.each_connection_has_its_line.{followed_at, AreGiven, AreSettled, Followed, Following, IsAnswer, IsAsking, IsNoCc}
+use Rattle.osi_fair.proofs.each_connection_has_its_line.{IsOwned, IsSettled, Row, Tracked, Waiting, all_so, asks, closes, over, is_tracked}
+use Rattle.osi_fair.proofs.each_connection_has_its_line.{of, stray, talks}
 use Rattle.osi_fair.proofs.what_the_other_side_closes.{IsSane}
 use Rattle.osi_fair.proofs.which_units_are_for_a_connection.{AllOurs, IsDc, IsOf, dc_not_ours, picked_first, picked_rest, is_dc, is_from}
-use Rattle.osi_fair.proofs.which_units_are_for_a_connection.{is_ours}
-use Rattle.osi_fair.proofs.which_units_are_for_a_connection.{leads, named_not, named_so, names, none_ours, picked_other, ours, picked_each}
-use Rattle.osi_fair.proofs.which_units_are_for_a_connection.{picked_join, those}
+use Rattle.osi_fair.proofs.which_units_are_for_a_connection.{is_ours, leads, named_not, named_so, names, none_ours, picked_other, ours}
+use Rattle.osi_fair.proofs.which_units_are_for_a_connection.{picked_each, picked_join, those}
+use Rattle.osi_fair.proofs.a_dt_of_class_zero_passes.{unlike}
 
 -- ---- lists
 
@@ -41,12 +29,7 @@ all_join P (x ∷ xs) ys (one, more) b = (one, all_join P xs ys more b)
 
 pub leads_more : (b : Bool) (f : Value → Bool) (put more : List Value) → (b ≡ true → put ≢ []) →
     (b && leads f put) ≡ (b && leads f (put ++ more))
-leads_more false f put more h = refl
-leads_more true f [] more h = absurd (h refl refl)
-leads_more true f (v ∷ vs) more h = refl
-
-pub no_list : (v : Value) (vs : List Value) → v ∷ vs ≡ [] → ⊥
-no_list v vs e = cc
+leads_more b f put more h = grind arith
 
 pub some_more : (put more : List Value) → put ≢ [] → put ++ more ≢ []
 some_more [] more h = absurd (h refl)
@@ -99,10 +82,7 @@ no_request n m (v ∷ vs) P (one, more) = (λ x e. absurd (cc (sym (ap destinati
 
 pub units_ask : (s : Traffic) (end : State) (n : ℕ) (units : List Value) (P : Connect → Type 0) → Puts s end n units →
     AllByRecursion (λ (v : Value). (x : Connect) → v ≡ request x → P x) units
-units_ask s end n units P (nothing e) = subst (AllByRecursion (λ (v : Value). (x : Connect) → v ≡ request x → P x)) (sym e) tt
-units_ask s end n units P (of_line o k) = no_request n o.c.right.reference units P o.own
-units_ask s end n units P (of_none a k) =
-    subst (AllByRecursion (λ (v : Value). (x : Connect) → v ≡ request x → P x)) (sym a.is) (λ x e. absurd (cc e), tt)
+units_ask s end n units P h = grind (arith, no_request)
 
 -- ---- the references of their DCs are settled
 
@@ -122,12 +102,7 @@ same_source m n i j e = cc
 
 pub units_settled : (s : Traffic) (end : State) (all : List Value) (given n : ℕ) (units : List Value) → Puts s end n units →
     (IsAnswered end n → IsSettled s.connections all given n) → AllByRecursion (AreSettled s.connections all given) units
-units_settled s end all given n units (nothing e) k = subst (AllByRecursion (AreSettled s.connections all given)) (sym e) tt
-units_settled s end all given n units (of_line o a) k =
-    ours_settled s.connections all given n o.c.right.reference units (k a) o.own
-units_settled s end all given n units (of_none a b) k =
-    subst (AllByRecursion (AreSettled s.connections all given)) (sym a.is)
-    (λ m source e. subst (IsSettled s.connections all given) (same_source a.m n m source e) (k b), tt)
+units_settled s end all given n units h k = grind (arith, ours_settled, same_source)
 
 -- of those that were put before
 pub settled_more : (cs : List Connection) (put units : List Value) (given later : ℕ) →
@@ -141,12 +116,6 @@ settled_more cs put units given later none up v h m source e =
       waits = k.waits;
       asks = all_join (λ (v : Value). (x : Connect) → v ≡ request x → x.source ≡ source → ⊥) put units k.asks (none source);
     }
-
-pub first_is : (u v : Value) (xs ys : List Value) → u ∷ xs ≡ v ∷ ys → u ≡ v
-first_is u v xs ys e = cc
-
-pub rest_is : (u v : Value) (xs ys : List Value) → u ∷ xs ≡ v ∷ ys → xs ≡ ys
-rest_is u v xs ys e = cc
 
 -- a unit that is no DC is not among the DCs that came first
 after_early : (early : List Value) (u v : Value) (us vs : List Value) → AllByRecursion IsDc early → is_dc u ≡ false →
@@ -177,8 +146,7 @@ module _ (local : Local) (w : Whole) (f : Followed local w) (sane : IsSane w.tap
   first_n = ap (λ (l : List Value). those n l) come ∙ picked_first (names n) u later named_n
 
   later_other : (r : ℕ) → (r ≡ n → ⊥) → those r w.coming ≡ those r later
-  later_other r other =
-      ap (λ (l : List Value). those r l) come ∙ picked_rest (names r) u later (named_not n r u (λ same. other (sym same)) dest)
+  later_other r other = grind (arith, picked_rest, named_not)
 
   row_later : (r peer : ℕ) (line : Line) → (r ≡ n → ⊥) → Row local w.end w.coming r peer line → Row local t later r peer line
   row_later r peer line other (asks there x source early dcs first is) =
@@ -188,9 +156,7 @@ module _ (local : Local) (w : Whole) (f : Followed local w) (sane : IsSane w.tap
   row_later r peer line other (closes o there q k is all) = closes o (rows r other ∙ there) q k is (sym (later_other r other) ∙ all)
 
   same_left : (p : ℕ) (c : Connection) → slice_get cs p ≡ Some c → (o : Owner w.tap n units) → p ≡ o.p → c.left.reference ≡ n
-  same_left p c at o same =
-      let is : c ≡ o.c = item_is o.c c (sym o.at ∙ ap (λ (i : ℕ). slice_get cs i) (sym same) ∙ at) in
-      ap (λ (x : Connection). x.left.reference) is ∙ o.left
+  same_left p c at o same = grind (arith, item_is)
 
   put_by : (p : ℕ) (c : Connection) → slice_get cs p ≡ Some c → is_tracked c ≡ true → (r peer : ℕ) → c.left.reference ≡ r →
       c.right.reference ≡ peer → (r ≡ n → ⊥) → Puts w.tap w.end n units → ours r peer (w.put ++ units) ≡ ours r peer w.put
@@ -208,22 +174,8 @@ module _ (local : Local) (w : Whole) (f : Followed local w) (sane : IsSane w.tap
   line_other : (p : ℕ) (c : Connection) → slice_get cs p ≡ Some c → is_tracked c ≡ true →
       (g : Following local w.put w.begun w.tap.course.strays w.end w.coming c) → (g.r ≡ n → ⊥) →
       Following local (w.put ++ units) w.begun w.tap.course.strays t later c
-  line_other p c at tracked g other = record {
-    r = g.r;
-    peer = g.peer;
-    line = g.line;
-    left = g.left;
-    right = g.right;
-    tracks = g.tracks;
-    tap = g.tap;
-    spare = g.spare;
-    put_is = put_by p c at tracked g.r g.peer g.left g.right other owner ∙ g.put_is;
-    spares = g.spares;
-    gone = g.gone;
-    begun_is = g.begun_is ∙ leads_more w.begun (is_ours g.r g.peer) w.put units f.some;
-    row = row_later g.r g.peer g.line other g.row;
-    calm = g.calm;
-  }
+  line_other p c at tracked g other = followed_at g (put_by p c at tracked g.r g.peer g.left g.right other owner) g.spares
+      (leads_more w.begun (is_ours g.r g.peer) w.put units f.some) (row_later g.r g.peer g.line other g.row)
 
   line_by : (p : ℕ) (c : Connection) → slice_get cs p ≡ Some c → is_tracked c ≡ true →
       (g : Following local w.put w.begun w.tap.course.strays w.end w.coming c) → (b : Bool) → (g.r == n) ≡ b →
@@ -233,60 +185,29 @@ module _ (local : Local) (w : Whole) (f : Followed local w) (sane : IsSane w.tap
 
   -- what has come for a reference that waits are DCs: so this is one, if it has come for it
   early_here : (r : ℕ) → r ≡ n → AllByRecursion IsDc (those r w.coming) → (is_dc u ≡ true) × AllByRecursion IsDc (those r later)
-  early_here r same h =
-      let (one, more) = subst (AllByRecursion IsDc) (ap (λ (i : ℕ). those i w.coming) same ∙ first_n) h in
-      (one, subst (λ (i : ℕ). AllByRecursion IsDc (those i later)) (sym same) more)
+  early_here r same h = grind (arith, first_n)
 
   early_later : (r : ℕ) (b : Bool) → (r == n) ≡ b → AllByRecursion IsDc (those r w.coming) → AllByRecursion IsDc (those r later)
-  early_later r true e h = (early_here r (eqb-true r n e) h).1
-  early_later r false e h = subst (AllByRecursion IsDc) (later_other r (unlike r n e)) h
+  early_later r b e h = grind (arith, early_here, eqb-true, later_other, unlike)
 
   row_kept : (r : ℕ) (b : Bool) → (r == n) ≡ b → AllByRecursion IsDc (those r w.coming) → value_at r w.end.live ≡ Some asked →
       value_at r t.live ≡ Some asked
-  row_kept r true e h row =
-      let same = eqb-true r n e in
-      ap (λ (i : ℕ). value_at i t.live) same ∙ asked_dc (early_here r same h).0 (ap (λ (i : ℕ). value_at i w.end.live) (sym same) ∙ row)
-  row_kept r false e h row = rows r (unlike r n e) ∙ row
+  row_kept r b e h row = grind (arith, eqb-true, early_here, unlike)
 
   waits_new : (c : Connection) → Waiting local w.end w.coming c → Waiting local t later c
-  waits_new c k = record {
-    r = k.r;
-    left = k.left;
-    right = k.right;
-    seen = k.seen;
-    early = early_later k.r (k.r == n) refl k.early;
-    row = λ lasts. row_kept k.r (k.r == n) refl k.early (k.row was);
-  }
+  waits_new c k = search (arith, early_later, row_kept)
 
   asking_new : (x : Connect) → IsAsking local w.end w.coming x → IsAsking local t later x
-  asking_new x k = record {
-    left = k.left;
-    early = early_later x.source (x.source == n) refl k.early;
-    row = λ lasts. row_kept x.source (x.source == n) refl k.early (k.row was);
-  }
+  asking_new x k = search (arith, early_later, row_kept)
 
   linked_by : (m peer : ℕ) (link : Standing) (b : Bool) → (m == n) ≡ b → value_at m t.live ≡ Some (linked peer link) →
       Tracked cs m × (t.class ≡ Some Two)
-  linked_by m peer link true e h =
-      let same = eqb-true m n e in
-      let (k, two) = mine_linked peer link (ap (λ (i : ℕ). value_at i t.live) (sym same) ∙ h) in
-      (subst (Tracked cs) (sym same) k, two)
-  linked_by m peer link false e h =
-      let (k, two) = f.linked was m peer link (sym (rows m (unlike m n e)) ∙ h) in (k, class two)
+  linked_by m peer link b e h = search (arith, eqb-true, unlike)
 
   -- after the CC of a connection no other has come
   calm_row : (r peer : ℕ) (line : Line) → r ≡ n → value_at n w.end.live ≡ Some asked → is_dc u ≡ false →
       AllByRecursion IsNoCc line.coming → Row local w.end w.coming r peer line → AllByRecursion IsNoCc (those n later)
-  calm_row r peer line same there none calm (asks k x source early dcs first is) =
-      let e = sym first_n ∙ ap (λ (i : ℕ). those i w.coming) (sym same) ∙ first in
-      subst (AllByRecursion IsNoCc) (sym (after_early early u (confirm r x) (those n later) line.coming dcs none e)) calm
-  calm_row r peer line same there none calm (over h) = differ (is_some w.end.ended) h (ap is_some was)
-  calm_row r peer line same there none calm (talks link k is all) =
-      absurd (cc (sym there ∙ ap (λ (i : ℕ). value_at i w.end.live) (sym same) ∙ k))
-  calm_row r peer line same there none calm (closes o k q (inl h) is all) =
-      absurd (cc (sym there ∙ ap (λ (i : ℕ). value_at i w.end.live) (sym same) ∙ k ∙ h))
-  calm_row r peer line same there none calm (closes o k q (inr h) is all) =
-      absurd (cc (sym there ∙ ap (λ (i : ℕ). value_at i w.end.live) (sym same) ∙ k ∙ h))
+  calm_row r peer line same there none calm l = grind (arith, first_n, after_early, differ)
 
   abbrev Answered : Type 0
   Answered = (Tracked cs n × (value_at n w.end.live ≡ Some asked)) × (is_dc u ≡ false)
@@ -299,16 +220,7 @@ module _ (local : Local) (w : Whole) (f : Followed local w) (sane : IsSane w.tap
   answer_by : (v : Value) (m : ℕ) (x : Connect) → v ≡ confirm m x → Tracked cs m × (value_at m w.end.live ≡ Some asked) →
       (Answered → names n v ≡ true → IsNoCc v) → (b d : Bool) → (m == n) ≡ b → is_dc u ≡ d →
       Tracked cs m × (value_at m t.live ≡ Some asked)
-  answer_by v m x e h k true false same none =
-      let is = eqb-true m n same in
-      absurd (k (subst (λ (i : ℕ). Tracked cs i × (value_at i w.end.live ≡ Some asked)) is h, none)
-      (named_so n v (ap destination_of e ∙ ap (λ (i : ℕ). Some i) is)) m x e)
-  answer_by v m x e (tr, row) k true true same dc =
-      let is = eqb-true m n same in (
-        tr,
-        ap (λ (i : ℕ). value_at i t.live) is ∙ asked_dc dc (ap (λ (i : ℕ). value_at i w.end.live) (sym is) ∙ row),
-      )
-  answer_by v m x e (tr, row) k false d same none = (tr, rows m (unlike m n same) ∙ row)
+  answer_by v m x e h k b d same none = grind (arith, eqb-true, named_so, unlike)
 
   tail_answers : AllByRecursion (λ (v : Value). IsAnswer cs w.end v) later
   tail_answers = (subst (AllByRecursion (λ (v : Value). IsAnswer cs w.end v)) come f.answers).1

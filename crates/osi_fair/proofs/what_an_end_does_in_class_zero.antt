@@ -1,33 +1,19 @@
 -- An end of class 0 takes a unit, or its user makes a call: it goes on with DTs alone, or ends.
 -- For the laws on whole ends.
-use Rattle.std.proofs.Common.{◌≡◌, ◌∙◌, ◌≤◌, ℕ, Bool, true, false, List, [], ◌∷◌, ◌++◌, length, refl, sym, ap, subst, Option, Some}
-use Rattle.std.proofs.Common.{None, Result, Ok, Err, is_some, if◌then◌else◌, append_assoc}
-use Rattle.std.specs.Prelude.{◌==◌}
-use Rattle.std.specs.List.{AllByRecursion}
-use Rattle.std.proofs.lemmas.Bool.{eq-eqb, eqb-true}
-use Rattle.std.proofs.lemmas.List.{append-nil}
-use Rattle.osi_tpdu.specs.Value.{Value, request, confirm, disconnect, disconnected, data0, data2, acknowledge, error}
-use Rattle.osi_class.specs.Flow.{Flow}
-use Rattle.osi_class.specs.Joining.{Joining, joined}
-use Rattle.osi_class.specs.Limits.{longest_tsdu}
-use Rattle.osi_class.specs.Link.{Standing, taken, taken_by, with_joined, with_tsdu}
-use Rattle.osi_class.specs.declared.faults.LinkFault.{LinkFault}
-use Rattle.osi_class.specs.declared.terms.Class.{Class}
-use Rattle.osi_class.specs.declared.terms.Class.TheVariants.{Zero}
-use Rattle.osi_carrier.specs.Calls.{class_error, closed_on, closes as closes_in, link_of, may_connect, open_link, sent, sent_all, sent_on}
-use Rattle.osi_carrier.specs.Pump.{pumped, written_by}
-use Rattle.osi_carrier.specs.React.{breaks as breaks_in, handed_out, in_class, in_zero, leaves, react_by, taking, to_linked, to_only}
+use Rattle.osi_fair.proofs.Vocabulary.{[], ap, append_assoc, Bool, Err, false, if◌then◌else◌, is_some, length, List, None, Ok, Option, refl}
+use Rattle.osi_fair.proofs.Vocabulary.{Result, Some, subst, sym, true, ℕ, ◌++◌, ◌∙◌, ◌∷◌, ◌≡◌, ◌≤◌, eq-eqb, eqb-true, append-nil}
+use Rattle.osi_fair.proofs.Vocabulary.{AllByRecursion, ◌==◌, data0, disconnect, request, Value, Flow, joined, Joining, longest_tsdu}
+use Rattle.osi_fair.proofs.Vocabulary.{Standing, taken, taken_by, with_joined, with_tsdu, LinkFault, Class, Zero, class_error, closed_on}
+use Rattle.osi_fair.proofs.Vocabulary.{closes_in, link_of, may_connect, open_link, sent, sent_all, pumped, written_by, breaks_in}
+use Rattle.osi_fair.proofs.Vocabulary.{handed_out, in_class, in_zero, leaves, react_by, taking, to_linked, to_only, put, Rows, value_at}
+use Rattle.osi_fair.proofs.Vocabulary.{breaks, closes_call, connects, sends, sends_all, user_does, UserCall, Live, ends as ends_as, linked}
+use Rattle.osi_fair.proofs.Vocabulary.{EndReason, OneConnection, put_by, put_closing, put_for, put_in, put_in_zero, put_linked, put_only}
+use Rattle.osi_fair.proofs.Vocabulary.{put_sent, put_taking, put_together, MayCall}
+use Rattle.osi_carrier.specs.Calls.{sent_on}
 unfoldable use Rattle.osi_carrier.specs.React.{react}
-use Rattle.osi_carrier.specs.Rows.{Rows, put, value_at}
-use Rattle.osi_carrier.specs.Runs.{UserCall, breaks, closes as closes_call, connects, sends, sends_all, user_does}
-use Rattle.osi_carrier.specs.State.{State, Connection as Live, asked, closing, ends as ends_as, linked}
-use Rattle.osi_carrier.specs.declared.ends.EndReason.{EndReason}
-use Rattle.osi_carrier.specs.declared.faults.OpenError.{OpenError}
-use Rattle.osi_carrier.specs.declared.faults.OpenError.TheVariants.{OneConnection}
-use Rattle.osi_fair.specs.Putting.{put_by, put_closing, put_for, put_in, put_in_zero, put_linked, put_only, put_sent, put_taking}
-use Rattle.osi_fair.specs.Putting.{put_together}
-use Rattle.osi_fair.specs.Wholes.{MayCall}
-use Rattle.osi_fair.proofs.how_a_calling_end_asks.{may_so}
+use Rattle.osi_carrier.specs.State.{State}
+use Rattle.osi_fair.proofs.small_facts_that_many_lemmas_use.{differ, same_pair}
+use Rattle.osi_fair.proofs.how_a_calling_end_asks.{may_so, never}
 use Rattle.osi_fair.proofs.what_a_link_does.{HaveRoom, room_more}
 use Rattle.osi_fair.proofs.what_an_end_puts_in_class_zero.{IsPlain, PutsData, drained_gives, drained_plain, puts_more, puts_still}
 
@@ -54,12 +40,6 @@ zero_next limit s a b xs ys h (talks r peer link class live plain puts) =
     talks r peer link class live plain (h (λ i. HaveRoom i link.ends.unsent) puts)
 zero_next limit s a b xs ys h (over gone puts) = over gone (h anyhow puts)
 
-differ : {A : Type 0} (b : Bool) → b ≡ true → b ≡ false → A
-differ b h k = absurd (cc)
-
-no_error : {A : Type 0} (e : OpenError) (o : Option OpenError) → o ≡ Some e → o ≡ None → A
-no_error e o h k = absurd (cc)
-
 no_result : {A : Type 0} (fault : LinkFault) (r : Result Standing LinkFault) (link : Standing) → r ≡ Err fault → r ≡ Ok link → A
 no_result fault r link e h = absurd (cc)
 
@@ -72,15 +52,12 @@ put_one r x y = ap (λ (b : Bool). if◌then◌else◌ {A = Rows Live} b ((r, x)
 pair_so : (a p : ℕ) (l k : Standing) → linked a l ≡ linked p k → (a ≡ p) × (l ≡ k)
 pair_so a p l k e = (cc, cc)
 
-some_is : (x y : Live) → Some x ≡ Some y → x ≡ y
+pub some_is : (x y : Live) → Some x ≡ Some y → x ≡ y
 some_is x y e = cc
-
-pair_is : (a b : ℕ × Standing) → Some a ≡ Some b → a ≡ b
-pair_is a b e = cc
 
 row_so : (y : Live) (i : ℕ) (l : Standing) (p : ℕ) (k : Standing) → Some y ≡ Some (linked i l) → link_of (Some (linked i l)) ≡ Some (p, k) →
     y ≡ linked p k
-row_so y i l p k e h = some_is y (linked p k) (e ∙ ap (λ (x : ℕ × Standing). Some (linked x.0 x.1)) (pair_is (i, l) (p, k) h))
+row_so y i l p k e h = some_is y (linked p k) (e ∙ ap (λ (x : ℕ × Standing). Some (linked x.0 x.1)) (same_pair (i, l) (p, k) h))
 
 none_so : {A : Type 0} (o : Option Live) → None ≡ o → (p : ℕ) (k : Standing) → link_of o ≡ Some (p, k) → A
 none_so o e p k h = absurd (cc (ap link_of e ∙ h))
@@ -113,13 +90,7 @@ joined_so link after (Ok joining) e =
 
 takes_by : (link after : Standing) (u : Value) → taken_by link.ends None u ≡ Ok after → Takes link after
 takes_by link after (data0 end octets) e = joined_so link after (joined link.ends.joining end octets) e
-takes_by link after (request x) e = absurd (cc e)
-takes_by link after (confirm destination x) e = absurd (cc e)
-takes_by link after (disconnect destination source reason user) e = absurd (cc e)
-takes_by link after (disconnected destination source) e = absurd (cc e)
-takes_by link after (data2 destination number end user) e = absurd (cc e)
-takes_by link after (acknowledge credit destination number) e = absurd (cc e)
-takes_by link after (error destination cause) e = absurd (cc e)
+takes_by link after _ e = absurd (cc e)
 
 takes_plain : (limit : ℕ) (link after : Standing) (u : Value) → IsPlain limit link → taken link u ≡ Ok after → Takes link after
 takes_plain limit link after u plain e =
@@ -177,16 +148,7 @@ module _ (limit : ℕ) (s : State) (begun : ℕ) (units : List Value) (z : IsInZ
     linked_goes (disconnect destination source reason user) =
         subst (λ (k : Option Class). Goes (leaves r peer reason k s) (put_linked r peer link (disconnect destination source reason user) k))
         (sym class) (ends_so (leaves r peer reason (Some Zero) s) [] refl refl)
-    linked_goes (request x) = taking_goes (request x) (taken link (request x)) refl
-    linked_goes (confirm destination x) = taking_goes (confirm destination x) (taken link (confirm destination x)) refl
-    linked_goes (disconnected destination source) = taking_goes (disconnected destination source)
-        (taken link (disconnected destination source)) refl
-    linked_goes (data0 end user) = taking_goes (data0 end user) (taken link (data0 end user)) refl
-    linked_goes (data2 destination number end user) =
-        taking_goes (data2 destination number end user) (taken link (data2 destination number end user)) refl
-    linked_goes (acknowledge credit destination number) =
-        taking_goes (acknowledge credit destination number) (taken link (acknowledge credit destination number)) refl
-    linked_goes (error destination cause) = taking_goes (error destination cause) (taken link (error destination cause)) refl
+    linked_goes v = taking_goes v (taken link v) refl
 
     only_goes : (u : Value) → Goes (to_only s.live u s) (put_only s.live u s)
     only_goes u = subst (λ (l : Rows Live). Goes (to_only l u s) (put_only l u s)) (sym live) (linked_goes u)
@@ -195,13 +157,7 @@ module _ (limit : ℕ) (s : State) (begun : ℕ) (units : List Value) (z : IsInZ
     in_zero_goes : (is_caller : Bool) (u : Value) → Goes (in_zero is_caller u s) (put_in_zero is_caller u s)
     in_zero_goes false u = only_goes u
     in_zero_goes true (request x) = ends_so (in_zero true (request x) s) [] refl refl
-    in_zero_goes true (confirm destination x) = only_goes (confirm destination x)
-    in_zero_goes true (disconnect destination source reason user) = only_goes (disconnect destination source reason user)
-    in_zero_goes true (disconnected destination source) = only_goes (disconnected destination source)
-    in_zero_goes true (data0 end user) = only_goes (data0 end user)
-    in_zero_goes true (data2 destination number end user) = only_goes (data2 destination number end user)
-    in_zero_goes true (acknowledge credit destination number) = only_goes (acknowledge credit destination number)
-    in_zero_goes true (error destination cause) = only_goes (error destination cause)
+    in_zero_goes true v = only_goes v
 
     by_end : (u : Value) (b : Bool) → Goes (react_by b u s) (if b then [] else put_in s.class u s)
     by_end u false = subst (λ (k : Option Class). Goes (in_class k u s) (put_in k u s)) (sym class) (in_zero_goes s.is_caller u)
@@ -235,15 +191,14 @@ module _ (limit : ℕ) (s : State) (begun : ℕ) (units : List Value) (z : IsInZ
   may_not : {A : Type 0} → may_connect s ≡ None → IsInZero limit s begun units → A
   may_not may (over gone puts) = differ (is_some s.ended) gone (may_so s may).0
   may_not may (talks r peer link class live plain puts) =
-      no_error OneConnection (class_error s.class s.live) (ap (λ (k : Option Class). class_error k s.live) class) (may_so s may).1
+      never OneConnection (class_error s.class s.live) (ap (λ (k : Option Class). class_error k s.live) class) (may_so s may).1
 
   -- a TSDU is sent
   row_is : (q r : ℕ) (y : Live) (b : Bool) → (q == r) ≡ b → (o : Option Live) → (if b then Some y else None) ≡ o → (p : ℕ) (k : Standing) →
       link_of o ≡ Some (p, k) → (q ≡ r) × (y ≡ linked p k)
   row_is q r y true e None is p k h = absurd (cc is)
-  row_is q r y true e (Some asked) is p k h = absurd (cc h)
   row_is q r y true e (Some (linked i l)) is p k h = (eqb-true q r e, row_so y i l p k is h)
-  row_is q r y true e (Some (closing i)) is p k h = absurd (cc h)
+  row_is q r y true e _ is p k h = absurd (cc h)
   row_is q r y false e o is p k h = none_so o is p k h
 
   sends_goes : (r : ℕ) (tsdu : List ℕ) (o : Option (ℕ × Standing)) → open_link r s ≡ o → length tsdu ≤ longest_tsdu →

@@ -1,29 +1,18 @@
 -- What an end does keeps what holds of its line: a call of its link, and the close of the connection.
 -- For the laws on a line.
-use Rattle.std.proofs.Common.{◌≡◌, ◌∙◌, ℕ, ◌+◌, ◌-◌, ◌%◌, ◌≤◌, Bool, true, false, List, [], ◌∷◌, ◌++◌, length, arith, refl, sym, ap}
-use Rattle.std.proofs.Common.{subst}
-use Rattle.std.proofs.Common.{Option, Some, None, Ok}
-use Rattle.osi_tpdu.specs.Value.{Value, request, confirm, disconnect, disconnected, data0, data2, acknowledge, error}
-use Rattle.osi_class.specs.Ends.{Ends}
-use Rattle.osi_class.specs.Flow.{steps_before, after_acked, ack_number}
-use Rattle.osi_class.specs.Limits.{longest_tsdu}
-use Rattle.osi_class.specs.Link.{Standing, part0, part2, ack, next, taken, with_tsdu, sent_flow, taken_flow, Hands}
-use Rattle.osi_class.specs.Runs.{Move, Moves, hand_in, give_out, take_in, hand_out}
-use Rattle.osi_rules.specs.declared.connections.Connection.{Connection}
-use Rattle.osi_rules.specs.declared.directions.Direction.TheVariants.{Left}
-use Rattle.osi_rules.specs.declared.halves.Half.{Half}
-use Rattle.osi_rules.specs.declared.halves.Phase.{Phase}
-use Rattle.osi_rules.specs.Sides.{is_open, is_closing}
-use Rattle.osi_fair.specs.Lines.{ignores}
-use Rattle.osi_fair.specs.Lines.{Line, moves, closes, answers, Acts, IsRightNow, HandsInShort, units_put, units_taken}
+use Rattle.osi_fair.proofs.Vocabulary.{[], ap, arith, Bool, false, length, List, None, Ok, Option, refl, Some, subst, sym, true, ℕ, ◌%◌}
+use Rattle.osi_fair.proofs.Vocabulary.{◌++◌, ◌+◌, ◌-◌, ◌∙◌, ◌∷◌, ◌≡◌, ◌≤◌, acknowledge, data2, disconnect, Value, Ends}
+use Rattle.osi_fair.proofs.Vocabulary.{ack_number, after_acked, steps_before, longest_tsdu, ack, Hands, next, part0, part2, sent_flow}
+use Rattle.osi_fair.proofs.Vocabulary.{Standing, taken, taken_flow, with_tsdu, give_out, hand_in, hand_out, Move, Moves, take_in}
+use Rattle.osi_fair.proofs.Vocabulary.{is_closing, is_open, Connection, Left, Half, Phase, Acts, answers, closes_with as closes}
+use Rattle.osi_fair.proofs.Vocabulary.{HandsInShort, ignores, IsRightNow, Line, moves, units_put, units_taken}
 use Rattle.osi_fair.proofs.what_a_link_does.{HaveRoom, room_more, gives_so, takes_so}
 use Rattle.osi_fair.proofs.units_in_flight.{Puts, puts_more, comes_within}
 use Rattle.osi_fair.proofs.what_holds_of_a_line.{Tally, Ordered, linked, OpenIfAny, PutsAt, TakesAt, Holds, bounds_of, came_of, shut}
 use Rattle.osi_fair.proofs.what_holds_of_a_line.{ends_so, tapped}
 
 right_on : (tap : Connection) (put more : List Value) → IsRightNow Left tap put → IsRightNow Left tap (put ++ more)
-right_on tap [] more h = absurd h
-right_on tap (unit ∷ units) more h = h
+right_on tap put more h = grind arith
 
 -- a call of the link that makes what was put this
 pub record Moved (r peer limit : ℕ) (noted : ℕ) (tap : Connection) (put coming : List Value) (link : Standing) : Type 0 where
@@ -66,16 +55,7 @@ module _ (r peer limit : ℕ) (x : Tally) (noted : ℕ) (tap : Connection) (o : 
       let within = comes_within (came_of x tap.right) h.taken h.known coming h.comes in
       record {
         tally = record x { sent = x.sent + 1 };
-        ordered = record {
-          heard_noted = o.heard_noted;
-          noted_passed = o.noted_passed;
-          passed_sent = omega arith;
-          few = omega arith;
-          within = omega arith;
-          shown_acked = o.shown_acked;
-          acked_came = o.acked_came;
-          tellable = o.tellable;
-        };
+        ordered = omega (arith, o);
         taps = t;
         puts = (puts_data put coming link after number end octets h p e, p.1);
         takes = record {
@@ -130,16 +110,7 @@ module _ (r peer limit : ℕ) (x : Tally) (noted : ℕ) (tap : Connection) (o : 
       let within = comes_within (came_of x tap.right) h.taken h.known coming h.comes in
       record {
         tally = record x { acked = x.acked + 1 };
-        ordered = record {
-          heard_noted = o.heard_noted;
-          noted_passed = o.noted_passed;
-          passed_sent = o.passed_sent;
-          few = o.few;
-          within = o.within;
-          shown_acked = omega arith;
-          acked_came = omega arith;
-          tellable = o.tellable;
-        };
+        ordered = omega (arith, o);
         taps = t;
         puts = (puts_ack put coming link after number credit h p e, p.1);
         takes = record {
@@ -183,21 +154,7 @@ module _ (r peer limit : ℕ) (x : Tally) (noted : ℕ) (tap : Connection) (o : 
     ordered = o;
     taps = t;
     puts = puts_same put link after p room;
-    takes = record {
-      flow = h.flow;
-      taken = h.taken;
-      known = h.known;
-      is = flow ∙ h.is;
-      size = size ∙ h.size;
-      next = h.next;
-      unacknowledged = h.unacknowledged;
-      few = h.few;
-      edge = h.edge;
-      expected = h.expected;
-      waiting = h.waiting;
-      credit = h.credit;
-      comes = h.comes;
-    };
+    takes = search (arith, (flow ∙ h.is), (size ∙ h.size));
   }
 
   takes_data : (put coming : List Value) (link after : Standing) (destination number : ℕ) (end : Bool) (octets : List ℕ) →
@@ -290,14 +247,7 @@ module _ (r peer limit : ℕ) (x : Tally) (noted : ℕ) (tap : Connection) (o : 
       takes_data put coming link after destination number end octets h p e
   takes_any put coming link after (acknowledge credit destination number) h p e =
       takes_ack put coming link after credit destination number h p e
-  takes_any put coming link after (request c) h p e = absurd (takes_so link after h.flow (request c) h.is e)
-  takes_any put coming link after (confirm destination c) h p e = absurd (takes_so link after h.flow (confirm destination c) h.is e)
-  takes_any put coming link after (disconnect destination source reason user) h p e =
-      absurd (takes_so link after h.flow (disconnect destination source reason user) h.is e)
-  takes_any put coming link after (disconnected destination source) h p e =
-      absurd (takes_so link after h.flow (disconnected destination source) h.is e)
-  takes_any put coming link after (data0 end user) h p e = absurd (takes_so link after h.flow (data0 end user) h.is e)
-  takes_any put coming link after (error destination cause) h p e = absurd (takes_so link after h.flow (error destination cause) h.is e)
+  takes_any put coming link after v h p e = absurd (takes_so link after h.flow v h.is e)
 
   call_moves : (move : Move) (put coming : List Value) (link after : Standing) →
       linked limit x tap.right (units_taken move ++ coming) link →
@@ -315,20 +265,12 @@ module _ (r peer limit : ℕ) (x : Tally) (noted : ℕ) (tap : Connection) (o : 
   -- ---- the end closes the connection
 
   open_if : (put : List Value) (phase : Phase) → is_open phase ≡ true → OpenIfAny put phase
-  open_if [] phase h = tt
-  open_if (unit ∷ units) phase h = h
+  open_if put phase h = grind arith
 
   closes_by : (unit : Value) (put : List Value) (link : Standing) → PutsAt r peer limit x tap.left tap.right put (Some link) →
       ((passed shown begun : ℕ) → Puts (bounds_of r peer limit x true tap.right) (shut tap.left.phase) passed shown begun (unit ∷ [])) →
       PutsAt r peer limit x tap.left tap.right (put ++ unit ∷ []) None
-  closes_by unit put link p last = (
-    puts_more (bounds_of r peer limit x false tap.right) (bounds_of r peer limit x true tap.right)
-        (ends_so x.sent link.ends.unsent) (shut tap.left.phase) (unit ∷ [])
-        (record { reference = refl; peer = refl; limit = refl; window = refl; sent = omega arith; acked = omega arith; closing = λ k. k })
-        refl
-        (λ passed shown begun within now. last passed shown begun) x.passed x.shown tap.left.begun o.shown_acked put p.0,
-    open_if (put ++ unit ∷ []) tap.left.phase p.1,
-  )
+  closes_by unit put link p last = search (arith, puts_more, open_if)
 
   was_closing : (coming : List Value) (link : Standing) (destination source reason : ℕ) (user : List ℕ) →
       linked limit x tap.right (disconnect destination source reason user ∷ coming) link → is_closing tap.right.phase ≡ true
@@ -366,52 +308,12 @@ moves_hold r peer move old new (link, after, is, e, short, coming, new_is) h =
 pub closes_hold : (r peer reason : ℕ) (units : List Value) (old new : Line) → Acts Left r peer (closes reason units) old new →
     Holds r peer old →
     Holds r peer new
-closes_hold r peer reason units old new (link, is, coming, new_is) h =
-    let puts = puts_with r peer h.limit h.tally old.tap.left old.tap.right old.put old.link link is h.puts in
-    subst (λ (l : Line). Holds r peer l) (sym new_is)
-    (record {
-      limit = h.limit;
-      tally = h.tally;
-      noted = h.noted;
-      ordered = h.ordered;
-      taps = h.taps;
-      puts = closes_by r peer h.limit h.tally h.noted old.tap h.ordered h.taps (disconnect peer r reason []) old.put link puts
-          (λ passed shown begun. (refl, refl, refl));
-      takes = tt;
-      under_way = λ b. right_on old.tap old.put (disconnect peer r reason [] ∷ []) (h.under_way b);
-    })
+closes_hold r peer reason units old new k h = search (arith, puts_with, closes_by, right_on)
 
 pub ignores_hold : (r peer : ℕ) (units : List Value) (old new : Line) → Acts Left r peer (ignores units) old new → Holds r peer old →
     Holds r peer new
-ignores_hold r peer units old new (none, coming, new_is) h = subst (λ (l : Line). Holds r peer l) (sym new_is)
-    (record {
-      limit = h.limit;
-      tally = h.tally;
-      noted = h.noted;
-      ordered = h.ordered;
-      taps = h.taps;
-      puts = h.puts;
-      takes = subst (λ (o : Option Standing). TakesAt h.limit h.tally old.tap.right new.coming o) (sym none) tt;
-      under_way = h.under_way;
-    })
+ignores_hold r peer units old new k h = search (arith)
 
 pub answers_hold : (r peer : ℕ) (unit : Value) (old new : Line) → Acts Left r peer (answers unit) old new → Holds r peer old →
     Holds r peer new
-answers_hold r peer unit old new (link, is, (destination, source, reason, user, dr), coming, new_is) h =
-    let puts = puts_with r peer h.limit h.tally old.tap.left old.tap.right old.put old.link link is h.puts in
-    let takes = takes_with h.limit h.tally old.tap.right old.coming old.link link is h.takes in
-    let first : old.coming ≡ disconnect destination source reason user ∷ new.coming = coming ∙ ap (λ (v : Value). v ∷ new.coming) dr in
-    let came = subst (λ (l : List Value). linked h.limit h.tally old.tap.right l link) first takes in
-    let closing = was_closing r peer h.limit h.tally h.noted old.tap h.ordered h.taps new.coming link destination source reason user came in
-    subst (λ (l : Line). Holds r peer l) (sym new_is)
-    (record {
-      limit = h.limit;
-      tally = h.tally;
-      noted = h.noted;
-      ordered = h.ordered;
-      taps = h.taps;
-      puts = closes_by r peer h.limit h.tally h.noted old.tap h.ordered h.taps (disconnected peer r) old.put link puts
-          (λ passed shown begun. (refl, refl, refl, closing, refl));
-      takes = tt;
-      under_way = λ b. right_on old.tap old.put (disconnected peer r ∷ []) (h.under_way b);
-    })
+answers_hold r peer unit old new k h = search (arith, puts_with, takes_with, was_closing, closes_by, right_on)

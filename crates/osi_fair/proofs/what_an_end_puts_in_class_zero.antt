@@ -1,17 +1,12 @@
 -- What a called end puts in class 0: DTs that are not too long, of TSDUs that are not too long.
 -- For the law on a whole called end.
-use Rattle.std.proofs.Common.{◌≡◌, ◌∙◌, ◌≤◌, ◌<◌, ◌+◌, ℕ, zero, suc, Bool, true, false, List, [], ◌∷◌, ◌++◌, length, map, take, drop}
-use Rattle.std.proofs.Common.{refl, sym, ap, subst, arith, length-take, length-drop, Option, Some, None, nat_lt, if◌then◌else◌}
-use Rattle.std.proofs.lemmas.Bool.{ltb-false, ltb-true}
-use Rattle.std.proofs.lemmas.List.{append-nil}
-use Rattle.osi_tpdu.specs.Value.{Value, request, confirm, disconnect, disconnected, data0, data2, acknowledge, error}
-use Rattle.osi_class.specs.Ends.{Ends}
-use Rattle.osi_class.specs.Flow.{Flow}
-use Rattle.osi_class.specs.Giving.{Drained, drained, drained_by, drained_within, left_to_give}
-use Rattle.osi_class.specs.Limits.{longest_tsdu}
-use Rattle.osi_class.specs.Link.{Given, Standing, given_part, next_by, part0, unit_of}
-use Rattle.osi_class.specs.Tsdus.{Part, give}
-use Rattle.osi_fair.proofs.what_a_link_does.{AreShort, HaveRoom, begun_by, room_at_first}
+use Rattle.osi_fair.proofs.Vocabulary.{[], ap, arith, Bool, drop, false, if◌then◌else◌, length, List, map, nat_lt, None, Option, refl, Some}
+use Rattle.osi_fair.proofs.Vocabulary.{subst, suc, sym, take, true, zero, ℕ, ◌++◌, ◌+◌, ◌∷◌, ◌≡◌, ◌≤◌, ltb-false, ltb-true, append-nil}
+use Rattle.osi_fair.proofs.Vocabulary.{data0, Value, Ends, Flow, Drained, drained_by, drained_within, left_to_give, longest_tsdu, Given}
+use Rattle.osi_fair.proofs.Vocabulary.{given_part, next_by, part0, Standing, unit_of, give, Part}
+use Rattle.osi_class.specs.Giving.{drained}
+use Rattle.osi_fair.proofs.what_a_link_does.{AreShort, HaveRoom, begun_by, front_fits, rest_is, room_at_first}
+use Rattle.osi_fair.proofs.Vocabulary.{◌∙◌}
 
 -- ---- DTs that were put
 
@@ -20,26 +15,14 @@ abbrev pub PutsData : (limit : ℕ) → (ℕ → Type 0) → (begun : ℕ) → L
 PutsData limit e begun [] = e begun
 PutsData limit e begun (data0 end user ∷ units) = (length user ≤ limit) × (begun + length user ≤ longest_tsdu)
     × PutsData limit e (begun_by begun end (length user)) units
-PutsData limit e begun (request x ∷ units) = ⊥
-PutsData limit e begun (confirm destination x ∷ units) = ⊥
-PutsData limit e begun (disconnect destination source reason user ∷ units) = ⊥
-PutsData limit e begun (disconnected destination source ∷ units) = ⊥
-PutsData limit e begun (data2 destination number end user ∷ units) = ⊥
-PutsData limit e begun (acknowledge credit destination number ∷ units) = ⊥
-PutsData limit e begun (error destination cause ∷ units) = ⊥
+PutsData limit e begun _ = ⊥
 
 pub puts_more : (limit : ℕ) (e k : ℕ → Type 0) (more : List Value) → ((b : ℕ) → e b → PutsData limit k b more) → (begun : ℕ)
     (units : List Value) → PutsData limit e begun units → PutsData limit k begun (units ++ more)
 puts_more limit e k more h begun [] a = h begun a
 puts_more limit e k more h begun (data0 end user ∷ units) (a, b, c) =
     (a, b, puts_more limit e k more h (begun_by begun end (length user)) units c)
-puts_more limit e k more h begun (request x ∷ units) a = absurd a
-puts_more limit e k more h begun (confirm destination x ∷ units) a = absurd a
-puts_more limit e k more h begun (disconnect destination source reason user ∷ units) a = absurd a
-puts_more limit e k more h begun (disconnected destination source ∷ units) a = absurd a
-puts_more limit e k more h begun (data2 destination number end user ∷ units) a = absurd a
-puts_more limit e k more h begun (acknowledge credit destination number ∷ units) a = absurd a
-puts_more limit e k more h begun (error destination cause ∷ units) a = absurd a
+puts_more limit e k more h begun _ a = absurd a
 
 pub puts_still : (limit : ℕ) (e k : ℕ → Type 0) → ((b : ℕ) → e b → k b) → (begun : ℕ) (units : List Value) → PutsData limit e begun units →
     PutsData limit k begun units
@@ -47,12 +30,6 @@ puts_still limit e k h begun units a =
     subst (PutsData limit k begun) (append-nil units) (puts_more limit e k [] h begun units a)
 
 -- ---- what a link gives
-
-front_fits : (limit : ℕ) (tsdu : List ℕ) → limit < length tsdu → length (take limit tsdu) ≡ limit
-front_fits limit tsdu h = simp length-take (omega arith)
-
-rest_is : (limit : ℕ) (tsdu : List ℕ) → limit < length tsdu → limit + length (drop limit tsdu) ≡ length tsdu
-rest_is limit tsdu h = simp length-drop (omega arith)
 
 -- a link of class 0 with this size
 pub record IsPlain (limit : ℕ) (s : Standing) : Type 0 where

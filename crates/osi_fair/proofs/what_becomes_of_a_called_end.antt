@@ -1,38 +1,26 @@
 -- What a called end has after it has taken a unit: its class, its references, and which of its connections are live.
 -- For the law on a whole called end.
-use Rattle.std.proofs.Common.{◌≤◌, ℕ, List, [], ◌∷◌, arith, ◌≡◌, ◌∙◌, Bool, true, false, ◌++◌, map, refl, sym, ap, subst, Option}
-use Rattle.std.proofs.Common.{Some, None, Result, Ok, Err, ◌⊎◌, is_some}
-use Rattle.std.specs.Prelude.{◌==◌}
-use Rattle.std.specs.List.{AllByRecursion}
-use Rattle.std.proofs.lemmas.Bool.{eq-eqb, eqb-true}
-use Rattle.osi_tpdu.specs.Value.{Value, Connect, request, confirm, disconnect, disconnected, data0, data2, acknowledge, error}
-use Rattle.osi_tpdu.specs.Value.{destination_of}
-use Rattle.osi_class.specs.Ends.{Ends}
-use Rattle.osi_class.specs.Flow.{Flow}
-use Rattle.osi_class.specs.Giving.{all_given}
-use Rattle.osi_class.specs.Link.{Given, Standing, ack, part0, part2, taken, taken_by, unit_of}
-use Rattle.osi_class.specs.declared.faults.LinkFault.{LinkFault}
-use Rattle.osi_class.specs.declared.faults.LinkFault.TheVariants.{WrongForm}
-use Rattle.osi_class.specs.declared.terms.Class.{Class}
-use Rattle.osi_class.specs.declared.terms.Class.TheVariants.{Two}
-use Rattle.osi_class.specs.declared.terms.Local.{Local}
-use Rattle.osi_carrier.specs.Orderly.{IsOrderly, RiseFrom, AreUpTo}
-use Rattle.osi_carrier.specs.Pump.{pumped}
-use Rattle.osi_carrier.specs.React.{breaks as breaks_in, handed_out, leaves, taking, to_closing, to_connection, to_linked}
+use Rattle.osi_fair.proofs.Vocabulary.{[], ap, arith, Bool, Err, false, is_some, List, map, None, Ok, Option, refl, Result, Some, subst}
+use Rattle.osi_fair.proofs.Vocabulary.{sym, true, ℕ, ◌++◌, ◌∙◌, ◌∷◌, ◌≡◌, ◌≤◌, ◌⊎◌, eqb-true, AllByRecursion, ◌==◌, acknowledge, confirm}
+use Rattle.osi_fair.proofs.Vocabulary.{data0, data2, destination_of, disconnect, disconnected, error, request, Value, Ends, Flow, all_given}
+use Rattle.osi_fair.proofs.Vocabulary.{Given, Standing, taken, taken_by, unit_of, LinkFault, WrongForm, Class, Two, Local}
+use Rattle.osi_fair.proofs.Vocabulary.{push_other, put_other, without_other, row_here, push_here, put_here, without_here, AreUpTo}
+use Rattle.osi_fair.proofs.Vocabulary.{IsOrderly, RiseFrom, pumped, breaks_in, handed_out, taking, to_closing, to_connection}
+use Rattle.osi_fair.proofs.Vocabulary.{to_linked, put, Rows, value_at, without, asked, closing, Live, linked, packets, Follows, link_now}
+use Rattle.osi_fair.proofs.Vocabulary.{closes_with, put_at, put_for, put_linked, put_taking}
 unfoldable use Rattle.osi_carrier.specs.React.{react}
-use Rattle.osi_carrier.specs.Rows.{Rows, put, value_at, without}
-use Rattle.osi_carrier.specs.State.{State, Connection as Live, asked, closing, linked, packets}
-use Rattle.osi_carrier.specs.declared.ends.EndReason.{EndReason}
-use Rattle.osi_carrier.proofs.references.rows_after_a_change.{push_other, put_other, without_other}
-use Rattle.osi_carrier.proofs.references.what_a_change_leaves_there.{found as row_here, push_here, put_here, without_here}
+use Rattle.osi_carrier.specs.State.{State}
 use Rattle.osi_fair.proofs.each_connection_of_a_called_end.{AreAbove}
-use Rattle.osi_fair.specs.Following.{Follows, link_now}
-use Rattle.osi_fair.specs.Lines.{closes as closes_with}
-use Rattle.osi_fair.specs.Putting.{put_at, put_for, put_linked, put_taking}
 use Rattle.osi_fair.proofs.a_carrier_follows_lines.{put_is, react_is}
-use Rattle.osi_fair.proofs.what_a_called_end_does_to_its_lines.{Leaves, shuts, still}
+use Rattle.osi_fair.proofs.what_a_called_end_does_to_its_lines.{Leaves, still}
 use Rattle.osi_fair.proofs.what_a_carrier_puts.{unit_writes}
 use Rattle.osi_fair.proofs.what_is_live_at_a_called_end.{IsLive, shuts_of}
+use Rattle.osi_fair.proofs.a_run_of_calls_is_events.{no_end}
+use Rattle.osi_fair.proofs.a_dt_of_class_zero_passes.{unlike}
+use Rattle.osi_fair.proofs.what_an_end_does_in_class_zero.{some_is}
+use Rattle.osi_fair.proofs.what_a_called_end_does_to_its_lines.{shuts}
+use Rattle.osi_fair.proofs.Vocabulary.{leaves}
+pub use Rattle.osi_fair.proofs.each_connection_has_its_line.{IsNoCc}
 
 -- ---- the end
 
@@ -53,15 +41,7 @@ pub record Same (s t : State) : Type 0 where
 
 pub called_still : (local : Local) (s t : State) → Same s t → IsOrderly t → ((m : ℕ) → value_at m t.live ≡ Some asked → ⊥) →
     ((m q : ℕ) (l : Standing) → value_at m t.live ≡ Some (linked q l) → s.class ≡ Some Two) → IsCalled local s → IsCalled local t
-called_still local s t same orderly none two c = record {
-  caller = same.caller ∙ c.caller;
-  local_is = same.local_is ∙ c.local_is;
-  class = subst (λ (k : Option Class). (k ≡ None) ⊎ (k ≡ Some Two)) (sym same.class) c.class;
-  orderly = orderly;
-  none = none;
-  two = λ m q l h. same.class ∙ two m q l h;
-  none_given = λ h. same.given ∙ c.none_given (sym same.class ∙ h);
-}
+called_still local s t same orderly none two c = search (arith)
 
 -- ---- what is changed of the live connections
 
@@ -71,33 +51,18 @@ pub data Touch (u : Value) (n : ℕ) (s t : State) : Type 0 where
   drops_row : shuts_of u ≡ Some n → t.live ≡ without n s.live → Touch u n s t
   no_rows : t.live ≡ [] → is_some t.ended ≡ true → Touch u n s t
 
-pub differ : {A : Type 0} (b : Bool) → b ≡ true → b ≡ false → A
-differ b h k = absurd (cc)
-
-pub no_end : {A : Type 0} (o : Option EndReason) → is_some o ≡ true → o ≡ None → A
-no_end o h e = absurd (cc)
-
-pub unlike : (q p : ℕ) → (q == p) ≡ false → q ≡ p → ⊥
-unlike q p h e = differ (q == p) (ap (λ (x : ℕ). x == p) e ∙ eq-eqb p p refl) h
-
-pub same_row : (a b : Live) → Some a ≡ Some b → a ≡ b
-same_row a b e = cc
-
 pub no_row : {A : Type 0} (o : Option Live) (k : Live) → o ≡ None → o ≡ Some k → A
 no_row o k e h = absurd (cc)
 
 pub touch_rows : (u : Value) (n : ℕ) (s t : State) → Touch u n s t → t.ended ≡ None → (m : ℕ) → (m ≡ n → ⊥) → value_at m t.live ≡ value_at
     m s.live
-touch_rows u n s t (same_rows e) lasts m other = ap (λ (l : Rows Live). value_at m l) e
-touch_rows u n s t (puts_row z k here h e) lasts m other = ap (λ (l : Rows Live). value_at m l) e ∙ put_other m n k s.live other
-touch_rows u n s t (drops_row closes e) lasts m other = ap (λ (l : Rows Live). value_at m l) e ∙ without_other m n s.live other
-touch_rows u n s t (no_rows e over) lasts m other = no_end t.ended over lasts
+touch_rows u n s t l lasts m other = grind (arith, put_other, without_other, no_end)
 
 none_by : (u : Value) (n : ℕ) (s t : State) → Touch u n s t → RiseFrom 0 s.live → ((m : ℕ) → value_at m s.live ≡ Some asked → ⊥) →
     (m : ℕ) (b : Bool) → (m == n) ≡ b → value_at m t.live ≡ Some asked → ⊥
 none_by u n s t (same_rows e) rise none m b h there = none m (sym (ap (λ (l : Rows Live). value_at m l) e) ∙ there)
 none_by u n s t (puts_row z k here settled e) rise none m true h there =
-    settled (same_row k asked (sym (put_here n k z s.live here) ∙ sym (ap (λ (l : Rows Live). value_at n l) e)
+    settled (some_is k asked (sym (put_here n k z s.live here) ∙ sym (ap (λ (l : Rows Live). value_at n l) e)
     ∙ ap (λ (i : ℕ). value_at i t.live) (sym (eqb-true m n h)) ∙ there))
 none_by u n s t (puts_row z k here settled e) rise none m false h there =
     none m (sym (put_other m n k s.live (unlike m n h)) ∙ sym (ap (λ (l : Rows Live). value_at m l) e) ∙ there)
@@ -131,10 +96,7 @@ touch_lives u n s t h lasts m live other = lives_by u n s t h lasts m (m == n) r
 
 pushed_by : (r i : ℕ) (z k y : Live) (rows : Rows Live) (b : Bool) → (i == r) ≡ b → value_at r ((i, y) ∷ rows) ≡ Some z →
     (value_at r rows ≡ Some z → value_at r (rows ++ (r, k) ∷ []) ≡ Some z) → value_at r ((i, y) ∷ (rows ++ (r, k) ∷ [])) ≡ Some z
-pushed_by r i z k y rows true e h more =
-    row_here r i y (rows ++ (r, k) ∷ []) true e ∙ sym (row_here r i y rows true e) ∙ h
-pushed_by r i z k y rows false e h more =
-    row_here r i y (rows ++ (r, k) ∷ []) false e ∙ more (sym (row_here r i y rows false e) ∙ h)
+pushed_by r i z k y rows b e h more = grind (arith, row_here)
 
 pushed_still : (r : ℕ) (z k : Live) (rows : Rows Live) → value_at r rows ≡ Some z → value_at r (rows ++ (r, k) ∷ []) ≡ Some z
 pushed_still r z k [] h = cc
@@ -142,11 +104,7 @@ pushed_still r z k ((i, y) ∷ rows) h = pushed_by r i z k y rows (i == r) refl 
 
 push_by : (m r : ℕ) (k : Live) (rows : Rows Live) (b : Bool) → (m == r) ≡ b → is_some (value_at m rows) ≡ true →
     (o : Option Live) → value_at r rows ≡ o → is_some (value_at m (rows ++ (r, k) ∷ [])) ≡ true
-push_by m r k rows false e live o h = ap is_some (push_other m r k rows (unlike m r e)) ∙ live
-push_by m r k rows true e live None h =
-    ap (λ (i : ℕ). is_some (value_at i (rows ++ (r, k) ∷ []))) (eqb-true m r e) ∙ ap is_some (push_here r k rows h)
-push_by m r k rows true e live (Some z) h = ap (λ (i : ℕ). is_some (value_at i (rows ++ (r, k) ∷ []))) (eqb-true m r e)
-    ∙ ap is_some (pushed_still r z k rows h)
+push_by m r k rows b e live o h = grind (arith, push_other, unlike, eqb-true, push_here, pushed_still)
 
 pub push_lives : (m r : ℕ) (k : Live) (rows : Rows Live) → is_some (value_at m rows) ≡ true →
     is_some (value_at m (rows ++ (r, k) ∷ [])) ≡ true
@@ -154,13 +112,8 @@ push_lives m r k rows live = push_by m r k rows (m == r) refl live (value_at r r
 
 -- ---- units that are no CCs
 
-abbrev pub IsNoCc : Value → Type 0
-IsNoCc v = (m : ℕ) (x : Connect) → v ≡ confirm m x → ⊥
-
 unit_no_cc : (q : ℕ) (g : Given) → IsNoCc (unit_of q g)
-unit_no_cc q (part0 end user) m x e = cc
-unit_no_cc q (part2 number end user) m x e = cc
-unit_no_cc q (ack number credit) m x e = cc
+unit_no_cc q g m x e = grind arith
 
 pub units_no_cc : (q : ℕ) (gs : List Given) → AllByRecursion IsNoCc (map (unit_of q) gs)
 units_no_cc q [] = tt
@@ -169,20 +122,10 @@ units_no_cc q (g ∷ gs) = (unit_no_cc q g, units_no_cc q gs)
 taking_no_cc : (n q : ℕ) (result : Result Standing LinkFault) (k : Option Class) → k ≡ Some Two →
     AllByRecursion IsNoCc (put_taking n q result k)
 taking_no_cc n q (Ok link) k e = units_no_cc q (all_given (handed_out link))
-taking_no_cc n q (Err fault) k e =
-    subst (λ (j : Option Class). AllByRecursion IsNoCc (put_taking n q (Err fault) j)) (sym e) (λ m x h. absurd (cc h), tt)
+taking_no_cc n q (Err fault) k e = grind arith
 
 pub linked_no_cc : (n q : ℕ) (l : Standing) (u : Value) (k : Option Class) → k ≡ Some Two → AllByRecursion IsNoCc (put_linked n q l u k)
-linked_no_cc n q l (request x) k e = taking_no_cc n q (taken l (request x)) k e
-linked_no_cc n q l (confirm destination x) k e = taking_no_cc n q (taken l (confirm destination x)) k e
-linked_no_cc n q l (disconnect destination source reason user) k e =
-    subst (λ (j : Option Class). AllByRecursion IsNoCc (put_linked n q l (disconnect destination source reason user) j)) (sym e)
-    (λ m x h. absurd (cc h), tt)
-linked_no_cc n q l (disconnected destination source) k e = taking_no_cc n q (taken l (disconnected destination source)) k e
-linked_no_cc n q l (data0 end user) k e = taking_no_cc n q (taken l (data0 end user)) k e
-linked_no_cc n q l (data2 destination number end user) k e = taking_no_cc n q (taken l (data2 destination number end user)) k e
-linked_no_cc n q l (acknowledge credit destination number) k e = taking_no_cc n q (taken l (acknowledge credit destination number)) k e
-linked_no_cc n q l (error destination cause) k e = taking_no_cc n q (taken l (error destination cause)) k e
+linked_no_cc n q l v k e = grind (arith, taking_no_cc)
 
 -- ---- an open connection
 
@@ -211,9 +154,6 @@ taking_so u n q l (Err fault) s here two =
 
 pub open_so : (n q : ℕ) (l : Standing) (u : Value) (s : State) → value_at n s.live ≡ Some (linked q l) → s.class ≡ Some Two →
     RiseFrom 0 s.live → destination_of u ≡ Some n → OpenSo u n q s (to_linked n q l u s)
-open_so n q l (request x) s here two rise dest = taking_so (request x) n q l (taken l (request x)) s here two
-open_so n q l (confirm destination x) s here two rise dest = taking_so (confirm destination x) n q l (taken l (confirm destination x)) s
-    here two
 open_so n q l (disconnect destination source reason user) s here two rise dest =
     subst (λ (k : Option Class). OpenSo (disconnect destination source reason user) n q s (leaves n q reason k s)) (sym two) (record {
       same = record { caller = refl; local_is = refl; class = refl; given = refl };
@@ -221,20 +161,12 @@ open_so n q l (disconnect destination source reason user) s here two rise dest =
       touch = drops_row dest refl;
       leaves_so = shuts (ap link_now (without_here n s.live rise));
     })
-open_so n q l (disconnected destination source) s here two rise dest = taking_so (disconnected destination source) n q l
-    (taken l (disconnected destination source)) s here two
-open_so n q l (data0 end user) s here two rise dest = taking_so (data0 end user) n q l (taken l (data0 end user)) s here two
-open_so n q l (data2 destination number end user) s here two rise dest = taking_so (data2 destination number end user) n q l
-    (taken l (data2 destination number end user)) s here two
-open_so n q l (acknowledge credit destination number) s here two rise dest = taking_so (acknowledge credit destination number) n q l
-    (taken l (acknowledge credit destination number)) s here two
-open_so n q l (error destination cause) s here two rise dest = taking_so (error destination cause) n q l
-    (taken l (error destination cause)) s here two
+open_so n q l v s here two rise dest = taking_so v n q l
+    (taken l v) s here two
 
 -- the link refuses a DC
 dc_refused : (e : Ends) (flow : Option Flow) (m n : ℕ) → taken_by e flow (disconnected m n) ≡ Err WrongForm
-dc_refused e None m n = refl
-dc_refused e (Some flow) m n = refl
+dc_refused e flow m n = grind arith
 
 -- so the end closes the connection, as its user might
 pub dc_follows : (n q m i : ℕ) (k : Standing) (s : State) → value_at n s.live ≡ Some (linked q k) → s.class ≡ Some Two → s.ended ≡ None →
@@ -268,24 +200,11 @@ dc_follows n q m i k s here two was dest =
 -- ---- a connection that is closing, or gone
 
 pub closing_touches : (n : ℕ) (u : Value) (s : State) → destination_of u ≡ Some n → Touch u n s (to_closing n u s)
-closing_touches n (request x) s dest = same_rows refl
-closing_touches n (confirm destination x) s dest = same_rows refl
-closing_touches n (disconnect destination source reason user) s dest = drops_row dest refl
-closing_touches n (disconnected destination source) s dest = drops_row dest refl
-closing_touches n (data0 end user) s dest = same_rows refl
-closing_touches n (data2 destination number end user) s dest = same_rows refl
-closing_touches n (acknowledge credit destination number) s dest = same_rows refl
-closing_touches n (error destination cause) s dest = same_rows refl
+closing_touches n u s dest = grind arith
 
 pub closing_same : (n : ℕ) (u : Value) (s : State) → Same s (to_closing n u s) × ((to_closing n u s).ended ≡ s.ended)
 closing_same n (request x) s = (record { caller = refl; local_is = refl; class = refl; given = refl }, refl)
-closing_same n (confirm destination x) s = (record { caller = refl; local_is = refl; class = refl; given = refl }, refl)
-closing_same n (disconnect destination source reason user) s = (record { caller = refl; local_is = refl; class = refl; given = refl }, refl)
-closing_same n (disconnected destination source) s = (record { caller = refl; local_is = refl; class = refl; given = refl }, refl)
-closing_same n (data0 end user) s = (record { caller = refl; local_is = refl; class = refl; given = refl }, refl)
-closing_same n (data2 destination number end user) s = (record { caller = refl; local_is = refl; class = refl; given = refl }, refl)
-closing_same n (acknowledge credit destination number) s = (record { caller = refl; local_is = refl; class = refl; given = refl }, refl)
-closing_same n (error destination cause) s = (record { caller = refl; local_is = refl; class = refl; given = refl }, refl)
+closing_same n _ s = (record { caller = refl; local_is = refl; class = refl; given = refl }, refl)
 
 -- ---- references
 

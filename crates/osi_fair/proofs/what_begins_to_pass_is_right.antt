@@ -1,83 +1,41 @@
 -- A unit of an end is right by all that has passed of the other side when its packet begins.
 -- For the laws on a line.
-use Rattle.std.proofs.Common.{◌≡◌, ◌∙◌, ℕ, ◌+◌, ◌%◌, ◌<◌, ◌≤◌, Bool, true, false, List, [], ◌∷◌, length, arith, refl, sym}
-use Rattle.std.proofs.Common.{Option, Some, None, IfSome, ◌≢◌}
-use Rattle.std.specs.Prelude.{not, ◌&&◌, ◌||◌, ◌==◌}
-use Rattle.std.proofs.lemmas.Bool.{eq-eqb, le-leb, lt-ltb}
-use Rattle.osi_tpdu.specs.Value.{Value, request, confirm, disconnect, disconnected, data0, data2, acknowledge, error}
-use Rattle.osi_class.specs.Limits.{longest_tsdu}
-use Rattle.osi_class.specs.Link.{Standing}
-use Rattle.osi_rules.specs.declared.connections.Connection.{Connection}
-use Rattle.osi_rules.specs.declared.directions.Direction.TheVariants.{Left}
-use Rattle.osi_rules.specs.declared.halves.Phase.{Phase}
-use Rattle.osi_rules.specs.declared.halves.Phase.TheVariants.{Silent, Open, Refused, Closing, Closed}
-use Rattle.osi_rules.specs.declared.findings.Finding.TheVariants.{Kept}
-use Rattle.osi_rules.specs.Rows.{first_failed, steps_from, fits_size, data2_tests, acknowledge_tests, disconnect_tests}
-use Rattle.osi_rules.specs.Rows.{disconnected_tests, is_due}
-use Rattle.osi_rules.specs.Sides.{is_silent, is_open, is_refused, is_closing, is_closed, is_over, is_named, begins}
-use Rattle.osi_fair.specs.Lines.{IsRightNow}
+use Rattle.osi_fair.proofs.Vocabulary.{[], arith, Bool, false, IfSome, length, List, Option, refl, sym, true, ℕ, ◌%◌, ◌+◌, ◌<◌}
+use Rattle.osi_fair.proofs.Vocabulary.{◌∙◌, ◌∷◌, ◌≡◌, ◌≢◌, ◌≤◌, eq-eqb, le-leb, lt-ltb, not, ◌&&◌, ◌==◌, ◌||◌, acknowledge, data2}
+use Rattle.osi_fair.proofs.Vocabulary.{disconnect, disconnected, Value, longest_tsdu, Standing, acknowledge_tests, data2_tests}
+use Rattle.osi_fair.proofs.Vocabulary.{disconnect_tests, disconnected_tests, first_failed, fits_size, is_due, steps_from, begins, is_closed}
+use Rattle.osi_fair.proofs.Vocabulary.{is_closing, is_named, is_open, is_refused, is_silent, Connection, Left, Kept, Phase}
+use Rattle.osi_fair.proofs.Vocabulary.{IsRightNow, request, confirm, data0, error}
+use Rattle.osi_fair.proofs.small_facts_that_many_lemmas_use.{and_false, or_last}
 use Rattle.osi_fair.proofs.what_is_right_passes_each_test.{is_right}
 use Rattle.osi_fair.proofs.units_in_flight.{Puts}
-use Rattle.osi_fair.proofs.what_holds_of_a_line.{Tally, Ordered, OpenIfAny, PutsAt, bounds_of, ends_so, is_there, shut, tapped}
+use Rattle.osi_fair.proofs.what_holds_of_a_line.{Tally, Ordered, OpenIfAny, PutsAt, bounds_of, is_there, tapped}
+use Rattle.osi_fair.proofs.how_a_connection_opens.{both, or_left}
 
 -- ---- phases
 
 pub not_silent : (phase : Phase) → is_open phase ≡ true → not (is_silent phase) ≡ true
-not_silent Silent h = cc
-not_silent Open h = refl
-not_silent Refused h = refl
-not_silent Closing h = refl
-not_silent Closed h = refl
-
-and_false : (b : Bool) → (b && false) ≡ false
-and_false true = refl
-and_false false = refl
+not_silent phase h = grind arith
 
 not_over : (judged : Bool) (mine known : Phase) → is_open mine ≡ true → is_there known ≡ true →
     (judged && (is_refused mine || (is_refused known || (is_closed mine
     || (is_closing mine && (is_closing known || is_closed known)))))) ≡ false
-not_over judged Open Open h k = and_false judged
-not_over judged Open Closing h k = and_false judged
-not_over judged Open Closed h k = and_false judged
-not_over judged Open Silent h k = cc
-not_over judged Open Refused h k = cc
-not_over judged Silent known h k = cc
-not_over judged Refused known h k = cc
-not_over judged Closing known h k = cc
-not_over judged Closed known h k = cc
+not_over judged mine known h k = grind (arith, and_false)
 
 there_is : (known : Phase) → is_there known ≡ true → not (is_silent known) ≡ true
-there_is Silent h = cc
-there_is Open h = refl
-there_is Refused h = refl
-there_is Closing h = refl
-there_is Closed h = refl
+there_is known h = grind arith
 
 all_of : (a b c : Bool) → a ≡ false → b ≡ true → c ≡ true → (not a && (b && c)) ≡ true
 all_of a b c e f g = rw (e, f, g) refl
 
-or_right : (a b : Bool) → b ≡ true → (a || b) ≡ true
-or_right true b h = refl
-or_right false b h = h
-
-both : (a b : Bool) → a ≡ true → b ≡ true → (a && b) ≡ true
-both a b h k = rw (h, k) refl
-
-or_left : (a b : Bool) → a ≡ true → (a || b) ≡ true
-or_left a b h = rw h refl
-
 -- a unit with the reference that the other side gave is for the connection
 is_named_so : (c : Connection) (peer n : ℕ) → is_open c.left.phase ≡ true → is_there c.seen_by_left.phase ≡ true →
     c.seen_by_left.reference ≡ peer → n ≡ peer → is_named Left n c ≡ true
-is_named_so c peer n live there reference e =
-    all_of (is_over Left c) (not (is_silent c.seen_by_left.phase)) (c.seen_by_left.reference == n)
-    (not_over c.is_judged c.left.phase c.seen_by_left.phase live there) (there_is c.seen_by_left.phase there)
-    (eq-eqb c.seen_by_left.reference n (reference ∙ sym e))
+is_named_so c peer n live there reference e = grind (arith, all_of, not_over, there_is, eq-eqb)
 
 fits_so : (size : Option ℕ) (limit octets : ℕ) → IfSome size (λ most. limit + 5 ≤ most) → octets ≤ limit →
     fits_size size (octets + 5) ≡ true
-fits_so None limit octets h k = refl
-fits_so (Some most) limit octets h k = le-leb (octets + 5) most (omega arith)
+fits_so size limit octets h k = grind (arith, le-leb)
 
 module _ (r peer limit : ℕ) (x : Tally) (noted : ℕ) (tap : Connection) (o : Ordered x noted) (t : tapped r peer limit x noted tap)
     (live : is_open tap.left.phase ≡ true) where
@@ -133,7 +91,7 @@ module _ (r peer limit : ℕ) (x : Tally) (noted : ℕ) (tap : Connection) (o : 
       )
 
   disconnect_right : first_failed (disconnect_tests Left known) ≡ Kept
-  disconnect_right = is_right (disconnect_tests Left known) (or_right (is_silent tap.left.phase) (is_open tap.left.phase) live, tt)
+  disconnect_right = is_right (disconnect_tests Left known) (or_last (is_silent tap.left.phase) (is_open tap.left.phase) live, tt)
 
   -- the DC has this side's reference, and answers a DR that has passed
   disconnected_right : (source : ℕ) (strays : Bool) → source ≡ r → is_closing tap.right.phase ≡ true →
@@ -170,13 +128,9 @@ module _ (r peer limit : ℕ) (x : Tally) (noted : ℕ) (tap : Connection) (o : 
   first_right closed e (error destination cause ∷ units) some h = absurd h
 
 open_now : (put : List Value) (phase : Phase) → put ≢ [] → OpenIfAny put phase → is_open phase ≡ true
-open_now [] phase some h = absurd (some refl)
-open_now (unit ∷ units) phase some h = h
+open_now put phase some h = grind arith
 
 pub begins_right : (r peer limit : ℕ) (x : Tally) (noted : ℕ) (tap : Connection) → Ordered x noted → tapped r peer limit x noted tap →
     (put : List Value) (link : Option Standing) → put ≢ [] → PutsAt r peer limit x tap.left tap.right put link →
     IsRightNow Left (begins Left tap) put
-begins_right r peer limit x noted tap o t put None some (h, k) =
-    first_right r peer limit x noted tap o t (open_now put tap.left.phase some k) true (shut tap.left.phase) put some h
-begins_right r peer limit x noted tap o t put (Some link) some (h, k) =
-    first_right r peer limit x noted tap o t k false (ends_so x.sent link.ends.unsent) put some h
+begins_right r peer limit x noted tap o t put link some l = grind (arith, first_right, open_now)

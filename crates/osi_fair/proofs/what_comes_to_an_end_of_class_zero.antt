@@ -1,36 +1,18 @@
 -- A unit of the other side passes at the tap of a called end that has selected class 0: right has sent what it had.
 -- For the law on a whole called end.
-use Rattle.std.proofs.Common.{◌≡◌, ◌∙◌, ◌≤◌, ◌+◌, ℕ, zero, suc, Bool, true, false, List, [], ◌∷◌, ◌++◌, set, refl, sym, ap, subst}
-use Rattle.std.proofs.Common.{drop, IfSome, Option, Some, None, inl, inr, ◌⊎◌, if◌then◌else◌, is_some}
-use Rattle.std.specs.Prelude.{◌&&◌, ◌||◌, ◌==◌, not, slice_get}
-use Rattle.std.specs.List.{list_all}
-use Rattle.std.proofs.lemmas.Bool.{eq-eqb, eqb-true}
-use Rattle.osi_tpdu.specs.Value.{Value, Connect, request, confirm, disconnect, disconnected, data0, data2, acknowledge, error}
-use Rattle.osi_class.specs.declared.terms.Class.{Class}
-use Rattle.osi_class.specs.declared.terms.Class.TheVariants.{Zero}
-use Rattle.osi_class.specs.declared.terms.Local.{Local}
-use Rattle.osi_rules.specs.declared.connections.Connection.{Connection}
-use Rattle.osi_rules.specs.declared.courses.Course.{Course}
-use Rattle.osi_rules.specs.declared.directions.Direction.TheVariants.{Left}
-use Rattle.osi_rules.specs.declared.findings.Finding.{Finding}
-use Rattle.osi_rules.specs.declared.findings.Finding.TheVariants.{Broke, Kept, NotJudged}
-use Rattle.osi_rules.specs.declared.findings.Reach.{Reach}
+use Rattle.osi_fair.proofs.Vocabulary.{[], ap, Bool, drop, false, IfSome, if◌then◌else◌, inl, inr, is_some, List, None, Option, refl, set}
+use Rattle.osi_fair.proofs.Vocabulary.{Some, subst, suc, sym, true, zero, ℕ, ◌++◌, ◌+◌, ◌∙◌, ◌∷◌, ◌≡◌, ◌≤◌, ◌⊎◌, eqb-true, list_all, not}
+use Rattle.osi_fair.proofs.Vocabulary.{slice_get, ◌&&◌, ◌==◌, ◌||◌, confirm, Connect, disconnect, disconnected, error, request, Value}
+use Rattle.osi_fair.proofs.Vocabulary.{Class, Zero, Local, is_applied, reach_of, first_failed, Test, is_named, is_open, is_over, is_over_by}
+use Rattle.osi_fair.proofs.Vocabulary.{is_refused, is_silent, closing_phase, connection_after, course_after, found_on, half_after}
+use Rattle.osi_fair.proofs.Vocabulary.{judged_on, one_told, Outcome, reached, request_tests, sent_on, Traffic, takes, Connection, Course}
+use Rattle.osi_fair.proofs.Vocabulary.{Left, Finding, Broke, Kept, NotJudged, Reach, Half, Phase, Refused, Silent, opened_half}
+use Rattle.osi_fair.proofs.Vocabulary.{unit as passing, Whole}
 use Rattle.osi_rules.specs.declared.findings.Reach.TheVariants as reach
 use Rattle.osi_rules.specs.declared.findings.Rule.TheVariants as rule
-use Rattle.osi_rules.specs.declared.halves.Half.{Half}
-use Rattle.osi_rules.specs.declared.halves.Phase.{Phase}
-use Rattle.osi_rules.specs.declared.halves.Phase.TheVariants.{Silent, Open, Refused, Closing, Closed}
-use Rattle.osi_rules.specs.Reaches.{is_applied, reach_of}
-use Rattle.osi_rules.specs.Rows.{Test, first_failed}
-use Rattle.osi_rules.specs.Sides.{is_named, is_open, is_over, is_over_by, is_refused, is_silent}
-use Rattle.osi_rules.specs.Traffic.{Outcome, State as Traffic, closing_phase, connection_after, course_after, found_on, half_after}
-use Rattle.osi_rules.specs.Traffic.{judged_on, one_told, reached, request_tests, sent_on, takes}
-use Rattle.osi_fair.specs.Lines.{opened_half}
-use Rattle.osi_fair.specs.Naming.{unit as passing}
-use Rattle.osi_fair.specs.Wholes.{Whole}
+use Rattle.osi_fair.proofs.small_facts_that_many_lemmas_use.{and_first, and_second, differ, item_is, seen_after, set_other}
 use Rattle.osi_fair.proofs.all_are_judged_unless_one_broke.{IsJudged}
 use Rattle.osi_fair.proofs.each_connection_of_a_called_end.{Asked}
-use Rattle.osi_fair.proofs.how_a_unit_of_right_passes.{differ}
 use Rattle.osi_fair.proofs.left_selects_no_class.{left_class}
 use Rattle.osi_fair.proofs.what_an_end_does_in_class_zero.{IsInZero}
 use Rattle.osi_fair.proofs.what_comes_to_a_called_end.{open_over}
@@ -38,55 +20,34 @@ use Rattle.osi_fair.proofs.what_holds_of_a_line.{is_there}
 use Rattle.osi_fair.proofs.what_holds_of_one_item.{HoldsOfEach}
 use Rattle.osi_fair.proofs.what_keeps_names_apart.{AreApart}
 use Rattle.osi_fair.proofs.what_lasts_at_the_tap.{lasts_passing}
-use Rattle.osi_fair.proofs.what_stays_of_each_connection.{right_then}
+use Rattle.osi_fair.proofs.what_stays_of_each_connection.{left_judged, right_then}
 use Rattle.osi_fair.proofs.which_unit_comes_to_a_called_end.{Came, IsCalm, asks_so, calm_before, came_so, for_one, lost, only}
 use Rattle.osi_fair.proofs.while_no_class_is_selected.{after_change, set_there}
 use Rattle.osi_fair.proofs.a_called_end_selects_class_zero.{Selected, Selecting}
+use Rattle.osi_fair.proofs.a_dt_of_class_zero_passes.{unlike}
+use Rattle.osi_fair.proofs.a_unit_comes_to_a_called_end.{cc_not_applied}
 
 -- ---- small facts
-
-set_other : {X : Type 0} (xs : List X) (p i : ℕ) (x y : X) → (i ≡ p → ⊥) → slice_get xs i ≡ Some y → slice_get (set xs p x) i ≡ Some y
-set_other [] p i x y other h = absurd (cc)
-set_other (z ∷ xs) zero zero x y other h = absurd (other refl)
-set_other (z ∷ xs) zero (suc i) x y other h = h
-set_other (z ∷ xs) (suc p) zero x y other h = h
-set_other (z ∷ xs) (suc p) (suc i) x y other h = set_other xs p i x y (λ e. other (ap suc e)) h
-
-item_is : {X : Type 0} (x y : X) (o : Option X) → o ≡ Some x → o ≡ Some y → x ≡ y
-item_is x y o h k = cc
-
-unlike : (q p : ℕ) → (q == p) ≡ false → q ≡ p → ⊥
-unlike q p h e = differ (q == p) (ap (λ (x : ℕ). x == p) e ∙ eq-eqb p p refl) h
 
 named_not : (a b c : Bool) → (not a && (not b && c)) ≡ true → b ≡ false
 named_not false false c h = refl
 named_not false true c h = cc
 named_not true b c h = cc
 
-second_of : (a b : Bool) → (a && b) ≡ true → b ≡ true
-second_of true b h = h
-second_of false b h = cc
-
-all_first : (a b : Bool) → (a && b) ≡ true → a ≡ true
-all_first true b h = refl
-all_first false b h = cc
-
 all_there : (f : Connection → Bool) (cs : List Connection) (p : ℕ) (c : Connection) → list_all f cs ≡ true → slice_get cs p ≡ Some c →
     f c ≡ true
 all_there f [] p c h at = absurd (cc)
-all_there f (x ∷ xs) zero c h at = ap f (sym (item_is x c (Some x) refl at)) ∙ all_first (f x) (list_all f xs) h
-all_there f (x ∷ xs) (suc p) c h at = all_there f xs p c (second_of (f x) (list_all f xs) h) at
+all_there f (x ∷ xs) zero c h at = ap f (sym (item_is x c (Some x) refl at)) ∙ and_first (f x) (list_all f xs) h
+all_there f (x ∷ xs) (suc p) c h at = all_there f xs p c (and_second (f x) (list_all f xs) h) at
 
 closing_there : (was : Bool) (half : Half) → was ≡ false → is_there (closing_phase was half).phase ≡ true
 closing_there true half h = cc
 closing_there false half h = refl
 
 there_started : (p : Phase) → is_there p ≡ true → is_silent p ≡ false
-there_started Open h = refl
-there_started Closing h = refl
-there_started Closed h = refl
 there_started Silent h = cc
 there_started Refused h = cc
+there_started _ h = refl
 
 wrong_applied : {A : Type 0} (j a : Bool) → a ≡ false → is_applied (if j then first_failed ((a, Broke rule.WrongForm)
     ∷ []) else NotJudged) ≡ true → A
@@ -94,66 +55,39 @@ wrong_applied true true e h = absurd (cc e)
 wrong_applied true false e h = absurd (cc h)
 wrong_applied false a e h = absurd (cc h)
 
-cc_applied : {A : Type 0} (j : Bool) → is_applied (if j then Broke rule.WrongForm else NotJudged) ≡ true → A
-cc_applied true h = absurd (cc h)
-cc_applied false h = absurd (cc h)
-
-judged_left : (r : Reach) (c : Connection) → (judged_on r c).left ≡ c.left
-judged_left reach.Nothing c = refl
-judged_left reach.Connection c = refl
-judged_left reach.Side c = refl
-judged_left reach.Everything c = refl
-
 sent_left : (v : Value) (c : Connection) → (sent_on Left v c).left ≡ half_after v c.left
 sent_left (request x) c = refl
-sent_left (confirm destination x) c = refl
-sent_left (disconnect destination source reason user) c = refl
-sent_left (disconnected destination source) c = refl
-sent_left (data0 end user) c = refl
-sent_left (data2 destination number end user) c = refl
-sent_left (acknowledge credit destination number) c = refl
-sent_left (error destination cause) c = refl
+sent_left _ c = refl
 
 there_half : (s : Traffic) (c : Connection) (v : Value) → is_applied (found_on Left s c v) ≡ true → is_there c.left.phase ≡ true →
     is_there (half_after v c.left).phase ≡ true
-there_half s c (request x) e h = h
 there_half s c (confirm destination x) e h = refl
 there_half s c (disconnect destination source reason user) e h =
     closing_there (is_silent c.left.phase) c.left (there_started c.left.phase h)
 there_half s c (disconnected destination source) e h = refl
-there_half s c (data0 end user) e h = h
-there_half s c (data2 destination number end user) e h = h
-there_half s c (acknowledge credit destination number) e h = h
 there_half s c (error destination cause) e h = wrong_applied c.is_judged (is_silent c.left.phase) (there_started c.left.phase h) e
+there_half s c _ e h = h
 
 size_sent : (v : Value) (c : Connection) → ((m : ℕ) (x : Connect) → v ≡ confirm m x → ⊥) → (sent_on Left v c).size ≡ c.size
-size_sent (request x) c none = refl
 size_sent (confirm destination x) c none = absurd (none destination x refl)
-size_sent (disconnect destination source reason user) c none = refl
-size_sent (disconnected destination source) c none = refl
-size_sent (data0 end user) c none = refl
-size_sent (data2 destination number end user) c none = refl
-size_sent (acknowledge credit destination number) c none = refl
-size_sent (error destination cause) c none = refl
+size_sent _ c none = refl
 
 size_judged : (r : Reach) (c : Connection) → (judged_on r c).size ≡ c.size
 size_judged reach.Nothing c = refl
-size_judged reach.Connection c = refl
-size_judged reach.Side c = refl
-size_judged reach.Everything c = refl
+size_judged _ c = refl
 
 size_after : (s : Traffic) (c : Connection) (v : Value) (applied : Bool) (r : Reach) → is_applied (found_on Left s c v) ≡ applied →
     (connection_after Left v applied r c).size ≡ c.size
 size_after s c v false r e = size_judged r c
 size_after s c v true r e = size_judged r (sent_on Left v c)
-    ∙ size_sent v c (λ m x is. cc_applied c.is_judged (ap (λ (u : Value). is_applied (found_on Left s c u)) (sym is) ∙ e))
+    ∙ size_sent v c (λ m x is. cc_not_applied c.is_judged (ap (λ (u : Value). is_applied (found_on Left s c u)) (sym is) ∙ e))
 
 -- left has not refused it, whatever it sends
 there_after : (s : Traffic) (c : Connection) (v : Value) (applied : Bool) (r : Reach) → is_applied (found_on Left s c v) ≡ applied →
     is_there c.left.phase ≡ true → is_there (connection_after Left v applied r c).left.phase ≡ true
-there_after s c v false r e h = ap (λ (x : Half). is_there x.phase) (judged_left r c) ∙ h
+there_after s c v false r e h = ap (λ (x : Half). is_there x.phase) (left_judged r c) ∙ h
 there_after s c v true r e h =
-    ap (λ (x : Half). is_there x.phase) (judged_left r (sent_on Left v c) ∙ sent_left v c) ∙ there_half s c v e h
+    ap (λ (x : Half). is_there x.phase) (left_judged r (sent_on Left v c) ∙ sent_left v c) ∙ there_half s c v e h
 
 cr_by : (seen all : Bool) (ts : List Test) → seen ≡ false → first_failed ((seen || all, Broke rule.Negotiating) ∷ ts) ≡ Kept → all ≡ true
 cr_by true all ts e h = cc
@@ -164,20 +98,7 @@ cr_by false false ts e h = cc
 
 reached_seen : (r : Reach) (c : Course) → (reached Left r c).class_seen ≡ c.class_seen
 reached_seen reach.Nothing c = refl
-reached_seen reach.Connection c = refl
-reached_seen reach.Side c = refl
-reached_seen reach.Everything c = refl
-
-after_seen : (c : Connection) (v : Value) (b : Bool) (course : Course) → (course_after Left c v b course).class_seen ≡ course.class_seen
-after_seen c (request x) b course = refl
-after_seen c (confirm destination x) true course = refl
-after_seen c (confirm destination x) false course = refl
-after_seen c (disconnect destination source reason user) b course = refl
-after_seen c (disconnected destination source) b course = refl
-after_seen c (data0 end user) b course = refl
-after_seen c (data2 destination number end user) b course = refl
-after_seen c (acknowledge credit destination number) b course = refl
-after_seen c (error destination cause) b course = refl
+reached_seen _ c = refl
 
 module _ (w : Whole) (apart : AreApart w.tap.connections) (judged : HoldsOfEach IsJudged w.tap.connections) (v : Value)
     (calm_after : IsCalm (takes Left v w.tap).state.course) where
@@ -196,10 +117,10 @@ module _ (w : Whole) (apart : AreApart w.tap.connections) (judged : HoldsOfEach 
   not_over p c at there up h =
       let s = apart.sound p c at (judged p c at) in
       open_over c.left.phase c.seen_by_left.phase c.right.phase up there s.left_knows.refused s.left_knows.closing s.left_knows.closed
-      s.left_closed (second_of c.is_judged (is_over_by c.left c.seen_by_left) h)
+      s.left_closed (and_second c.is_judged (is_over_by c.left c.seen_by_left) h)
 
   asked_live : (x : Connect) (c : Connection) → Asked x c → is_over Left c ≡ true → ⊥
-  asked_live x c a h = differ (is_over_by c.left c.seen_by_left) (second_of c.is_judged (is_over_by c.left c.seen_by_left) h)
+  asked_live x c a h = differ (is_over_by c.left c.seen_by_left) (and_second c.is_judged (is_over_by c.left c.seen_by_left) h)
       (ap (λ (k : Half). is_over_by k c.seen_by_left) a.left ∙ ap (λ (k : Half). is_over_by (opened_half x.source x.credit) k) a.known)
 
   -- no other CR is right while one waits
@@ -226,7 +147,7 @@ module _ (w : Whole) (apart : AreApart w.tap.connections) (judged : HoldsOfEach 
 
     seen_same : (takes Left v w.tap).state.course.class_seen ≡ w.tap.course.class_seen
     seen_same = ap (λ (o : Outcome). o.state.course.class_seen) is
-        ∙ reached_seen far (course_after Left e v (is_applied found_so) w.tap.course) ∙ after_seen e v (is_applied found_so) w.tap.course
+        ∙ reached_seen far (course_after Left e v (is_applied found_so) w.tap.course) ∙ seen_after e v (is_applied found_so) w.tap.course
 
     next_right : next.right ≡ e.right
     next_right = right_then v (is_applied found_so) far e

@@ -1,29 +1,20 @@
 -- Each unit of the other side, by what is found of it: it has its effect, or none, or the connection is not judged any more.
 -- For the laws on a line.
-use Rattle.std.proofs.Common.{◌≡◌, ◌≢◌, ◌∙◌, ℕ, ◌+◌, ◌<◌, Bool, true, false, List, [], ◌∷◌, ◌++◌, length, refl, sym, ap, subst}
-use Rattle.std.proofs.Common.{Option, Some, if◌then◌else◌, ◌⊎◌, inl, inr}
-use Rattle.std.specs.Prelude.{not, ◌&&◌, ◌||◌, ◌==◌}
-use Rattle.osi_tpdu.specs.Value.{Value, request, confirm, disconnect, disconnected, data0, data2, acknowledge, error}
-use Rattle.osi_tpdu.specs.Value.{HasFieldsInRange, destination_of}
-use Rattle.osi_class.specs.Link.{Standing}
-use Rattle.osi_class.specs.declared.terms.Class.TheVariants.{Two}
-use Rattle.osi_rules.specs.declared.connections.Connection.{Connection}
-use Rattle.osi_rules.specs.declared.courses.Course.{Course}
-use Rattle.osi_rules.specs.declared.directions.Direction.TheVariants.{Left, Right}
-use Rattle.osi_rules.specs.declared.findings.Finding.{Finding}
-use Rattle.osi_rules.specs.declared.findings.Finding.TheVariants.{Kept, Broke, NotJudged}
-use Rattle.osi_rules.specs.declared.findings.Reach.{Reach}
+use Rattle.osi_fair.proofs.Vocabulary.{arith}
+use Rattle.osi_fair.proofs.Vocabulary.{[], ap, Bool, false, if◌then◌else◌, inl, inr, length, List, Option, Some, subst, sym, true, ℕ}
+use Rattle.osi_fair.proofs.Vocabulary.{◌++◌, ◌+◌, ◌<◌, ◌∙◌, ◌∷◌, ◌≡◌, ◌≢◌, ◌⊎◌, not, ◌&&◌, ◌==◌, ◌||◌, acknowledge, confirm, data2}
+use Rattle.osi_fair.proofs.Vocabulary.{destination_of, disconnect, disconnected, error, HasFieldsInRange, Value, Standing, Two, is_applied}
+use Rattle.osi_fair.proofs.Vocabulary.{reach_of, first_failed, fits_size, fits_tsdu, has_credit, has_passed, is_due, is_tellable}
+use Rattle.osi_fair.proofs.Vocabulary.{keeps_credit, Test, is_closing, is_open, is_silent, connection_after, found, sent_on}
+use Rattle.osi_fair.proofs.Vocabulary.{Connection, Course, Left, Right, Finding, Broke, NotJudged, Reach, Phase, Closed}
+use Rattle.osi_fair.proofs.Vocabulary.{Acts, after_finding, finding_of, Line}
 use Rattle.osi_rules.specs.declared.findings.Reach.TheVariants as reach
 use Rattle.osi_rules.specs.declared.findings.Rule.TheVariants as rule
-use Rattle.osi_rules.specs.declared.halves.Phase.{Phase}
-use Rattle.osi_rules.specs.declared.halves.Phase.TheVariants.{Silent, Open, Refused, Closing, Closed}
-use Rattle.osi_rules.specs.Reaches.{is_applied, reach_of}
-use Rattle.osi_rules.specs.Rows.{Test, first_failed, has_credit, has_passed, keeps_credit, fits_size, fits_tsdu, is_tellable, is_due}
-use Rattle.osi_rules.specs.Sides.{is_silent, is_open, is_closing}
-use Rattle.osi_rules.specs.Traffic.{found, sent_on, closing_phase, connection_after}
-use Rattle.osi_fair.specs.Lines.{Line, passes_other, Acts, finding_of, after_finding}
+use Rattle.osi_fair.specs.Lines.{passes_other}
+use Rattle.osi_fair.proofs.small_facts_that_many_lemmas_use.{and_first, and_second}
 use Rattle.osi_fair.proofs.what_holds_of_a_line.{Tally, Ordered, PutsAt, TakesAt, Holds, is_there, tapped}
 use Rattle.osi_fair.proofs.what_passes_of_the_other_side.{Went, goes_same, data_goes, ack_goes, ends_goes}
+use Rattle.osi_fair.proofs.Vocabulary.{refl, Kept}
 
 -- ---- what comes of a finding
 
@@ -38,8 +29,7 @@ Loses f = (is_applied f ≡ false) × (reach_of (Some Two) f ≡ reach.Connectio
 
 after_is : (f : Finding) (a : Bool) (r : Reach) (v : Value) (c : Connection) → is_applied f ≡ a → reach_of (Some Two) f ≡ r →
     after_finding Right f v c ≡ connection_after Right v a r c
-after_is f a r v c e g =
-    ap (λ (b : Bool). connection_after Right v b (reach_of (Some Two) f) c) e ∙ ap (λ (q : Reach). connection_after Right v a q c) g
+after_is f a r v c e g = grind arith
 
 applied_after : (f : Finding) (v : Value) (c : Connection) → Applies f → sent_on Right v c ≡ after_finding Right f v c
 applied_after f v c (e, g) = sym (after_is f true reach.Nothing v c e g)
@@ -48,10 +38,7 @@ left_after : (f : Finding) (v : Value) (c : Connection) → Leaves f → c ≡ a
 left_after f v c (e, g) = sym (after_is f false reach.Nothing v c e g)
 
 lost_after : (f : Finding) (v : Value) (c : Connection) → Loses f → (after_finding Right f v c).is_judged ≡ true → ⊥
-lost_after f v c (e, g) judged =
-    let no : (after_finding Right f v c).is_judged ≡ false = ap (λ (d : Connection). d.is_judged)
-    (after_is f false reach.Connection v c e g) in
-    cc
+lost_after f v c h judged = grind (arith, after_is)
 
 loses_as : (f g : Finding) → f ≡ g → Loses g → Loses f
 loses_as f g e (a, b) = (ap is_applied e ∙ a, ap (λ (h : Finding). reach_of (Some Two) h) e ∙ b)
@@ -69,69 +56,35 @@ Fate live tells f = (reach_of (Some Two) f ≡ reach.Everything) ⊎ (((live ≡
     × (tells ≡ true) × Applies f)))
 
 data_fate : (s o n t u k z : Bool) → Fate o t (first_failed (data_list s o n t u k z))
-data_fate false o n t u k z = inl refl
-data_fate true false n t u k z = inr (inl (refl, (refl, refl)))
-data_fate true true false t u k z = inr (inr (inl (refl, refl)))
-data_fate true true true false u k z = inr (inr (inl (refl, refl)))
-data_fate true true true true false k z = inr (inr (inl (refl, refl)))
-data_fate true true true true true false z = inr (inr (inr (refl, refl, (refl, refl))))
-data_fate true true true true true true false = inr (inr (inr (refl, refl, (refl, refl))))
-data_fate true true true true true true true = inr (inr (inr (refl, refl, (refl, refl))))
+data_fate s o n t u k z = grind arith
 
 abbrev ack_list : (s o h k : Bool) → List Test
 ack_list s o h k =
     (s, Broke rule.UnknownReference) ∷ (o, Broke rule.Closed) ∷ (h, Broke rule.OutOfSequence) ∷ (k, Broke rule.CreditReduced) ∷ []
 
 ack_fate : (s o h k : Bool) → Fate o (h && k) (first_failed (ack_list s o h k))
-ack_fate false o h k = inl refl
-ack_fate true false h k = inr (inl (refl, (refl, refl)))
-ack_fate true true false k = inr (inr (inl (refl, refl)))
-ack_fate true true true false = inr (inr (inl (refl, refl)))
-ack_fate true true true true = inr (inr (inr (refl, refl, (refl, refl))))
+ack_fate s o h k = grind arith
 
 -- a DR of a side that is there
 disconnect_fate : (phase : Phase) → is_there phase ≡ true →
     ((is_open phase ≡ false) × Leaves (first_failed ((is_silent phase || is_open phase, Broke rule.Closed) ∷ [])))
     ⊎ ((is_open phase ≡ true) × (is_silent phase ≡ false)
     × Applies (first_failed ((is_silent phase || is_open phase, Broke rule.Closed) ∷ [])))
-disconnect_fate Silent h = cc
-disconnect_fate Refused h = cc
-disconnect_fate Open h = inr (refl, refl, (refl, refl))
-disconnect_fate Closing h = inl (refl, (refl, refl))
-disconnect_fate Closed h = inl (refl, (refl, refl))
+disconnect_fate phase h = grind arith
 
 disconnected_fate : (due strays : Bool) →
     (let f = first_failed ((due || not strays, NotJudged) ∷ (due, Broke rule.NothingToAnswer) ∷ []) in
     (Leaves f) ⊎ (Loses f ⊎ ((due ≡ true) × Applies f)))
-disconnected_fate true true = inr (inr (refl, (refl, refl)))
-disconnected_fate true false = inr (inr (refl, (refl, refl)))
-disconnected_fate false true = inl (refl, refl)
-disconnected_fate false false = inr (inl (refl, refl))
+disconnected_fate due strays = grind arith
 
 first_fails : (b : Bool) (rest : Finding) → b ≡ false → (if b then rest else Broke rule.WrongForm) ≡ Broke rule.WrongForm
 first_fails b rest e = ap (λ (x : Bool). if x then rest else Broke rule.WrongForm) e
 
 there_not_silent : (phase : Phase) → is_there phase ≡ true → is_silent phase ≡ false
-there_not_silent Silent h = cc
-there_not_silent Open h = refl
-there_not_silent Refused h = refl
-there_not_silent Closing h = refl
-there_not_silent Closed h = refl
+there_not_silent phase h = grind arith
 
 not_closing : (phase : Phase) → is_open phase ≡ true → is_closing phase ≡ true → ⊥
-not_closing Silent h k = cc
-not_closing Open h k = cc
-not_closing Refused h k = cc
-not_closing Closing h k = cc
-not_closing Closed h k = cc
-
-first_of : (a b : Bool) → (a && b) ≡ true → a ≡ true
-first_of true b h = refl
-first_of false b h = cc
-
-second_of : (a b : Bool) → (a && b) ≡ true → b ≡ true
-second_of true b h = h
-second_of false b h = cc
+not_closing phase h k = grind arith
 
 never : (live : Bool) → live ≡ false → live ≡ true → ⊥
 never live h k = cc
@@ -175,47 +128,32 @@ module _ (r peer limit : ℕ) (x : Tally) (noted : ℕ) (tap : Connection) (put 
       subst (λ (c : Connection). Goes (acknowledge credit destination number) c)
       (applied_after f (acknowledge credit destination number) tap applies)
       (ack_goes r peer limit x noted tap put coming link o t p k credit destination number small little
-      (first_of (has_passed Right tap number) (keeps_credit Right tap number credit) tells)
-      (second_of (has_passed Right tap number) (keeps_credit Right tap number credit) tells))
+      (and_first (has_passed Right tap number) (keeps_credit Right tap number credit) tells)
+      (and_second (has_passed Right tap number) (keeps_credit Right tap number credit) tells))
 
   -- a DR
   disconnect_goes : (destination source reason : ℕ) (user : List ℕ) → is_open tap.right.phase ≡ true → is_silent tap.right.phase ≡ false →
       Goes (disconnect destination source reason user) (sent_on Right (disconnect destination source reason user) tap)
-  disconnect_goes destination source reason user live silent =
-      subst (λ (b : Bool). Goes (disconnect destination source reason user) (record tap { right = closing_phase b tap.right })) (sym silent)
-      (ends_goes r peer limit x noted tap put coming link o t p k Closing (disconnect destination source reason user) refl (λ c. refl)
-      (λ taken known a b c. (a, b, refl)))
+  disconnect_goes destination source reason user live silent = grind (arith, ends_goes)
 
   disconnect_by : (destination source reason : ℕ) (user : List ℕ) (f : Finding) →
       ((is_open tap.right.phase ≡ false) × Leaves f) ⊎ ((is_open tap.right.phase ≡ true) × (is_silent tap.right.phase ≡ false)
       × Applies f) →
       Goes (disconnect destination source reason user) (after_finding Right f (disconnect destination source reason user) tap)
-  disconnect_by destination source reason user f (inl (closed, leaves)) =
-      closed_goes (disconnect destination source reason user) f closed leaves
-  disconnect_by destination source reason user f (inr (live, silent, applies)) =
-      subst (λ (c : Connection). Goes (disconnect destination source reason user) c)
-      (applied_after f (disconnect destination source reason user) tap applies) (disconnect_goes destination source reason user live silent)
+  disconnect_by destination source reason user f h = grind (arith, closed_goes, applied_after, disconnect_goes)
 
   -- a DC
   disconnected_by : (destination source : ℕ) (f : Finding) → (Leaves f) ⊎ (Loses f ⊎ ((is_due Right tap source ≡ true) × Applies f)) →
       (after_finding Right f (disconnected destination source) tap).is_judged ≡ true →
       Goes (disconnected destination source) (after_finding Right f (disconnected destination source) tap)
-  disconnected_by destination source f (inl leaves) judged =
-      subst (λ (c : Connection). Goes (disconnected destination source) c) (left_after f (disconnected destination source) tap leaves)
-      (goes_same r peer limit x noted tap put coming link o t p k (disconnected destination source) (λ taken known a b live. (a, b)))
+  disconnected_by destination source f (inl leaves) judged = grind (arith, left_after, goes_same)
   disconnected_by destination source f (inr (inl loses)) judged = absurd (lost_after f (disconnected destination source) tap loses judged)
-  disconnected_by destination source f (inr (inr (due, applies))) judged =
-      let live = first_of (is_open tap.right.phase) (is_closing tap.seen_by_right.phase && (source == tap.right.reference)) due in
-      subst (λ (c : Connection). Goes (disconnected destination source) c) (applied_after f (disconnected destination source) tap applies)
-      (ends_goes r peer limit x noted tap put coming link o t p k Closed (disconnected destination source) refl
-      (λ c. absurd (not_closing tap.right.phase live c)) (λ taken known a b c. (a, b)))
+  disconnected_by destination source f (inr (inr (due, applies))) judged = grind (arith, and_first, applied_after, ends_goes, not_closing)
 
   pub unit_goes : (course : Course) (in_use : Bool) (unit : Value) → HasFieldsInRange unit → destination_of unit ≡ Some r →
       reach_of (Some Two) (found Right course in_use tap unit) ≢ reach.Everything →
       (after_finding Right (found Right course in_use tap unit) unit tap).is_judged ≡ true →
       Goes unit (after_finding Right (found Right course in_use tap unit) unit tap)
-  unit_goes course in_use (request c) range named some judged = absurd (cc)
-  unit_goes course in_use (data0 end user) range named some judged = absurd (cc)
   unit_goes course in_use (confirm destination c) range named some judged =
       let f = found Right course in_use tap (confirm destination c) in
       let wrong : f ≡ Broke rule.WrongForm = first_fails (is_silent tap.right.phase) _ (there_not_silent tap.right.phase t.there) in
@@ -239,6 +177,7 @@ module _ (r peer limit : ℕ) (x : Tally) (noted : ℕ) (tap : Connection) (put 
       (ack_fate (not (is_silent tap.right.phase)) (is_open tap.right.phase) (has_passed Right tap number)
       (keeps_credit Right tap number credit))
       some judged
+  unit_goes course in_use _ range named some judged = absurd (cc)
 
 judged_finding : (course : Course) (in_use : Bool) (tap : Connection) (unit : Value) → tap.is_judged ≡ true →
     finding_of Right course in_use tap unit ≡ found Right course in_use tap unit

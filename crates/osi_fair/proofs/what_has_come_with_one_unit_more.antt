@@ -1,29 +1,19 @@
 -- What has come for each connection of a calling end, with one unit more.
 -- For the law on a whole end.
-use Rattle.std.proofs.Common.{◌≡◌, ◌∙◌, ℕ, Bool, true, false, List, [], ◌∷◌, ◌++◌, refl, sym, ap, subst}
-use Rattle.std.proofs.Common.{None, is_some}
-use Rattle.std.specs.List.{AllByRecursion}
+use Rattle.osi_fair.proofs.Vocabulary.{arith}
+use Rattle.osi_fair.proofs.Vocabulary.{[], ap, Bool, false, is_some, List, None, refl, subst, sym, true, ℕ, ◌++◌, ◌∙◌, ◌∷◌, ◌≡◌}
+use Rattle.osi_fair.proofs.Vocabulary.{AllByRecursion, confirm, Value, Local, Connection, Line}
 use Rattle.std.proofs.lemmas.List.{append_assoc}
-use Rattle.osi_tpdu.specs.Value.{Value, confirm}
-use Rattle.osi_class.specs.declared.terms.Local.{Local}
 use Rattle.osi_carrier.specs.State.{State}
-use Rattle.osi_rules.specs.declared.connections.Connection.{Connection}
-use Rattle.osi_fair.specs.Lines.{Line}
-use Rattle.osi_fair.proofs.each_connection_has_its_line.{Following, Row}
-use Rattle.osi_fair.proofs.each_connection_has_its_line.{IsSpare, Waiting, all_so, asks, closes}
-use Rattle.osi_fair.proofs.each_connection_has_its_line.{no_end, over, talks}
-use Rattle.osi_fair.proofs.which_units_are_for_a_connection.{IsDc, is_dc}
-use Rattle.osi_fair.proofs.which_units_are_for_a_connection.{names}
-use Rattle.osi_fair.proofs.which_units_are_for_a_connection.{picked_more, picked_other, those}
+use Rattle.osi_fair.proofs.small_facts_that_many_lemmas_use.{none_of as no_end}
+use Rattle.osi_fair.proofs.each_connection_has_its_line.{followed_at, Following, Row, IsSpare, Waiting, all_so, asks, closes, over, talks}
+use Rattle.osi_fair.proofs.which_units_are_for_a_connection.{IsDc, is_dc, names, picked_more, picked_other, those}
+use Rattle.osi_fair.proofs.what_is_live_at_a_called_end.{all_add}
 
 -- ---- what has come for a connection, with one unit more
 
 more_other : (r : ℕ) (coming : List Value) (v : Value) → names r v ≡ false → those r (coming ++ v ∷ []) ≡ those r coming
 more_other r coming v e = picked_other (names r) coming v e
-
-pub all_add : (P : Value → Type 0) (vs : List Value) (v : Value) → AllByRecursion P vs → P v → AllByRecursion P (vs ++ v ∷ [])
-all_add P [] v a p = (p, tt)
-all_add P (u ∷ vs) v (one, more) p = (one, all_add P vs v more p)
 
 -- DCs for a reference, and one more
 pub early_other : (r : ℕ) (coming : List Value) (v : Value) → names r v ≡ false → AllByRecursion IsDc (those r coming) →
@@ -33,9 +23,7 @@ early_other r coming v e h = subst (AllByRecursion IsDc) (sym (more_other r comi
 pub early_more : (r : ℕ) (coming : List Value) (v : Value) → is_dc v ≡ true → (b : Bool) → names r v ≡ b →
     AllByRecursion IsDc (those r coming) →
     AllByRecursion IsDc (those r (coming ++ v ∷ []))
-early_more r coming v dc false e h = early_other r coming v e h
-early_more r coming v dc true e h =
-    subst (AllByRecursion IsDc) (sym (picked_more (names r) coming v e)) (all_add IsDc (those r coming) v h dc)
+early_more r coming v dc b e h = grind (arith, early_other, picked_more, all_add)
 
 row_other : (local : Local) (end : State) (coming : List Value) (r peer : ℕ) (line : Line) (v : Value) → names r v ≡ false →
     Row local end coming r peer line → Row local end (coming ++ v ∷ []) r peer line
@@ -72,42 +60,14 @@ spares_on s t r peer spare on h =
 pub following_other : (local : Local) (put : List Value) (b s t : Bool) (end : State) (coming : List Value) (x : Connection) (v : Value) →
     (s ≡ true → t ≡ true) → (k : Following local put b s end coming x) → names k.r v ≡ false →
     Following local put b t end (coming ++ v ∷ []) x
-following_other local put b s t end coming x v on k e = record {
-  r = k.r;
-  peer = k.peer;
-  line = k.line;
-  left = k.left;
-  right = k.right;
-  tracks = k.tracks;
-  tap = k.tap;
-  spare = k.spare;
-  put_is = k.put_is;
-  spares = spares_on s t k.r k.peer k.spare on k.spares;
-  gone = k.gone;
-  begun_is = k.begun_is;
-  row = row_other local end coming k.r k.peer k.line v e k.row;
-  calm = k.calm;
-}
+following_other local put b s t end coming x v on k e = followed_at k refl (spares_on s t k.r k.peer k.spare on k.spares) refl
+    (row_other local end coming k.r k.peer k.line v e k.row)
 
 pub waiting_other : (local : Local) (end : State) (coming : List Value) (x : Connection) (v : Value) → (k : Waiting local end coming x) →
     names k.r v ≡ false → Waiting local end (coming ++ v ∷ []) x
-waiting_other local end coming x v k e = record {
-  r = k.r;
-  left = k.left;
-  right = k.right;
-  seen = k.seen;
-  early = early_other k.r coming v e k.early;
-  row = k.row;
-}
+waiting_other local end coming x v k e = search (arith, early_other)
 
 -- a DC may come before the answer
 pub waiting_dc : (local : Local) (end : State) (coming : List Value) (x : Connection) (v : Value) → is_dc v ≡ true →
     Waiting local end coming x → Waiting local end (coming ++ v ∷ []) x
-waiting_dc local end coming x v dc k = record {
-  r = k.r;
-  left = k.left;
-  right = k.right;
-  seen = k.seen;
-  early = early_more k.r coming v dc (names k.r v) refl k.early;
-  row = k.row;
-}
+waiting_dc local end coming x v dc k = search (arith, early_more)

@@ -1,16 +1,8 @@
 -- What holds of a line all the time, as long as its connection is judged.
 -- For the laws on a line. The end is left: right is the same with the sides of the tap exchanged.
-use Rattle.std.proofs.Common.{◌≡◌, ℕ, ◌+◌, ◌%◌, ◌≤◌, Bool, true, false, List, [], ◌∷◌, Option, Some, None, IfSome}
-use Rattle.std.specs.Prelude.{not, ◌&&◌}
-use Rattle.osi_tpdu.specs.Value.{Value}
-use Rattle.osi_class.specs.Flow.{Flow}
-use Rattle.osi_class.specs.Link.{Standing}
-use Rattle.osi_rules.specs.declared.connections.Connection.{Connection}
-use Rattle.osi_rules.specs.declared.directions.Direction.TheVariants.{Left}
-use Rattle.osi_rules.specs.declared.halves.Half.{Half}
-use Rattle.osi_rules.specs.declared.halves.Phase.{Phase}
-use Rattle.osi_rules.specs.Sides.{is_silent, is_refused, is_open, is_closing}
-use Rattle.osi_fair.specs.Lines.{Line, IsRightNow}
+use Rattle.osi_fair.proofs.Vocabulary.{[], Bool, false, IfSome, List, None, Option, Some, true, ℕ, ◌%◌, ◌+◌, ◌∷◌, ◌≡◌, ◌≤◌, not, ◌&&◌}
+use Rattle.osi_fair.proofs.Vocabulary.{Value, Flow, Standing, is_closing, is_open, is_refused, is_silent, Connection, Left, Half, Phase}
+use Rattle.osi_fair.proofs.Vocabulary.{IsRightNow, Line}
 use Rattle.osi_fair.proofs.what_a_link_does.{HaveRoom}
 use Rattle.osi_fair.proofs.units_in_flight.{Bounds, Came, Comes, Puts}
 

@@ -1,22 +1,15 @@
 -- What holds of one item of a list at most, after an item is changed or added, or all are.
 -- For the law on references.
-use Rattle.std.proofs.Common.{◌≡◌, ◌∙◌, ℕ, zero, suc, Bool, true, false, List, [], ◌∷◌, ◌++◌, map, set, length, refl, sym, ap, subst}
-use Rattle.std.proofs.Common.{Some, inl, inr, ◌⊎◌}
-use Rattle.std.specs.Prelude.{◌||◌, position, slice_get}
-use Rattle.std.specs.List.{list_any}
-use Rattle.std.proofs.lemmas.List.Quantifiers.{position-Some}
-use Rattle.std.proofs.lemmas.Option.{get_or_from_slice_get}
-use Rattle.osi_rules.specs.declared.connections.Connection.{Connection}
-use Rattle.osi_fair.specs.Naming.{HoldsOfOne}
+use Rattle.osi_fair.proofs.Vocabulary.{arith}
+use Rattle.osi_fair.proofs.Vocabulary.{[], ap, Bool, false, inl, inr, length, List, map, refl, set, Some, subst, suc, sym, true, zero, ℕ}
+use Rattle.osi_fair.proofs.Vocabulary.{◌++◌, ◌∙◌, ◌∷◌, ◌≡◌, ◌⊎◌, position-Some, get_or_from_slice_get, list_any, position, slice_get, ◌||◌}
+use Rattle.osi_fair.proofs.Vocabulary.{Connection, HoldsOfOne}
+use Rattle.osi_fair.proofs.small_facts_that_many_lemmas_use.{or_right, some_same}
 
 -- ---- where an item is
 
-some_same : {X : Type 0} (x y : X) → Some x ≡ Some y → y ≡ x
-some_same x y e = cc
-
 shifted : {A B : Type 0} (i p : ℕ) → ((i ≡ p) × A) ⊎ B → ((suc i ≡ suc p) × A) ⊎ B
-shifted i p (inl (e, a)) = inl (ap suc e, a)
-shifted i p (inr b) = inr b
+shifted i p h = grind arith
 
 -- the item that was changed, or one that was there
 pub after_set : {X : Type 0} (xs : List X) (p i : ℕ) (x y : X) → slice_get (set xs p x) i ≡ Some y →
@@ -46,17 +39,12 @@ first_true f xs p x h k =
     ap f (sym (get_or_from_slice_get xs p x x k)) ∙ is
 
 or_first : (a b : Bool) → (a || b) ≡ false → a ≡ false
-or_first true b h = h
-or_first false b h = refl
-
-or_second : (a b : Bool) → (a || b) ≡ false → b ≡ false
-or_second true b h = cc
-or_second false b h = h
+or_first a b h = grind arith
 
 pub none_true : {X : Type 0} (f : X → Bool) (xs : List X) (i : ℕ) (x : X) → list_any f xs ≡ false → slice_get xs i ≡ Some x → f x ≡ false
 none_true f [] i x h k = cc
 none_true f (z ∷ xs) zero x h k = ap f (some_same z x k) ∙ or_first (f z) (list_any f xs) h
-none_true f (z ∷ xs) (suc i) x h k = none_true f xs i x (or_second (f z) (list_any f xs) h) k
+none_true f (z ∷ xs) (suc i) x h k = none_true f xs i x (or_right (f z) (list_any f xs) h) k
 
 -- ---- all items, after one is changed or added
 
@@ -66,8 +54,7 @@ HoldsOfEach P cs = (i : ℕ) (c : Connection) → slice_get cs i ≡ Some c → 
 
 each_set_by : (P : Connection → Type 0) (cs : List Connection) (p i : ℕ) (new c : Connection) → HoldsOfEach P cs → P new →
     ((i ≡ p) × (c ≡ new)) ⊎ (slice_get cs i ≡ Some c) → P c
-each_set_by P cs p i new c h k (inl (a, e)) = subst P (sym e) k
-each_set_by P cs p i new c h k (inr e) = h i c e
+each_set_by P cs p i new c h k l = grind arith
 
 pub each_set : (P : Connection → Type 0) (cs : List Connection) (p : ℕ) (new : Connection) → HoldsOfEach P cs → P new →
     HoldsOfEach P (set cs p new)
@@ -83,10 +70,6 @@ each_map P g cs h k i c e = let (x, at, is) = after_map g cs i c e in subst P (s
 
 -- ---- what holds of one
 
--- as it holds of one that was there
-abbrev Was : (Connection → Bool) → List Connection → Connection → ℕ → Type 0
-Was f cs c i = (slice_get cs i ≡ Some c) × (c.is_judged ≡ true) × (f c ≡ true)
-
 abbrev AtPlace : List Connection → (p : ℕ) → (new : Connection) → ℕ → Connection → Type 0
 AtPlace cs p new i c = ((i ≡ p) × (c ≡ new)) ⊎ (slice_get cs i ≡ Some c)
 
@@ -96,26 +79,14 @@ module _ (f : Connection → Bool) (cs : List Connection) (p : ℕ) (new : Conne
       (new.is_judged ≡ true → f new ≡ true → (old.is_judged ≡ true) × (f old ≡ true)) →
       (i j : ℕ) (c e : Connection) → AtPlace cs p new i c → AtPlace cs p new j e → c.is_judged ≡ true → e.is_judged ≡ true → f c ≡ true →
       f e ≡ true → i ≡ j
-  changed_by old h at was i j c e (inl (a, x)) (inl (b, y)) jc je fc fe = a ∙ sym b
-  changed_by old h at was i j c e (inl (a, x)) (inr y) jc je fc fe =
-      let (j0, f0) = was (ap (λ (z : Connection). z.is_judged) (sym x) ∙ jc) (ap f (sym x) ∙ fc) in
-      a ∙ h p j old e at y j0 je f0 fe
-  changed_by old h at was i j c e (inr x) (inl (b, y)) jc je fc fe =
-      let (j0, f0) = was (ap (λ (z : Connection). z.is_judged) (sym y) ∙ je) (ap f (sym y) ∙ fe) in
-      h i p c old x at jc j0 fc f0 ∙ sym b
-  changed_by old h at was i j c e (inr x) (inr y) jc je fc fe = h i j c e x y jc je fc fe
+  changed_by old h at was i j c e k l jc je fc fe = search (arith)
 
   -- it holds of the new one only if it held of no other
   new_by : HoldsOfOne f cs → ((i : ℕ) (c : Connection) → slice_get cs i ≡ Some c → c.is_judged ≡ true → f c ≡ true → new.is_judged ≡ true →
       f new ≡ true → ⊥) →
       (i j : ℕ) (c e : Connection) → AtPlace cs p new i c → AtPlace cs p new j e → c.is_judged ≡ true → e.is_judged ≡ true → f c ≡ true →
       f e ≡ true → i ≡ j
-  new_by h none i j c e (inl (a, x)) (inl (b, y)) jc je fc fe = a ∙ sym b
-  new_by h none i j c e (inl (a, x)) (inr y) jc je fc fe =
-      absurd (none j e y je fe (ap (λ (z : Connection). z.is_judged) (sym x) ∙ jc) (ap f (sym x) ∙ fc))
-  new_by h none i j c e (inr x) (inl (b, y)) jc je fc fe =
-      absurd (none i c x jc fc (ap (λ (z : Connection). z.is_judged) (sym y) ∙ je) (ap f (sym y) ∙ fe))
-  new_by h none i j c e (inr x) (inr y) jc je fc fe = h i j c e x y jc je fc fe
+  new_by h none i j c e k l jc je fc fe = grind arith
 
   pub one_changed : (old : Connection) → HoldsOfOne f cs → slice_get cs p ≡ Some old →
       (new.is_judged ≡ true → f new ≡ true → (old.is_judged ≡ true) × (f old ≡ true)) → HoldsOfOne f (set cs p new)

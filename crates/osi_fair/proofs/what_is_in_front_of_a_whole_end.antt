@@ -1,27 +1,13 @@
 -- The events of a whole end are the same with reported events and sent octets in front: as it takes units and packets, as its user
 -- makes a call, and as it ends. For the law on packets.
-use Rattle.std.proofs.Common.{◌≡◌, ◌∙◌, ℕ, suc, List, [], ◌∷◌, ◌++◌, refl, sym, ap, subst, append_assoc, None, Result, Ok}
-use Rattle.std.specs.List.{AllByRecursion}
-use Rattle.osi_tpkt.specs.Octets.{IsOctets}
-use Rattle.osi_tpkt.specs.Packet.{IsPacket}
-use Rattle.osi_tpdu.specs.Packet.{units_of}
-use Rattle.osi_tpdu.specs.Value.{Value}
-use Rattle.osi_tpdu.specs.Writing.{Fits, written}
-use Rattle.osi_tpdu.specs.declared.faults.TpduFault.{TpduFault}
-use Rattle.osi_tpdu.proofs.the_units_of_a_packet.{units_fit, units_found, units_only}
-use Rattle.osi_tpdu.proofs.the_written_form_spells_its_value.{written_spells}
-use Rattle.osi_carrier.specs.Happenings.{Happening}
+use Rattle.osi_fair.proofs.Vocabulary.{arith}
+use Rattle.osi_fair.proofs.Vocabulary.{[], ap, append_assoc, List, None, Ok, refl, Result, subst, suc, sym, ℕ, ◌++◌, ◌∙◌, ◌∷◌, ◌≡◌}
+use Rattle.osi_fair.proofs.Vocabulary.{AllByRecursion, IsOctets, IsPacket, units_fit, units_found, units_only, written_spells, units_of}
+use Rattle.osi_fair.proofs.Vocabulary.{Value, Fits, written, TpduFault, apart_all, Happening, acts_by, RunsOut, TakesPackets, react, reacts}
+use Rattle.osi_fair.proofs.Vocabulary.{arrived, put_back, user, user_does, UserCall, ends, EndReason, NoMemory, Direction}
+use Rattle.osi_fair.proofs.Vocabulary.{units_by, units_in, Becomes, MayCall, Whole}
 unfoldable use Rattle.osi_carrier.specs.Packets.{after_packet}
-use Rattle.osi_carrier.specs.Packets.{RunsOut, TakesPackets, acts_by}
-use Rattle.osi_carrier.specs.React.{react, reacts}
-use Rattle.osi_carrier.specs.Runs.{UserCall, breaks, closes, connects, packet as arrived, put_back, sends, sends_all, user, user_does}
-use Rattle.osi_carrier.specs.State.{State, ends}
-use Rattle.osi_carrier.specs.declared.ends.EndReason.{EndReason}
-use Rattle.osi_carrier.specs.declared.ends.EndReason.TheVariants.{NoMemory}
-use Rattle.osi_carrier.proofs.effects.what_is_in_front_changes_nothing.{apart_all}
-use Rattle.osi_rules.specs.declared.directions.Direction.{Direction}
-use Rattle.osi_fair.specs.Pieces.{units_by, units_in}
-use Rattle.osi_fair.specs.Wholes.{Becomes, MayCall, Whole}
+use Rattle.osi_carrier.specs.State.{State}
 use Rattle.osi_fair.proofs.a_packet_is_events.{all_units, becomes_over, becomes_then, call_so, not_over, packet_so, same_so, then_so}
 
 -- with these in front the end comes to this state; unless it ends, this is left to come
@@ -69,11 +55,7 @@ module _ (d : Direction) (e : List Happening) (o : List ℕ) where
   front_units (u ∷ us) s (fits, more) = ap (λ (t : State). reacts us t) (front_unit u s fits) ∙ front_units us (react u s) more
 
   may_front : (call : UserCall) (s : State) → MayCall call s → MayCall call (put_back e o s)
-  may_front (connects calling called) s may = may
-  may_front (sends r tsdu) s may = may
-  may_front (sends_all r tsdus) s may = may
-  may_front (closes r reason) s may = may
-  may_front (breaks reason) s may = may
+  may_front call s may = grind arith
 
   -- ---- so are the events
 

@@ -1,35 +1,21 @@
 -- As long as each DR has closed something: what the other side closes is live at a called end until the end takes that unit.
 -- For the law on a whole called end.
-use Rattle.std.proofs.Common.{◌≡◌, ◌∙◌, ◌≤◌, ◌<◌, ℕ, true, List, [], ◌∷◌, ◌++◌, sym, subst, arith, Option, Some, None, is_some}
-use Rattle.std.specs.Prelude.{slice_get}
-use Rattle.std.specs.List.{AllByRecursion}
-use Rattle.osi_tpdu.specs.Value.{Value, Connect, request, confirm, disconnect, disconnected, data0, data2, acknowledge, error}
-use Rattle.osi_carrier.specs.Rows.{value_at}
+use Rattle.osi_fair.proofs.Vocabulary.{[], arith, is_some, List, None, Option, Some, subst, sym, true, ℕ, ◌++◌, ◌<◌, ◌∙◌, ◌∷◌, ◌≡◌, ◌≤◌}
+use Rattle.osi_fair.proofs.Vocabulary.{AllByRecursion, slice_get, confirm, Connect, disconnect, disconnected, Value, value_at, is_open}
+use Rattle.osi_fair.proofs.Vocabulary.{Connection}
 use Rattle.osi_carrier.specs.State.{State}
-use Rattle.osi_rules.specs.declared.connections.Connection.{Connection}
-use Rattle.osi_rules.specs.Sides.{is_open}
+use Rattle.osi_fair.proofs.small_facts_that_many_lemmas_use.{same_cc}
 
 -- ---- what a unit of the other side closes
 
 abbrev pub shuts_of : Value → Option ℕ
-shuts_of (request x) = None
-shuts_of (confirm destination x) = None
 shuts_of (disconnect destination source reason user) = Some destination
 shuts_of (disconnected destination source) = Some destination
-shuts_of (data0 end user) = None
-shuts_of (data2 destination number end user) = None
-shuts_of (acknowledge credit destination number) = None
-shuts_of (error destination cause) = None
+shuts_of _ = None
 
 abbrev pub dr_for : Value → Option ℕ
-dr_for (request x) = None
-dr_for (confirm destination x) = None
 dr_for (disconnect destination source reason user) = Some destination
-dr_for (disconnected destination source) = None
-dr_for (data0 end user) = None
-dr_for (data2 destination number end user) = None
-dr_for (acknowledge credit destination number) = None
-dr_for (error destination cause) = None
+dr_for _ = None
 
 abbrev pub IsLive : State → ℕ → Type 0
 IsLive s m = is_some (value_at m s.live) ≡ true
@@ -81,7 +67,7 @@ none_add : (m : ℕ) (vs : List Value) (v : Value) → NoneFor m vs → (shuts_o
 none_add m [] v h k = (k, tt)
 none_add m (u ∷ vs) v (one, more) k = (one, none_add m vs v more k)
 
-all_add : (P : Value → Type 0) (vs : List Value) (v : Value) → AllByRecursion P vs → P v → AllByRecursion P (vs ++ v ∷ [])
+pub all_add : (P : Value → Type 0) (vs : List Value) (v : Value) → AllByRecursion P vs → P v → AllByRecursion P (vs ++ v ∷ [])
 all_add P [] v a p = (p, tt)
 all_add P (u ∷ vs) v (one, more) p = (one, all_add P vs v more p)
 
@@ -142,31 +128,13 @@ timely_calls s t coming cs put given lives h =
 pub timely_puts : (end : State) (coming : List Value) (cs : List Connection) (put units : List Value) →
     AllByRecursion (λ (v : Value). (m : ℕ) (x : Connect) → v ≡ confirm m x → ⊥) units → Timely end coming cs put →
     Timely end coming cs (put ++ units)
-timely_puts end coming cs put units none h = record {
-  taps = h.taps;
-  answers = answers_join (IsHeld end coming) put units h.answers none;
-  firsts = h.firsts;
-  known = h.known;
-}
-
-same_cc : (m n : ℕ) (x y : Connect) → confirm m x ≡ confirm n y → x ≡ y
-same_cc m n x y e = cc
+timely_puts end coming cs put units none h = search (arith, answers_join)
 
 -- a CC is put with a reference that is new
 pub timely_answers : (s : State) (end : State) (coming : List Value) (cs : List Connection) (put : List Value) (m : ℕ) (x : Connect) →
     IsLive end x.source → s.given < x.source → AllByRecursion (IsKnown s.given) coming → Timely end coming cs put →
     Timely end coming cs (put ++ confirm m x ∷ [])
-timely_answers s end coming cs put m x live above known h = record {
-  taps = h.taps;
-  answers = all_add (Answers (IsHeld end coming)) put (confirm m x) h.answers
-      (λ n y e. subst (λ (z : Connect). IsHeld end coming z.source) (same_cc m n x y e) (
-        live,
-        none_new s.given x.source coming above
-            known,
-      ));
-  firsts = h.firsts;
-  known = h.known;
-}
+timely_answers s end coming cs put m x live above known h = search (arith, all_add, same_cc, none_new)
 
 -- a unit of the other side passes that closes nothing
 pub timely_comes : (end : State) (coming : List Value) (cs after : List Connection) (put : List Value) (v : Value) → shuts_of v ≡ None →

@@ -1,15 +1,13 @@
 -- What a called end puts before its CC has passed might as well have been put right after that.
 -- For the law of that name.
-use Rattle.std.proofs.Common.{◌≡◌, ◌∙◌, ℕ, Bool, false, List, [], ◌∷◌, ◌++◌, refl, sym, ap, subst}
-use Rattle.std.specs.List.{AllByRecursion}
-use Rattle.osi_tpdu.specs.Value.{Value, disconnect, disconnected}
-use Rattle.osi_class.specs.Link.{Standing}
-use Rattle.osi_rules.specs.declared.connections.Connection.{Connection}
-use Rattle.osi_rules.specs.declared.courses.Course.{Course}
-use Rattle.osi_rules.specs.declared.directions.Direction.{Direction}
-use Rattle.osi_fair.specs.Lines.{Act, Acts, ActsAlong, Line, PassesNone, answering_line, answers, begins_elsewhere, begins_other}
-use Rattle.osi_fair.specs.Lines.{begins_own}
-use Rattle.osi_fair.specs.Lines.{after_finding, closes, finding_of, ignores, moves, opened_line, passes_other, passes_own, units_put}
+use Rattle.osi_fair.proofs.Vocabulary.{arith}
+use Rattle.osi_fair.proofs.Vocabulary.{[], ap, Bool, false, List, refl, subst, sym, ℕ, ◌++◌, ◌∙◌, ◌∷◌, ◌≡◌, AllByRecursion}
+use Rattle.osi_fair.proofs.Vocabulary.{Value, Standing, Connection, Course, Direction, Act, Acts, ActsAlong, after_finding}
+use Rattle.osi_fair.proofs.Vocabulary.{answering_line, answers, begins_elsewhere, closes_with as closes, finding_of, ignores, Line, moves}
+use Rattle.osi_fair.proofs.Vocabulary.{opened_line, PassesNone, units_put}
+use Rattle.osi_fair.specs.Lines.{begins_other, begins_own, passes_other, passes_own}
+use Rattle.osi_fair.proofs.small_facts_that_many_lemmas_use.{rest_is}
+use Rattle.osi_fair.proofs.Vocabulary.{disconnect, disconnected}
 
 -- the line without its CC, as if this were the tap
 abbrev without_cc : Connection → List Value → Line → Line
@@ -70,8 +68,7 @@ module _ (d : Direction) (r peer : ℕ) (cc_is : Value) (tap : Connection) where
 
   all_same : (acts : List Act) (more : List Value) (old new : Line) → AllByRecursion PassesNone acts → ActsAlong d r peer old acts new →
       old.put ≡ cc_is ∷ more → Same more old new
-  all_same [] more old new none e first = no_act more old new first (ap (λ (l : Line). l.put) e)
-      (ap (λ (l : Line). without_cc tap more l) e)
+  all_same [] more old new none e first = grind (arith, no_act)
   all_same (act ∷ acts) more old new (none, others) (mid, one, along) first =
       let a = act_same act more old mid none one first in
       let b = all_same acts a.now mid new others along a.put in
@@ -83,16 +80,13 @@ module _ (d : Direction) (r peer : ℕ) (cc_is : Value) (tap : Connection) where
             (without_cc tap b.now new) a.along b.along;
       }
 
-same_rest : (x y : Value) (xs ys : List Value) → x ∷ xs ≡ y ∷ ys → xs ≡ ys
-same_rest x y xs ys e = cc
-
 pub opened_later : (d : Direction) (r peer : ℕ) (link : Standing) (answer : Value) (tap : Connection) (acts : List Act) (course : Course)
     (in_use : Bool) (line after : Line) → AllByRecursion PassesNone acts → ActsAlong d r peer (answering_line link answer tap) acts line →
     Acts d r peer (passes_own course in_use) line after →
     (later : List Act) × ActsAlong d r peer (opened_line link after.tap) later after
 opened_later d r peer link answer tap acts course in_use line after none along (unit, first, begun, new_is) =
     let s = all_same d r peer answer after.tap acts [] (answering_line link answer tap) line none along refl in
-    let rest : s.now ≡ after.put = same_rest answer unit s.now after.put (sym s.put ∙ first) in
+    let rest : s.now ≡ after.put = rest_is answer unit s.now after.put (sym s.put ∙ first) in
     let x = after_finding d (finding_of d course in_use line.tap unit) unit line.tap in
     let tapped : x ≡ after.tap = sym (ap (λ (l : Line). l.tap) new_is) in
     let is : after ≡ without_cc after.tap s.now line = new_is

@@ -1,21 +1,12 @@
 -- What keeps the names of connections apart: each change of one connection, and a packet that begins.
 -- For the law on references.
-use Rattle.std.proofs.Common.{◌≡◌, ℕ, Bool, true, false, List, [], ◌∷◌, ◌++◌, map, set, Option, Some}
-use Rattle.std.proofs.Common.{inl, inr, ◌⊎◌}
-use Rattle.std.specs.Prelude.{◌&&◌, ◌||◌, ◌==◌, not, slice_get}
-use Rattle.osi_rules.specs.declared.connections.Connection.{Connection}
-use Rattle.osi_rules.specs.declared.directions.Direction.{Direction}
-use Rattle.osi_rules.specs.declared.directions.Direction.TheVariants.{Left, Right}
-use Rattle.osi_rules.specs.declared.findings.Reach.{Reach}
-use Rattle.osi_rules.specs.declared.findings.Reach.TheVariants as reach
-use Rattle.osi_rules.specs.declared.halves.Half.{Half}
-use Rattle.osi_rules.specs.Sides.{begins, is_closed, is_closing, is_named, is_over_by, is_refused, is_silent, uses}
-use Rattle.osi_rules.specs.Traffic.{judged_on}
-use Rattle.osi_fair.specs.Naming.{HoldsOfOne}
+use Rattle.osi_fair.proofs.Vocabulary.{arith}
+use Rattle.osi_fair.proofs.Vocabulary.{[], Bool, false, List, map, Option, set, Some, true, ℕ, ◌++◌, ◌∷◌, ◌≡◌, ◌⊎◌, not}
+use Rattle.osi_fair.proofs.Vocabulary.{slice_get, ◌&&◌, ◌==◌, ◌||◌, begins, is_closed, is_closing, is_named, is_over_by, is_refused}
+use Rattle.osi_fair.proofs.Vocabulary.{is_silent, uses, judged_on, Connection, Direction, Left, Right, Reach, Half, HoldsOfOne}
 use Rattle.osi_fair.proofs.what_holds_of_one_item.{HoldsOfEach, each_add, each_map, each_set, one_added, one_changed, one_mapped, one_put}
 use Rattle.osi_fair.proofs.when_a_connection_has_a_name.{HalfMoves, IsEarlier, earlier_moves, earlier_same, named_by, named_is_used}
-use Rattle.osi_fair.proofs.when_a_connection_has_a_name.{named_still}
-use Rattle.osi_fair.proofs.when_a_connection_has_a_name.{still_closing, used_before, used_by, used_still}
+use Rattle.osi_fair.proofs.when_a_connection_has_a_name.{named_still, still_closing, used_before, used_by, used_still}
 
 -- what each side knows is of before, and a DC answers a DR
 pub record Sound (c : Connection) : Type 0 where
@@ -37,38 +28,24 @@ pub record AreApart (cs : List Connection) : Type 0 where
 -- ---- with the judgement of the connection
 
 judged_named : (j : Bool) (mine known : Half) (n : ℕ) → j ≡ true → named_by j mine known n ≡ true → named_by true mine known n ≡ true
-judged_named true mine known n e h = h
-judged_named false mine known n e h = cc
+judged_named j mine known n e h = grind arith
 
 named_judged : (j : Bool) (mine known : Half) (n : ℕ) → j ≡ true → named_by true mine known n ≡ true → named_by j mine known n ≡ true
-named_judged true mine known n e h = h
-named_judged false mine known n e h = cc
+named_judged j mine known n e h = grind arith
 
 judged_used : (j : Bool) (mine known : Half) (n : ℕ) → j ≡ true → used_by j mine known n ≡ true → used_by true mine known n ≡ true
-judged_used true mine known n e h = h
-judged_used false mine known n e h = cc
+judged_used j mine known n e h = grind arith
 
 used_judged : (j : Bool) (mine known : Half) (n : ℕ) → j ≡ true → used_by true mine known n ≡ true → used_by j mine known n ≡ true
-used_judged true mine known n e h = h
-used_judged false mine known n e h = cc
+used_judged j mine known n e h = grind arith
 
 -- ---- a packet begins
 
 begin_sound_left : (c : Connection) → SoundIf c → SoundIf (begins Left c)
-begin_sound_left c h judged = let s = h judged in record {
-  left_knows = earlier_same c.right;
-  right_knows = s.right_knows;
-  left_closed = s.left_closed;
-  right_closed = s.right_closed;
-}
+begin_sound_left c h judged = search (arith, earlier_same)
 
 begin_sound_right : (c : Connection) → SoundIf c → SoundIf (begins Right c)
-begin_sound_right c h judged = let s = h judged in record {
-  left_knows = s.left_knows;
-  right_knows = earlier_same c.left;
-  left_closed = s.left_closed;
-  right_closed = s.right_closed;
-}
+begin_sound_right c h judged = search (arith, earlier_same)
 
 pub apart_begins : (d : Direction) (cs : List Connection) → AreApart cs → AreApart (map (begins d) cs)
 apart_begins Left cs a = record {
@@ -129,31 +106,15 @@ apart_set cs p c new a at l = record {
 }
 
 pub same_lessens : (c : Connection) → SoundIf c → Lessens c c
-same_lessens c s = record {
-  sound = s;
-  used_left = λ n j h. (j, h);
-  used_right = λ n j h. (j, h);
-  named_left = λ n j h. (j, h);
-  named_right = λ n j h. (j, h);
-}
+same_lessens c s = search (arith)
 
 -- also if the connection is not judged any more
 pub lessens_on : (r : Reach) (c new : Connection) → Lessens c new → Lessens c (judged_on r new)
-lessens_on reach.Nothing c new l = l
-lessens_on reach.Side c new l = l
-lessens_on reach.Everything c new l = l
-lessens_on reach.Connection c new l = record {
-  sound = λ j. absurd (cc j);
-  used_left = λ n j h. absurd (cc j);
-  used_right = λ n j h. absurd (cc j);
-  named_left = λ n j h. absurd (cc j);
-  named_right = λ n j h. absurd (cc j);
-}
+lessens_on r c new l = search (arith)
 
 closed_from : (mine seen theirs : Half) → IsEarlier seen theirs → (is_closed mine.phase ≡ true → is_closing theirs.phase ≡ true) →
     (is_closed mine.phase ≡ true) ⊎ (is_closing seen.phase ≡ true) → is_closing theirs.phase ≡ true
-closed_from mine seen theirs e was (inl h) = was h
-closed_from mine seen theirs e was (inr h) = e.closing h
+closed_from mine seen theirs e was k = grind arith
 
 closed_by : (mine seen theirs after : Half) → HalfMoves mine seen after → IsEarlier seen theirs →
     (is_closed mine.phase ≡ true → is_closing theirs.phase ≡ true) → is_closed after.phase ≡ true → is_closing theirs.phase ≡ true
@@ -213,13 +174,11 @@ right_lessens c after size judged s live m silent = record {
 
 -- ---- a CC of right: its reference is in use nowhere else
 
-differ : (b : Bool) → b ≡ true → b ≡ false → ⊥
+pub differ : (b : Bool) → b ≡ true → b ≡ false → ⊥
 differ b h k = cc
 
 last_of : (a b c : Bool) → (a && (b && c)) ≡ true → c ≡ true
-last_of true true c h = h
-last_of true false c h = cc
-last_of false b c h = cc
+last_of a b c h = grind arith
 
 pub apart_opens : (cs : List Connection) (p : ℕ) (c : Connection) (after : Half) (size : Option ℕ) → AreApart cs → slice_get cs p ≡ Some c →
     Sound c → is_over_by c.right c.seen_by_right ≡ false → HalfMoves c.right c.seen_by_right after →

@@ -1,72 +1,30 @@
 -- A unit of an end begins to pass and passes, and a packet of the other side begins: each keeps what holds of the line.
 -- For the laws on a line.
-use Rattle.std.proofs.Common.{◌≡◌, ◌∙◌, ℕ, ◌+◌, ◌%◌, ◌<◌, ◌≤◌, Bool, true, false, List, [], ◌∷◌, length, arith, refl, sym, ap, subst}
-use Rattle.std.proofs.Common.{Option, Some, None, if◌then◌else◌}
-use Rattle.osi_tpdu.specs.Value.{Value, request, confirm, disconnect, disconnected, data0, data2, acknowledge, error}
-use Rattle.osi_class.specs.Limits.{longest_tsdu}
-use Rattle.osi_class.specs.Link.{Standing}
-use Rattle.osi_rules.specs.declared.connections.Connection.{Connection}
-use Rattle.osi_rules.specs.declared.courses.Course.{Course}
-use Rattle.osi_rules.specs.declared.directions.Direction.TheVariants.{Left, Right}
-use Rattle.osi_rules.specs.declared.findings.Finding.{Finding}
-use Rattle.osi_rules.specs.declared.findings.Finding.TheVariants.{Kept, NotJudged}
-use Rattle.osi_rules.specs.declared.halves.Half.{Half}
-use Rattle.osi_rules.specs.declared.halves.Phase.{Phase}
-use Rattle.osi_rules.specs.Sides.{is_silent, is_open, begins}
-use Rattle.osi_rules.specs.Traffic.{found, sent_on, half_after, begun_after, closing_phase}
-use Rattle.osi_fair.specs.Lines.{begins_elsewhere}
-use Rattle.osi_fair.specs.Lines.{Line, begins_own, passes_own, begins_other, Acts, IsRight, IsRightNow, finding_of, after_finding}
+use Rattle.osi_fair.proofs.Vocabulary.{[], ap, arith, Bool, false, if◌then◌else◌, List, None, Option, refl, Some, subst, sym, true}
+use Rattle.osi_fair.proofs.Vocabulary.{ℕ, ◌%◌, ◌+◌, ◌<◌, ◌∙◌, ◌∷◌, ◌≡◌, ◌≤◌, acknowledge, data2, disconnect, disconnected, request, Value}
+use Rattle.osi_fair.proofs.Vocabulary.{longest_tsdu, Standing, begins, is_open, is_silent, begun_after, closing_phase, found, half_after}
+use Rattle.osi_fair.proofs.Vocabulary.{sent_on, Connection, Course, Left, Right, Finding, Kept, NotJudged, Half, Phase, Acts, after_finding}
+use Rattle.osi_fair.proofs.Vocabulary.{begins_elsewhere, finding_of, IsRight, IsRightNow, Line, confirm, data0, error}
+use Rattle.osi_fair.specs.Lines.{begins_own, passes_own, begins_other}
 use Rattle.osi_fair.proofs.what_a_link_does.{begun_by}
-use Rattle.osi_fair.proofs.units_in_flight.{Puts}
-use Rattle.osi_fair.proofs.what_holds_of_a_line.{Tally, Ordered, OpenIfAny, PutsAt, TakesAt, Holds, bounds_of, ends_so, shut, tapped}
+use Rattle.osi_fair.proofs.what_holds_of_a_line.{Tally, Ordered, OpenIfAny, PutsAt, TakesAt, Holds, tapped}
 use Rattle.osi_fair.proofs.what_begins_to_pass_is_right.{begins_right}
 
 -- ---- a packet begins
 
 pub begins_own_holds : (r peer : ℕ) (old new : Line) → Acts Left r peer begins_own old new → Holds r peer old → Holds r peer new
-begins_own_holds r peer old new (some, idle, new_is) h = subst (λ (l : Line). Holds r peer l) (sym new_is)
-    (record {
-      limit = h.limit;
-      tally = h.tally;
-      noted = h.noted;
-      ordered = h.ordered;
-      taps = h.taps;
-      puts = h.puts;
-      takes = h.takes;
-      under_way = λ b. begins_right r peer h.limit h.tally h.noted old.tap h.ordered h.taps old.put old.link some h.puts;
-    })
+begins_own_holds r peer old new k h = search (arith, begins_right)
 
 pub elsewhere_holds : (r peer : ℕ) (old new : Line) → Acts Left r peer begins_elsewhere old new → Holds r peer old → Holds r peer new
-elsewhere_holds r peer old new (idle, new_is) h = subst (λ (l : Line). Holds r peer l) (sym new_is)
-    (record {
-      limit = h.limit;
-      tally = h.tally;
-      noted = h.noted;
-      ordered = h.ordered;
-      taps = h.taps;
-      puts = h.puts;
-      takes = h.takes;
-      under_way = λ b. absurd (cc (b, idle));
-    })
+elsewhere_holds r peer old new k h = search (arith)
 
 -- what is found of this side's units doesn't depend on what the other side knows
 same_found : (course : Course) (in_use : Bool) (c : Connection) (unit : Value) → found Left course in_use c unit ≡ Kept →
     found Left course in_use (begins Right c) unit ≡ Kept
-same_found course in_use c (request x) e = e
-same_found course in_use c (confirm destination x) e = e
-same_found course in_use c (disconnect destination source reason user) e = e
-same_found course in_use c (disconnected destination source) e = e
-same_found course in_use c (data0 end user) e = e
-same_found course in_use c (data2 destination number end user) e = e
-same_found course in_use c (acknowledge credit destination number) e = e
-same_found course in_use c (error destination cause) e = e
+same_found course in_use c unit e = grind arith
 
 right_still : (tap : Connection) (put : List Value) → IsRightNow Left tap put → IsRightNow Left (begins Right tap) put
-right_still tap [] h = h
-right_still tap (unit ∷ units) h = record {
-  named = h.named;
-  kept = λ course in_use. same_found course in_use tap unit (h.kept course in_use);
-}
+right_still tap put h = search (arith, same_found)
 
 pub begins_other_holds : (r peer : ℕ) (old new : Line) → Acts Left r peer begins_other old new → Holds r peer old → Holds r peer new
 begins_other_holds r peer old new new_is h =
@@ -77,16 +35,7 @@ begins_other_holds r peer old new new_is h =
       limit = h.limit;
       tally = h.tally;
       noted = h.tally.passed;
-      ordered = record {
-        heard_noted = omega arith;
-        noted_passed = omega arith;
-        passed_sent = o.passed_sent;
-        few = o.few;
-        within = o.within;
-        shown_acked = o.shown_acked;
-        acked_came = o.acked_came;
-        tellable = o.tellable;
-      };
+      ordered = omega (arith, o);
       taps = record {
         next = t.next;
         awaited = t.awaited;
@@ -118,12 +67,10 @@ pub record Passed (r peer limit : ℕ) (x : Tally) (noted : ℕ) (units : List V
 
 begun_same : (half : Half) (end : Bool) (octets : ℕ) → half.begun + octets ≤ longest_tsdu →
     begun_by half.begun end octets ≡ begun_after half end octets
-begun_same half true octets h = refl
-begun_same half false octets h = omega arith
+begun_same half end octets h = grind arith
 
 open_if : (put : List Value) (phase : Phase) → is_open phase ≡ true → OpenIfAny put phase
-open_if [] phase h = tt
-open_if (unit ∷ units) phase h = h
+open_if put phase h = grind arith
 
 module _ (r peer limit : ℕ) (x : Tally) (noted : ℕ) (tap : Connection) (o : Ordered x noted) (t : tapped r peer limit x noted tap) where
   -- a DT
@@ -132,22 +79,7 @@ module _ (r peer limit : ℕ) (x : Tally) (noted : ℕ) (tap : Connection) (o : 
       (x.passed < x.sent) ×
       PutsAt r peer limit (record x { passed = x.passed + 1 })
       (half_after (data2 destination number end user) tap.left) tap.right units link
-  data_puts None destination number end user units ((a, b, c, d, f, g), live) = (
-    c,
-    (
-      subst (λ (n : ℕ). Puts (bounds_of r peer limit x true tap.right) (shut tap.left.phase) (x.passed + 1) x.shown n units)
-          (begun_same tap.left end (length user) f) g,
-      open_if units tap.left.phase live,
-    ),
-  )
-  data_puts (Some link) destination number end user units ((a, b, c, d, f, g), live) = (
-    c,
-    (
-      subst (λ (n : ℕ). Puts (bounds_of r peer limit x false tap.right) (ends_so x.sent link.ends.unsent) (x.passed + 1) x.shown n units)
-          (begun_same tap.left end (length user) f) g,
-      live,
-    ),
-  )
+  data_puts link destination number end user units h = grind (arith, begun_same, open_if)
 
   data_passes : (link : Option Standing) (destination number : ℕ) (end : Bool) (user : List ℕ) (units : List Value) →
       PutsAt r peer limit x tap.left tap.right (data2 destination number end user ∷ units) link →
@@ -158,16 +90,7 @@ module _ (r peer limit : ℕ) (x : Tally) (noted : ℕ) (tap : Connection) (o : 
       record {
         passed = x.passed + 1;
         shown = x.shown;
-        ordered = record {
-          heard_noted = o.heard_noted;
-          noted_passed = omega arith;
-          passed_sent = omega arith;
-          few = o.few;
-          within = o.within;
-          shown_acked = o.shown_acked;
-          acked_came = o.acked_came;
-          tellable = o.tellable;
-        };
+        ordered = omega (arith, o);
         taps = record {
           next = omega arith;
           awaited = t.awaited;
@@ -196,10 +119,7 @@ module _ (r peer limit : ℕ) (x : Tally) (noted : ℕ) (tap : Connection) (o : 
   ack_puts : (link : Option Standing) (credit destination number : ℕ) (units : List Value) →
       PutsAt r peer limit x tap.left tap.right (acknowledge credit destination number ∷ units) link →
       AckPasses number credit (half_after (acknowledge credit destination number) tap.left) units link
-  ack_puts None credit destination number units ((count, a, b, c, d, f, g), live) =
-      record { count = count; is = c; window = b; low = d; high = f; puts = (g, open_if units tap.left.phase live) }
-  ack_puts (Some link) credit destination number units ((count, a, b, c, d, f, g), live) =
-      record { count = count; is = c; window = b; low = d; high = f; puts = (g, live) }
+  ack_puts link credit destination number units h = search (arith, open_if)
 
   ack_passes : (link : Option Standing) (credit destination number : ℕ) (units : List Value) →
       PutsAt r peer limit x tap.left tap.right (acknowledge credit destination number ∷ units) link →
@@ -211,16 +131,7 @@ module _ (r peer limit : ℕ) (x : Tally) (noted : ℕ) (tap : Connection) (o : 
       record {
         passed = x.passed;
         shown = a.count;
-        ordered = record {
-          heard_noted = o.heard_noted;
-          noted_passed = o.noted_passed;
-          passed_sent = o.passed_sent;
-          few = o.few;
-          within = o.within;
-          shown_acked = high;
-          acked_came = o.acked_came;
-          tellable = omega arith;
-        };
+        ordered = omega (arith, o, high);
         taps = record {
           next = t.next;
           awaited = a.is;
@@ -241,30 +152,11 @@ module _ (r peer limit : ℕ) (x : Tally) (noted : ℕ) (tap : Connection) (o : 
   last_passes : (mine : Half) (units : List Value) → mine.next ≡ tap.left.next → mine.awaited ≡ tap.left.awaited →
       mine.credit ≡ tap.left.credit → mine.reference ≡ tap.left.reference → is_open mine.phase ≡ false → units ≡ [] →
       Passed r peer limit x noted units None (record tap { left = mine })
-  last_passes mine units next awaited credit reference closed none = record {
-    passed = x.passed;
-    shown = x.shown;
-    ordered = o;
-    taps = record {
-      next = next ∙ t.next;
-      awaited = awaited ∙ t.awaited;
-      credit = credit ∙ t.credit;
-      their_next = t.their_next;
-      their_awaited = t.their_awaited;
-      their_edge = t.their_edge;
-      known_next = t.known_next;
-      own_reference = reference ∙ t.own_reference;
-      reference = t.reference;
-      there = t.there;
-      fits = t.fits;
-    };
-    puts = subst (λ (l : List Value). PutsAt r peer limit x mine tap.right l None) (sym none) (closed, tt);
-  }
+  last_passes mine units next awaited credit reference closed none = search (arith)
 
   closing_passes : (was : Bool) (units : List Value) → units ≡ [] →
       Passed r peer limit x noted units None (record tap { left = closing_phase was tap.left })
-  closing_passes true units none = last_passes (closing_phase true tap.left) units refl refl refl refl refl none
-  closing_passes false units none = last_passes (closing_phase false tap.left) units refl refl refl refl refl none
+  closing_passes was units none = grind (arith, last_passes)
 
   pub unit_passes : (link : Option Standing) (unit : Value) (units : List Value) →
       PutsAt r peer limit x tap.left tap.right (unit ∷ units) link → Passed r peer limit x noted units link (sent_on Left unit tap)
@@ -297,18 +189,10 @@ first_is tap put units unit e h = let f : IsRightNow Left tap (unit ∷ units) =
 -- what the end takes doesn't depend on what has passed of its own
 takes_still : (limit : ℕ) (x : Tally) (passed shown : ℕ) (theirs : Half) (coming : List Value) (link : Option Standing) →
     TakesAt limit x theirs coming link → TakesAt limit (record x { passed = passed; shown = shown }) theirs coming link
-takes_still limit x passed shown theirs coming None h = tt
-takes_still limit x passed shown theirs coming (Some link) h = h
+takes_still limit x passed shown theirs coming link h = grind arith
 
 theirs_same : (unit : Value) (tap : Connection) → (sent_on Left unit tap).right ≡ tap.right
-theirs_same (request c) tap = refl
-theirs_same (confirm destination c) tap = refl
-theirs_same (disconnect destination source reason user) tap = refl
-theirs_same (disconnected destination source) tap = refl
-theirs_same (data0 end user) tap = refl
-theirs_same (data2 destination number end user) tap = refl
-theirs_same (acknowledge credit destination number) tap = refl
-theirs_same (error destination cause) tap = refl
+theirs_same unit tap = grind arith
 
 pub passes_own_holds : (r peer : ℕ) (course : Course) (in_use : Bool) (old new : Line) →
     Acts Left r peer (passes_own course in_use) old new →

@@ -1,24 +1,13 @@
 -- A unit of the other side passes, whatever it is: either what holds of the line still holds, or its connection is not judged
 -- any more.
 -- For the laws on a line.
-use Rattle.std.proofs.Common.{◌≡◌, ℕ, ◌+◌, ◌%◌, ◌<◌, ◌≤◌, Bool, true, false, List, [], ◌∷◌, ◌++◌, arith, refl}
-use Rattle.std.proofs.Common.{Option, Some, None}
-use Rattle.std.proofs.lemmas.Bool.{leb-true, ltb-true}
-use Rattle.osi_tpdu.specs.Value.{Value, data2, acknowledge}
-use Rattle.osi_class.specs.Link.{Standing}
-use Rattle.osi_rules.specs.declared.connections.Connection.{Connection}
-use Rattle.osi_rules.specs.declared.directions.Direction.TheVariants.{Left, Right}
-use Rattle.osi_rules.specs.declared.halves.Half.{Half}
-use Rattle.osi_rules.specs.declared.halves.Phase.{Phase}
-use Rattle.osi_rules.specs.Rows.{steps_from, has_passed, keeps_credit, is_tellable}
-use Rattle.osi_rules.specs.Sides.{is_open, is_closing}
-use Rattle.osi_rules.specs.Traffic.{sent_on, half_after}
-use Rattle.osi_fair.specs.Later.{IsLater}
-use Rattle.osi_fair.specs.Lines.{IsRightNow}
+use Rattle.osi_fair.proofs.Vocabulary.{[], arith, Bool, List, None, Option, refl, Some, true, ℕ, ◌%◌, ◌++◌, ◌+◌, ◌<◌, ◌∷◌, ◌≡◌, ◌≤◌}
+use Rattle.osi_fair.proofs.Vocabulary.{leb-true, ltb-true, acknowledge, data2, Value, Standing, has_passed, is_tellable, keeps_credit}
+use Rattle.osi_fair.proofs.Vocabulary.{steps_from, is_closing, is_open, half_after, sent_on, Connection, Left, Right, Half, Phase, IsLater}
+use Rattle.osi_fair.proofs.Vocabulary.{IsRightNow}
 use Rattle.osi_fair.proofs.what_was_right_stays_right.{passed_stays}
 use Rattle.osi_fair.proofs.units_in_flight.{Came, Comes, HasMoreCome, comes_more, puts_still}
-use Rattle.osi_fair.proofs.what_holds_of_a_line.{Tally, Ordered, PutsAt, TakesAt, bounds_of, came_of, ends_so}
-use Rattle.osi_fair.proofs.what_holds_of_a_line.{is_there, shut, tapped}
+use Rattle.osi_fair.proofs.what_holds_of_a_line.{Tally, Ordered, PutsAt, TakesAt, came_of, is_there, tapped}
 
 -- the line after it, with this record of the tap
 pub record Went (r peer limit : ℕ) (x : Tally) (noted : ℕ) (tap after : Connection) (put coming : List Value)
@@ -52,20 +41,7 @@ module _ (r peer limit : ℕ) (x : Tally) (noted : ℕ) (tap : Connection) (put 
       is_closing later.phase ≡ true) →
       PutsAt r peer limit x tap.left tap.right put l →
       PutsAt r peer limit (record x { came = came; heard = heard; edge = edge }) tap.left later put l
-  puts_later came heard edge later None closing (h, live) = (
-    puts_still (bounds_of r peer limit x true tap.right) (bounds_of r peer limit x true later) (shut tap.left.phase)
-        (record { reference = refl; peer = refl; limit = refl; window = refl; sent = omega arith; acked = omega arith; closing = closing })
-        refl
-        x.passed x.shown tap.left.begun put h,
-    live,
-  )
-  puts_later came heard edge later (Some link) closing (h, live) = (
-    puts_still (bounds_of r peer limit x false tap.right) (bounds_of r peer limit x false later) (ends_so x.sent link.ends.unsent)
-        (record { reference = refl; peer = refl; limit = refl; window = refl; sent = omega arith; acked = omega arith; closing = closing })
-        refl
-        x.passed x.shown tap.left.begun put h,
-    live,
-  )
+  puts_later came heard edge later l closing k = search (arith, puts_still)
 
   takes_later : (came heard edge : ℕ) (later : Half) (unit : Value) (l : Option Standing) →
       HasMoreCome (came_of x tap.right) (came_of (record x { came = came; heard = heard; edge = edge }) later) →
@@ -97,32 +73,14 @@ module _ (r peer limit : ℕ) (x : Tally) (noted : ℕ) (tap : Connection) (put 
       HasMoreCome (came_of x tap.right) (came_of (record x { came = came; heard = heard; edge = edge }) later) →
       Base (came_of (record x { came = came; heard = heard; edge = edge }) later) unit →
       Went r peer limit x noted tap (record tap { right = later }) put (coming ++ unit ∷ []) link
-  goes_later came heard edge later unit is ordered taps more base = record {
-    came = came;
-    heard = heard;
-    edge = edge;
-    ordered = ordered;
-    taps = taps;
-    puts = puts_later came heard edge later link is.closing p;
-    takes = takes_later came heard edge later unit link more base k;
-    under_way = λ h. right_later tap later put is h;
-  }
+  goes_later came heard edge later unit is ordered taps more base = search (arith, puts_later, takes_later, right_later)
 
   pub goes_same : (unit : Value) → Base (came_of x tap.right) unit → Went r peer limit x noted tap tap put (coming ++ unit ∷ []) link
   goes_same unit base = record {
     came = x.came;
     heard = x.heard;
     edge = x.edge;
-    ordered = record {
-      heard_noted = o.heard_noted;
-      noted_passed = o.noted_passed;
-      passed_sent = o.passed_sent;
-      few = o.few;
-      within = o.within;
-      shown_acked = o.shown_acked;
-      acked_came = o.acked_came;
-      tellable = o.tellable;
-    };
+    ordered = omega (arith, o);
     taps = t;
     puts = puts_later x.came x.heard x.edge tap.right link (λ c. c) p;
     takes = takes_later x.came x.heard x.edge tap.right unit link
@@ -141,16 +99,7 @@ module _ (r peer limit : ℕ) (x : Tally) (noted : ℕ) (tap : Connection) (put 
       let few = ltb-true (steps_from tap.left.awaited tap.right.next) 127 tells in
       goes_later (x.came + 1) x.heard x.edge (half_after (data2 destination number end user) tap.right) (data2 destination number end user)
       (record { next = omega arith; awaited = omega arith; credit = omega arith; closing = λ c. c })
-      (record {
-        heard_noted = o.heard_noted;
-        noted_passed = o.noted_passed;
-        passed_sent = o.passed_sent;
-        few = o.few;
-        within = o.within;
-        shown_acked = o.shown_acked;
-        acked_came = omega arith;
-        tellable = omega arith;
-      })
+      (omega (arith, o))
       (record {
         next = t.next;
         awaited = t.awaited;
@@ -187,16 +136,7 @@ module _ (r peer limit : ℕ) (x : Tally) (noted : ℕ) (tap : Connection) (put 
       goes_later x.came heard (heard + credit) (half_after (acknowledge credit destination number) tap.right)
       (acknowledge credit destination number)
       (record { next = omega arith; awaited = later; credit = room; closing = λ c. c })
-      (record {
-        heard_noted = omega arith;
-        noted_passed = o.noted_passed;
-        passed_sent = o.passed_sent;
-        few = omega arith;
-        within = omega arith;
-        shown_acked = o.shown_acked;
-        acked_came = o.acked_came;
-        tellable = o.tellable;
-      })
+      (omega (arith, o))
       (record {
         next = t.next;
         awaited = t.awaited;
@@ -221,16 +161,7 @@ module _ (r peer limit : ℕ) (x : Tally) (noted : ℕ) (tap : Connection) (put 
   ends_goes phase unit there closing base =
       goes_later x.came x.heard x.edge (record tap.right { phase = phase }) unit
       (record { next = omega arith; awaited = omega arith; credit = omega arith; closing = closing })
-      (record {
-        heard_noted = o.heard_noted;
-        noted_passed = o.noted_passed;
-        passed_sent = o.passed_sent;
-        few = o.few;
-        within = o.within;
-        shown_acked = o.shown_acked;
-        acked_came = o.acked_came;
-        tellable = o.tellable;
-      })
+      (omega (arith, o))
       (record {
         next = t.next;
         awaited = t.awaited;

@@ -1,37 +1,27 @@
 -- What the other side closes at the tap of a calling end: if a DR closed something, the end had the connection open there.
 -- For the law on DRs.
-use Rattle.std.proofs.Common.{◌≡◌, ◌∙◌, ℕ, Bool, true, false, List, [], ◌∷◌, set, refl, sym, ap, subst}
-use Rattle.std.proofs.Common.{Option, Some, None, drop, inl, inr, ◌⊎◌, if◌then◌else◌}
-use Rattle.std.specs.Prelude.{◌&&◌, ◌||◌, ◌==◌, not, position, slice_get}
-use Rattle.std.proofs.lemmas.Bool.{eqb-true}
-use Rattle.osi_tpdu.specs.Value.{Value, Connect, request, confirm, disconnect, disconnected, data0, data2, acknowledge, error}
-use Rattle.osi_class.specs.declared.terms.Class.{Class}
-use Rattle.osi_class.specs.declared.terms.Class.TheVariants.{Two, Zero}
-use Rattle.osi_rules.specs.declared.connections.Connection.{Connection}
-use Rattle.osi_rules.specs.declared.courses.Course.{Course}
-use Rattle.osi_rules.specs.declared.directions.Direction.TheVariants.{Right}
-use Rattle.osi_rules.specs.declared.findings.Finding.{Finding}
-use Rattle.osi_rules.specs.declared.findings.Finding.TheVariants.{Broke, NotJudged}
-use Rattle.osi_rules.specs.declared.findings.Reach.{Reach}
-use Rattle.osi_rules.specs.declared.findings.Reach.TheVariants as reach
-use Rattle.osi_rules.specs.declared.findings.Rule.{Rule}
+use Rattle.osi_fair.proofs.Vocabulary.{arith}
+use Rattle.osi_fair.proofs.Vocabulary.{[], ap, Bool, drop, false, if◌then◌else◌, inl, inr, List, None, Option, refl, set, Some, subst, sym}
+use Rattle.osi_fair.proofs.Vocabulary.{true, ℕ, ◌∙◌, ◌∷◌, ◌≡◌, ◌⊎◌, eqb-true, not, position, slice_get, ◌&&◌, ◌==◌, ◌||◌, acknowledge}
+use Rattle.osi_fair.proofs.Vocabulary.{confirm, Connect, data0, data2, disconnect, disconnected, error, request, Value, Class, Two, Zero}
+use Rattle.osi_fair.proofs.Vocabulary.{is_applied, passes_over, reach_by, reach_of, confirm_tests}
+use Rattle.osi_fair.proofs.Vocabulary.{first_failed, is_closed, is_closing, is_named, is_open, is_refused}
+use Rattle.osi_fair.proofs.Vocabulary.{is_silent, at_found, at_place, class_for, connection_after, course_after, found}
+use Rattle.osi_fair.proofs.Vocabulary.{found_on, half_after, is_stray, none_told, one_told, Outcome, reached, route, route_in, routed}
+use Rattle.osi_fair.proofs.Vocabulary.{Traffic as State, takes, unnamed_by, unnamed_told, uses_source, Connection, Course, Right}
+use Rattle.osi_fair.proofs.Vocabulary.{Finding, Broke, NotJudged, Reach, Rule, Half, Phase}
 use Rattle.osi_rules.specs.declared.findings.Rule.TheVariants as rule
-use Rattle.osi_rules.specs.declared.halves.Half.{Half}
-use Rattle.osi_rules.specs.declared.halves.Phase.{Phase}
-use Rattle.osi_rules.specs.declared.halves.Phase.TheVariants.{Silent, Open, Refused, Closing, Closed}
-use Rattle.osi_rules.specs.Reaches.{is_applied, is_of_connection, passes_over, reach_by, reach_of, reach_past}
-use Rattle.osi_rules.specs.Rows.{Test, first_failed, confirm_tests, is_due}
-use Rattle.osi_rules.specs.Sides.{is_closed, is_closing, is_live, is_named, is_open, is_over, is_refused, is_silent}
-use Rattle.osi_rules.specs.Traffic.{Outcome, State, at_found, at_place, class_for, closing_phase}
-use Rattle.osi_rules.specs.Traffic.{connection_after, course_after, course_after_none, found, found_on, half_after, is_stray}
-use Rattle.osi_rules.specs.Traffic.{none_told, one_told, reached, route, route_in, routed, takes}
-use Rattle.osi_rules.specs.Traffic.{unnamed, unnamed_by, unnamed_told, uses_source}
+use Rattle.osi_fair.proofs.small_facts_that_many_lemmas_use.{and_first, both, closing_not_silent, closing_shuts, differ}
+use Rattle.osi_fair.proofs.small_facts_that_many_lemmas_use.{not_not, or_first, or_last, or_left, or_right}
 use Rattle.osi_fair.proofs.all_are_judged_unless_one_broke.{AreJudged}
 use Rattle.osi_fair.proofs.what_holds_of_one_item.{HoldsOfEach, each_set}
 use Rattle.osi_fair.proofs.what_keeps_names_apart.{AreApart, Sound}
 use Rattle.osi_fair.proofs.when_a_connection_has_a_name.{three}
 use Rattle.osi_fair.proofs.while_no_class_is_selected.{after_change, named_where}
 use Rattle.osi_fair.proofs.what_stays_of_each_connection.{AreDistinct, IsLively, IsStarted, is_there, left_then, right_judged, right_own}
+use Rattle.osi_fair.proofs.what_a_side_knows_stays.{form_first}
+use Rattle.osi_fair.proofs.Vocabulary.{is_live}
+pub use Rattle.osi_fair.proofs.small_facts_that_many_lemmas_use.{judged_same}
 
 -- both sides are judged, no connection has lost its judgement, class 0 is not selected, and each DR has closed something
 pub record IsPlain (c : Course) : Type 0 where
@@ -60,24 +50,14 @@ clear_of c h = record { sure = firm_of c h; two = h.two }
 
 -- the reference of the connection that a unit of the other side refuses or closes
 abbrev pub closed_by : Value → Option ℕ
-closed_by (request x) = None
-closed_by (confirm destination x) = None
 closed_by (disconnect destination source reason user) = Some destination
 closed_by (disconnected destination source) = Some destination
-closed_by (data0 end user) = None
-closed_by (data2 destination number end user) = None
-closed_by (acknowledge credit destination number) = None
 closed_by (error destination cause) = Some destination
+closed_by _ = None
 
 abbrev pub IsDr : Value → Type 0
-IsDr (request x) = ⊥
-IsDr (confirm destination x) = ⊥
 IsDr (disconnect destination source reason user) = Unit {0}
-IsDr (disconnected destination source) = ⊥
-IsDr (data0 end user) = ⊥
-IsDr (data2 destination number end user) = ⊥
-IsDr (acknowledge credit destination number) = ⊥
-IsDr (error destination cause) = ⊥
+IsDr _ = ⊥
 
 abbrev pub Less : (ℕ → Type 0) → ℕ → ℕ → Type 0
 Less L n m = L m × (m ≡ n → ⊥)
@@ -88,119 +68,42 @@ pub data Came (L : ℕ → Type 0) (v : Value) (s t : State) : Type 0 where
   closes : (n : ℕ) → closed_by v ≡ Some n → (p : ℕ) (c : Connection) → slice_get s.connections p ≡ Some c → c.left.reference ≡ n →
       (IsDr v → L n) → HoldsOfEach (IsLively (Less L n)) t.connections → Came L v s t
 
-differ : {A : Type 0} (b : Bool) → b ≡ true → b ≡ false → A
-differ b h k = absurd (cc)
-
 -- ---- what is wrong is not firm
 
 by_reach : (k : Option Class) (b : Bool) (c : Course) → IsFirm (reached Right (reach_by k b) c) → ⊥
-by_reach None b c h = differ true refl h.left
-by_reach (Some Zero) b c h = differ true refl h.right
-by_reach (Some Two) true c h = differ true refl h.firm
-by_reach (Some Two) false c h = differ true refl h.left
+by_reach k b c h = grind (arith, differ)
 
 pub not_firm : (k : Option Class) (r : Rule) (c : Course) → passes_over r ≡ false → IsFirm (reached Right (reach_of k (Broke r)) c) → ⊥
-not_firm k r c e h =
-    by_reach k (is_of_connection r) c
-    (subst (λ (b : Bool). IsFirm (reached Right (reach_past b (reach_by k (is_of_connection r))) c)) e h)
+not_firm k r c e h = grind (arith, by_reach)
 
 bad : (k : Option Class) (r : Rule) (c : Course) → passes_over r ≡ false → IsPlain (reached Right (reach_of k (Broke r)) c) → ⊥
 bad k r c e h = not_firm k r c e (firm_of (reached Right (reach_of k (Broke r)) c) h)
 
 -- a unit for no connection
 none_rule : (v : Value) → (r : Rule) × (unnamed_by false v ≡ Broke r) × (passes_over r ≡ false)
-none_rule (request x) = (rule.UnknownReference, refl, refl)
-none_rule (confirm destination x) = (rule.UnknownReference, refl, refl)
-none_rule (disconnect destination source reason user) = (rule.UnknownReference, refl, refl)
 none_rule (disconnected destination source) = (rule.NothingToAnswer, refl, refl)
-none_rule (data0 end user) = (rule.UnknownReference, refl, refl)
-none_rule (data2 destination number end user) = (rule.UnknownReference, refl, refl)
-none_rule (acknowledge credit destination number) = (rule.UnknownReference, refl, refl)
-none_rule (error destination cause) = (rule.UnknownReference, refl, refl)
+none_rule _ = (rule.UnknownReference, refl, refl)
 
 none_bad : (v : Value) (s : State) → s.course.loose ≡ false → s.course.strays ≡ false →
     IsPlain (unnamed_told Right v s).state.course → ⊥
-none_bad v s firm plain h =
-    let (r, is, over) = none_rule v in
-    let c = course_after_none v s.course in
-    let so : unnamed s.course v ≡ Broke r = ap (λ (b : Bool). if b then NotJudged else unnamed_by s.course.strays v) firm
-    ∙ ap (λ (b : Bool). unnamed_by b v) plain ∙ is in
-    bad (class_for Right c) r c over (subst (λ (f : Finding). IsPlain (reached Right (reach_of (class_for Right c) f) c)) so h)
+none_bad v s firm plain h = grind (arith, none_rule, bad)
 
 reached_plain : (r : Reach) (c : Course) → (reached Right r c).strays ≡ false → c.strays ≡ false
-reached_plain reach.Nothing c h = h
-reached_plain reach.Connection c h = h
-reached_plain reach.Side c h = h
-reached_plain reach.Everything c h = h
+reached_plain r c h = grind arith
 
 -- ---- a unit for a connection
 
-pub judged_same : (j : Bool) (f : Finding) → j ≡ true → (if j then f else NotJudged) ≡ f
-judged_same true f h = refl
-judged_same false f h = cc
-
-form_first : (a : Bool) (ts : List Test) → is_applied (first_failed ((a, Broke rule.WrongForm) ∷ ts)) ≡ true → a ≡ true
-form_first true ts h = refl
-form_first false ts h = cc
-
-or_left : (a b : Bool) → (a || b) ≡ false → a ≡ false
-or_left true b h = cc
-or_left false b h = refl
-
-or_right : (a b : Bool) → (a || b) ≡ false → b ≡ false
-or_right true b h = cc
-or_right false b h = h
-
-or_second : (a b : Bool) → b ≡ true → (a || b) ≡ true
-or_second true b h = refl
-or_second false b h = h
-
-or_first : (a b : Bool) → a ≡ true → (a || b) ≡ true
-or_first true b h = refl
-or_first false b h = cc
-
-and_first : (a b : Bool) → (a && b) ≡ true → a ≡ true
-and_first true b h = refl
-and_first false b h = cc
-
-and_both : (a b : Bool) → a ≡ true → b ≡ true → (a && b) ≡ true
-and_both true b h k = k
-and_both false b h k = cc
-
 neither : (a b : Bool) → a ≡ false → b ≡ false → (a || b) ≡ false
-neither true b h k = cc
-neither false b h k = k
+neither a b h k = grind arith
 
 there_not : (a : Bool) (theirs : Half) → is_silent theirs.phase ≡ false → is_open theirs.phase ≡ false →
     (a && (is_silent theirs.phase || is_open theirs.phase)) ≡ true → ⊥
-there_not true theirs h k m = differ (is_silent theirs.phase || is_open theirs.phase) m (neither (is_silent theirs.phase)
-    (is_open theirs.phase) h k)
-there_not false theirs h k m = cc
-
-not_not : (b : Bool) → not b ≡ false → b ≡ true
-not_not true h = refl
-not_not false h = cc
+there_not a theirs h k m = grind (arith, differ, neither)
 
 -- left has not closed what right has not closed
 still_open : (p q : Phase) → (is_silent p || is_refused p) ≡ false → is_closing p ≡ false →
     (is_closed p ≡ true → is_closing q ≡ true) → is_open q ≡ true → is_open p ≡ true
-still_open Open q a b c h = refl
-still_open Silent q a b c h = cc
-still_open Refused q a b c h = cc
-still_open Closing q a b c h = cc
-still_open Closed Open a b c h = absurd (cc (c refl))
-still_open Closed Silent a b c h = cc
-still_open Closed Refused a b c h = cc
-still_open Closed Closing a b c h = cc
-still_open Closed Closed a b c h = cc
-
-closing_silent : (was : Bool) (half : Half) → is_silent (closing_phase was half).phase ≡ false
-closing_silent true half = refl
-closing_silent false half = refl
-
-closing_open : (was : Bool) (half : Half) → is_open (closing_phase was half).phase ≡ false
-closing_open true half = refl
-closing_open false half = refl
+still_open p q a b c h = grind arith
 
 module _ (L : ℕ → Type 0) (s : State) (q : ℕ) (c : Connection) (at : slice_get s.connections q ≡ Some c)
     (judged : c.is_judged ≡ true) (sound : Sound c) (started : IsStarted c) (distinct : AreDistinct s.connections)
@@ -222,8 +125,7 @@ module _ (L : ℕ → Type 0) (s : State) (q : ℕ) (c : Connection) (at : slice
 
   -- the half of right after it
   right_by : (v : Value) (b : Bool) → is_applied (finding v) ≡ b → (after v).right ≡ (if b then half_after v c.right else c.right)
-  right_by v true e = ap (λ (b : Bool). (connection_after Right v b (how_far v) c).right) e ∙ right_own v (how_far v) c
-  right_by v false e = ap (λ (b : Bool). (connection_after Right v b (how_far v) c).right) e ∙ right_judged (how_far v) c
+  right_by v b e = grind (arith, right_own, right_judged)
 
   -- if it closes nothing
   abbrev Before : Value → Type 0
@@ -237,14 +139,11 @@ module _ (L : ℕ → Type 0) (s : State) (q : ℕ) (c : Connection) (at : slice
   before_more : (v : Value) (b : Bool) → is_applied (finding v) ≡ b →
       (is_applied (finding v) ≡ true → is_there c.left (half_after v c.right) ≡ true → is_there c.left c.right ≡ true) →
       is_there c.left (if b then half_after v c.right else c.right) ≡ true → is_there c.left c.right ≡ true
-  before_more v true e k there = k e there
-  before_more v false e k there = there
+  before_more v b e k there = grind arith
 
   before_by : (v : Value) (b : Bool) → is_applied (finding v) ≡ b →
       (is_applied (finding v) ≡ true → is_there c.left (half_after v c.right) ≡ true → is_there c.left c.right ≡ true) → Before v
-  before_by v b e k there = before_more v b e k
-      (ap (λ (x : Half). is_there c.left x) (sym (right_by v b e))
-      ∙ ap (λ (x : Half). is_there x (after v).right) (sym (left_then v (is_applied (finding v)) (how_far v) c)) ∙ there)
+  before_by v b e k there = search (arith, before_more, right_by, left_then)
 
   same_phase : (v : Value) → (half_after v c.right).phase ≡ c.right.phase → Before v
   same_phase v e = before_by v (is_applied (finding v)) refl
@@ -254,7 +153,7 @@ module _ (L : ℕ → Type 0) (s : State) (q : ℕ) (c : Connection) (at : slice
   confirms destination x =
       let v = confirm destination x in
       before_by v (is_applied (finding v)) refl
-      (λ applied there. and_both (is_open c.left.phase) (is_silent c.right.phase || is_open c.right.phase)
+      (λ applied there. both (is_open c.left.phase) (is_silent c.right.phase || is_open c.right.phase)
       (and_first (is_open c.left.phase) true there)
       (or_first (is_silent c.right.phase) (is_open c.right.phase)
       (form_first (is_silent c.right.phase) (drop 1 (confirm_tests c s.course.class (uses_source Right s.connections v) x))
@@ -263,10 +162,7 @@ module _ (L : ℕ → Type 0) (s : State) (q : ℕ) (c : Connection) (at : slice
   -- if it closes the connection
   less_by : (v : Value) (n : ℕ) → c.left.reference ≡ n → (is_there (after v).left (after v).right ≡ true → ⊥) → (i : ℕ) (e : Connection) →
       ((i ≡ q) × (e ≡ after v)) ⊎ ((i ≡ q → ⊥) × (slice_get s.connections i ≡ Some e)) → IsLively (Less L n) e
-  less_by v n is none i e (inl (same, so)) there =
-      absurd (none (subst (λ (x : Connection). is_there x.left x.right ≡ true) so there))
-  less_by v n is none i e (inr (other, here)) there =
-      (lively i e here there, λ m. other (distinct i q e c here at (m ∙ sym is)))
+  less_by v n is none i e h there = grind arith
 
   less_lively : (v : Value) (n : ℕ) → c.left.reference ≡ n → (is_there (after v).left (after v).right ≡ true → ⊥) →
       HoldsOfEach (IsLively (Less L n)) (set s.connections q (after v))
@@ -274,9 +170,7 @@ module _ (L : ℕ → Type 0) (s : State) (q : ℕ) (c : Connection) (at : slice
 
   ended_there : (v : Value) → is_applied (finding v) ≡ true → is_silent (half_after v c.right).phase ≡ false →
       is_open (half_after v c.right).phase ≡ false → is_there (after v).left (after v).right ≡ true → ⊥
-  ended_there v e a b there =
-      there_not (is_open (after v).left.phase) (half_after v c.right) a b
-      (ap (λ (x : Half). is_there (after v).left x) (sym (right_by v true e)) ∙ there)
+  ended_there v e a b there = search (arith, there_not, right_by)
 
   closed_so : (v : Value) (n : ℕ) → closed_by v ≡ Some n → c.left.reference ≡ n → is_applied (finding v) ≡ true →
       is_silent (half_after v c.right).phase ≡ false → is_open (half_after v c.right).phase ≡ false → (IsDr v → L n) →
@@ -284,10 +178,6 @@ module _ (L : ℕ → Type 0) (s : State) (q : ℕ) (c : Connection) (at : slice
   closed_so v n e is applied a b k = closes n e q c at is k (less_lively v n is (ended_there v applied a b))
 
   -- ---- a DR
-
-  all_applied : (a : Bool) → is_applied (first_failed ((a, Broke rule.Closed) ∷ [])) ≡ true → a ≡ true
-  all_applied true h = refl
-  all_applied false h = cc
 
   closes_by : (destination source reason : ℕ) (user : List ℕ) (b : Bool) →
       is_applied (finding (disconnect destination source reason user)) ≡ b → c.left.reference ≡ destination →
@@ -308,18 +198,16 @@ module _ (L : ℕ → Type 0) (s : State) (q : ℕ) (c : Connection) (at : slice
       let first = or_right (not (source == c.right.reference)) (is_closing c.left.phase) (or_right (not (is_open c.right.phase))
       (not (source == c.right.reference) || is_closing c.left.phase) stray) in
       let mine = still_open c.left.phase c.right.phase started first sound.left_closed opened in
-      closed_so v destination refl is e (closing_silent (is_silent c.right.phase) c.right) (closing_open (is_silent c.right.phase) c.right)
-      (λ dr. subst L is (lively q c at (and_both (is_open c.left.phase) (is_silent c.right.phase || is_open c.right.phase) mine
-      (or_second (is_silent c.right.phase) (is_open c.right.phase) opened))))
+      closed_so v destination refl is e (closing_not_silent (is_silent c.right.phase) c.right) (closing_shuts (is_silent c.right.phase) c.right)
+      (λ dr. subst L is (lively q c at (both (is_open c.left.phase) (is_silent c.right.phase || is_open c.right.phase) mine
+      (or_last (is_silent c.right.phase) (is_open c.right.phase) opened))))
 
   -- ---- a DC
 
   dc_by : (due strays : Bool) → strays ≡ false →
       (is_applied (first_failed ((due || not strays, NotJudged) ∷ (due, Broke rule.NothingToAnswer) ∷ [])) ≡ true)
       ⊎ (first_failed ((due || not strays, NotJudged) ∷ (due, Broke rule.NothingToAnswer) ∷ []) ≡ Broke rule.NothingToAnswer)
-  dc_by true false h = inl refl
-  dc_by false false h = inr refl
-  dc_by due true h = cc
+  dc_by due strays h = grind arith
 
   answers_by : (destination source : ℕ) → c.left.reference ≡ destination →
       (is_applied (finding (disconnected destination source)) ≡ true)
@@ -335,32 +223,23 @@ module _ (L : ℕ → Type 0) (s : State) (q : ℕ) (c : Connection) (at : slice
 
   dc_found : (destination source : ℕ) → (is_applied (finding (disconnected destination source)) ≡ true)
       ⊎ (finding (disconnected destination source) ≡ Broke rule.NothingToAnswer)
-  dc_found destination source =
-      subst (λ (f : Finding). (is_applied f ≡ true) ⊎ (f ≡ Broke rule.NothingToAnswer)) (sym (is_found (disconnected destination source)))
-      (dc_by (is_due Right c source) s.course.strays plain)
+  dc_found destination source = grind (arith, is_found, dc_by)
 
   -- ---- an ER
 
   er_by : (silent : Bool) → (is_applied (first_failed ((silent, Broke rule.WrongForm) ∷ [])) ≡ true)
       ⊎ (first_failed ((silent, Broke rule.WrongForm) ∷ []) ≡ Broke rule.WrongForm)
-  er_by true = inl refl
-  er_by false = inr refl
+  er_by silent = grind arith
 
   refuses_by : (destination cause : ℕ) → c.left.reference ≡ destination → (is_applied (finding (error destination cause)) ≡ true)
       ⊎ (finding (error destination cause) ≡ Broke rule.WrongForm) → IsPlain (course (error destination cause)) →
       Came L (error destination cause) s (one_told Right q c (error destination cause) s).state
   refuses_by destination cause is (inl e) h = closed_so (error destination cause) destination refl is e refl refl (λ dr. absurd dr)
-  refuses_by destination cause is (inr e) h =
-      let v = error destination cause in
-      absurd (bad (class_for Right s.course) rule.WrongForm (course_after Right c v (is_applied (finding v)) s.course) refl
-      (subst (λ (f : Finding). IsPlain (reached Right (reach_of (class_for Right s.course) f)
-      (course_after Right c v (is_applied (finding v)) s.course))) e h))
+  refuses_by destination cause is (inr e) h = grind (arith, bad)
 
   er_found : (destination cause : ℕ) → (is_applied (finding (error destination cause)) ≡ true)
       ⊎ (finding (error destination cause) ≡ Broke rule.WrongForm)
-  er_found destination cause =
-      subst (λ (f : Finding). (is_applied f ≡ true) ⊎ (f ≡ Broke rule.WrongForm)) (sym (is_found (error destination cause)))
-      (er_by (is_silent c.right.phase))
+  er_found destination cause = grind (arith, is_found, er_by)
 
   -- ---- any
 
@@ -368,20 +247,16 @@ module _ (L : ℕ → Type 0) (s : State) (q : ℕ) (c : Connection) (at : slice
   Told v = IsPlain (one_told Right q c v s).state.course → Came L v s (one_told Right q c v s).state
 
   one_came : (v : Value) → ((n : ℕ) → closed_by v ≡ Some n → c.left.reference ≡ n) → Told v
-  one_came (request x) is h = stays refl (all_lively (request x) (same_phase (request x) refl))
   one_came (confirm destination x) is h = stays refl (all_lively (confirm destination x) (confirms destination x))
   one_came (disconnect destination source reason user) is h =
       closes_by destination source reason user (is_applied (finding (disconnect destination source reason user))) refl
       (is destination refl) h
   one_came (disconnected destination source) is h =
       answers_by destination source (is destination refl) (dc_found destination source) h
-  one_came (data0 end user) is h = stays refl (all_lively (data0 end user) (same_phase (data0 end user) refl))
-  one_came (data2 destination number end user) is h =
-      stays refl (all_lively (data2 destination number end user) (same_phase (data2 destination number end user) refl))
-  one_came (acknowledge credit destination number) is h =
-      stays refl (all_lively (acknowledge credit destination number) (same_phase (acknowledge credit destination number) refl))
   one_came (error destination cause) is h =
       refuses_by destination cause (is destination refl) (er_found destination cause) h
+  one_came v is h =
+      stays refl (all_lively v (same_phase v refl))
 
 -- ---- by the way that a unit takes
 
@@ -396,9 +271,7 @@ named_so : (a b c : Bool) → (not a && (not b && c)) ≡ true → (a ≡ false)
 named_so a b c h = three a b c h
 
 pub is_name : (c : Connection) (n : ℕ) → Sound c → is_named Right n c ≡ true → c.left.reference ≡ n
-is_name c n sound h =
-    let (a, b, e) = named_so (is_over Right c) (is_silent c.seen_by_right.phase) (c.seen_by_right.reference == n) h in
-    sym (sound.right_knows.reference b) ∙ eqb-true c.seen_by_right.reference n e
+is_name c n sound h = grind (arith, named_so, eqb-true)
 
 module _ (L : ℕ → Type 0) (s : State) (sane : IsSane s) (lively : HoldsOfEach (IsLively L) s.connections)
     (firm : s.course.loose ≡ false) (plain : s.course.strays ≡ false) (went_on : s.course.left_stopped ≡ false) where
@@ -425,12 +298,10 @@ module _ (L : ℕ → Type 0) (s : State) (sane : IsSane s) (lively : HoldsOfEac
 
   at_live : (v : Value) (q : ℕ) (o : Option Connection) → slice_get s.connections q ≡ o → closed_by v ≡ None →
       Comes v (at_found Right v s q o)
-  at_live v q None at e h = absurd (none_bad v s firm plain h)
-  at_live v q (Some c) at e h = at_one v q c at (λ n k. absurd (cc (sym e ∙ k))) h
+  at_live v q o at e h = grind (arith, none_bad, at_one)
 
   at_only : (v : Value) (o : Option ℕ) → closed_by v ≡ None → Comes v (at_place Right v s o)
-  at_only v None e h = absurd (none_bad v s firm plain h)
-  at_only v (Some q) e h = at_live v q (slice_get s.connections q) refl e h
+  at_only v o e h = grind (arith, none_bad, at_live)
 
   wrong : (v : Value) (r : Rule) → passes_over r ≡ false → Comes v (none_told Right (Broke r) s)
   wrong v r e h = absurd (bad (class_for Right s.course) r s.course e h)
@@ -439,8 +310,6 @@ module _ (L : ℕ → Type 0) (s : State) (sane : IsSane s) (lively : HoldsOfEac
   same_number n m e = cc
 
   by_class : (k : Option Class) (v : Value) → Comes v (routed Right v s (route_in k Right false v))
-  by_class None (request x) =
-      wrong (request x) rule.UnexpectedUnit refl
   by_class None (confirm destination x) =
       at_name (confirm destination x) destination (position (is_named Right destination) s.connections) refl (λ m e. absurd (cc e))
   by_class None (disconnect destination source reason user) =
@@ -449,34 +318,18 @@ module _ (L : ℕ → Type 0) (s : State) (sane : IsSane s) (lively : HoldsOfEac
   by_class None (disconnected destination source) =
       at_name (disconnected destination source) destination (position (is_named Right destination) s.connections) refl
       (λ m e. same_number destination m e)
-  by_class None (data0 end user) =
-      wrong (data0 end user) rule.UnexpectedUnit refl
-  by_class None (data2 destination number end user) =
-      wrong (data2 destination number end user) rule.UnexpectedUnit refl
-  by_class None (acknowledge credit destination number) =
-      wrong (acknowledge credit destination number) rule.UnexpectedUnit refl
   by_class None (error destination cause) =
       at_name (error destination cause) destination (position (is_named Right destination) s.connections) refl
       (λ m e. same_number destination m e)
   by_class (Some Zero) (request x) =
       wrong (request x) rule.UnexpectedUnit refl
-  by_class (Some Zero) (confirm destination x) =
-      wrong (confirm destination x) rule.WrongForm refl
-  by_class (Some Zero) (disconnect destination source reason user) =
-      wrong (disconnect destination source reason user) rule.WrongForm refl
   by_class (Some Zero) (disconnected destination source) =
       at_name (disconnected destination source) destination (position (is_named Right destination) s.connections) refl
       (λ m e. same_number destination m e)
   by_class (Some Zero) (data0 end user) =
       at_only (data0 end user) (position (is_live Right) s.connections) refl
-  by_class (Some Zero) (data2 destination number end user) =
-      wrong (data2 destination number end user) rule.WrongForm refl
-  by_class (Some Zero) (acknowledge credit destination number) =
-      wrong (acknowledge credit destination number) rule.WrongForm refl
-  by_class (Some Zero) (error destination cause) =
-      wrong (error destination cause) rule.WrongForm refl
-  by_class (Some Two) (request x) =
-      wrong (request x) rule.UnexpectedUnit refl
+  by_class (Some Zero) v =
+      wrong v rule.WrongForm refl
   by_class (Some Two) (confirm destination x) =
       at_name (confirm destination x) destination (position (is_named Right destination) s.connections) refl (λ m e. absurd (cc e))
   by_class (Some Two) (disconnect destination source reason user) =
@@ -485,8 +338,6 @@ module _ (L : ℕ → Type 0) (s : State) (sane : IsSane s) (lively : HoldsOfEac
   by_class (Some Two) (disconnected destination source) =
       at_name (disconnected destination source) destination (position (is_named Right destination) s.connections) refl
       (λ m e. same_number destination m e)
-  by_class (Some Two) (data0 end user) =
-      wrong (data0 end user) rule.UnexpectedUnit refl
   by_class (Some Two) (data2 destination number end user) =
       at_name (data2 destination number end user) destination (position (is_named Right destination) s.connections) refl
       (λ m e. absurd (cc e))
@@ -496,6 +347,8 @@ module _ (L : ℕ → Type 0) (s : State) (sane : IsSane s) (lively : HoldsOfEac
   by_class (Some Two) (error destination cause) =
       at_name (error destination cause) destination (position (is_named Right destination) s.connections) refl
       (λ m e. same_number destination m e)
+  by_class _ v =
+      wrong v rule.UnexpectedUnit refl
 
   pub what_came : (v : Value) → s.course.right_stopped ≡ false → IsPlain (takes Right v s).state.course → Came L v s (takes Right v s).state
   what_came v judged =

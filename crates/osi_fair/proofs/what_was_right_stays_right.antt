@@ -1,19 +1,11 @@
 -- What was right stays right if more of the other side has passed: row by row.
 -- For the law of that name.
-use Rattle.std.proofs.Common.{◌≡◌, ℕ, ◌+◌, ◌≤◌, Bool, true, false, length, arith, refl}
-use Rattle.std.specs.Prelude.{◌&&◌, ◌||◌, ◌==◌, not, nat_le, nat_lt}
-use Rattle.std.proofs.lemmas.Bool.{leb-true, le-leb, ltb-true, lt-ltb}
-use Rattle.osi_tpdu.specs.Value.{Value, request, confirm, disconnect, disconnected, data0, data2, acknowledge, error}
-use Rattle.osi_rules.specs.declared.connections.Connection.{Connection}
-use Rattle.osi_rules.specs.declared.courses.Course.{Course}
-use Rattle.osi_rules.specs.declared.directions.Direction.{Direction}
-use Rattle.osi_rules.specs.declared.directions.Direction.TheVariants.{Left, Right}
-use Rattle.osi_rules.specs.declared.findings.Finding.TheVariants.{Kept}
-use Rattle.osi_rules.specs.declared.halves.Half.{Half}
-use Rattle.osi_rules.specs.Rows.{first_failed, steps_from, data2_tests, acknowledge_tests, disconnected_tests, is_due}
-use Rattle.osi_rules.specs.Sides.{is_open, is_closing, own, theirs, seen, sends, other}
-use Rattle.osi_rules.specs.Traffic.{found}
-use Rattle.osi_fair.specs.Later.{IsLater, knows}
+use Rattle.osi_fair.proofs.Vocabulary.{arith, Bool, length, nat_lt, refl, true, ℕ, ◌+◌, ◌≡◌, ◌≤◌, le-leb, leb-true, lt-ltb, ltb-true}
+use Rattle.osi_fair.proofs.Vocabulary.{nat_le, not, ◌&&◌, ◌==◌, acknowledge, data2, disconnected, Value, acknowledge_tests, data2_tests}
+use Rattle.osi_fair.proofs.Vocabulary.{disconnected_tests, first_failed, is_due, steps_from, is_closing, is_open, other, own, seen, theirs}
+use Rattle.osi_fair.proofs.Vocabulary.{found, Connection, Course, Direction, Left, Right, Kept, Half, IsLater, knows}
+use Rattle.osi_rules.specs.Sides.{sends}
+use Rattle.osi_fair.proofs.small_facts_that_many_lemmas_use.{or_first}
 use Rattle.osi_fair.proofs.what_is_right_passes_each_test.{passes_each, is_right}
 
 -- the steps to a number within a way are those of the first part and those of the rest
@@ -22,26 +14,16 @@ way_parts x y z h = omega arith
 
 credit_stays : (mine e l : Half) → IsLater mine e l → nat_lt (steps_from e.awaited mine.next) e.credit ≡ true →
     nat_lt (steps_from l.awaited mine.next) l.credit ≡ true
-credit_stays mine e l h k =
-    let parts = way_parts e.awaited l.awaited mine.next h.awaited in
-    let before = ltb-true (steps_from e.awaited mine.next) e.credit k in
-    let edge = h.credit in
-    lt-ltb (steps_from l.awaited mine.next) l.credit (omega arith)
+credit_stays mine e l h k = grind (arith, way_parts, ltb-true, lt-ltb)
 
 telling_stays : (mine e l : Half) → IsLater mine e l → nat_lt (steps_from e.awaited mine.next) 127 ≡ true →
     nat_lt (steps_from l.awaited mine.next) 127 ≡ true
-telling_stays mine e l h k =
-    let parts = way_parts e.awaited l.awaited mine.next h.awaited in
-    let before = ltb-true (steps_from e.awaited mine.next) 127 k in
-    lt-ltb (steps_from l.awaited mine.next) 127 (omega arith)
+telling_stays mine e l h k = grind (arith, way_parts, ltb-true, lt-ltb)
 
 passing_stays : (mine e l : Half) (number : ℕ) → IsLater mine e l →
     nat_le (steps_from mine.awaited number) (steps_from mine.awaited e.next) ≡ true →
     nat_le (steps_from mine.awaited number) (steps_from mine.awaited l.next) ≡ true
-passing_stays mine e l number h k =
-    let before = leb-true (steps_from mine.awaited number) (steps_from mine.awaited e.next) k in
-    let more = h.next in
-    le-leb (steps_from mine.awaited number) (steps_from mine.awaited l.next) (omega arith)
+passing_stays mine e l number h k = grind (arith, leb-true, le-leb)
 
 -- ---- what the side knows when its packet begins
 
@@ -74,13 +56,7 @@ ack_known Right c later number credit h e =
 
 due_stays : (live before after mine : Bool) → (before ≡ true → after ≡ true) → (live && (before && mine)) ≡ true →
     (live && (after && mine)) ≡ true
-due_stays true true after mine more h = rw (more refl) h
-due_stays true false after mine more h = cc
-due_stays false before after mine more h = h
-
-or_left : (a b : Bool) → a ≡ true → (a || b) ≡ true
-or_left true b h = refl
-or_left false b h = cc
+due_stays live before after mine more h = grind arith
 
 confirm_known : (d : Direction) (c : Connection) (later : Half) (source : ℕ) (strays : Bool) → IsLater (own d c) (seen d c) later →
     first_failed (disconnected_tests d c source strays) ≡ Kept → first_failed (disconnected_tests d (knows d later c) source strays) ≡ Kept
@@ -89,13 +65,13 @@ confirm_known Left c later source strays h e =
     let due = due_stays (is_open c.left.phase) (is_closing c.seen_by_left.phase) (is_closing later.phase) (source == c.left.reference)
     h.closing p.1.0 in
     is_right (disconnected_tests Left (knows Left later c) source strays)
-    (or_left (is_due Left (knows Left later c) source) (not strays) due, (due, tt))
+    (or_first (is_due Left (knows Left later c) source) (not strays) due, (due, tt))
 confirm_known Right c later source strays h e =
     let p = passes_each (disconnected_tests Right c source strays) refl e in
     let due = due_stays (is_open c.right.phase) (is_closing c.seen_by_right.phase) (is_closing later.phase) (source == c.right.reference)
     h.closing p.1.0 in
     is_right (disconnected_tests Right (knows Right later c) source strays)
-    (or_left (is_due Right (knows Right later c) source) (not strays) due, (due, tt))
+    (or_first (is_due Right (knows Right later c) source) (not strays) due, (due, tt))
 
 -- ---- what has passed of the other side since then
 
@@ -114,40 +90,18 @@ data_passed Right c later number octets h e =
 
 pub known_stays : (d : Direction) (course : Course) (in_use : Bool) (c : Connection) (later : Half) (v : Value) →
     IsLater (own d c) (seen d c) later → found d course in_use c v ≡ Kept → found d course in_use (knows d later c) v ≡ Kept
-known_stays Left course in_use c later (request x) h e = e
-known_stays Left course in_use c later (confirm destination x) h e = e
-known_stays Left course in_use c later (disconnect destination source reason user) h e = e
-known_stays Left course in_use c later (disconnected destination source) h e =
-    confirm_known Left c later source course.strays h e
-known_stays Left course in_use c later (data0 end user) h e = e
+known_stays Left course in_use c later (disconnected destination source) h e = grind (arith, confirm_known)
 known_stays Left course in_use c later (data2 destination number end user) h e = data_known Left c later number (length user) h e
 known_stays Left course in_use c later (acknowledge credit destination number) h e = ack_known Left c later number credit h e
-known_stays Left course in_use c later (error destination cause) h e = e
-known_stays Right course in_use c later (request x) h e = e
-known_stays Right course in_use c later (confirm destination x) h e = e
-known_stays Right course in_use c later (disconnect destination source reason user) h e = e
-known_stays Right course in_use c later (disconnected destination source) h e =
-    confirm_known Right c later source course.strays h e
-known_stays Right course in_use c later (data0 end user) h e = e
+known_stays Left course in_use c later _ h e = e
+known_stays Right course in_use c later (disconnected destination source) h e = grind (arith, confirm_known)
 known_stays Right course in_use c later (data2 destination number end user) h e = data_known Right c later number (length user) h e
 known_stays Right course in_use c later (acknowledge credit destination number) h e = ack_known Right c later number credit h e
-known_stays Right course in_use c later (error destination cause) h e = e
+known_stays Right course in_use c later _ h e = e
 
 pub passed_stays : (d : Direction) (course : Course) (in_use : Bool) (c : Connection) (later : Half) (v : Value) →
     IsLater (own d c) (theirs d c) later → found d course in_use c v ≡ Kept → found d course in_use (sends (other d) later c) v ≡ Kept
-passed_stays Left course in_use c later (request x) h e = e
-passed_stays Left course in_use c later (confirm destination x) h e = e
-passed_stays Left course in_use c later (disconnect destination source reason user) h e = e
-passed_stays Left course in_use c later (disconnected destination source) h e = e
-passed_stays Left course in_use c later (data0 end user) h e = e
 passed_stays Left course in_use c later (data2 destination number end user) h e = data_passed Left c later number (length user) h e
-passed_stays Left course in_use c later (acknowledge credit destination number) h e = e
-passed_stays Left course in_use c later (error destination cause) h e = e
-passed_stays Right course in_use c later (request x) h e = e
-passed_stays Right course in_use c later (confirm destination x) h e = e
-passed_stays Right course in_use c later (disconnect destination source reason user) h e = e
-passed_stays Right course in_use c later (disconnected destination source) h e = e
-passed_stays Right course in_use c later (data0 end user) h e = e
+passed_stays Left course in_use c later _ h e = e
 passed_stays Right course in_use c later (data2 destination number end user) h e = data_passed Right c later number (length user) h e
-passed_stays Right course in_use c later (acknowledge credit destination number) h e = e
-passed_stays Right course in_use c later (error destination cause) h e = e
+passed_stays Right course in_use c later _ h e = e

@@ -1,19 +1,15 @@
 -- Which units of a list are for a connection, by their references; and those that the line of a connection has put.
 -- For the law on a whole end.
-use Rattle.std.proofs.Common.{◌≡◌, ◌≢◌, ◌∙◌, ℕ, ◌+◌, Bool, true, false, List, [], ◌∷◌, ◌++◌, length, refl, sym, ap, subst, Option, Some}
-use Rattle.std.proofs.Common.{None}
-use Rattle.std.specs.Prelude.{◌&&◌, ◌==◌}
-use Rattle.std.specs.List.{AllByRecursion}
-use Rattle.std.proofs.lemmas.Bool.{eq-eqb, eqb-true}
-use Rattle.std.proofs.lemmas.List.{append-nil}
-use Rattle.osi_tpdu.specs.Value.{Value, request, confirm, disconnect, disconnected, data0, data2, acknowledge, error, destination_of}
-use Rattle.osi_class.specs.Link.{Standing}
-use Rattle.osi_rules.specs.declared.halves.Half.{Half}
-use Rattle.osi_rules.specs.Sides.{is_open}
-use Rattle.osi_fair.specs.Lines.{Line}
+use Rattle.osi_fair.proofs.Vocabulary.{arith}
+use Rattle.osi_fair.proofs.Vocabulary.{[], ap, Bool, false, length, List, None, Option, refl, Some, subst, sym, true, ℕ, ◌++◌, ◌+◌, ◌∙◌}
+use Rattle.osi_fair.proofs.Vocabulary.{◌∷◌, ◌≡◌, ◌≢◌, eq-eqb, eqb-true, append-nil, AllByRecursion, ◌&&◌, ◌==◌, acknowledge, data2}
+use Rattle.osi_fair.proofs.Vocabulary.{destination_of, disconnect, disconnected, Value, Standing, is_open, Half, Line, request, confirm}
+use Rattle.osi_fair.proofs.Vocabulary.{data0, error}
+use Rattle.osi_fair.proofs.small_facts_that_many_lemmas_use.{and_not, both, no_list, no_two, unequal}
 use Rattle.osi_fair.proofs.units_in_flight.{Bounds, Puts}
 use Rattle.osi_fair.proofs.what_a_link_does.{begun_by}
-use Rattle.osi_fair.proofs.what_holds_of_a_line.{Holds, PutsAt, Tally, bounds_of, ends_so, shut}
+use Rattle.osi_fair.proofs.what_holds_of_a_line.{Holds, PutsAt, Tally}
+use Rattle.osi_fair.proofs.what_keeps_names_apart.{differ}
 
 abbrev pub names_in : ℕ → Option ℕ → Bool
 names_in n None = false
@@ -25,9 +21,6 @@ names n v = names_in n (destination_of v)
 abbrev pub keep : Bool → Value → List Value → List Value
 keep true v vs = v ∷ vs
 keep false v vs = vs
-
-differ : (b : Bool) → b ≡ true → b ≡ false → ⊥
-differ b h k = cc
 
 -- the units of which this holds, in order
 abbrev pub picked : (Value → Bool) → List Value → List Value
@@ -43,9 +36,8 @@ leads f (v ∷ vs) = f v
 abbrev pub those : ℕ → List Value → List Value
 those n vs = picked (names n) vs
 
-keep_join : (b : Bool) (v : Value) (xs ys : List Value) → keep b v (xs ++ ys) ≡ keep b v xs ++ ys
-keep_join true v xs ys = refl
-keep_join false v xs ys = refl
+pub keep_join : (b : Bool) (v : Value) (xs ys : List Value) → keep b v (xs ++ ys) ≡ keep b v xs ++ ys
+keep_join b v xs ys = grind arith
 
 pub picked_join : (f : Value → Bool) (xs ys : List Value) → picked f (xs ++ ys) ≡ picked f xs ++ picked f ys
 picked_join f [] ys = refl
@@ -63,23 +55,20 @@ picked_none f [] h = refl
 picked_none f (v ∷ vs) (one, more) = picked_rest f v vs one ∙ picked_none f vs more
 
 pub leads_none : (f : Value → Bool) (units : List Value) → AllByRecursion (λ (v : Value). f v ≡ false) units → leads f units ≡ false
-leads_none f [] h = refl
-leads_none f (v ∷ vs) (one, more) = one
+leads_none f units h = grind arith
 
 -- one more
 pub picked_more : (f : Value → Bool) (units : List Value) (v : Value) → f v ≡ true → picked f (units ++ v ∷ []) ≡ picked f units ++ v ∷ []
 picked_more f units v e = picked_join f units (v ∷ []) ∙ ap (λ (l : List Value). picked f units ++ l) (picked_first f v [] e)
 
 pub picked_other : (f : Value → Bool) (units : List Value) (v : Value) → f v ≡ false → picked f (units ++ v ∷ []) ≡ picked f units
-picked_other f units v e = picked_join f units (v ∷ []) ∙ ap (λ (l : List Value). picked f units ++ l) (picked_rest f v [] e)
-    ∙ append-nil (picked f units)
+picked_other f units v e = grind (arith, picked_join, picked_rest, append-nil)
 
 -- what holds of all that are picked
 each_by : (P : Value → Type 0) (f : Value → Bool) (v : Value) (vs : List Value) (b : Bool) → f v ≡ b →
     (AllByRecursion P (picked f vs) → AllByRecursion (λ (u : Value). f u ≡ true → P u) vs) → AllByRecursion P (keep b v (picked f vs)) →
     AllByRecursion (λ (u : Value). f u ≡ true → P u) (v ∷ vs)
-each_by P f v vs true e rest (one, more) = (λ k. one, rest more)
-each_by P f v vs false e rest h = (λ k. absurd (differ (f v) k e), rest h)
+each_by P f v vs b e rest h = grind (arith, differ)
 
 pub picked_each : (P : Value → Type 0) (f : Value → Bool) (vs : List Value) → AllByRecursion P (picked f vs) →
     AllByRecursion (λ (u : Value). f u ≡ true → P u) vs
@@ -88,20 +77,15 @@ picked_each P f (v ∷ vs) h = each_by P f v vs (f v) refl (picked_each P f vs) 
 
 kept_each : (P : Value → Type 0) (b : Bool) (v : Value) (vs : List Value) → (b ≡ true → P v) → AllByRecursion P vs →
     AllByRecursion P (keep b v vs)
-kept_each P true v vs one more = (one refl, more)
-kept_each P false v vs one more = more
+kept_each P b v vs one more = grind arith
 
 pub each_picked : (P : Value → Type 0) (f : Value → Bool) (vs : List Value) → AllByRecursion (λ (u : Value). f u ≡ true → P u) vs →
     AllByRecursion P (picked f vs)
 each_picked P f [] h = tt
 each_picked P f (v ∷ vs) (one, more) = kept_each P (f v) v (picked f vs) one (each_picked P f vs more)
 
-no_list : (v : Value) (vs : List Value) → v ∷ vs ≡ [] → ⊥
-no_list v vs e = cc
-
 pub some_picked : (f : Value → Bool) (units : List Value) → leads f units ≡ true → picked f units ≢ []
-some_picked f [] h = absurd (cc h)
-some_picked f (v ∷ vs) h = λ e. no_list v (picked f vs) (sym (picked_first f v vs h) ∙ e)
+some_picked f units h = grind (arith, no_list, picked_first)
 
 -- ---- the units that name a reference
 
@@ -124,28 +108,16 @@ AllNamed n units = AllByRecursion (λ (v : Value). destination_of v ≡ Some n) 
 
 -- a DC
 abbrev pub is_dc : Value → Bool
-is_dc (request x) = false
-is_dc (confirm destination x) = false
-is_dc (disconnect destination source reason user) = false
 is_dc (disconnected destination source) = true
-is_dc (data0 end user) = false
-is_dc (data2 destination number end user) = false
-is_dc (acknowledge credit destination number) = false
-is_dc (error destination cause) = false
+is_dc _ = false
 
 abbrev pub IsDc : Value → Type 0
 IsDc v = is_dc v ≡ true
 
 -- a DC has the reference that this side gave
 abbrev pub is_from : ℕ → Value → Bool
-is_from r (request x) = true
-is_from r (confirm destination x) = true
-is_from r (disconnect destination source reason user) = true
 is_from r (disconnected destination source) = source == r
-is_from r (data0 end user) = true
-is_from r (data2 destination number end user) = true
-is_from r (acknowledge credit destination number) = true
-is_from r (error destination cause) = true
+is_from r _ = true
 
 -- a unit of the connection with the reference `r` of this side, and `peer` of the other
 abbrev pub is_ours : (r peer : ℕ) → Value → Bool
@@ -164,35 +136,17 @@ AllOurs r peer units = AllByRecursion (IsOf r peer) units
 pub named_so : (n : ℕ) (v : Value) → destination_of v ≡ Some n → names n v ≡ true
 named_so n v e = ap (λ (o : Option ℕ). names_in n o) e ∙ eq-eqb n n refl
 
-unlike : (m n : ℕ) (b : Bool) → (m == n) ≡ b → (m ≡ n → ⊥) → b ≡ false
-unlike m n true e h = absurd (h (eqb-true m n e))
-unlike m n false e h = refl
-
 pub named_not : (m n : ℕ) (v : Value) → (m ≡ n → ⊥) → destination_of v ≡ Some m → names n v ≡ false
-named_not m n v other e = ap (λ (o : Option ℕ). names_in n o) e ∙ unlike m n (m == n) refl other
-
-both_so : (a b : Bool) → a ≡ true → b ≡ true → (a && b) ≡ true
-both_so true b h k = k
-both_so false b h k = cc
-
-first_not : (a b : Bool) → a ≡ false → (a && b) ≡ false
-first_not true b h = cc
-first_not false b h = refl
-
-second_not : (a b : Bool) → b ≡ false → (a && b) ≡ false
-second_not true b h = h
-second_not false b h = refl
+named_not m n v other e = ap (λ (o : Option ℕ). names_in n o) e ∙ unequal m n (m == n) refl other
 
 and_parts : (a b : Bool) → (a && b) ≡ true → (a ≡ true) × (b ≡ true)
-and_parts true b h = (refl, h)
-and_parts false b h = cc
+and_parts a b h = grind arith
 
 pub named_is : (o : Option ℕ) (n : ℕ) → names_in n o ≡ true → o ≡ Some n
-named_is None n h = cc
-named_is (Some m) n h = ap (λ (i : ℕ). Some i) (eqb-true m n h)
+named_is o n h = grind (arith, eqb-true)
 
 pub ours_so : (r peer : ℕ) (v : Value) → IsOf r peer v → is_ours r peer v ≡ true
-ours_so r peer v h = both_so (names peer v) (is_from r v) (named_so peer v h.named) h.from
+ours_so r peer v h = both (names peer v) (is_from r v) (named_so peer v h.named) h.from
 
 pub ours_is : (r peer : ℕ) (v : Value) → is_ours r peer v ≡ true → IsOf r peer v
 ours_is r peer v h =
@@ -200,11 +154,11 @@ ours_is r peer v h =
 
 -- a unit for another reference of the other side
 pub ours_not : (r m peer : ℕ) (v : Value) → (m ≡ peer → ⊥) → destination_of v ≡ Some m → is_ours r peer v ≡ false
-ours_not r m peer v other e = first_not (names peer v) (is_from r v) (named_not m peer v other e)
+ours_not r m peer v other e = no_two (names peer v) (is_from r v) (named_not m peer v other e)
 
 -- a DC of another connection
 pub dc_not_ours : (r peer d s : ℕ) → (s ≡ r → ⊥) → is_ours r peer (disconnected d s) ≡ false
-dc_not_ours r peer d s other = second_not (d == peer) (s == r) (unlike s r (s == r) refl other)
+dc_not_ours r peer d s other = and_not (d == peer) (s == r) (unequal s r (s == r) refl other)
 
 pub all_ours : (r peer : ℕ) (units : List Value) → AllOurs r peer units → ours r peer units ≡ units
 all_ours r peer [] h = refl
@@ -243,10 +197,7 @@ puts_ours s e passed shown begun (error destination cause ∷ units) h = absurd 
 
 puts_at : (r peer limit : ℕ) (x : Tally) (mine theirs : Half) (put : List Value) (link : Option Standing) →
     PutsAt r peer limit x mine theirs put link → AllOurs r peer put
-puts_at r peer limit x mine theirs put None (puts, so) =
-    puts_ours (bounds_of r peer limit x true theirs) (shut mine.phase) x.passed x.shown mine.begun put puts
-puts_at r peer limit x mine theirs put (Some link) (puts, so) =
-    puts_ours (bounds_of r peer limit x false theirs) (ends_so x.sent link.ends.unsent) x.passed x.shown mine.begun put puts
+puts_at r peer limit x mine theirs put link h = grind (arith, puts_ours)
 
 pub line_ours : (r peer : ℕ) (line : Line) → Holds r peer line → AllOurs r peer line.put
 line_ours r peer line h = puts_at r peer h.limit h.tally line.tap.left line.tap.right line.put line.link h.puts
@@ -265,11 +216,8 @@ last_ours r peer (x ∷ xs) ys (one, more) = last_ours r peer xs ys more
 -- an end that has closed a connection which is open at the tap has put the unit that says so, and it has not passed
 waits_at : (r peer limit : ℕ) (x : Tally) (mine theirs : Half) (put : List Value) (link : Option Standing) →
     PutsAt r peer limit x mine theirs put link → link ≡ None → is_open mine.phase ≡ true → put ≡ [] → ⊥
-waits_at r peer limit x mine theirs [] None (closed, so) none live e = differ (is_open mine.phase) live closed
-waits_at r peer limit x mine theirs (v ∷ vs) None h none live e = no_list v vs e
-waits_at r peer limit x mine theirs put (Some link) h none live e = absurd (cc none)
+waits_at r peer limit x mine theirs put link h none live e = grind (arith, differ, no_list)
 
 pub close_waits : (r peer : ℕ) (line : Line) → Holds r peer line → line.link ≡ None → is_open line.tap.left.phase ≡ true →
     line.put ≡ [] → ⊥
-close_waits r peer line h none live e =
-    waits_at r peer h.limit h.tally line.tap.left line.tap.right line.put line.link h.puts none live e
+close_waits r peer line h none live e = grind (arith, waits_at)

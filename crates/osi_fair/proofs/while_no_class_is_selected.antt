@@ -1,33 +1,24 @@
 -- What the other side may send a calling end while no class is selected: it answers the CR that waits, and a DC changes nothing.
 -- For the law on requests.
-use Rattle.std.proofs.Common.{◌≡◌, ◌∙◌, ℕ, zero, suc, Bool, true, false, List, [], ◌∷◌, ◌++◌, map, set, length, refl, sym, ap, subst}
-use Rattle.std.proofs.Common.{Option, Some, None, inl, inr, ◌⊎◌, if◌then◌else◌}
-use Rattle.std.specs.Prelude.{◌&&◌, ◌||◌, ◌==◌, not, option_map, position, slice_get, nat_le}
-use Rattle.std.proofs.lemmas.Bool.{eqb-true, eq-eqb}
-use Rattle.std.proofs.lemmas.Option.{slice_get-map}
-use Rattle.osi_tpdu.specs.Value.{Value, Connect, request, confirm, disconnect, disconnected, data0, data2, acknowledge, error}
-use Rattle.osi_rules.specs.declared.connections.Connection.{Connection}
-use Rattle.osi_rules.specs.declared.connections.Offer.{Offer}
-use Rattle.osi_rules.specs.declared.courses.Course.{Course}
-use Rattle.osi_rules.specs.declared.directions.Direction.{Direction}
-use Rattle.osi_rules.specs.declared.directions.Direction.TheVariants.{Left, Right}
-use Rattle.osi_rules.specs.declared.findings.Finding.{Finding}
-use Rattle.osi_rules.specs.declared.findings.Finding.TheVariants.{Broke, Kept, NotJudged, Outside, TooMany}
-use Rattle.osi_rules.specs.declared.findings.Reach.{Reach}
+use Rattle.osi_fair.proofs.Vocabulary.{arith}
+use Rattle.osi_fair.proofs.Vocabulary.{[], ap, Bool, false, if◌then◌else◌, inl, inr, length, List, map, None, Option, option_map, refl, set}
+use Rattle.osi_fair.proofs.Vocabulary.{Some, subst, suc, sym, true, zero, ℕ, ◌++◌, ◌∙◌, ◌∷◌, ◌≡◌, ◌⊎◌, eq-eqb, eqb-true, slice_get-map}
+use Rattle.osi_fair.proofs.Vocabulary.{nat_le, not, position, slice_get, ◌&&◌, ◌==◌, ◌||◌, confirm, Connect, disconnect, disconnected}
+use Rattle.osi_fair.proofs.Vocabulary.{error, Value, is_applied, reach_of, code_named, first_failed, is_due, is_inside, is_offered}
+use Rattle.osi_fair.proofs.Vocabulary.{begins, is_closing, is_free, is_named, is_open, is_over, is_refused}
+use Rattle.osi_fair.proofs.Vocabulary.{is_silent, asked_by, asks_by, at_found, at_place, class_of, closing_phase, connection_after}
+use Rattle.osi_fair.proofs.Vocabulary.{course_after, found, found_on, offer_of, Outcome, placed, reached, sent_on, Traffic as State, takes}
+use Rattle.osi_fair.proofs.Vocabulary.{unnamed_told, uses_source, Connection, Offer, Course, Direction, Left, Right, Finding, Broke, Kept}
+use Rattle.osi_fair.proofs.Vocabulary.{NotJudged, Outside, TooMany, Reach, Half, Phase, Open, Silent}
 use Rattle.osi_rules.specs.declared.findings.Reach.TheVariants as reach
 use Rattle.osi_rules.specs.declared.findings.Rule.TheVariants as rule
-use Rattle.osi_rules.specs.declared.halves.Half.{Half}
-use Rattle.osi_rules.specs.declared.halves.Phase.{Phase}
-use Rattle.osi_rules.specs.declared.halves.Phase.TheVariants.{Open, Silent}
-use Rattle.osi_rules.specs.Reaches.{is_applied, reach_of}
-use Rattle.osi_rules.specs.Rows.{first_failed, code_named, is_due, is_inside, is_offered}
-use Rattle.osi_rules.specs.Sides.{begins, is_closed, is_closing, is_free, is_named, is_open, is_over, is_over_by, is_refused, is_silent}
-use Rattle.osi_rules.specs.Traffic.{Outcome, State, asked_by, asks_by, at_found, at_place, class_of, closing_phase, connection_after}
-use Rattle.osi_rules.specs.Traffic.{course_after, found, found_on, offer_of, placed, reached, sent_on, takes, unnamed_told, uses_source}
+use Rattle.osi_fair.proofs.small_facts_that_many_lemmas_use.{begins_judged, begun_left, begun_right, both, judged_same, judged_so, not_both}
+use Rattle.osi_fair.proofs.small_facts_that_many_lemmas_use.{or_first, some_same}
 use Rattle.osi_fair.proofs.what_holds_of_one_item.{HoldsOfEach, after_add, after_map, after_set, first_true}
 use Rattle.osi_fair.proofs.when_a_connection_has_a_name.{three}
 use Rattle.osi_fair.proofs.a_right_unit_is_not_blamed.{first_there}
 use Rattle.osi_fair.proofs.a_refused_request_waits_no_more.{refused_over}
+use Rattle.osi_fair.proofs.what_keeps_names_apart.{differ}
 
 -- ---- where an item is
 
@@ -35,11 +26,7 @@ fewer : (i p : ℕ) → suc i ≡ suc p → i ≡ p
 fewer i p e = cc
 
 shifted : {A B : Type 0} (i p : ℕ) → ((i ≡ p) × A) ⊎ ((i ≡ p → ⊥) × B) → ((suc i ≡ suc p) × A) ⊎ ((suc i ≡ suc p → ⊥) × B)
-shifted i p (inl (e, a)) = inl (ap suc e, a)
-shifted i p (inr (n, b)) = inr (λ e. n (fewer i p e), b)
-
-item_is : {X : Type 0} (x y : X) → Some x ≡ Some y → y ≡ x
-item_is x y e = cc
+shifted i p h = grind (arith, fewer)
 
 not_zero : (i : ℕ) → suc i ≡ zero → ⊥
 not_zero i e = cc
@@ -51,7 +38,7 @@ zero_not i e = cc
 pub after_change : {X : Type 0} (xs : List X) (p i : ℕ) (x y : X) → slice_get (set xs p x) i ≡ Some y →
     ((i ≡ p) × (y ≡ x)) ⊎ ((i ≡ p → ⊥) × (slice_get xs i ≡ Some y))
 after_change [] p i x y h = absurd (cc)
-after_change (z ∷ xs) zero zero x y h = inl (refl, item_is x y h)
+after_change (z ∷ xs) zero zero x y h = inl (refl, some_same x y h)
 after_change (z ∷ xs) zero (suc i) x y h = inr (not_zero i, h)
 after_change (z ∷ xs) (suc p) zero x y h = inr (zero_not p, h)
 after_change (z ∷ xs) (suc p) (suc i) x y h = shifted i p (after_change xs p i x y h)
@@ -63,7 +50,7 @@ set_there (z ∷ xs) (suc p) x y h = set_there xs p x y h
 
 pub set_same : {X : Type 0} (xs : List X) (p : ℕ) (x : X) → slice_get xs p ≡ Some x → set xs p x ≡ xs
 set_same [] p x h = absurd (cc)
-set_same (z ∷ xs) zero x h = ap (λ y. y ∷ xs) (item_is z x h)
+set_same (z ∷ xs) zero x h = ap (λ y. y ∷ xs) (some_same z x h)
 set_same (z ∷ xs) (suc p) x h = ap (λ l. z ∷ l) (set_same xs p x h)
 
 pub added_there : {X : Type 0} (xs : List X) (x : X) → slice_get (xs ++ x ∷ []) (length xs) ≡ Some x
@@ -87,14 +74,8 @@ abbrev pub IsDone : Connection → Type 0
 IsDone c = (c.is_judged ≡ true) × (is_refused c.right.phase ≡ true)
 
 abbrev pub IsDc : Value → Type 0
-IsDc (request c) = ⊥
-IsDc (confirm destination c) = ⊥
-IsDc (disconnect destination source reason user) = ⊥
 IsDc (disconnected destination source) = Unit {0}
-IsDc (data0 end user) = ⊥
-IsDc (data2 destination number end user) = ⊥
-IsDc (acknowledge credit destination number) = ⊥
-IsDc (error destination cause) = ⊥
+IsDc _ = ⊥
 
 -- a unit for no connection is a DC, and changes nothing
 abbrev pub OnlyDc : Value → List Connection → Bool → State → Type 0
@@ -102,57 +83,22 @@ OnlyDc v cs strays s = IsDc v × (s ≡ calm_tap cs strays)
 
 for_none : (cs : List Connection) (strays : Bool) (v : Value) → GoesOn (unnamed_told Right v (calm_tap cs strays)).state →
     OnlyDc v cs strays (unnamed_told Right v (calm_tap cs strays)).state
-for_none cs true (request c) h = absurd (cc)
-for_none cs true (confirm destination c) h = absurd (cc)
-for_none cs true (disconnect destination source reason user) h = absurd (cc)
-for_none cs true (disconnected destination source) h = (tt, refl)
-for_none cs true (data0 end user) h = absurd (cc)
-for_none cs true (data2 destination number end user) h = absurd (cc)
-for_none cs true (acknowledge credit destination number) h = absurd (cc)
-for_none cs true (error destination cause) h = absurd (cc)
-for_none cs false (request c) h = absurd (cc)
-for_none cs false (confirm destination c) h = absurd (cc)
-for_none cs false (disconnect destination source reason user) h = absurd (cc)
-for_none cs false (disconnected destination source) h = absurd (cc)
-for_none cs false (data0 end user) h = absurd (cc)
-for_none cs false (data2 destination number end user) h = absurd (cc)
-for_none cs false (acknowledge credit destination number) h = absurd (cc)
-for_none cs false (error destination cause) h = absurd (cc)
+for_none cs strays v h = grind arith
 
 -- ---- none waits for an answer
 
-both : (a b : Bool) → a ≡ true → b ≡ true → (a && b) ≡ true
-both true b h k = k
-both false b h k = cc
-
-or_first : (a b : Bool) → a ≡ true → (a || b) ≡ true
-or_first true b h = refl
-or_first false b h = cc
-
-not_named : (over rest : Bool) → over ≡ true → (not over && rest) ≡ true → ⊥
-not_named true rest h k = cc
-not_named false rest h k = cc
-
 pub over_done : (c : Connection) → IsDone c → is_over Right c ≡ true
-over_done c (j, h) = both c.is_judged (is_over_by c.right c.seen_by_right) j (or_first (is_refused c.right.phase)
-    (is_refused c.seen_by_right.phase || (is_closed c.right.phase
-    || (is_closing c.right.phase && (is_closing c.seen_by_right.phase || is_closed c.seen_by_right.phase)))) h)
+over_done c k = grind (arith, both, or_first)
 
 done_not_named : (c : Connection) (n : ℕ) → IsDone c → is_named Right n c ≡ true → ⊥
-done_not_named c n h k = not_named (is_over Right c) (not (is_silent c.seen_by_right.phase) && (c.seen_by_right.reference == n))
-    (over_done c h) k
+done_not_named c n h k = grind (arith, not_both, over_done)
 
 pub named_where : (cs : List Connection) (n q : ℕ) → position (is_named Right n) cs ≡ Some q →
     (e : Connection) × (slice_get cs q ≡ Some e) × (is_named Right n e ≡ true)
-named_where [] n q h = absurd (cc)
-named_where (c ∷ cs) n q h =
-    let (e, at) = first_there (is_named Right n) (c ∷ cs) q q c h in
-    (e, at, first_true (is_named Right n) (c ∷ cs) q e h at)
+named_where cs n q h = grind (arith, first_there, first_true)
 
 none_by : (cs : List Connection) (n : ℕ) (o : Option ℕ) → position (is_named Right n) cs ≡ o → HoldsOfEach IsDone cs → o ≡ None
-none_by cs n None e h = refl
-none_by cs n (Some q) e h =
-    let (c, at, named) = named_where cs n q e in absurd (done_not_named c n (h q c at) named)
+none_by cs n o e h = grind (arith, named_where, done_not_named)
 
 module _ (cs : List Connection) (strays : Bool) where
   abbrev s : State
@@ -160,28 +106,11 @@ module _ (cs : List Connection) (strays : Bool) where
 
   at_none : (v : Value) (o : Option ℕ) → o ≡ None → GoesOn (at_place Right v s o).state →
       OnlyDc v cs strays (at_place Right v s o).state
-  at_none v o e h =
-      subst (λ (p : Option ℕ). OnlyDc v cs strays (at_place Right v s p).state) (sym e)
-      (for_none cs strays v (subst (λ (p : Option ℕ). GoesOn (at_place Right v s p).state) e h))
+  at_none v o e h = grind (arith, for_none)
 
   -- if none waits, only a DC may come
   pub done_takes : (v : Value) → HoldsOfEach IsDone cs → GoesOn (takes Right v s).state → OnlyDc v cs strays (takes Right v s).state
-  done_takes (request c) done h = absurd (cc)
-  done_takes (confirm destination c) done h =
-      at_none (confirm destination c) (position (is_named Right destination) cs)
-      (none_by cs destination (position (is_named Right destination) cs) refl done) h
-  done_takes (disconnect destination source reason user) done h =
-      at_none (disconnect destination source reason user) (position (is_named Right destination) cs)
-      (none_by cs destination (position (is_named Right destination) cs) refl done) h
-  done_takes (disconnected destination source) done h =
-      at_none (disconnected destination source) (position (is_named Right destination) cs)
-      (none_by cs destination (position (is_named Right destination) cs) refl done) h
-  done_takes (data0 end user) done h = absurd (cc)
-  done_takes (data2 destination number end user) done h = absurd (cc)
-  done_takes (acknowledge credit destination number) done h = absurd (cc)
-  done_takes (error destination cause) done h =
-      at_none (error destination cause) (position (is_named Right destination) cs)
-      (none_by cs destination (position (is_named Right destination) cs) refl done) h
+  done_takes v done h = search (arith, at_none, none_by)
 
 -- ---- one waits for an answer
 
@@ -199,78 +128,42 @@ pub record Waits (r p : ℕ) (o : Offer) (cs : List Connection) : Type 0 where
   pub known : is_silent c.seen_by_right.phase ≡ false → c.seen_by_right.reference ≡ r
   pub others : (i : ℕ) (e : Connection) → slice_get cs i ≡ Some e → (i ≡ p → ⊥) → IsDone e
 
-differ : (b : Bool) → b ≡ true → b ≡ false → ⊥
-differ b h k = cc
-
 unlike : (q p : ℕ) → (q == p) ≡ false → q ≡ p → ⊥
 unlike q p h e = differ (q == p) (ap (λ (x : ℕ). x == p) e ∙ eq-eqb p p refl) h
 
 known_named : (over : Bool) (known : Half) (n r : ℕ) → (is_silent known.phase ≡ false → known.reference ≡ r) →
     (not over && (not (is_silent known.phase) && (known.reference == n))) ≡ true → n ≡ r
-known_named over known n r k h =
-    let (a, b, e) = three over (is_silent known.phase) (known.reference == n) h in
-    sym (eqb-true known.reference n e) ∙ k b
+known_named over known n r k h = grind (arith, three, eqb-true)
 
 -- what a unit names is the one that waits
 waits_by : (r p : ℕ) (o : Offer) (cs : List Connection) (w : Waits r p o cs) (n q : ℕ) (e : Connection) (b : Bool) → (q == p) ≡ b →
     slice_get cs q ≡ Some e → is_named Right n e ≡ true → (q ≡ p) × (n ≡ r) × (e ≡ w.c)
-waits_by r p o cs w n q e false b at named = absurd (done_not_named e n (w.others q e at (unlike q p b)) named)
-waits_by r p o cs w n q e true b at named =
-    let same = eqb-true q p b in
-    let is : e ≡ w.c = item_is w.c e (sym w.at ∙ ap (λ (i : ℕ). slice_get cs i) (sym same) ∙ at) in (
-      same,
-      known_named (is_over Right e) e.seen_by_right n r (subst (λ (x : Connection). is_silent x.seen_by_right.phase ≡ false →
-          x.seen_by_right.reference ≡ r) (sym is) w.known) named,
-      is,
-    )
-
-begins_left : (d : Direction) (c : Connection) → (begins d c).left ≡ c.left
-begins_left Left c = refl
-begins_left Right c = refl
-
-begins_right : (d : Direction) (c : Connection) → (begins d c).right ≡ c.right
-begins_right Left c = refl
-begins_right Right c = refl
-
-begins_judged : (d : Direction) (c : Connection) → (begins d c).is_judged ≡ c.is_judged
-begins_judged Left c = refl
-begins_judged Right c = refl
+waits_by r p o cs w n q e b h at named = grind (arith, done_not_named, unlike, eqb-true, some_same, known_named)
 
 begun_done : (d : Direction) (c : Connection) → IsDone c → IsDone (begins d c)
-begun_done Left c h = h
-begun_done Right c h = h
+begun_done d c h = grind arith
 
 begins_offer : (d : Direction) (c : Connection) → (begins d c).offer ≡ c.offer
-begins_offer Left c = refl
-begins_offer Right c = refl
+begins_offer d c = grind arith
 
 begins_unseen : (d : Direction) (c : Connection) → c.right.phase ≡ Silent → c.seen_by_left.phase ≡ Silent →
     (begins d c).seen_by_left.phase ≡ Silent
-begins_unseen Left c h k = h
-begins_unseen Right c h k = k
+begins_unseen d c h k = grind arith
 
 begins_known : (d : Direction) (r : ℕ) (c : Connection) → c.left.reference ≡ r →
     (is_silent c.seen_by_right.phase ≡ false → c.seen_by_right.reference ≡ r) →
     is_silent (begins d c).seen_by_right.phase ≡ false → (begins d c).seen_by_right.reference ≡ r
-begins_known Left r c e k h = k h
-begins_known Right r c e k h = e
+begins_known d r c e k h = grind arith
 
 waits_named : (r p : ℕ) (o : Offer) (cs : List Connection) (w : Waits r p o cs) (n q : ℕ) → position (is_named Right n) cs ≡ Some q →
     (q ≡ p) × (n ≡ r)
-waits_named r p o cs w n q h =
-    let (e, at, named) = named_where cs n q h in
-    let (same, is, so) = waits_by r p o cs w n q e (q == p) refl at named in (same, is)
+waits_named r p o cs w n q h = search (arith, named_where, waits_by)
 
 -- a DR or an ER that refuses the connection with this reference
 abbrev pub IsRefusal : ℕ → Value → Type 0
-IsRefusal r (request c) = ⊥
-IsRefusal r (confirm destination c) = ⊥
 IsRefusal r (disconnect destination source reason user) = destination ≡ r
-IsRefusal r (disconnected destination source) = ⊥
-IsRefusal r (data0 end user) = ⊥
-IsRefusal r (data2 destination number end user) = ⊥
-IsRefusal r (acknowledge credit destination number) = ⊥
 IsRefusal r (error destination cause) = destination ≡ r
+IsRefusal r _ = ⊥
 
 -- after the CC for the connection at this place
 abbrev pub confirmed_tap : (p destination : ℕ) → Connect → Connection → List Connection → Bool → State
@@ -309,12 +202,7 @@ Confirms offered inside f =
 confirm_or : (a b i u l : Bool) →
     Confirms b i (first_failed ((a, Broke rule.WrongForm) ∷ (b, Broke rule.BadAnswer) ∷ (i, Outside) ∷ (u, Broke rule.ReferenceInUse)
     ∷ (l, Broke rule.LargerSize) ∷ []))
-confirm_or false b i u l = inr refl
-confirm_or true false i u l = inr refl
-confirm_or true true false u l = inr refl
-confirm_or true true true false l = inr refl
-confirm_or true true true true false = inl (refl, refl, refl, refl)
-confirm_or true true true true true = inl (refl, refl, refl, refl)
+confirm_or a b i u l = grind arith
 
 -- by whether it is taken, and how far it reaches
 abbrev by_reach : (p destination : ℕ) → Connect → Connection → List Connection → (strays applied : Bool) → Reach → State
@@ -326,24 +214,7 @@ by_reach p destination x c cs strays applied far = record {
 confirmed_by : (p destination : ℕ) (x : Connect) (c : Connection) (cs : List Connection) (strays offered inside : Bool) (f : Finding) →
     Confirms offered inside f → GoesOn (by_finding p c cs strays (confirm destination x) f) →
     (by_finding p c cs strays (confirm destination x) f ≡ confirmed_tap p destination x c cs strays) × (offered ≡ true) × (inside ≡ true)
-confirmed_by p destination x c cs strays offered inside f (inl (applied, far, a, b)) h = (
-  ap (λ (y : Bool). by_reach p destination x c cs strays y (reach_of None f)) applied
-      ∙ ap (λ (y : Reach). by_reach p destination x c cs strays true y) far,
-  a,
-  b,
-)
-confirmed_by p destination x c cs strays offered inside f (inr e) h =
-    let stopped = ap (λ (r : Reach). (reached Right r (course_after Right c (confirm destination x) (is_applied f)
-    (calm strays))).left_stopped) e in
-    absurd (differ (by_finding p c cs strays (confirm destination x) f).course.left_stopped stopped h)
-
-if_judged : (j : Bool) (f g : Finding) → j ≡ true → f ≡ g → (if j then f else NotJudged) ≡ g
-if_judged true f g h e = e
-if_judged false f g h e = cc
-
-judged_same : (j : Bool) (f : Finding) → j ≡ true → (if j then f else NotJudged) ≡ f
-judged_same true f h = refl
-judged_same false f h = cc
+confirmed_by p destination x c cs strays offered inside f k h = grind (arith, differ)
 
 module _ (r p : ℕ) (o : Offer) (cs : List Connection) (strays : Bool) (w : Waits r p o cs) where
   abbrev t : State
@@ -380,8 +251,7 @@ module _ (r p : ℕ) (o : Offer) (cs : List Connection) (strays : Bool) (w : Wai
   refused_all new h i e at = refused_one new e i h (after_change cs p i new e at)
 
   kept_so : (a : Bool) (f : Finding) → a ≡ true → first_failed ((a, f) ∷ []) ≡ Kept
-  kept_so true f h = refl
-  kept_so false f h = cc
+  kept_so a f h = grind arith
 
   refusing : (v : Value) → IsRefusal r v → (f : Finding) → f ≡ Kept → (more : Bool) →
       by_finding p c cs strays v Kept ≡ calm_tap (set cs p (connection_after Right v true reach.Nothing c)) more →
@@ -397,7 +267,7 @@ module _ (r p : ℕ) (o : Offer) (cs : List Connection) (strays : Bool) (w : Wai
   to_disconnect destination source reason user e =
       let v = disconnect destination source reason user in
       refusing v e (finding v)
-      (if_judged c.is_judged (found Right (calm strays) false c v) Kept w.judged
+      (judged_so c.is_judged (found Right (calm strays) false c v) Kept w.judged
       (kept_so (is_silent c.right.phase || is_open c.right.phase) (Broke rule.Closed)
       (or_first (is_silent c.right.phase) (is_open c.right.phase) silent_so)))
       (course_after Right c v true (calm strays)).strays refl
@@ -409,7 +279,7 @@ module _ (r p : ℕ) (o : Offer) (cs : List Connection) (strays : Bool) (w : Wai
   to_error destination cause e =
       let v = error destination cause in
       refusing v e (finding v)
-      (if_judged c.is_judged (found Right (calm strays) false c v) Kept w.judged
+      (judged_so c.is_judged (found Right (calm strays) false c v) Kept w.judged
       (kept_so (is_silent c.right.phase) (Broke rule.WrongForm) silent_so))
       strays refl (w.judged, refl)
 
@@ -419,28 +289,18 @@ module _ (r p : ℕ) (o : Offer) (cs : List Connection) (strays : Bool) (w : Wai
   dc_found : (due st : Bool) → due ≡ false →
       first_failed ((due || not st, NotJudged) ∷ (due, Broke rule.NothingToAnswer) ∷ [])
       ≡ (if st then NotJudged else Broke rule.NothingToAnswer)
-  dc_found false true h = refl
-  dc_found false false h = refl
-  dc_found true st h = cc
+  dc_found due st h = grind arith
 
   dc_after : (destination source : ℕ) (st : Bool) (f : Finding) → f ≡ (if st then NotJudged else Broke rule.NothingToAnswer) →
       GoesOn (by_finding p c cs st (disconnected destination source) f) →
       by_finding p c cs st (disconnected destination source) f ≡ calm_tap cs st
-  dc_after destination source true f e h =
-      ap (λ (g : Finding). by_finding p c cs true (disconnected destination source) g) e
-      ∙ ap (λ (l : List Connection). calm_tap l true) (set_same cs p c w.at)
-  dc_after destination source false f e h =
-      absurd (differ (by_finding p c cs false (disconnected destination source) f).course.left_stopped
-      (ap (λ (g : Finding). (by_finding p c cs false (disconnected destination source) g).course.left_stopped) e) h)
+  dc_after destination source st f e h = grind (arith, set_same, differ)
 
   to_dc : (destination source : ℕ) →
       GoesOn (by_finding p c cs strays (disconnected destination source) (finding (disconnected destination source))) →
       Answer r p o cs strays (disconnected destination source)
       (by_finding p c cs strays (disconnected destination source) (finding (disconnected destination source)))
-  to_dc destination source h =
-      let v = disconnected destination source in
-      let is = judged_same c.is_judged (found Right (calm strays) false c v) w.judged in
-      says_nothing (tt, dc_after destination source strays (finding v) (is ∙ dc_found (is_due Right c source) strays (not_due source)) h)
+  to_dc destination source h = grind (arith, judged_same, dc_after, dc_found, not_due)
 
   abbrev Answers : Value → State → Type 0
   Answers v after = GoesOn after → Answer r p o cs strays v after
@@ -455,7 +315,6 @@ module _ (r p : ℕ) (o : Offer) (cs : List Connection) (strays : Bool) (w : Wai
       subst (λ (o : Outcome). Answers v o.state) (sym there) (k is) h
 
   pub waits_takes : (v : Value) → Answers v (takes Right v t).state
-  waits_takes (request c) h = absurd (cc)
   waits_takes (confirm destination x) h =
       at_named (confirm destination x) destination (position (is_named Right destination) cs) refl (λ e. to_confirm destination x) h
   waits_takes (disconnect destination source reason user) h =
@@ -464,11 +323,9 @@ module _ (r p : ℕ) (o : Offer) (cs : List Connection) (strays : Bool) (w : Wai
   waits_takes (disconnected destination source) h =
       at_named (disconnected destination source) destination (position (is_named Right destination) cs) refl
       (λ e. to_dc destination source) h
-  waits_takes (data0 end user) h = absurd (cc)
-  waits_takes (data2 destination number end user) h = absurd (cc)
-  waits_takes (acknowledge credit destination number) h = absurd (cc)
   waits_takes (error destination cause) h =
       at_named (error destination cause) destination (position (is_named Right destination) cs) refl (λ e h. to_error destination cause e) h
+  waits_takes _ h = absurd (cc)
 
 -- ---- a packet begins
 
@@ -480,12 +337,12 @@ waits_begins d r p o cs w = record {
   c = begins d w.c;
   at = slice_get-map (begins d) cs p ∙ ap (λ (o : Option Connection). option_map (begins d) o) w.at;
   judged = begins_judged d w.c ∙ w.judged;
-  silent = ap (λ (h : Half). h.phase) (begins_right d w.c) ∙ w.silent;
-  up = ap (λ (h : Half). h.phase) (begins_left d w.c) ∙ w.up;
-  none = ap (λ (h : Half). h.begun) (begins_left d w.c) ∙ w.none;
+  silent = ap (λ (h : Half). h.phase) (begun_right d w.c) ∙ w.silent;
+  up = ap (λ (h : Half). h.phase) (begun_left d w.c) ∙ w.up;
+  none = ap (λ (h : Half). h.begun) (begun_left d w.c) ∙ w.none;
   unseen = begins_unseen d w.c w.silent w.unseen;
   offer = begins_offer d w.c ∙ w.offer;
-  reference = ap (λ (h : Half). h.reference) (begins_left d w.c) ∙ w.reference;
+  reference = ap (λ (h : Half). h.reference) (begun_left d w.c) ∙ w.reference;
   known = begins_known d r w.c w.reference w.known;
   others = λ i e at other.
       let (x, was, is) = after_map (begins d) cs i e at in subst IsDone (sym is) (begun_done d x (w.others i x was other));
@@ -498,10 +355,7 @@ abbrev pub AllOver : List Connection → Type 0
 AllOver cs = HoldsOfEach (λ (c : Connection). is_over Left c ≡ true) cs
 
 pub over_begins : (cs : List Connection) → HoldsOfEach IsDone cs → AllOver (map (begins Left) cs)
-over_begins cs h i e at =
-    let (x, was, is) = after_map (begins Left) cs i e at in
-    let (j, refused) = h i x was in
-    subst (λ (c : Connection). is_over Left c ≡ true) (sym is) (refused_over x j refused)
+over_begins cs h i e at = grind (arith, after_map, refused_over)
 
 pub over_still : (cs : List Connection) → AllOver cs → AllOver (map (begins Right) cs)
 over_still cs h i e at =
@@ -509,24 +363,11 @@ over_still cs h i e at =
     subst (λ (c : Connection). is_over Left c ≡ true) (sym is) (h i x was)
 
 free_where : (cs : List Connection) (q : ℕ) → position is_free cs ≡ Some q → (e : Connection) × (slice_get cs q ≡ Some e)
-free_where [] q h = absurd (cc)
-free_where (c ∷ cs) q h = first_there is_free (c ∷ cs) q q c h
+free_where cs q h = grind (arith, first_there)
 
 asked_waits : (x : Connect) (cs : List Connection) (p : ℕ) → slice_get cs p ≡ Some (asked_by x) →
     ((i : ℕ) (e : Connection) → slice_get cs i ≡ Some e → (i ≡ p → ⊥) → IsDone e) → Waits x.source p (offer_of x) cs
-asked_waits x cs p at others = record {
-  c = asked_by x;
-  at = at;
-  judged = refl;
-  silent = refl;
-  up = refl;
-  none = refl;
-  unseen = refl;
-  offer = refl;
-  reference = refl;
-  known = λ h. absurd (cc h);
-  others = others;
-}
+asked_waits x cs p at others = search (arith)
 
 another : (cs : List Connection) (q i : ℕ) (new e : Connection) → HoldsOfEach IsDone cs → (i ≡ q → ⊥) →
     ((i ≡ q) × (e ≡ new)) ⊎ (slice_get cs i ≡ Some e) → IsDone e

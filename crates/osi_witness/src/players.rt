@@ -9,6 +9,7 @@ use osi_tpdu::{SizeCode, Tpdu, Window, read_units};
 use osi_tpkt::{Packet, Unit};
 use osi_transcript::asking::{event_of, side_of};
 use std::alloc::{AllocError, Global};
+use std::mem::replace;
 
 /// The most octets of a script.
 pub(crate) const LONGEST: usize = 16_777_216;
@@ -32,13 +33,25 @@ struct Wire {
 }
 
 /// A script, and two ends that do what it says.
-#[derive(Drop)]
 pub(crate) struct Player {
     alloc: Global,
     pair: Pair,
     script: Vec<u8>,
     left: Wire,
     right: Wire,
+}
+
+/// Its parts are dropped here, so the proof of whoever owns a player is short.
+impl Drop for Player {
+    fn drop(self) {
+        let Player {
+            alloc: _,
+            pair: _pair,
+            script: _script,
+            left: _left,
+            right: _right,
+        } = self;
+    }
 }
 
 /// Where the TSDUs end whose packets these are.
@@ -282,9 +295,8 @@ impl Player {
         }
     }
 
-    /// The script.
-    pub(crate) fn script(self) -> Vec<u8> {
-        let Player { script, .. } = self;
-        script
+    /// Hands the script out.
+    pub(crate) fn take_script(&mut self) -> Vec<u8> {
+        replace(&mut self.script, Vec::new(self.alloc))
     }
 }

@@ -25,8 +25,8 @@ pub(crate) struct Stop {
 pub(crate) struct Telling<'c> {
     alloc: Global,
     capture: &'c Capture,
-    left: Run,
-    right: Run,
+    left: &'c Run,
+    right: &'c Run,
     /// How many units of each side were told.
     told_left: usize,
     told_right: usize,
@@ -100,8 +100,8 @@ impl<'c> Telling<'c> {
     pub(crate) fn new(
         alloc: Global,
         capture: &'c Capture,
-        left: Run,
-        right: Run,
+        left: &'c Run,
+        right: &'c Run,
         caller: Classes,
         credit: u8,
     ) -> Result<Telling<'c>, AllocError> {
@@ -133,8 +133,8 @@ impl<'c> Telling<'c> {
 
     fn run(&self, side: Side) -> &Run {
         match side {
-            Side::Left => &self.left,
-            Side::Right => &self.right,
+            Side::Left => self.left,
+            Side::Right => self.right,
         }
     }
 
@@ -423,10 +423,9 @@ impl<'c> Telling<'c> {
         }
     }
 
-    /// The script, and the two ends that played it.
-    pub(crate) fn player(self) -> Player {
-        let Telling { player, .. } = self;
-        player
+    /// Hands the script out.
+    pub(crate) fn take_script(&mut self) -> Vec<u8> {
+        self.player.take_script()
     }
 
     /// Tells both runs, and says where the script stops before their end.

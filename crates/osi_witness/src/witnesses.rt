@@ -7,7 +7,7 @@ ghost use Rattle.osi_witness.specs.Witnesses.{IsPlayed, Witnesses};
 use crate::captures::capture_of;
 use crate::players::LONGEST;
 use crate::telling::{Stop, Telling};
-use osi_explain::{Capture, Halt, Opening, push_comment, run_of};
+use osi_explain::{Capture, Halt, Opening, Run, push_comment, run_of};
 use osi_listing::{CaptureFault, octets_of};
 use osi_script::{Classes, Side};
 use osi_session::Standing;
@@ -44,16 +44,29 @@ fn opened(alloc: Global, capture: &Capture, request: &Opening) -> Result<Witness
     ensures { IfOk result (λ w. w.status < 2) }
 {
     let (left, right) = (&capture.left, &capture.right);
+    let left_run = run_of(alloc, left, right, Standing::calling())?;
+    let right_run = run_of(alloc, right, left, Standing::called())?;
+    told_by(alloc, capture, request, &left_run, &right_run)
+}
+
+/// The script of these runs, one of each side.
+fn told_by(
+    alloc: Global,
+    capture: &Capture,
+    request: &Opening,
+    left: &Run,
+    right: &Run,
+) -> Result<Witness, AllocError>
+    ensures { IfOk result (λ w. w.status < 2) }
+{
     let caller = if request.class == 0 {
         Classes::Zero
     } else {
         Classes::Both
     };
-    let left_run = run_of(alloc, left, right, Standing::calling())?;
-    let right_run = run_of(alloc, right, left, Standing::called())?;
-    let mut telling = Telling::new(alloc, capture, left_run, right_run, caller, request.credit)?;
+    let mut telling = Telling::new(alloc, capture, left, right, caller, request.credit)?;
     let told = telling.tell();
-    finished(telling.player().script(), told)
+    finished(telling.take_script(), told)
 }
 
 /// The script of a player that told all, or stopped.

@@ -3,7 +3,7 @@
 use Rattle.std.proofs.Common.{◌≡◌, ◌∙◌, sym, ap, ℕ, false, List, [], ◌∷◌, Option, Some, None, Result, Ok}
 use Rattle.osi_message.specs.declared.plain.PlainUnit.{PlainUnit}
 use Rattle.osi_session.proofs.Vocabulary.{SpduFault, Meaning, DT, GT, no_token, Word, Words, says, words_of, State, Taker, Outcome, enacted}
-use Rattle.osi_session.proofs.Vocabulary.{heard, respond_word, respond_came, word_verdict, plain_said, plain_word, Listener, Move, in_state}
+use Rattle.osi_session.proofs.Vocabulary.{heard, respond_word, respond_came, word_verdict, plain_said, plain_word, Listener, in_state}
 use Rattle.osi_session.proofs.Vocabulary.{taker_of, moved, only_shows, outcome_of, Indication, shown_by}
 use Rattle.osi_session.specs.declared.reactions.Reaction.{Reaction}
 use Rattle.osi_session.proofs.tables.messages_act_as_the_table_says.{word_behind, words_of_message}

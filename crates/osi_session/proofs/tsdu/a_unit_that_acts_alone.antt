@@ -7,7 +7,7 @@ use Rattle.osi_spdu.specs.declared.kinds.Kind.TheVariants.{GiveTokens}
 use Rattle.osi_spdu.specs.declared.tokens.TokenSet.{TokenSet}
 use Rattle.osi_spdu.specs.Fields.{token_octets}
 use Rattle.osi_spdu.specs.Known.{Contents, Known}
-use Rattle.osi_session.proofs.Vocabulary.{GT, no_token, Units, Word, Words, says, word, meaning, said_by_units, Taker, respond_tsdu, respond_word}
+use Rattle.osi_session.proofs.Vocabulary.{GT, no_token, Units, Word, says, word, meaning, said_by_units, Taker, respond_tsdu, respond_word}
 use Rattle.osi_session.proofs.tables.messages_act_as_the_table_says.{word_alone, word_behind}
 
 empty_unit : (unit : Contents) → unit.kind ≡ GiveTokens → unit.known TokenItem ≡ None → word unit ≡ says (GT no_token)

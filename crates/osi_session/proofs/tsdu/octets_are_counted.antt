@@ -5,7 +5,8 @@ use Rattle.osi_session.specs.declared.joining.PartVerdict.TheVariants as is
 use Rattle.osi_session.specs.Counting.{no_octets, count_by, count_by_idle, taker_with, Counts, CountsAll, CountsCame}
 use Rattle.osi_session.specs.Standing.{Count, counted}
 use Rattle.osi_session.proofs.Vocabulary.{SpduFault, respond_fault, Words, first_reply, replies_abort, heard_then, idle, is_restart_word}
-use Rattle.osi_session.proofs.Vocabulary.{Taker, respond_came, respond_tsdu, length-append, le-leb, leb-true, State, UnitFault, Unexpected, TokenHeld}
+use Rattle.osi_session.proofs.Vocabulary.{respond_tsdu, length-append, le-leb, leb-true, State, UnitFault, Unexpected, TokenHeld}
+use Rattle.osi_session.proofs.Vocabulary.{Taker, respond_came}
 use Rattle.osi_session.proofs.Vocabulary.{BadEnclosure, DataTooLong, most_data, is_over, is_restarting, takes_data, nothing, bad, Outcome}
 use Rattle.osi_session.proofs.Vocabulary.{Verdict, over, dropped, faulty, fine, by_fault, is_faulty, enacted, first_fault, conditions}
 use Rattle.osi_session.proofs.Vocabulary.{is_expected, drops, si, Hearing, joined_octets, drops_parts, begins_anew, is_in_place, is_last}

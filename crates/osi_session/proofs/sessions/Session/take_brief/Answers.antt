@@ -1,4 +1,4 @@
-use Rattle.std.proofs.Common.{◌≡◌, refl, sym, subst, true, Ok, Err, option_copied}
+use Rattle.std.proofs.Common.{◌≡◌, refl, sym, subst, true, Ok, option_copied}
 use Rattle.osi_session.proofs.Vocabulary.{option_and_then, meant_by, said_at, says, Listener, Move, moved, react, came, taker_of, heard}
 use Rattle.osi_session.proofs.Vocabulary.{respond_came, respond_word, outcome_of, takes_memory, unit_in}
 use Rattle.osi_session.proofs.moves.a_tsdu_that_is_read_straight.{comes_as_message, message_heard}
