@@ -1,3 +1,4 @@
+pub mod Bounded
 pub mod Joint
 pub mod Passing
 pub mod Shown
