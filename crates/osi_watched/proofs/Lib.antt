@@ -8,6 +8,7 @@ pub mod a_capture_is_steps
 -- the first break of transport at a tap
 pub mod what_a_unit_leaves_at_a_tap
 pub mod what_passes_keeps_a_claim
+pub mod what_passes_keeps_a_claim_on_two_courses
 -- steps are events of a whole end
 pub mod what_waits_changes_nothing
 pub mod what_a_carrier_puts_can_be_written

@@ -1,3 +1,4 @@
+pub mod Bounded
 pub mod Joint
 pub mod Judging
 pub mod Passing

@@ -22,6 +22,11 @@
 //! - **No session of an end is blamed first**, called or calling, in either class, with any number of connections. At each step of a
 //!   `Joint` from the beginning these premises hold as long as nobody breaks a rule, so the first break of all, of transport or of a
 //!   session, is of the other side: [`laws::no_session_of_an_end_is_blamed_first`].
+//! - **A tap with a bound for each connection blames no end first either.** `IsCourseOf` (`specs/Bounded`) says what it judges beside a tap
+//!   without one: [`watches::a_bound_changes_nothing_that_is_judged`]. Of a connection of which more has passed than it judges it says what
+//!   it said before. So in each moment nobody of a side is to blame whom a tap without a bound doesn't blame in it or before it:
+//!   [`watches::no_end_is_blamed_first_within_a_bound`].
 #![tactic(auto)]
 
 pub mod laws;
+pub mod watches;
