@@ -1,4 +1,5 @@
--- The map of these proofs, in reading order.
+-- The map of these proofs, in reading order. `Vocabulary` has the names that come from elsewhere.
+mod Vocabulary
 -- Two sides that are explained apart from each other run together.
 pub mod two_runs_are_one
 pub mod a_pair_explains_both_sides

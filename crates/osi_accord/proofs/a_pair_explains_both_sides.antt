@@ -1,16 +1,11 @@
 -- In a run of two sessions each side is explained, apart from the other, by what had passed before its TSDUs.
 -- For the law that two explained sides are a pair, and only they.
-use Rattle.std.proofs.Common.{◌≡◌, ◌∙◌, refl, sym, ap, subst, ℕ, ◌+◌, List, [], ◌∷◌, ◌++◌, length, get_or, map, arith}
-use Rattle.std.specs.List.{flat_map}
-use Rattle.std.proofs.Math.Seq.{get_or-append_seam}
-use Rattle.osi_session.specs.Standing.{Seen, Takes}
-use Rattle.osi_judge.specs.declared.directions.Direction.{Direction}
-use Rattle.osi_judge.specs.declared.directions.Direction.TheVariants.{Left, Right}
-use Rattle.osi_judge.specs.Explaining.{Explains, IsExplained, Remark, Told, remarks, remarks_of}
+use Rattle.osi_accord.proofs.Vocabulary.{[], ap, arith, get_or, length, List, map, refl, subst, sym, ℕ, ◌++◌, ◌+◌, ◌∙◌, ◌∷◌, ◌≡◌}
+use Rattle.osi_accord.proofs.Vocabulary.{get_or-append_seam, flat_map, Seen, Takes, Explains, IsExplained, Remark, remarks, remarks_of}
+use Rattle.osi_accord.proofs.Vocabulary.{Direction, Left, Right, Accords, Sending, sending, sending_of, told_by, tsdus_by, Turn, turn}
+use Rattle.osi_accord.proofs.Vocabulary.{Pair, pair_of}
 use Rattle.osi_judge.specs.Explaining as explained
-use Rattle.osi_accord.specs.Accords.{Accords, Sending, Turn, sending, sending_of, told_by, tsdus_by, turn, words_in}
 use Rattle.osi_accord.specs.Accords as accord
-use Rattle.osi_accord.specs.Pairs.{Pair, pair_of}
 use Rattle.osi_accord.proofs.two_runs_are_one.{one_more, remarks_are, said_as, taken_one}
 
 -- ---- what a side still sends

@@ -1,42 +1,24 @@
 -- A run of two sessions that send what calls and answers send is one of the machine of whole connections, in class 0.
 -- For the law of that name.
-use Rattle.std.proofs.Common.{◌≡◌, ◌∙◌, refl, sym, ap, subst, ℕ, inl, inr, true, false}
-use Rattle.std.proofs.Common.{List, [], ◌∷◌, ◌++◌, length, map, Option, Some, None, append-nil}
-use Rattle.std.proofs.lemmas.Grind.{flat_map-append}
-use Rattle.std.proofs.lemmas.List.{append_assoc}
-use Rattle.std.specs.List.{AllByRecursion}
-use Rattle.osi_message.specs.Meanings.{Meaning, GT}
-use Rattle.osi_message.specs.Sendable.{IsSendable}
-use Rattle.osi_message.specs.Tokens.{no_token}
-use Rattle.osi_message.specs.Words.{Word, says}
-use Rattle.osi_message.specs.Written.{written}
+use Rattle.osi_accord.proofs.Vocabulary.{[], ap, append-nil, false, inl, inr, length, List, map, None, Option, refl, Some, subst, sym, true}
+use Rattle.osi_accord.proofs.Vocabulary.{ℕ, ◌++◌, ◌∙◌, ◌∷◌, ◌≡◌, flat_map-append, append_assoc, AllByRecursion, GT, Meaning, IsSendable}
+use Rattle.osi_accord.proofs.Vocabulary.{no_token, says, Word, written, has_no_effect, awaiting, answers_word, CanSay, Count, listens, Seen}
+use Rattle.osi_accord.proofs.Vocabulary.{seen_called, seen_calling, Takes, CanBeOffered, Offer, offer_sent, offering, connects, Ending}
+use Rattle.osi_accord.proofs.Vocabulary.{Entry, HasNumber, said_in, units_in, refusal, run, Seat, step, Tables, linked, Message, replied}
+use Rattle.osi_accord.proofs.Vocabulary.{unit, other, Direction, Left, Right, Accords, end_of, Sending, sending, AreWritten, connect_of}
+use Rattle.osi_accord.proofs.Vocabulary.{is_connect, IsByCall, IsMessage, side_at, TakesNoLiberty, Utterance, utters, channel_of, has_taken}
+use Rattle.osi_accord.proofs.Vocabulary.{Pair, pair_of, session_of, with_channel, with_session, CallsAndAnswers, IsAnyCall, IsByAnyCall}
+use Rattle.osi_accord.proofs.Vocabulary.{its_own, PlaysWhole, start_0, uttered_at, uttered_by, uttered_in}
 use Rattle.osi_session.specs.Moves.{react}
-use Rattle.osi_session.specs.Sessions.{awaiting}
-use Rattle.osi_session.specs.Respond.{has_no_effect}
-use Rattle.osi_session.specs.Standing.{CanSay, Count, Seen, Takes, answers_word, listens}
-use Rattle.osi_session.specs.Standing.{seen_called, seen_calling}
-use Rattle.osi_machine.specs.Core.{CanBeOffered, Offer, offer_sent, offering}
 use Rattle.osi_machine.specs.Core as machine
-use Rattle.osi_machine.specs.Machine.{Ending, Entry, HasNumber, Step, connects}
-use Rattle.osi_machine.specs.Sayings.{said_at, said_in, units_in}
-use Rattle.osi_machine.specs.Tables.{Seat, Tables, refusal, run, step}
-use Rattle.osi_machine.specs.Worlds.{Message, linked, replied, unit}
-use Rattle.osi_judge.specs.declared.directions.Direction.{Direction}
-use Rattle.osi_judge.specs.declared.directions.Direction.TheVariants.{Left, Right}
-use Rattle.osi_judge.specs.Captures.{other}
-use Rattle.osi_accord.specs.Accords.{Accords, Sending, end_of, sending}
+use Rattle.osi_machine.specs.Machine.{Step}
+use Rattle.osi_machine.specs.Sayings.{said_at}
 use Rattle.osi_accord.specs.Accords as accord
-use Rattle.osi_accord.specs.Machines.{AreWritten, IsByCall, IsMessage, TakesNoLiberty, Utterance, connect_of, is_connect, side_at, utters}
-use Rattle.osi_accord.specs.Pairs.{Pair, channel_of, has_taken, pair_of, session_of, with_channel, with_session}
-use Rattle.osi_accord.specs.Wholes.{CallsAndAnswers, IsAnyCall, IsByAnyCall, PlaysWhole, its_own, start_0, uttered_at}
-use Rattle.osi_accord.specs.Wholes.{uttered_by, uttered_in}
-use Rattle.osi_accord.proofs.messages_of_a_run.{AsMessages, IsRest, message_first, same_said, says_nothing}
-use Rattle.osi_accord.proofs.messages_of_a_run.{IsDue, same_pair, first_word, effect_of}
-use Rattle.osi_accord.proofs.messages_of_a_run.{not_both}
+use Rattle.osi_accord.proofs.messages_of_a_run.{AsMessages, IsRest, message_first, same_said, says_nothing, IsDue, same_pair, first_word}
+use Rattle.osi_accord.proofs.messages_of_a_run.{effect_of, not_both}
 use Rattle.osi_accord.proofs.how_a_run_begins.{asking, connected}
 use Rattle.osi_accord.proofs.a_step_of_one_connection.{facing, seat, tables, taking_at}
-use Rattle.osi_accord.proofs.a_side_that_calls_takes_and_answers.{IsSeat, MovesTo, Stands, answering_at, calls_on, quiet_at}
-use Rattle.osi_accord.proofs.a_side_that_calls_takes_and_answers.{turned_about}
+use Rattle.osi_accord.proofs.a_side_that_calls_takes_and_answers.{IsSeat, MovesTo, Stands, answering_at, calls_on, quiet_at, turned_about}
 
 -- ---- the TSDU is in flight
 

@@ -1,32 +1,17 @@
 -- A run of two sessions in which no liberty is taken is a run of the machine of two sides that exchange whole messages.
 -- For the law of that name.
-use Rattle.std.proofs.Common.{◌≡◌, ◌∙◌, refl, sym, ap, subst, ℕ, inl, inr, true, false, List, [], ◌∷◌, ◌++◌}
-use Rattle.std.proofs.Common.{length, map}
-use Rattle.std.proofs.Common.{Option, Some, None, Ok, append-nil}
-use Rattle.std.specs.List.{AllByRecursion}
-use Rattle.osi_message.specs.Meanings.{Meaning, GT}
-use Rattle.osi_message.specs.Sendable.{IsSendable}
-use Rattle.osi_message.specs.Tokens.{no_token}
-use Rattle.osi_message.specs.Words.{Word, says}
-use Rattle.osi_message.specs.Written.{written}
-use Rattle.osi_session.specs.declared.state.State.{State}
-use Rattle.osi_session.specs.Allowed.{Step, allowed}
-use Rattle.osi_session.specs.Calls.{Call, HasSerial}
-use Rattle.osi_session.specs.Joining.{drops_parts}
-use Rattle.osi_session.specs.Respond.{has_no_effect, respond_unit}
-use Rattle.osi_session.specs.Standing.{CanSay, Count, Seen, Takes, after_count, goes}
-use Rattle.osi_session.specs.Standing.{seen_called, seen_calling}
-use Rattle.osi_machine.specs.Core.{Core, CoreStep, Offer, call_at, called, core_start, core_step, offer_sent, offering, stays_in_core}
-use Rattle.osi_machine.specs.Core.{take_at, taking, turned}
+use Rattle.osi_accord.proofs.Vocabulary.{[], ap, append-nil, false, inl, inr, length, List, map, None, Ok, Option, refl, Some, subst, sym}
+use Rattle.osi_accord.proofs.Vocabulary.{true, ℕ, ◌++◌, ◌∙◌, ◌∷◌, ◌≡◌, AllByRecursion, GT, Meaning, IsSendable, no_token, says, Word}
+use Rattle.osi_accord.proofs.Vocabulary.{written, allowed, Call, HasSerial, drops_parts, has_no_effect, respond_unit, after_count, CanSay}
+use Rattle.osi_accord.proofs.Vocabulary.{Count, goes, Seen, seen_called, seen_calling, Takes, State, call_at, called, Core, core_start}
+use Rattle.osi_accord.proofs.Vocabulary.{core_step, Offer, offer_sent, stays_in_core, take_at, taking, turned, other}
+use Rattle.osi_accord.proofs.Vocabulary.{Direction, Left, Right, Accords, end_of, Sending, sending, AreWritten}
+use Rattle.osi_accord.proofs.Vocabulary.{connect_of, is_connect, IsByCall, IsCoreCall, IsMessage, Plays, sent_at, sent_in, side_at}
+use Rattle.osi_accord.proofs.Vocabulary.{TakesNoLiberty, Utterance, utters, channel_of, has_taken, Pair, pair_of, session_of, with_channel}
+use Rattle.osi_accord.proofs.Vocabulary.{with_session}
+use Rattle.osi_session.specs.Allowed.{Step}
 use Rattle.osi_machine.specs.Core as machine
-use Rattle.osi_judge.specs.declared.directions.Direction.{Direction}
-use Rattle.osi_judge.specs.declared.directions.Direction.TheVariants.{Left, Right}
-use Rattle.osi_judge.specs.Captures.{other}
-use Rattle.osi_accord.specs.Accords.{Accords, Sending, end_of, sending, words_in, words_read}
 use Rattle.osi_accord.specs.Accords as accord
-use Rattle.osi_accord.specs.Machines.{AreWritten, IsByCall, IsCoreCall, IsMessage, Plays, TakesNoLiberty, Utterance, connect_of}
-use Rattle.osi_accord.specs.Machines.{is_connect, sent_at, sent_in, side_at, utters}
-use Rattle.osi_accord.specs.Pairs.{Pair, pair_of, channel_of, has_taken, session_of, with_channel, with_session}
 use Rattle.osi_accord.proofs.messages_of_a_run.{AsMessages, IsTaken, is_taken, IsRest, message_first, same_said, says_nothing, all_and_one}
 use Rattle.osi_accord.proofs.messages_of_a_run.{written_more, kept_none, comes, IsDue, same_pair, first_word, effect_of, not_both}
 use Rattle.osi_accord.proofs.how_a_run_begins.{connected}

@@ -1,37 +1,16 @@
 -- What the tables of whole connections and a pair of sessions have in common, and that a call and a delivery keep it.
 -- For the law that a run of calls and answers is one of the machine of whole connections.
-use Rattle.std.proofs.Common.{◌≡◌, ◌∙◌, refl, sym, ap, subst, ℕ, Bool, true, false, not, ◌||◌, if◌then◌else◌}
-use Rattle.std.proofs.Common.{List, [], ◌∷◌, ◌++◌, length, map, Option, Some, None, Ok, append-nil, take}
-use Rattle.std.proofs.lemmas.List.{append_assoc}
-use Rattle.std.proofs.Math.Seq.{take-append_seam}
-use Rattle.std.specs.List.{AllByRecursion}
-use Rattle.osi_message.specs.Meanings.{Meaning, RF, DN, AB, AA}
-use Rattle.osi_message.specs.Sendable.{IsSendable, said_of}
-use Rattle.osi_message.specs.Written.{written}
-use Rattle.osi_session.specs.declared.phases.Phase.TheVariants.{Ended}
-use Rattle.osi_session.specs.declared.state.State.{State}
-use Rattle.osi_session.specs.Allowed.{allowed}
-use Rattle.osi_session.specs.Joining.{drops_parts}
-use Rattle.osi_session.specs.Moves.{in_state}
-use Rattle.osi_session.specs.Phases.{is_aborting, is_wait_transport}
-use Rattle.osi_session.specs.Respond.{Outcome, Verdict, dropped, enacted, faulty, fine, good, in_aborting, in_ended, over}
-use Rattle.osi_session.specs.Respond.{respond, respond_unit, verdict}
-use Rattle.osi_session.specs.Standing.{Count, Seen, Takes, after_count, goes, listens}
-use Rattle.osi_session.specs.State.{without_tokens}
-use Rattle.osi_session.proofs.moves.what_closes_the_connection.{unit_silent}
-use Rattle.osi_session.proofs.tables.the_verdict_on_a_unit.{enacts}
-use Rattle.osi_machine.specs.Machine.{Ending, Entry, HasNumber, Step, calls, closed_here, is_given}
-use Rattle.osi_machine.specs.Sayings.{one_or_none}
-use Rattle.osi_machine.specs.Tables.{Seat, Tables, step}
-use Rattle.osi_machine.specs.Worlds.{Message, Transport, gone, linked, replied, unit}
-use Rattle.osi_judge.specs.declared.directions.Direction.{Direction}
-use Rattle.osi_judge.specs.declared.directions.Direction.TheVariants.{Left, Right}
-use Rattle.osi_judge.specs.Captures.{other}
-use Rattle.osi_accord.specs.Machines.{side_at, utters}
-use Rattle.osi_accord.specs.Pairs.{Pair, channel_of, has_taken, session_of}
-use Rattle.osi_accord.specs.Wholes.{IsAnyCall, end_if, uttered_at}
-use Rattle.osi_accord.proofs.messages_of_a_run.{AsMessages, IsTaken, is_taken, all_and_one}
-use Rattle.osi_accord.proofs.messages_of_a_run.{written_more, kept_none, comes}
+use Rattle.osi_accord.proofs.Vocabulary.{[], ap, append-nil, Bool, false, if◌then◌else◌, length, List, map, None, not, Ok, Option, refl}
+use Rattle.osi_accord.proofs.Vocabulary.{Some, subst, sym, take, true, ℕ, ◌++◌, ◌||◌, ◌∙◌, ◌∷◌, ◌≡◌, take-append_seam, append_assoc}
+use Rattle.osi_accord.proofs.Vocabulary.{AllByRecursion, AA, AB, DN, Meaning, RF, IsSendable, said_of, written, unit_silent, enacts}
+use Rattle.osi_accord.proofs.Vocabulary.{allowed, drops_parts, in_state, is_aborting, is_wait_transport, enacted, fine}
+use Rattle.osi_accord.proofs.Vocabulary.{good, in_aborting, in_ended, Outcome, over, respond, respond_unit, Verdict, verdict, after_count}
+use Rattle.osi_accord.proofs.Vocabulary.{Count, goes, listens, Seen, Takes, without_tokens, Ended, State, calls, closed_here, Ending, Entry}
+use Rattle.osi_accord.proofs.Vocabulary.{HasNumber, is_given, one_or_none, Seat, step, Tables, gone, linked, Message, replied, Transport}
+use Rattle.osi_accord.proofs.Vocabulary.{unit, other, Direction, Left, Right, side_at, utters, channel_of, has_taken, Pair, session_of}
+use Rattle.osi_accord.proofs.Vocabulary.{end_if, IsAnyCall, uttered_at}
+use Rattle.osi_machine.specs.Machine.{Step}
+use Rattle.osi_accord.proofs.messages_of_a_run.{AsMessages, IsTaken, is_taken, all_and_one, written_more, kept_none, comes}
 use Rattle.osi_accord.proofs.a_step_of_one_connection.{call_leaves, call_utters, called_seat, close_leaves, coming, delivery_leaves}
 use Rattle.osi_accord.proofs.a_step_of_one_connection.{delivery_utters, seat, tables, taking_at}
 
@@ -253,9 +232,8 @@ either_over false x y h k = k
 
 enacted_over : (s : State) (u : Meaning) (v : Verdict) → IsOverIf (enacted s u v)
 enacted_over s u over = either_over (is_aborting s.phase) _ _ (aborting_over s u) (ended_over s u)
-enacted_over s u dropped = λ h. absurd (cc)
-enacted_over s u (faulty fault) = λ h. absurd (cc)
 enacted_over s u fine = good_over s u
+enacted_over s u _ = λ h. absurd (cc)
 
 unit_over : (s : State) (u : Meaning) → IsOverIf (respond_unit s u)
 unit_over s u = subst IsOverIf (sym (enacts s u)) (enacted_over s u (verdict s u))

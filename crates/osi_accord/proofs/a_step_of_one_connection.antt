@@ -1,25 +1,12 @@
 -- What a call and a delivery leave of the tables of one connection of class 0, of which nothing is lost.
 -- For the law that a run of calls and answers is one of the machine of whole connections.
-use Rattle.std.proofs.Common.{◌≡◌, refl, ℕ, true, false, List, [], ◌∷◌, ◌++◌, length, map}
-use Rattle.std.proofs.Common.{Option, Some, None, Ok, append-nil, take}
-use Rattle.osi_message.specs.Meanings.{Meaning}
-use Rattle.osi_message.specs.Sendable.{said_of}
-use Rattle.osi_session.specs.declared.state.State.{State}
-use Rattle.osi_session.specs.Allowed.{allowed}
-use Rattle.osi_session.specs.Calls.{Call}
-use Rattle.osi_session.specs.Moves.{Standing, in_state, react}
-use Rattle.osi_session.specs.Respond.{Outcome, respond}
-use Rattle.osi_session.specs.declared.phases.Phase.TheVariants.{Ended}
-use Rattle.osi_session.specs.State.{without_tokens}
-use Rattle.osi_machine.specs.Machine.{Ending, Entry, Step, calls, closed_here, delivers, is_given}
-use Rattle.osi_machine.specs.Sayings.{one_or_none}
-use Rattle.osi_machine.specs.Tables.{Line, Seat, Tables, step}
-use Rattle.osi_machine.specs.Worlds.{Message, Transport, accepts, class_0, gone, linked, replied, unit}
-use Rattle.osi_judge.specs.declared.directions.Direction.{Direction}
-use Rattle.osi_judge.specs.declared.directions.Direction.TheVariants.{Left, Right}
-use Rattle.osi_judge.specs.Captures.{other}
-use Rattle.osi_accord.specs.Machines.{side_at, utters}
-use Rattle.osi_accord.specs.Wholes.{uttered_at}
+use Rattle.osi_accord.proofs.Vocabulary.{[], append-nil, false, length, List, map, None, Ok, Option, refl, Some, take, true, ℕ, ◌++◌, ◌∷◌}
+use Rattle.osi_accord.proofs.Vocabulary.{◌≡◌, Meaning, said_of, allowed, Call, in_state, Standing, Outcome, respond, without_tokens, Ended}
+use Rattle.osi_accord.proofs.Vocabulary.{State, calls, closed_here, delivers, Ending, Entry, is_given, one_or_none, Line, Seat, step}
+use Rattle.osi_accord.proofs.Vocabulary.{Tables, accepts, class_0, gone, linked, Message, replied, Transport, unit, other, Direction, Left}
+use Rattle.osi_accord.proofs.Vocabulary.{Right, side_at, utters, uttered_at}
+use Rattle.osi_session.specs.Moves.{react}
+use Rattle.osi_machine.specs.Machine.{Step}
 
 -- ---- the tables, seen from one side
 

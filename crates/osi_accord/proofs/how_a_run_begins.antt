@@ -1,25 +1,14 @@
 -- A run whose first TSDU is the CN of a caller goes on from where this CN is in flight.
 -- For the laws that a run of two sessions is one of the machine.
-use Rattle.std.proofs.Common.{◌≡◌, ◌∙◌, refl, sym, ap, subst, ℕ, Bool, true, false, if◌then◌else◌, List, [], ◌∷◌, ◌++◌}
-use Rattle.std.proofs.Common.{length}
-use Rattle.std.proofs.Common.{Option, Some, None, option_map, unwrap_or, ◌&&◌}
-use Rattle.osi_message.specs.Sendable.{IsSendable}
-use Rattle.osi_message.specs.Words.{Word, says}
-use Rattle.osi_message.specs.Written.{is_second, written}
-use Rattle.osi_spdu.specs.Sizes.{are_sizes}
-use Rattle.osi_session.specs.Units.{functional_units, has_points}
-use Rattle.osi_session.specs.declared.state.State.{State}
+use Rattle.osi_accord.proofs.Vocabulary.{[], ap, Bool, false, if◌then◌else◌, length, List, None, Option, option_map, refl, Some, subst, sym}
+use Rattle.osi_accord.proofs.Vocabulary.{true, unwrap_or, ℕ, ◌&&◌, ◌++◌, ◌∙◌, ◌∷◌, ◌≡◌, are_sizes, IsSendable, says, Word, written, begins}
+use Rattle.osi_accord.proofs.Vocabulary.{CanSay, fits_user_data, goes, Seen, seen_called, seen_calling, functional_units, has_points, State}
+use Rattle.osi_accord.proofs.Vocabulary.{Offer, offer_sent, offering, other, Direction, Left, Right, Accords, end_of, Sending, sending}
+use Rattle.osi_accord.proofs.Vocabulary.{words_in, connect_of, channel_of, Pair, pair_of, party_of, session_of, with_channel, with_session}
 use Rattle.osi_session.specs.Joining.{acting_words}
-use Rattle.osi_session.specs.Standing.{CanSay, Seen, begins, goes, said}
-use Rattle.osi_session.specs.Standing.{fits_user_data, seen_called, seen_calling}
-use Rattle.osi_machine.specs.Core.{Offer, offer_sent, offering}
-use Rattle.osi_judge.specs.declared.directions.Direction.{Direction}
-use Rattle.osi_judge.specs.declared.directions.Direction.TheVariants.{Left, Right}
-use Rattle.osi_judge.specs.Captures.{other}
-use Rattle.osi_accord.specs.Accords.{Accords, Sending, end_of, sending, words_in}
+use Rattle.osi_session.specs.Standing.{said}
+use Rattle.osi_message.specs.Written.{is_second}
 use Rattle.osi_accord.specs.Accords as accord
-use Rattle.osi_accord.specs.Machines.{connect_of}
-use Rattle.osi_accord.specs.Pairs.{Pair, channel_of, pair_of, party_of, session_of, with_channel, with_session}
 use Rattle.osi_accord.proofs.messages_of_a_run.{AsMessages}
 
 -- what is said of a run, and of what is left of it after a word and after a TSDU

@@ -1,24 +1,14 @@
 -- What is known of the messages of two sides: how they are read, their words, and which of them are still to be sent.
 -- For the laws that a run of two sessions is one of the machine.
-use Rattle.std.proofs.Common.{◌≡◌, ◌∙◌, refl, sym, ap, subst, ℕ, ◌⊎◌, inl, inr, Bool, true, false, if◌then◌else◌, List, [], ◌∷◌, ◌++◌}
-use Rattle.std.proofs.Common.{length, map}
-use Rattle.std.proofs.Common.{Option, Some, None, option_map, Ok, not, ◌&&◌}
-use Rattle.std.specs.List.{AllByRecursion, list_any}
-use Rattle.osi_message.specs.Meanings.{Meaning, GT}
-use Rattle.osi_message.specs.Reading.{Said, said_at}
-use Rattle.osi_message.specs.Sendable.{IsSendable, said_of, words_of}
-use Rattle.osi_message.specs.Tokens.{is_empty, no_token}
-use Rattle.osi_message.specs.Words.{Word, says}
-use Rattle.osi_message.specs.Written.{is_second, written}
-use Rattle.osi_session.specs.declared.state.State.{State}
-use Rattle.osi_session.specs.Joining.{acting_words, drops_parts, heard, is_restart_word, respond_came, respond_tsdu}
-use Rattle.osi_session.specs.Respond.{has_no_effect, respond, respond_unit}
-use Rattle.osi_session.specs.Standing.{CanSay, Count, Seen, Takes, counted, is_in_size, said, said_within}
-use Rattle.osi_judge.specs.declared.directions.Direction.{Direction}
-use Rattle.osi_judge.specs.declared.directions.Direction.TheVariants.{Left, Right}
-use Rattle.osi_accord.specs.Accords.{Sending, sending, words_in}
-use Rattle.osi_accord.specs.Machines.{AreWritten, Utterance}
-use Rattle.osi_accord.specs.Pairs.{Pair, session_of, with_session}
+use Rattle.osi_accord.proofs.Vocabulary.{[], ap, Bool, false, if◌then◌else◌, inl, inr, length, List, map, None, not, Ok, Option, option_map}
+use Rattle.osi_accord.proofs.Vocabulary.{refl, Some, subst, sym, true, ℕ, ◌&&◌, ◌++◌, ◌∙◌, ◌∷◌, ◌≡◌, ◌⊎◌, AllByRecursion, list_any, GT}
+use Rattle.osi_accord.proofs.Vocabulary.{Meaning, Said, said_at, IsSendable, said_of, words_of, no_token, says, Word, is_second, written}
+use Rattle.osi_accord.proofs.Vocabulary.{drops_parts, is_restart_word, respond_came, respond_tsdu, has_no_effect, respond, respond_unit}
+use Rattle.osi_accord.proofs.Vocabulary.{CanSay, Count, counted, is_in_size, said_within, Seen, Takes, State, Direction, Left, Right}
+use Rattle.osi_accord.proofs.Vocabulary.{Sending, sending, words_in, AreWritten, Utterance, Pair, session_of, with_session}
+use Rattle.osi_session.specs.Standing.{said}
+use Rattle.osi_session.specs.Joining.{acting_words, heard}
+use Rattle.osi_message.specs.Tokens.{is_empty}
 
 -- what is known of messages in octets, and of what a session does with them
 pub record AsMessages : Type 0 where

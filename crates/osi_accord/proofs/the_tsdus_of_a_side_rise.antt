@@ -1,16 +1,10 @@
 -- The TSDUs of a side begin one after the other, and each ends after its first octet.
 -- For the law that two kept sides are a pair.
-use Rattle.std.proofs.Common.{◌≡◌, sym, subst, ℕ, ◌+◌, ◌<◌, ◌≤◌, inl, inr, Bool, true, false, if◌then◌else◌, List, [], ◌∷◌, ◌++◌, arith}
-use Rattle.osi_tpdu.specs.Packet.{units_of}
-use Rattle.osi_judge.specs.declared.directions.Direction.{Direction}
-use Rattle.osi_judge.specs.declared.stops.Stop.TheVariants.{TsduTooLong}
-use Rattle.osi_judge.specs.Captures.{Capture}
-use Rattle.osi_judge.specs.Transport.{Handshake, Move, Sent, Stage, adds, added, asking, asks, between, first_of, first_unit, hurries}
-use Rattle.osi_judge.specs.Transport.{ignores}
-use Rattle.osi_judge.specs.Transport.{IsSent, is_too_long, met_before, moved, opening, opens, packet_length, refused, refuses, sent_from}
-use Rattle.osi_judge.specs.Transport.{stage_behind}
-use Rattle.osi_judge.specs.Transport.{step_of, stopped, stops, within}
-use Rattle.osi_judge.proofs.captured.one_more_packet_passes.{OneOrNone, sent_one}
+use Rattle.osi_accord.proofs.Vocabulary.{[], arith, Bool, false, if◌then◌else◌, inl, inr, List, subst, sym, true, ℕ, ◌++◌, ◌+◌, ◌<◌, ◌∷◌}
+use Rattle.osi_accord.proofs.Vocabulary.{◌≡◌, ◌≤◌, units_of, OneOrNone, sent_one, Capture, added, adds, first_of}
+use Rattle.osi_accord.proofs.Vocabulary.{first_unit, Handshake, hurries, ignores, is_too_long, IsSent, met_before, Move, moved, opening}
+use Rattle.osi_accord.proofs.Vocabulary.{packet_length, refused, Sent, sent_from, Stage, stage_behind, step_of, stopped}
+use Rattle.osi_accord.proofs.Vocabulary.{within, Direction, TsduTooLong}
 
 -- from this offset on
 abbrev pub Rise : ℕ → List Sent → Type 0
@@ -34,32 +28,22 @@ added_on s at later false true octets f l = (omega arith, omega arith)
 added_on s at later false false octets f l = (omega arith, omega arith)
 
 same_stage : (s : Stage) (at later : ℕ) → first_of s at ≤ at → at ≤ later → GoesOn s at s later
-same_stage opening at later f l = (l, omega arith)
-same_stage asking at later f l = (l, omega arith)
-same_stage between at later f l = (l, omega arith)
 same_stage (within first octets) at later f l = (omega arith, omega arith)
-same_stage (refused packet) at later f l = (l, omega arith)
-same_stage (stopped stop packet) at later f l = (l, omega arith)
+same_stage _ at later f l = (l, omega arith)
 
 moved_on : (s : Stage) (at later : ℕ) (m : Move) → first_of s at ≤ at → at ≤ later → GoesOn s at (moved s at m) later
-moved_on s at later (asks reference) f l = (omega arith, omega arith)
-moved_on s at later (opens reference) f l = (omega arith, omega arith)
 moved_on s at later (adds end octets) f l = added_on s at later (is_too_long s octets) end octets f l
 moved_on s at later (hurries end octets) f l = added_on s at later (is_too_long s octets) end octets f l
-moved_on s at later refuses f l = (omega arith, omega arith)
 moved_on s at later ignores f l = same_stage s at later f l
-moved_on s at later (stops stop) f l = (omega arith, omega arith)
+moved_on s at later _ f l = (omega arith, omega arith)
 
 goes_on : (d : Direction) (h : Handshake) (s : Stage) (at later : ℕ) (u : List ℕ) → first_of s at ≤ at → at ≤ later →
     GoesOn s at (stage_behind d h s at u) later
-goes_on d h opening at later u f l = moved_on opening at later (step_of d opening h (first_unit (units_of u))) f l
-goes_on d h asking at later u f l = moved_on asking at later (step_of d asking h (first_unit (units_of u))) f l
-goes_on d h between at later u f l = moved_on between at later (step_of d between h (first_unit (units_of u))) f l
-goes_on d h (within first octets) at later u f l =
-    moved_on (within first octets) at later (step_of d (within first octets) h (first_unit (units_of u))) f l
 goes_on d h (refused packet) at later u f l = moved_on (refused packet) at later
     (step_of d (refused packet) h (first_unit (units_of u))) f l
 goes_on d h (stopped stop packet) at later u f l = (l, omega arith)
+goes_on d h v at later u f l =
+    moved_on v at later (step_of d v h (first_unit (units_of u))) f l
 
 -- ---- TSDUs of packets
 

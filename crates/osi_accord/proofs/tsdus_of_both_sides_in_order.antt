@@ -1,12 +1,7 @@
 -- The TSDUs of both sides of a capture have one order in which they began to pass.
 -- For the law that two kept sides are a pair.
-use Rattle.std.proofs.Common.{◌≡◌, refl, ap, ℕ, ◌<◌, ◌≤◌, ◌⊎◌, inl, inr, List, [], ◌∷◌, leb, true, false, arith}
-use Rattle.std.proofs.lemmas.Bool.Decides.{leb_tells}
-use Rattle.osi_judge.specs.declared.directions.Direction.{Direction}
-use Rattle.osi_judge.specs.declared.directions.Direction.TheVariants.{Left, Right}
-use Rattle.osi_judge.specs.Captures.{Capture}
-use Rattle.osi_judge.specs.Transport.{Sent}
-use Rattle.osi_accord.specs.Taps.{AllFrom, ArePassed, Passage, passage, place, sent_by}
+use Rattle.osi_accord.proofs.Vocabulary.{[], ap, arith, false, inl, inr, leb, List, refl, true, ℕ, ◌<◌, ◌∷◌, ◌≡◌, ◌≤◌, ◌⊎◌, leb_tells}
+use Rattle.osi_accord.proofs.Vocabulary.{Capture, Sent, Direction, Left, Right, AllFrom, ArePassed, Passage, passage, place, sent_by}
 use Rattle.osi_accord.proofs.what_passes_first.{place_later}
 use Rattle.osi_accord.proofs.the_tsdus_of_a_side_rise.{Rise}
 

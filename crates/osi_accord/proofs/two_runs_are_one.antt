@@ -1,21 +1,13 @@
 -- Two sides that are explained apart from each other run together, in the order in which their TSDUs passed.
 -- For the law that two explained sides are a pair.
-use Rattle.std.proofs.Common.{◌≡◌, ◌∙◌, refl, sym, ap, subst, ℕ, ◌+◌, ◌<◌, ◌≤◌, true, List, [], ◌∷◌, ◌++◌, length, get_or, map, arith}
-use Rattle.std.proofs.Common.{Option, Some, None, Result, Ok, Err, length-append}
-use Rattle.std.proofs.Math.Seq.{get_or-append_seam}
-use Rattle.osi_spdu.specs.declared.faults.SpduFault.{SpduFault}
-use Rattle.osi_message.specs.Meanings.{Meaning}
-use Rattle.osi_message.specs.Reading.{said_at}
-use Rattle.osi_message.specs.Words.{Word, Words}
-use Rattle.osi_session.specs.Joining.{acting_words}
-use Rattle.osi_session.specs.Standing.{Count, Seen, CanSay, Takes, after_count, answers_word, listens}
-use Rattle.osi_judge.specs.declared.directions.Direction.{Direction}
-use Rattle.osi_judge.specs.declared.directions.Direction.TheVariants.{Left, Right}
-use Rattle.osi_judge.specs.Explaining.{Explains, IsExplained, Remark, Told, read_as, remark, remarks, remarks_of}
+use Rattle.osi_accord.proofs.Vocabulary.{[], ap, arith, Err, get_or, length, length-append, List, map, None, Ok, Option, refl, Result, Some}
+use Rattle.osi_accord.proofs.Vocabulary.{subst, sym, true, ℕ, ◌++◌, ◌+◌, ◌<◌, ◌∙◌, ◌∷◌, ◌≡◌, ◌≤◌, get_or-append_seam, SpduFault, Meaning}
+use Rattle.osi_accord.proofs.Vocabulary.{said_at, Word, Words, acting_words, after_count, answers_word, CanSay, Count, listens, Seen, Takes}
+use Rattle.osi_accord.proofs.Vocabulary.{Explains, IsExplained, read_as, Remark, remark, remarks, remarks_of, Told, Direction, Left, Right}
+use Rattle.osi_accord.proofs.Vocabulary.{Accords, AreInOrder, Sending, sending, sending_of, told_by, tsdus_by, Turn, turn, words_in}
+use Rattle.osi_accord.proofs.Vocabulary.{words_read, Pair, pair_of, Party}
 use Rattle.osi_judge.specs.Explaining as explained
-use Rattle.osi_accord.specs.Accords.{Accords, AreInOrder, Sending, Turn, sending, sending_of, told_by, tsdus_by, turn, words_in, words_read}
 use Rattle.osi_accord.specs.Accords as accord
-use Rattle.osi_accord.specs.Pairs.{Pair, Party, pair_of}
 
 -- ---- a pair, seen from one of its sides
 

@@ -1,26 +1,16 @@
 -- An AC that a side may send is what a call of Accept sends, if its functional units and sizes are those of such a call.
 -- For the law that what may be said is called.
-use Rattle.std.proofs.Common.{◌≡◌, ◌∙◌, refl, sym, subst, ℕ, Bool, true, false, not, ◌&&◌, ◌||◌, ◌==◌, if◌then◌else◌, nat_le, List}
-use Rattle.std.proofs.Common.{length, Option, Some, None, unwrap_or, Ok, arith}
-use Rattle.std.proofs.lemmas.Bool.{and_parts, eqb-true}
-use Rattle.osi_spdu.specs.declared.fields.TsduMaximumSize.{TsduMaximumSize}
-use Rattle.osi_spdu.specs.declared.settings.TokenSetting.{TokenSetting}
-use Rattle.osi_spdu.specs.declared.settings.Wish.{Wish}
-use Rattle.osi_spdu.specs.Sizes.{are_sizes}
-use Rattle.osi_message.specs.Meanings.{Meaning, AC}
-use Rattle.osi_message.specs.Tokens.{data_token, has, major, minor, release}
-use Rattle.osi_session.specs.declared.selected.FunctionalUnits.{FunctionalUnits}
-use Rattle.osi_session.specs.declared.sides.Sides.{Sides}
-use Rattle.osi_session.specs.declared.state.State.{State}
-use Rattle.osi_session.specs.Allowed.{Answer, after, allowed, base_for, may_call, met, most_of, octets_of, opened_with, sends}
-use Rattle.osi_session.specs.Calls.{Accept, Call}
-use Rattle.osi_session.specs.Phases.{is_answering}
-use Rattle.osi_session.specs.Sides.{allows, answers_wishes, of_answerer, settle, settled, stated, stated_side}
-use Rattle.osi_session.specs.Sizes.{answered, answered_sizes, fits_limit, smaller, smaller_sizes}
-use Rattle.osi_session.specs.Standing.{accepting_in, fits_user_data, said_message}
-use Rattle.osi_session.specs.Units.{available, both_units, functional_units, has_data, is_profile, units_within}
-use Rattle.osi_session.proofs.tables.what_an_accepted_call_has_passed.{over_calls}
-use Rattle.osi_accord.specs.Liberties.{as_called, has_size_of, has_sizes_of, is_called}
+use Rattle.osi_accord.proofs.Vocabulary.{arith, Bool, false, if◌then◌else◌, length, List, nat_le, None, not, Ok, Option, refl, Some, subst}
+use Rattle.osi_accord.proofs.Vocabulary.{sym, true, unwrap_or, ℕ, ◌&&◌, ◌==◌, ◌||◌, ◌∙◌, ◌≡◌, and_parts, eqb-true, are_sizes}
+use Rattle.osi_accord.proofs.Vocabulary.{TsduMaximumSize, TokenSetting, Wish, AC, Meaning, data_token, has, major, minor, release}
+use Rattle.osi_accord.proofs.Vocabulary.{over_calls, after, Answer, base_for, may_call, most_of, octets_of, opened_with, sends, Accept}
+use Rattle.osi_accord.proofs.Vocabulary.{Call, is_answering, allows, of_answerer, settled, stated_side, answered, fits_limit, smaller}
+use Rattle.osi_accord.proofs.Vocabulary.{accepting_in, fits_user_data, said_message, available, functional_units, has_data, is_profile}
+use Rattle.osi_accord.proofs.Vocabulary.{FunctionalUnits, Sides, State, as_called, has_size_of, has_sizes_of, is_called}
+use Rattle.osi_session.specs.Units.{units_within, both_units}
+use Rattle.osi_session.specs.Sizes.{answered_sizes, smaller_sizes}
+use Rattle.osi_session.specs.Sides.{answers_wishes, settle, stated}
+use Rattle.osi_session.specs.Allowed.{allowed, met}
 
 -- a call is allowed that sends this message and leads to this state
 pub record Calls (s : State) (m : Meaning) (next : State) : Type 0 where

@@ -1,25 +1,12 @@
 -- A TSDU that counts as passed before a TSDU of the other side stands before it in the order of a capture. So two sides of a capture
 -- that kept the protocol run together. For the law that two kept sides are a pair.
-use Rattle.std.proofs.Common.{◌≡◌, ◌∙◌, refl, ap, ℕ, ◌+◌, ◌<◌, ◌≤◌, ◌⊎◌, inl, inr, Bool, true, false, cond, leb}
-use Rattle.std.proofs.Common.{List, [], ◌∷◌, ◌++◌, length, map, length-append, arith}
-use Rattle.std.specs.List.{filter}
-use Rattle.std.proofs.lemmas.Bool.{lt-leb}
-use Rattle.std.proofs.lemmas.Bool.Decides.{leb_tells}
-use Rattle.std.proofs.lemmas.List.Elements.{filter-append}
-use Rattle.std.proofs.Common.{subst, sym, take, drop}
-use Rattle.std.proofs.lemmas.List.{take-append-drop}
-use Rattle.osi_session.specs.Standing.{Seen, seen_called, seen_calling}
-use Rattle.osi_judge.specs.declared.findings.Finding.TheVariants.{Broke}
-use Rattle.osi_judge.proofs.honest.a_caller_is_explained.{front_told}
-use Rattle.osi_judge.specs.declared.directions.Direction.{Direction}
-use Rattle.osi_judge.specs.declared.directions.Direction.TheVariants.{Left, Right}
-use Rattle.osi_judge.specs.Captures.{Capture, other, passed_before}
-use Rattle.osi_judge.specs.Explaining.{IsExplained, Told}
-use Rattle.osi_judge.specs.Tapping.{IsFoundIn, had_passed, heard, tell, told}
-use Rattle.osi_judge.specs.Transport.{IsSent, Sent}
-use Rattle.osi_accord.specs.Accords.{Accords, AreInOrder, Sending, Turn, sending_of, told_by, tsdus_by, turn}
-use Rattle.osi_accord.specs.Pairs.{pair_of}
-use Rattle.osi_accord.specs.Taps.{AllFrom, ArePassed, IsAccord, Passage, passage, place, sending_in, sendings_in, sent_by}
+use Rattle.osi_accord.proofs.Vocabulary.{[], ap, arith, Bool, cond, drop, false, inl, inr, leb, length, length-append, List, map, refl}
+use Rattle.osi_accord.proofs.Vocabulary.{subst, sym, take, true, ℕ, ◌++◌, ◌+◌, ◌<◌, ◌∙◌, ◌∷◌, ◌≡◌, ◌≤◌, ◌⊎◌, lt-leb, leb_tells}
+use Rattle.osi_accord.proofs.Vocabulary.{take-append-drop, filter-append, filter, Seen, seen_called, seen_calling, front_told, Capture}
+use Rattle.osi_accord.proofs.Vocabulary.{other, passed_before, IsExplained, Told, had_passed, heard, IsFoundIn, tell, told, IsSent, Sent}
+use Rattle.osi_accord.proofs.Vocabulary.{Direction, Left, Right, Broke, Accords, AreInOrder, Sending, sending_of, told_by, tsdus_by, Turn}
+use Rattle.osi_accord.proofs.Vocabulary.{turn, pair_of, AllFrom, ArePassed, IsAccord, Passage, passage, place, sending_in, sendings_in}
+use Rattle.osi_accord.proofs.Vocabulary.{sent_by}
 use Rattle.osi_accord.proofs.the_tsdus_of_a_side_rise.{Rise, sent_rise}
 use Rattle.osi_accord.proofs.tsdus_of_both_sides_in_order.{merged}
 use Rattle.osi_accord.proofs.a_pair_explains_both_sides.{both_explained}

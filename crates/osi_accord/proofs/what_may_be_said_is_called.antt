@@ -1,26 +1,16 @@
 -- What a side may send is what a call sends, but for the liberties that it may take. For the law of that name.
-use Rattle.std.proofs.Common.{◌≡◌, ◌∙◌, refl, sym, ap, subst, ℕ, ◌+◌, ◌-◌, Bool, true, false, not, ◌&&◌, ◌||◌, ◌==◌, nat_le, List, []}
-use Rattle.std.proofs.Common.{◌∷◌, length}
-use Rattle.std.proofs.Common.{Option, Some, None, option_map, Ok, Err, is_none, if◌then◌else◌, arith}
-use Rattle.std.proofs.lemmas.Bool.{and_parts, eqb-true}
-use Rattle.osi_message.specs.Meanings.{Meaning, CN, AC, RF, DT, GT, PT, MIP, MIA, MAP, MAA, RS, RA, FN, DN, NF, AB, AA}
-use Rattle.osi_message.specs.Words.{says}
-use Rattle.osi_message.specs.Written.{written}
-use Rattle.osi_session.specs.declared.state.State.{State}
-use Rattle.osi_session.specs.Allowed.{Answer, Step, after, has_right, may_call, met, most_of, needs, octets_of, sends}
-use Rattle.osi_session.specs.Calls.{Abort, Call, Data, Give, Major, MajorConfirm, Minor, MinorConfirm, Please, Refuse, Release}
-use Rattle.osi_session.specs.Calls.{ReleaseAccept, ReleaseRefuse, Restart, RestartConfirm, refusal_octets, refusal_reason, refusal_with}
-use Rattle.osi_session.specs.Joining.{begins_anew}
-use Rattle.osi_session.specs.Phases.{is_ready}
-use Rattle.osi_session.specs.Respond.{has_no_effect, is_restart}
-use Rattle.osi_session.specs.Sides.{answers_wishes, setting_of, settle, stated}
-use Rattle.osi_session.specs.Sizes.{fits_limit}
-use Rattle.osi_message.specs.Tokens.{each, is_empty}
-use Rattle.osi_session.specs.Standing.{CanSay, Seen, calling, finishing, fits_user_data, goes, is_in_size, left_by, said, said_message}
-use Rattle.osi_session.specs.Standing.{said_within}
-use Rattle.osi_session.specs.Standing.{where_is}
-use Rattle.osi_session.proofs.tables.what_an_accepted_call_has_passed.{first_error_ok}
-use Rattle.osi_accord.specs.Liberties.{IsCall, as_called, is_called}
+use Rattle.osi_accord.proofs.Vocabulary.{[], ap, arith, Bool, Err, false, if◌then◌else◌, is_none, length, List, nat_le, None, not, Ok}
+use Rattle.osi_accord.proofs.Vocabulary.{Option, option_map, refl, Some, subst, sym, true, ℕ, ◌&&◌, ◌+◌, ◌-◌, ◌==◌, ◌||◌, ◌∙◌, ◌∷◌, ◌≡◌}
+use Rattle.osi_accord.proofs.Vocabulary.{and_parts, eqb-true, AA, AB, AC, CN, DN, DT, FN, GT, MAA, MAP, Meaning, MIA, MIP, NF, PT, RA, RF}
+use Rattle.osi_accord.proofs.Vocabulary.{RS, each, is_empty, says, written, first_error_ok, after, Answer, has_right, may_call, most_of}
+use Rattle.osi_accord.proofs.Vocabulary.{needs, octets_of, sends, Abort, Call, Data, Give, Major, MajorConfirm, Minor, MinorConfirm, Please}
+use Rattle.osi_accord.proofs.Vocabulary.{refusal_octets, refusal_reason, refusal_with, Refuse, Release, ReleaseAccept, ReleaseRefuse}
+use Rattle.osi_accord.proofs.Vocabulary.{Restart, RestartConfirm, begins_anew, is_ready, has_no_effect, is_restart, answers_wishes}
+use Rattle.osi_accord.proofs.Vocabulary.{setting_of, settle, stated, fits_limit, calling, CanSay, finishing, fits_user_data, goes}
+use Rattle.osi_accord.proofs.Vocabulary.{is_in_size, left_by, said_message, said_within, Seen, where_is, State, as_called, is_called}
+use Rattle.osi_accord.proofs.Vocabulary.{IsCall}
+use Rattle.osi_session.specs.Standing.{said}
+use Rattle.osi_session.specs.Allowed.{met, Step}
 use Rattle.osi_accord.proofs.what_an_ac_selects.{Calls, accepted_as, allowed_is}
 
 -- ---- a call that passes its tests

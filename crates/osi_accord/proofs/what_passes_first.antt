@@ -1,10 +1,7 @@
 -- What had passed before an octet of a side of a capture, and in which order two octets passed.
 -- For the law that two kept sides are a pair.
-use Rattle.std.proofs.Common.{ℕ, zero, suc, ◌<◌, ◌≤◌, [], ◌∷◌, arith}
-use Rattle.osi_judge.specs.declared.directions.Direction.{Direction}
-use Rattle.osi_judge.specs.declared.directions.Direction.TheVariants.{Left, Right}
-use Rattle.osi_judge.specs.Captures.{Capture, of, other, passed_before}
-use Rattle.osi_accord.specs.Taps.{place}
+use Rattle.osi_accord.proofs.Vocabulary.{[], arith, suc, zero, ℕ, ◌<◌, ◌∷◌, ◌≤◌, Capture, of, other, passed_before, Direction, Left, Right}
+use Rattle.osi_accord.proofs.Vocabulary.{place}
 
 -- before a later octet at least as many had passed
 passed_later : (d : Direction) (capture : Capture) (k n : ℕ) → k ≤ n → passed_before d capture k ≤ passed_before d capture n

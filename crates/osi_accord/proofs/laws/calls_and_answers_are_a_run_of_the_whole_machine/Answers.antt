@@ -1,7 +1,4 @@
-use Rattle.std.proofs.Common.{refl}
-use Rattle.osi_session.proofs.tsdu.what_is_sent_is_taken_as_meant.{said_again}
-use Rattle.osi_machine.specs.Worlds.{accepts, class_0}
-use Rattle.osi_accord.specs.Wholes.{start_0}
+use Rattle.osi_accord.proofs.Vocabulary.{refl, said_again, accepts, class_0, start_0}
 use Rattle.osi_accord.proofs.a_run_of_calls_and_answers_is_one_of_the_tables.{said_is, whole_run, without_liberties}
 use Rattle.osi_accord.proofs.laws.calls_and_answers_are_a_run_of_the_whole_machine.Goals as goal
 

@@ -1,9 +1,4 @@
-use Rattle.std.proofs.Common.{subst, List}
-use Rattle.osi_session.specs.Standing.{seen_called}
-use Rattle.osi_judge.specs.declared.directions.Direction.TheVariants.{Left, Right}
-use Rattle.osi_judge.specs.Explaining.{IsExplained}
-use Rattle.osi_judge.specs.Tapping.{heard, told}
-use Rattle.osi_judge.specs.Transport.{Sent}
+use Rattle.osi_accord.proofs.Vocabulary.{List, subst, seen_called, IsExplained, heard, told, Sent, Left, Right}
 use Rattle.osi_accord.proofs.what_had_passed_stands_before.{capture_accord, not_blamed}
 use Rattle.osi_accord.proofs.laws.two_kept_sides_are_a_pair.Goals as goal
 

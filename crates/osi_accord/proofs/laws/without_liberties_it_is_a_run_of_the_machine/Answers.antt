@@ -1,5 +1,4 @@
-use Rattle.std.proofs.Common.{refl}
-use Rattle.osi_session.proofs.tsdu.what_is_sent_is_taken_as_meant.{said_again}
+use Rattle.osi_accord.proofs.Vocabulary.{refl, said_again}
 use Rattle.osi_accord.proofs.a_run_without_liberties_is_one_of_the_machine.{machine_run}
 use Rattle.osi_accord.proofs.laws.without_liberties_it_is_a_run_of_the_machine.Goals as goal
 
