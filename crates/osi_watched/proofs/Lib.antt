@@ -1,4 +1,6 @@
--- The map of these proofs, in reading order.
+-- The map of these proofs, in reading order. `Vocabulary` has the names that come from elsewhere.
+mod Vocabulary
+pub mod small_facts_that_many_lemmas_use
 -- a capture is steps
 pub mod what_the_first_octets_are
 pub mod turns_are_taken_late

@@ -1,46 +1,23 @@
 -- A capture of an end is steps of the end and of the tap: octet by octet, with each turn of the end as late as can be.
 -- For the law that a capture of an end is steps.
-use Rattle.std.proofs.Common.{◌≡◌, ◌≢◌, ◌∙◌, refl, sym, ap, subst, ℕ, ◌<◌, ◌≤◌, ◌⊎◌, inl, inr, Bool, true, false, List, [], ◌∷◌}
-use Rattle.std.proofs.Common.{◌++◌, length, Option, Some, None, is_some, Result, Ok, Err, append_assoc, arith}
-use Rattle.std.specs.List.{AllByRecursion}
-use Rattle.std.proofs.lemmas.List.{append-nil, length-append}
-use Rattle.osi_tpkt.specs.Octets.{IsOctets}
-use Rattle.osi_tpkt.specs.Packet.{packet_of}
-use Rattle.osi_tpkt.specs.Stream.{ArePackets, Ending, EndsAt}
-use Rattle.osi_tpkt.proofs.a_stream_is_cut_in_one_way.{end_no_packet, some_cut}
-use Rattle.osi_tpkt.proofs.lists_of_octets_stay_octets.{octets_append, octets_cons, octets_left, octets_nil, octets_right}
-use Rattle.osi_tpdu.specs.Packet.{units_of}
-use Rattle.osi_tpdu.specs.Value.{Value, acknowledge, confirm, data0, data2, disconnect, disconnected, error, request, user_data}
-use Rattle.osi_tpdu.specs.Writing.{written, written_header}
-use Rattle.osi_tpdu.specs.declared.faults.TpduFault.{TpduFault}
-use Rattle.osi_class.specs.declared.terms.Local.{Local}
-use Rattle.osi_carrier.specs.State.{packets}
-use Rattle.osi_carrier.specs.declared.ends.EndReason.{EndReason}
-use Rattle.osi_judge.specs.declared.directions.Direction.{Direction}
-use Rattle.osi_judge.specs.declared.directions.Direction.TheVariants.{Left, Right}
-use Rattle.osi_judge.specs.Captures.{Capture, Passed, of, other}
-use Rattle.osi_stack.specs.State.{Holding}
-use Rattle.osi_honest.specs.Courses.{Continues, Deeds, all_did, no_deeds}
-use Rattle.osi_honest.specs.Marked.{all_units}
-use Rattle.osi_honest.specs.Seeing.{IsFresh, IsSeen}
-use Rattle.osi_honest.specs.Turns.{Run, Takes, Turn}
-use Rattle.osi_honest.proofs.class_0.what_a_call_does_in_class_0.{over_acts}
-use Rattle.osi_honest.proofs.class_0.what_class_0_writes_of_a_tsdu.{packets_joined}
-use Rattle.osi_honest.proofs.class_0.what_packets_do_in_class_0.{never_lasts}
-use Rattle.osi_honest.proofs.courses.what_a_run_does_to_it.{TurnOf, TurnsOf, fresh_turns}
-use Rattle.osi_honest.proofs.courses.what_sessions_hear_of_it.{Known}
-use Rattle.osi_honest.proofs.reading.two_readings_of_a_stream_agree.{packets_on, packets_then}
-use Rattle.osi_honest.proofs.reading.what_is_written_is_read_again.{CanBeWritten, read_again}
-use Rattle.osi_tap.specs.declared.marks.Cause.{Cause}
-use Rattle.osi_tap.specs.declared.marks.Cause.TheVariants.{BadPacket, BadUnit}
-use Rattle.osi_tap.specs.Courses.{Course, is_break, packet_by, packet_passes, units_pass, unread}
-use Rattle.osi_tap.specs.Streams.{Front, partial, faulty, whole, front_of, Streamed, advanced, ended, gathered}
-use Rattle.osi_tap.specs.Tapping.{State, after, octet_passes, stream_of, with_stream}
+use Rattle.osi_watched.proofs.Vocabulary.{[], ap, append_assoc, arith, Bool, Err, false, inl, inr, is_some, length, List, None, Ok, Option}
+use Rattle.osi_watched.proofs.Vocabulary.{refl, Result, Some, subst, sym, true, ℕ, ◌++◌, ◌<◌, ◌∙◌, ◌∷◌, ◌≡◌, ◌≢◌, ◌≤◌, ◌⊎◌, append-nil}
+use Rattle.osi_watched.proofs.Vocabulary.{length-append, AllByRecursion, end_no_packet, some_cut, octets_append, octets_cons, octets_left}
+use Rattle.osi_watched.proofs.Vocabulary.{octets_nil, octets_right, IsOctets, packet_of, ArePackets, Ending, EndsAt, units_of, request}
+use Rattle.osi_watched.proofs.Vocabulary.{user_data, Value, written, written_header, TpduFault, Local, packets, EndReason, Holding, Capture}
+use Rattle.osi_watched.proofs.Vocabulary.{of, other, Passed, Direction, Left, Right, over_acts, packets_joined, never_lasts, fresh_turns}
+use Rattle.osi_watched.proofs.Vocabulary.{TurnOf, TurnsOf, Known, packets_on, packets_then, CanBeWritten, read_again, all_did, Continues}
+use Rattle.osi_watched.proofs.Vocabulary.{Deeds, no_deeds, all_units, IsFresh, IsSeen, Run, Takes, Turn, is_break, packet_by, packet_passes}
+use Rattle.osi_watched.proofs.Vocabulary.{units_pass, unread, advanced, faulty, Front, front_of, gathered, partial, Streamed, whole, after}
+use Rattle.osi_watched.proofs.Vocabulary.{octet_passes, stream_of, with_stream, Cause, BadPacket, BadUnit, Joint, Step, Steps, StepsAlong}
+use Rattle.osi_watched.proofs.Vocabulary.{TakesTurn, AreOctets, IsOctet, TurnsBad}
+use Rattle.osi_tap.specs.Courses.{Course}
+use Rattle.osi_tap.specs.Streams.{ended}
+use Rattle.osi_tap.specs.Tapping.{State}
 use Rattle.osi_tap.specs.Tapping as tapping
-use Rattle.osi_watched.specs.Joint.{Joint, Step, Steps, StepsAlong, TakesTurn}
 use Rattle.osi_watched.specs.Joint as joints
 use Rattle.osi_watched.specs.Joint.Step.{turns, begins_own, passes_own, begins_other, passes_other}
-use Rattle.osi_watched.specs.Passing.{AreOctets, IsOctet, TurnsBad}
+use Rattle.osi_watched.proofs.small_facts_that_many_lemmas_use.{can_more}
 use Rattle.osi_watched.proofs.turns_are_taken_late.{Follows, all_passed, other_passes, own_passes, seen_follows, turn_taken}
 use Rattle.osi_watched.proofs.what_an_octet_does.{begins, passes_so, same_course}
 use Rattle.osi_watched.proofs.what_the_turns_among_steps_do.{ComesByDoing, IsOfTap, StepsDo, TurnDoes, tap_first}
@@ -153,13 +130,7 @@ one_octet held x octets small = octets_append held (x ∷ []) octets (octets_con
 
 some_header : (v : Value) → 2 ≤ length (written_header v)
 some_header (request c) = omega arith
-some_header (confirm destination c) = omega arith
-some_header (disconnect destination source reason user) = omega arith
-some_header (disconnected destination source) = omega arith
-some_header (data0 last octets) = omega arith
-some_header (data2 destination number last octets) = omega arith
-some_header (acknowledge credit destination number) = omega arith
-some_header (error destination cause) = omega arith
+some_header _ = omega arith
 
 some_octets : (v : Value) → 3 ≤ length (written v)
 some_octets v =
@@ -355,11 +326,6 @@ module _ (d : Direction) (is_caller : Bool) (deeds : ℕ → Deeds) (x : ℕ) (c
       by (whole u) is = other_ends u is (units_of u) refl
 
 -- ---- a turn
-
-can_more : (some others : List Value) → AllByRecursion CanBeWritten some → AllByRecursion CanBeWritten others →
-    AllByRecursion CanBeWritten (some ++ others)
-can_more [] others a b = b
-can_more (v ∷ some) others a b = (a.0, can_more some others a.1 b)
 
 none_more : (at : ℕ) (r : List ℕ) (e : Ending) → EndsAt at r e → (more : List (List ℕ)) (last : List ℕ) → ArePackets more r last → more ≡ []
 none_more at r e ends [] last h = refl

@@ -1,13 +1,9 @@
 -- No unit of a whole end is a break as it passes, as long as the other side is judged: what osi_fair says of it.
 -- For the law on the first break.
-use Rattle.std.proofs.Common.{◌≡◌, true, false, inl, inr, ◌⊎◌, sym, subst}
-use Rattle.osi_class.specs.declared.terms.Local.{Local}
+use Rattle.osi_watched.proofs.Vocabulary.{false, inl, inr, subst, sym, true, ◌≡◌, ◌⊎◌, Local, Finding, Kept, NotJudged, TooMany}
+use Rattle.osi_watched.proofs.Vocabulary.{called_fair, calling_fair}
 use Rattle.osi_rules.specs.declared.directions.Direction.TheVariants.{Left, Right}
-use Rattle.osi_rules.specs.declared.findings.Finding.{Finding}
-use Rattle.osi_rules.specs.declared.findings.Finding.TheVariants.{Kept, NotJudged, TooMany}
 use Rattle.osi_fair.specs.Wholes.{begin}
-use Rattle.osi_fair.proofs.a_called_end_is_fair.{called_fair}
-use Rattle.osi_fair.proofs.a_calling_end_is_fair.{calling_fair}
 use Rattle.osi_watched.proofs.the_first_break_is_not_of_an_end.{IsFairFrom, IsNoBreak}
 
 right_or_not_judged : {A : Type 0} (f : Finding) → (f ≡ Kept) ⊎ ((f ≡ NotJudged) × A) → IsNoBreak f

@@ -1,45 +1,23 @@
 -- Steps of an end and of a tap are events of a whole end.
 -- For the first break of transport.
-use Rattle.std.proofs.Common.{◌≡◌, ◌≢◌, ◌∙◌, ℕ, Bool, true, false, List, [], ◌∷◌, ◌++◌, map, Option, Some, None, is_some, Ok}
-use Rattle.std.proofs.Common.{refl, sym, ap, subst, append_assoc}
-use Rattle.std.specs.List.{AllByRecursion}
-use Rattle.std.proofs.lemmas.List.{append-nil, append_cancel_left}
-use Rattle.osi_tpkt.specs.Octets.{IsOctets}
-use Rattle.osi_tpdu.specs.Packet.{units_of}
-use Rattle.osi_tpdu.specs.Value.{Value}
-use Rattle.osi_tpdu.specs.Writing.{Fits, written}
-use Rattle.osi_tpdu.proofs.the_units_of_a_packet.{units_fit, units_found}
-use Rattle.osi_carrier.specs.State.{State as Carrier, packets}
-use Rattle.osi_carrier.specs.declared.ends.EndReason.{EndReason}
-use Rattle.osi_class.specs.declared.terms.Local.{Local}
-use Rattle.osi_judge.specs.Captures.{other}
-use Rattle.osi_judge.specs.declared.directions.Direction.{Direction}
-use Rattle.osi_judge.specs.declared.directions.Direction.TheVariants.{Left, Right}
-use Rattle.osi_rules.specs.declared.directions.Direction.{Direction as Way}
+use Rattle.osi_watched.proofs.Vocabulary.{[], ap, append_assoc, Bool, false, is_some, List, map, None, Ok, Option, refl, Some, subst, sym}
+use Rattle.osi_watched.proofs.Vocabulary.{true, ℕ, ◌++◌, ◌∙◌, ◌∷◌, ◌≡◌, ◌≢◌, append-nil, append_cancel_left, AllByRecursion, IsOctets}
+use Rattle.osi_watched.proofs.Vocabulary.{units_fit, units_found, units_of, Value, Fits, written, Local, packets, Carrier, EndReason, End}
+use Rattle.osi_watched.proofs.Vocabulary.{Holding, Traffic, takes, Way, Reach, Told, other, Direction, Left, Right, AllProper, AreNumbered}
+use Rattle.osi_watched.proofs.Vocabulary.{CanBeWritten, IsFresh, Turn, cause_of, changes, first_marked, halts, kind_of, noted_by, number_at}
+use Rattle.osi_watched.proofs.Vocabulary.{reached, unit_passes, units_pass, way_of, Cause, Mark, units_by, Event, HappenAlong, Whole}
+use Rattle.osi_watched.proofs.Vocabulary.{begins_other, begins_own, Joint, passes_other, passes_own, Step, Steps, TakesTurn, turns}
 use Rattle.osi_rules.specs.Sides as sides
-use Rattle.osi_rules.specs.Traffic.{State as Traffic, takes}
 use Rattle.osi_rules.specs.Traffic as traffic
-use Rattle.osi_rules.specs.declared.findings.Reach.{Reach}
 use Rattle.osi_rules.specs.declared.findings.Reach.TheVariants as reach
-use Rattle.osi_rules.specs.declared.findings.Told.{Told}
-use Rattle.osi_fair.specs.Pieces.{units_by, units_in}
-use Rattle.osi_fair.specs.Wholes.{Event, HappenAlong, Happens, Whole}
+use Rattle.osi_fair.specs.Pieces.{units_in}
 use Rattle.osi_fair.specs.Wholes as wholes
-use Rattle.osi_honest.specs.Seeing.{IsFresh}
-use Rattle.osi_honest.specs.Turns.{Turn}
-use Rattle.osi_honest.proofs.class_0.what_a_packet_does_in_class_0.{AllProper}
-use Rattle.osi_honest.proofs.reading.all_that_an_end_puts_can_be_read.{AreNumbered}
-use Rattle.osi_honest.proofs.reading.what_is_written_is_read_again.{CanBeWritten}
-use Rattle.osi_stack.specs.State.{End, Holding}
-use Rattle.osi_tap.specs.declared.marks.Cause.{Cause}
-use Rattle.osi_tap.specs.declared.marks.Mark.{Mark}
-use Rattle.osi_tap.specs.Courses.{Course, breaks, cause_of, changes, first_marked, halts, noted_by, packet_begins, reached, unit_passes}
-use Rattle.osi_tap.specs.Courses.{kind_of, number_at, units_pass, way_of}
-use Rattle.osi_watched.specs.Joint.{Joint, Step, Steps, TakesTurn, begin, begins_other, begins_own, passes_other, passes_own, turns}
-use Rattle.osi_watched.proofs.a_carrier_does_events.{Came, IsLike, came_asking, came_tracked, happen_join, none_come, none_of}
-use Rattle.osi_watched.proofs.a_carrier_does_events.{units_join}
+use Rattle.osi_tap.specs.Courses.{Course, breaks, packet_begins}
+use Rattle.osi_watched.specs.Joint.{begin}
+use Rattle.osi_watched.proofs.small_facts_that_many_lemmas_use.{can_more as all_more, over_none}
+use Rattle.osi_fair.proofs.small_facts_that_many_lemmas_use.{none_of}
+use Rattle.osi_watched.proofs.a_carrier_does_events.{Came, IsLike, came_asking, came_tracked, happen_join, none_come, units_join}
 use Rattle.osi_watched.proofs.what_a_unit_leaves_at_a_tap.{changes_traffic}
-use Rattle.osi_watched.proofs.what_a_carrier_puts_can_be_written.{all_more}
 use Rattle.osi_watched.proofs.what_is_put_is_what_is_written.{AreFirst, StartsWith, are_first, none_written, same_written, starts_with}
 use Rattle.osi_watched.proofs.what_is_put_is_what_is_written.{written_join}
 use Rattle.osi_watched.proofs.what_waits_changes_nothing.{bare}
@@ -52,10 +30,8 @@ turned Left = refl
 turned Right = refl
 
 reached_traffic : (m : Mark) (r : Reach) (c : Course) → (reached m r c).traffic ≡ c.traffic
-reached_traffic m reach.Nothing c = refl
-reached_traffic m reach.Connection c = refl
 reached_traffic m reach.Side c = changes_traffic m.direction (halts m) c
-reached_traffic m reach.Everything c = refl
+reached_traffic m _ c = refl
 
 noted_traffic : (d : Direction) (at : ℕ) (v : Value) (told : Told) (o : Option Cause) (c : Course) →
     (noted_by d at v told o c).traffic ≡ c.traffic
@@ -89,10 +65,6 @@ pub record IsFollowed (d : Direction) (first : Whole) (j : Joint) : Type 0 where
   pub like : IsLike whole.end j.holding.end.carrier
   pub can : AllByRecursion CanBeWritten whole.put
   pub links : AreNumbered whole.end.live
-
-over_none : {A : Type 0} (o : Option EndReason) → is_some o ≡ true → o ≡ None → A
-over_none None h e = absurd (cc h)
-over_none (Some x) h e = absurd (cc e)
 
 -- units of the other side pass
 record Passed (d : Direction) (at : ℕ) (units : List Value) (w : Whole) (c : Course) : Type 0 where

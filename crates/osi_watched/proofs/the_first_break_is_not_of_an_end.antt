@@ -1,29 +1,16 @@
 -- The first break of transport at a tap is never of the side of an end, if no unit of a whole end is a break as long as the other
 -- side is judged.
 -- For the law on the first break.
-use Rattle.std.proofs.Common.{◌≡◌, ◌∙◌, ℕ, Bool, true, false, List, [], ◌∷◌, Option, Some, None, inl, inr, ◌⊎◌}
-use Rattle.std.proofs.Common.{refl, sym, ap, subst}
-use Rattle.osi_tpdu.specs.Value.{Value}
-use Rattle.osi_class.specs.declared.terms.Local.{Local}
-use Rattle.osi_judge.specs.Captures.{Capture, other}
-use Rattle.osi_judge.specs.declared.directions.Direction.{Direction}
-use Rattle.osi_judge.specs.declared.directions.Direction.TheVariants.{Left, Right}
-use Rattle.osi_rules.specs.declared.directions.Direction.{Direction as Way}
-use Rattle.osi_rules.specs.declared.findings.Finding.{Finding}
-use Rattle.osi_rules.specs.declared.findings.Finding.TheVariants.{Broke, Kept, NotJudged, Outside, TooMany}
+use Rattle.osi_watched.proofs.Vocabulary.{[], ap, Bool, false, inl, inr, List, None, Option, refl, Some, subst, sym, true, ℕ, ◌∙◌, ◌∷◌, ◌≡◌}
+use Rattle.osi_watched.proofs.Vocabulary.{◌⊎◌, Value, Local, Holding, is_stopped, Traffic, takes, Way, Finding, Broke, Outside, Capture}
+use Rattle.osi_watched.proofs.Vocabulary.{other, Direction, Left, Right, AllProper, IsFresh, unit_passes, units_pass, unread, way_of, after}
+use Rattle.osi_watched.proofs.Vocabulary.{comes_to, First, Event, HappenAlong, Whole, begins_other, begins_own, Joint, passes_other}
+use Rattle.osi_watched.proofs.Vocabulary.{passes_own, Step, Steps, StepsAlong, turns, ComesBySteps, TurnsBad}
 use Rattle.osi_rules.specs.Sides as sides
-use Rattle.osi_rules.specs.Traffic.{State as Traffic, is_stopped, takes}
-use Rattle.osi_fair.specs.Wholes.{Event, HappenAlong, Whole}
 use Rattle.osi_fair.specs.Wholes as wholes
-use Rattle.osi_honest.specs.Seeing.{IsFresh}
-use Rattle.osi_honest.proofs.class_0.what_a_packet_does_in_class_0.{AllProper}
-use Rattle.osi_stack.specs.State.{Holding}
-use Rattle.osi_tap.specs.declared.marks.First.{First}
-use Rattle.osi_tap.specs.Courses.{Course, packet_begins, unit_passes, units_pass, unread, way_of}
+use Rattle.osi_tap.specs.Courses.{Course, packet_begins}
 use Rattle.osi_tap.specs.Tapping as tapping
-use Rattle.osi_tap.specs.Tapping.{after, comes_to}
-use Rattle.osi_watched.specs.Joint.{Joint, Step, Steps, StepsAlong, begin, begins_other, begins_own, passes_other, passes_own, turns}
-use Rattle.osi_watched.specs.Passing.{ComesBySteps, TurnsBad}
+use Rattle.osi_watched.specs.Joint.{begin}
 use Rattle.osi_watched.proofs.steps_are_events.{IsFollowed, begin_followed, own_first, step_followed}
 use Rattle.osi_watched.proofs.what_a_unit_leaves_at_a_tap.{IsCalm, IsJudged, IsOver, Leaves, begins_calm, begins_over, unit_first}
 use Rattle.osi_watched.proofs.what_a_unit_leaves_at_a_tap.{unit_leaves, unit_over, unread_breaks, unread_first, unread_over}
@@ -31,11 +18,9 @@ use Rattle.osi_watched.proofs.what_passes_keeps_a_claim.{IsClaim, after_join, af
 
 -- this is no break
 abbrev pub IsNoBreak : Finding → Type 0
-IsNoBreak Kept = Unit {0}
-IsNoBreak NotJudged = Unit {0}
-IsNoBreak TooMany = Unit {0}
 IsNoBreak (Broke rule) = ⊥
 IsNoBreak Outside = ⊥
+IsNoBreak _ = Unit {0}
 
 -- no unit of a whole end is a break as it passes, as long as the other side is judged and no connection has lost its judgement
 abbrev pub IsFairFrom : Way → Whole → Type 0
@@ -51,18 +36,14 @@ IsNotFirst d c = IsCalm c ⊎ ((f : First) × (c.first ≡ Some f) × (f.directi
 
 no_break_so : (d : Direction) (at : ℕ) (v : Value) (c : Course) (f : Finding) (new : Course) → IsNoBreak f → Leaves d at v c f new →
     IsCalm new
-no_break_so d at v c Kept new none leaves = leaves
-no_break_so d at v c NotJudged new none leaves = leaves
-no_break_so d at v c TooMany new none leaves = leaves
 no_break_so d at v c (Broke rule) new none leaves = absurd none
 no_break_so d at v c Outside new none leaves = absurd none
+no_break_so d at v c _ new none leaves = leaves
 
 any_so : (d : Direction) (at : ℕ) (v : Value) (c : Course) (f : Finding) (new : Course) → Leaves (other d) at v c f new → IsNotFirst d new
-any_so d at v c Kept new leaves = inl leaves
-any_so d at v c NotJudged new leaves = inl leaves
-any_so d at v c TooMany new leaves = inl leaves
 any_so d at v c (Broke rule) new leaves = inr leaves
 any_so d at v c Outside new leaves = inr leaves
+any_so d at v c _ new leaves = inl leaves
 
 module _ (d : Direction) where
   -- a unit of the other side

@@ -1,16 +1,9 @@
 -- An end takes each of its turns as late as what the capture shows allows: just before the first octet passes that the turn put. By
 -- then all that it used has passed.
 -- For the law that a capture of an end is steps.
-use Rattle.std.proofs.Common.{◌≡◌, ◌∙◌, refl, sym, ap, ℕ, suc, ◌+◌, ◌<◌, ◌≤◌, inl, inr}
-use Rattle.std.proofs.Common.{List, [], ◌∷◌, ◌++◌, length, append_assoc, arith}
-use Rattle.std.proofs.lemmas.Bool.Decides.{leb_tells}
-use Rattle.std.proofs.lemmas.List.{append_cancel_left, length-append}
-use Rattle.osi_judge.specs.declared.directions.Direction.{Direction}
-use Rattle.osi_judge.specs.declared.directions.Direction.TheVariants.{Left, Right}
-use Rattle.osi_judge.specs.Captures.{Capture, Passed, of, other, passed_before, stream}
-use Rattle.osi_honest.specs.Seeing.{IsPrefix, IsSeen, PassAfter, put_along, used_along}
-use Rattle.osi_honest.specs.Turns.{Turn}
-use Rattle.osi_honest.proofs.sessions.what_an_end_put_was_caused.{front_of as part_of}
+use Rattle.osi_watched.proofs.Vocabulary.{[], ap, append_assoc, arith, inl, inr, length, List, refl, suc, sym, ℕ, ◌++◌, ◌+◌, ◌<◌, ◌∙◌, ◌∷◌}
+use Rattle.osi_watched.proofs.Vocabulary.{◌≡◌, ◌≤◌, leb_tells, append_cancel_left, length-append, Capture, of, other, Passed, passed_before}
+use Rattle.osi_watched.proofs.Vocabulary.{stream, Direction, Left, Right, part_of, IsPrefix, IsSeen, PassAfter, put_along, used_along, Turn}
 
 -- ---- in which order octets pass and turns are taken
 

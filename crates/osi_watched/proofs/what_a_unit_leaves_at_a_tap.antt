@@ -1,83 +1,52 @@
 -- As long as no break was told as the first, both sides are judged and every connection is, or nobody is judged any more; and a
 -- unit leaves that so, unless it is a break.
 -- For the first break of transport.
-use Rattle.std.proofs.Common.{◌≡◌, ◌∙◌, ℕ, Bool, true, false, if◌then◌else◌, Option, Some, None, is_some, refl, sym, ap, subst}
-use Rattle.std.proofs.Common.{inl, inr, ◌⊎◌}
-use Rattle.std.specs.Prelude.{◌||◌, slice_get, position}
-use Rattle.osi_tpdu.specs.Value.{Value, Connect, request, confirm, disconnect, disconnected, data0, data2, acknowledge, error}
-use Rattle.osi_class.specs.declared.terms.Class.{Class}
-use Rattle.osi_judge.specs.declared.directions.Direction.{Direction as Side}
+use Rattle.osi_watched.proofs.Vocabulary.{ap, Bool, false, if◌then◌else◌, inl, inr, is_some, None, Option, refl, Some, subst, sym, true, ℕ}
+use Rattle.osi_watched.proofs.Vocabulary.{◌∙◌, ◌≡◌, ◌⊎◌, position, slice_get, ◌||◌, confirm, Connect, request, Value, Class, stops_are_said}
+use Rattle.osi_watched.proofs.Vocabulary.{stops_last, is_applied, reach_of, first_failed, is_live, is_named, asks_by, asks_of, at_found}
+use Rattle.osi_watched.proofs.Vocabulary.{at_place, class_for, course_after, course_after_none, found_on, is_stopped, none_told, one_told}
+use Rattle.osi_watched.proofs.Vocabulary.{Outcome, request_tests, route, routed, Traffic as State, takes, unnamed, unnamed_told, Connection}
+use Rattle.osi_watched.proofs.Vocabulary.{Rules as Judging, Way as Direction, Finding, Broke, Kept, NotJudged, Outside, TooMany, Reach}
+use Rattle.osi_watched.proofs.Vocabulary.{Told, Route, Asks, Named, Only, Unnamed, Direction as Side, taken, cause_of, changes, earlier}
+use Rattle.osi_watched.proofs.Vocabulary.{first_by, first_marked, first_of, halts, is_break, kind_of, marked, marks_of, moment_of, moved}
+use Rattle.osi_watched.proofs.Vocabulary.{noted_by, number_at, reached, unit_passes, unread, unread_mark, unread_moment, way_of, Cause}
+use Rattle.osi_watched.proofs.Vocabulary.{First, Mark, Marks}
 use Rattle.osi_judge.specs.declared.directions.Direction.TheVariants as side
-use Rattle.osi_rules.specs.declared.connections.Connection.{Connection}
-use Rattle.osi_rules.specs.declared.courses.Course.{Course as Judging}
-use Rattle.osi_rules.specs.declared.directions.Direction.{Direction}
 use Rattle.osi_rules.specs.declared.directions.Direction.TheVariants.{Left, Right}
-use Rattle.osi_rules.specs.declared.findings.Finding.{Finding}
-use Rattle.osi_rules.specs.declared.findings.Finding.TheVariants.{Kept, Broke, Outside, TooMany, NotJudged}
-use Rattle.osi_rules.specs.declared.findings.Reach.{Reach}
 use Rattle.osi_rules.specs.declared.findings.Reach.TheVariants as reach
-use Rattle.osi_rules.specs.declared.findings.Told.{Told}
-use Rattle.osi_rules.specs.declared.routes.Route.{Route}
-use Rattle.osi_rules.specs.declared.routes.Route.TheVariants.{Asks, Named, Only, Unnamed}
-use Rattle.osi_rules.specs.Reaches.{reach_of, is_applied}
-use Rattle.osi_rules.specs.Rows.{first_failed}
-use Rattle.osi_rules.specs.Sides.{is_live, is_named}
-use Rattle.osi_rules.specs.Traffic.{State, Outcome, class_for, course_after, course_after_none, found_on, unnamed, none_told, one_told}
-use Rattle.osi_rules.specs.Traffic.{unnamed_told, at_found, at_place, asks_by, asks_of, request_tests, routed, route, is_stopped, takes}
 use Rattle.osi_rules.specs.Traffic as traffic
-use Rattle.osi_rules.proofs.a_stop_is_said.{stops_are_said, stops_last}
-use Rattle.osi_tap.specs.declared.marks.Cause.{Cause}
 use Rattle.osi_tap.specs.declared.marks.Cause.TheVariants as cause
-use Rattle.osi_tap.specs.declared.marks.First.{First}
-use Rattle.osi_tap.specs.declared.marks.Mark.{Mark}
-use Rattle.osi_tap.specs.declared.marks.Marks.{Marks}
-use Rattle.osi_tap.specs.Connections.{taken}
-use Rattle.osi_tap.specs.Courses.{Course, breaks, cause_of, changes, earlier, first_by, first_marked, first_of, halts, is_break, kind_of}
-use Rattle.osi_tap.specs.Courses.{marked, marks_of, moment_of, moved, noted_by, number_at, packet_begins, reached, unit_passes, unread}
-use Rattle.osi_tap.specs.Courses.{unread_mark, unread_moment, way_of}
+use Rattle.osi_tap.specs.Courses.{Course, breaks, packet_begins}
 
 -- ---- what is found of a unit, and how far that reaches
 
 -- after a unit that is no break, all is as before; or nobody is judged any more
 abbrev Means : Finding → Reach → (loose old : Bool) → Type 0
-Means Kept how_far loose old = (how_far ≡ reach.Nothing) × (loose ≡ old)
-Means NotJudged how_far loose old = (how_far ≡ reach.Nothing) × (loose ≡ old)
 Means TooMany how_far loose old = how_far ≡ reach.Everything
 Means (Broke rule) how_far loose old = Unit {0}
 Means Outside how_far loose old = Unit {0}
+Means _ how_far loose old = (how_far ≡ reach.Nothing) × (loose ≡ old)
 
 abbrev IsMeant : State → Outcome → Type 0
 IsMeant s o = Means o.told.finding o.told.reach o.state.course.loose s.course.loose
 
 reaches : (f : Finding) (d : Direction) (class : Option Class) (between : Judging) (old : Bool) → between.loose ≡ old →
     Means f (reach_of class f) (traffic.reached d (reach_of class f) between).loose old
-reaches Kept d class between old same = (refl, same)
-reaches NotJudged d class between old same = (refl, same)
 reaches TooMany d class between old same = refl
 reaches (Broke rule) d class between old same = tt
 reaches Outside d class between old same = tt
+reaches _ d class between old same = (refl, same)
 
 keeps_loose : (d : Direction) (c : Connection) (v : Value) (applied : Bool) (course : Judging) →
     (course_after d c v applied course).loose ≡ course.loose
 keeps_loose d c (request r) applied course = refl
 keeps_loose d c (confirm destination r) true course = refl
 keeps_loose d c (confirm destination r) false course = refl
-keeps_loose d c (disconnect destination source reason user) applied course = refl
-keeps_loose d c (disconnected destination source) applied course = refl
-keeps_loose d c (data0 end user) applied course = refl
-keeps_loose d c (data2 destination number end user) applied course = refl
-keeps_loose d c (acknowledge credit destination number) applied course = refl
-keeps_loose d c (error destination cause) applied course = refl
+keeps_loose d c _ applied course = refl
 
 none_loose : (v : Value) (course : Judging) → (course_after_none v course).loose ≡ course.loose
 none_loose (request r) course = refl
-none_loose (confirm destination r) course = refl
-none_loose (disconnect destination source reason user) course = refl
-none_loose (disconnected destination source) course = refl
-none_loose (data0 end user) course = refl
-none_loose (data2 destination number end user) course = refl
-none_loose (acknowledge credit destination number) course = refl
-none_loose (error destination cause) course = refl
+none_loose _ course = refl
 
 to_none : (d : Direction) (f : Finding) (s : State) → IsMeant s (none_told d f s)
 to_none d f s = reaches f d (class_for d s.course) s.course s.course.loose refl
@@ -103,10 +72,7 @@ at_any d v s (Some place) = at_one d v s place (slice_get s.connections place)
 
 asking : (d : Direction) (f : Finding) (c : Connect) (s : State) → IsMeant s (asks_by d f c s)
 asking d Kept c s = (refl, refl)
-asking d (Broke rule) c s = to_none d (Broke rule) s
-asking d Outside c s = to_none d Outside s
-asking d TooMany c s = to_none d TooMany s
-asking d NotJudged c s = to_none d NotJudged s
+asking d v c s = to_none d v s
 
 asks : (d : Direction) (v : Value) (s : State) → IsMeant s (asks_of d v s)
 asks d (request c) s = asking d (first_failed (request_tests s c)) c s
@@ -236,20 +202,17 @@ module _ (d : Side) (at : ℕ) (v : Value) (c : Course) where
 
   -- it leaves nobody who broke a rule first, or its side did
   abbrev pub Leaves : Finding → Course → Type 0
-  Leaves Kept after = IsCalm after
-  Leaves NotJudged after = IsCalm after
-  Leaves TooMany after = IsCalm after
   Leaves (Broke rule) after = (f : First) × (after.first ≡ Some f) × (f.direction ≡ d)
   Leaves Outside after = (f : First) × (after.first ≡ Some f) × (f.direction ≡ d)
+  Leaves _ after = IsCalm after
 
   by_finding : (f : Finding) → Means f o.told.reach o.state.course.loose c.traffic.course.loose → IsCalm c →
       Leaves f (noted_by d at v o.told (cause_of f) mid)
-  by_finding Kept means calm = by_nothing means.0 means.1 calm
-  by_finding NotJudged means calm = by_nothing means.0 means.1 calm
   by_finding TooMany means calm = by_everything means calm
   by_finding (Broke rule) means calm =
       (first_of (mark (cause.Broke rule)), breaks_first (mark (cause.Broke rule)) o.told.reach mid refl calm.none, refl)
   by_finding Outside means calm = (first_of (mark cause.Outside), breaks_first (mark cause.Outside) o.told.reach mid refl calm.none, refl)
+  by_finding _ means calm = by_nothing means.0 means.1 calm
 
   pub unit_leaves : IsCalm c → Leaves o.told.finding (unit_passes d at v c)
   unit_leaves calm = by_finding o.told.finding (takes_means (way_of d) v c.traffic) calm

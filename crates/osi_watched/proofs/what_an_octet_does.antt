@@ -1,13 +1,9 @@
 -- What an octet that passes does to the tap's state, while packets are read in its direction.
 -- For the law that a capture of an end is steps.
-use Rattle.std.proofs.Common.{◌≡◌, ◌∙◌, refl, ap, ℕ, false, List, [], ◌∷◌, ◌++◌}
-use Rattle.osi_judge.specs.declared.directions.Direction.{Direction}
-use Rattle.osi_judge.specs.declared.directions.Direction.TheVariants.{Left, Right}
-use Rattle.osi_judge.specs.Captures.{of}
+use Rattle.osi_watched.proofs.Vocabulary.{[], ap, false, List, refl, ℕ, ◌++◌, ◌∙◌, ◌∷◌, ◌≡◌, of, Direction, Left, Right, going, looks}
+use Rattle.osi_watched.proofs.Vocabulary.{Front, front_of, gathered, Streamed, begun, looked_at, octet_passes, stream_of, with_stream}
 use Rattle.osi_tap.specs.Courses.{Course, packet_begins}
-use Rattle.osi_tap.specs.Streams.{Front, front_of, Streamed, gathered}
-use Rattle.osi_tap.specs.Tapping.{State, stream_of, with_stream, looked_at, begun, octet_passes}
-use Rattle.osi_tap.proofs.a_piece_comes_to_what_its_octets_do.{going, looks}
+use Rattle.osi_tap.specs.Tapping.{State}
 
 -- what the course comes to once an octet has passed after these of the same packet
 abbrev pub begins : Direction → List ℕ → Course → Course

@@ -1,21 +1,10 @@
 -- Packets with the same octets have the same written units, and a unit that can be written is the one that is read there. And two
 -- readings of what an end holds and uses as packets agree as far as they matter.
 -- For the units between an end and a tap.
-use Rattle.std.proofs.Common.{◌≡◌, ◌≢◌, ◌∙◌, ◌+◌, ◌/◌, ◌%◌, ◌≤◌, ℕ, List, [], ◌∷◌, ◌++◌, length, map, Option, Some, None, Ok, refl}
-use Rattle.std.proofs.Common.{sym, ap, subst}
-use Rattle.std.proofs.Common.{arith}
-use Rattle.std.specs.List.{AllByRecursion}
-use Rattle.std.proofs.lemmas.List.{append-nil, length-append}
-use Rattle.osi_tpkt.specs.Octets.{IsOctets}
-use Rattle.osi_tpkt.specs.Packet.{packet_of}
-use Rattle.osi_tpkt.specs.Stream.{ArePackets}
-use Rattle.osi_tpdu.specs.Packet.{units_of}
-use Rattle.osi_tpdu.specs.Value.{Value}
-use Rattle.osi_tpdu.specs.Writing.{written}
-use Rattle.osi_carrier.specs.State.{packets}
-use Rattle.osi_carrier.specs.declared.ends.EndReason.{EndReason}
-use Rattle.osi_honest.proofs.reading.two_readings_of_a_stream_agree.{GoesBeyond, first, second, two_readings}
-use Rattle.osi_honest.proofs.reading.what_is_written_is_read_again.{CanBeWritten, read_again}
+use Rattle.osi_watched.proofs.Vocabulary.{[], ap, arith, length, List, map, None, Ok, Option, refl, Some, subst, sym, ℕ, ◌%◌, ◌++◌, ◌+◌}
+use Rattle.osi_watched.proofs.Vocabulary.{◌/◌, ◌∙◌, ◌∷◌, ◌≡◌, ◌≢◌, ◌≤◌, append-nil, length-append, AllByRecursion, IsOctets, packet_of}
+use Rattle.osi_watched.proofs.Vocabulary.{ArePackets, units_of, Value, written, packets, EndReason, first, GoesBeyond, second, two_readings}
+use Rattle.osi_watched.proofs.Vocabulary.{CanBeWritten, read_again}
 
 -- ---- octets of packets
 

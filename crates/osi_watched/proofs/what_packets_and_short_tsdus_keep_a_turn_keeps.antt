@@ -1,60 +1,28 @@
 -- What each packet and the TSDUs of a session, which are not too long, leave true of a carrier and of the packets that it used so
 -- far, a turn of an end leaves true, whatever arrives and however much memory there is.
 -- For what a turn of an end does to its carrier. `osi_honest` has the like for TSDUs of any length.
-use Rattle.std.proofs.Common.{◌≡◌, ◌∙◌, refl, sym, ap, subst, ℕ, Bool, true, false, if◌then◌else◌, List, [], ◌∷◌, ◌++◌, length, take}
-use Rattle.std.proofs.Common.{drop, Option, Some, None, is_some, IsSome, option_map, inl, inr, ◌⊎◌, append_assoc, arith}
-use Rattle.std.specs.List.{AllByRecursion, list_any}
-use Rattle.std.specs.Prelude.{◌||◌, ◌≤◌, nat_lt}
-use Rattle.std.proofs.lemmas.Bool.Decides.{nat_tests}
-use Rattle.std.proofs.lemmas.List.{append-nil, take-append-drop, take_all}
-use Rattle.osi_tpkt.specs.Octets.{IsOctets}
-use Rattle.osi_tpkt.specs.Stream.{ArePackets}
-use Rattle.osi_tpkt.specs.declared.cutting.Fed.{Fed}
-use Rattle.osi_tpdu.specs.Limits.{tsap_octets}
-use Rattle.osi_tpdu.specs.declared.tsaps.Tsap.{Tsap}
-use Rattle.osi_carrier.specs.Calls.{asks, closed_with, may_connect, open_link, send_all_error, sent_all}
-use Rattle.osi_carrier.specs.Happenings.{Happening}
+use Rattle.osi_watched.proofs.Vocabulary.{[], ap, append_assoc, arith, Bool, drop, false, if◌then◌else◌, inl, inr, is_some, IsSome, length}
+use Rattle.osi_watched.proofs.Vocabulary.{List, nat_lt, None, Option, option_map, refl, Some, subst, sym, take, true, ℕ, ◌++◌, ◌∙◌, ◌∷◌}
+use Rattle.osi_watched.proofs.Vocabulary.{◌≡◌, ◌≤◌, ◌⊎◌, nat_tests, append-nil, take-append-drop, take_all, AllByRecursion, list_any, ◌||◌}
+use Rattle.osi_watched.proofs.Vocabulary.{IsOctets, ArePackets, Fed, tsap_octets, Tsap, Standing, acts_cases, closed_with, may_connect}
+use Rattle.osi_watched.proofs.Vocabulary.{open_link, send_all_error, sent_all, Happening, value_at, Carrier, EndReason, Broken, NoMemory}
+use Rattle.osi_watched.proofs.Vocabulary.{OpenError, SendError, TooLong, called, Input, Listener, awaits, concluded_carrier, packet_is}
+use Rattle.osi_watched.proofs.Vocabulary.{quiet_stops, events_heard, disconnect_carrier, none_ended, found_how, after_open, terms_error}
+use Rattle.osi_watched.proofs.Vocabulary.{Feeds, Goes as GoesThrough, TakesPackets, uses_all, attends, hears_all, hears_times, RunsOut}
+use Rattle.osi_watched.proofs.Vocabulary.{Starves, with_carrier, with_events, IsAccepted, AreShort, by_line, carrier_by, to_session}
+use Rattle.osi_watched.proofs.Vocabulary.{breaking, calling, connecting, disconnecting, Call, Calls, carried_in, used_in, carrying, feeding}
+use Rattle.osi_watched.proofs.Vocabulary.{telling, End, Holding, answers_by, sent_unless, ConnectError, AllProper, all_octets, more_used}
+use Rattle.osi_watched.proofs.Vocabulary.{stopped_within, never_lasts, packets_on, packets_then, carried_by, Takes, Turn, used_by, serving}
+use Rattle.osi_watched.proofs.Vocabulary.{using}
+use Rattle.osi_carrier.specs.Calls.{asks}
 use Rattle.osi_carrier.specs.Packets as carriers
-use Rattle.osi_carrier.specs.State.{State as Carrier}
 use Rattle.osi_carrier.specs.State as states
-use Rattle.osi_carrier.specs.declared.ends.EndReason.{EndReason}
-use Rattle.osi_carrier.specs.declared.ends.EndReason.TheVariants.{Broken, NoMemory}
-use Rattle.osi_carrier.specs.Rows.{value_at}
-use Rattle.osi_carrier.specs.declared.faults.OpenError.{OpenError}
-use Rattle.osi_carrier.specs.declared.faults.SendError.{SendError}
-use Rattle.osi_carrier.specs.declared.faults.SendError.TheVariants.{TooLong}
-use Rattle.osi_carrier.proofs.stream.a_piece_is_read_packet_by_packet.{acts_cases}
-use Rattle.osi_class.specs.Link.{Standing}
-use Rattle.osi_session.specs.Listening.{Input, Listener, called, react}
-use Rattle.osi_session.specs.Sessions.{awaits}
-use Rattle.osi_stack.specs.Calls.{after_open, terms_error}
-use Rattle.osi_stack.specs.Feeding.{Feeds, TakesPackets, uses_all}
-use Rattle.osi_stack.specs.Feeding.{Goes as GoesThrough}
-use Rattle.osi_stack.specs.Hearing.{RunsOut, Starves, after_packet, attends, ends, hears_all, hears_times, with_carrier, with_events}
-use Rattle.osi_stack.specs.Inputs.{IsAccepted}
+use Rattle.osi_session.specs.Listening.{react}
+use Rattle.osi_stack.specs.Hearing.{after_packet, ends}
 use Rattle.osi_stack.specs.Rounds.{UserCall, user_does}
-use Rattle.osi_stack.specs.Rounds.UserCall.{breaking, calling, connecting, disconnecting}
-use Rattle.osi_stack.specs.Runs.{Call, Calls, carried_in, used_in}
-use Rattle.osi_stack.specs.Runs.Call.{carrying, feeding, telling}
-use Rattle.osi_stack.specs.State.{End, Holding, waits}
-use Rattle.osi_stack.specs.declared.connecting.ConnectError.{ConnectError}
-use Rattle.osi_stack.proofs.given_up.the_invariant_stays.{disconnect_carrier}
-use Rattle.osi_stack.proofs.carried.events_one_after_the_other.{concluded_carrier}
-use Rattle.osi_stack.proofs.carried.packets_without_events.{packet_is, quiet_stops}
-use Rattle.osi_stack.proofs.stream.the_room_for_a_packet.{found_how}
-use Rattle.osi_stack.proofs.stream.an_end_is_what_its_packets_make.{none_ended}
-use Rattle.osi_stack.proofs.carried.what_each_step_preserves.{events_heard}
-use Rattle.osi_stack.specs.Messages.{AreShort}
-use Rattle.osi_stack.specs.Moving.{by_line, carrier_by, to_session}
-use Rattle.osi_stack.specs.State.{Line}
-use Rattle.osi_stack.specs.Transport.{answers_by, sent_unless}
+use Rattle.osi_stack.specs.State.{waits, Line}
 use Rattle.osi_honest.specs.Talking as history
-use Rattle.osi_honest.specs.Turns.{Act, Acts, Takes, Turn, carried_by, used_by}
-use Rattle.osi_honest.specs.Turns.Act.{serving, using}
-use Rattle.osi_honest.proofs.reading.two_readings_of_a_stream_agree.{packets_on, packets_then}
-use Rattle.osi_honest.proofs.class_0.what_a_packet_does_in_class_0.{AllProper}
-use Rattle.osi_honest.proofs.class_0.what_a_turn_does_in_class_0.{all_octets, more_used, stopped_within}
-use Rattle.osi_honest.proofs.class_0.what_packets_do_in_class_0.{never_lasts}
+use Rattle.osi_honest.specs.Turns.{Act, Acts}
 
 -- ---- what a session sends
 

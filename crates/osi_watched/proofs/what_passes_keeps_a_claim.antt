@@ -1,20 +1,13 @@
 -- What a packet that begins, a unit and what can't be read leave true of a tap, a capture leaves true, and so does each step of an end
 -- and of the tap.
 -- For the first break.
-use Rattle.std.proofs.Common.{◌≡◌, ℕ, Bool, true, false, if◌then◌else◌, List, [], ◌∷◌, ◌++◌, length, Result, Ok, Err, refl, sym, subst}
-use Rattle.osi_tpdu.specs.Packet.{units_of}
-use Rattle.osi_tpdu.specs.Value.{Value}
-use Rattle.osi_tpdu.specs.declared.faults.TpduFault.{TpduFault}
-use Rattle.osi_judge.specs.Captures.{Capture, of, other}
-use Rattle.osi_judge.specs.declared.directions.Direction.{Direction}
-use Rattle.osi_judge.specs.declared.directions.Direction.TheVariants.{Left, Right}
-use Rattle.osi_tap.specs.declared.marks.Cause.{Cause}
-use Rattle.osi_tap.specs.declared.marks.Cause.TheVariants.{BadPacket, BadUnit}
-use Rattle.osi_tap.specs.Courses.{Course, packet_begins, packet_by, unit_passes, units_pass, unread}
-use Rattle.osi_tap.specs.Streams.{Front, Streamed, counted, faulty, front_of, gathered, partial, whole}
-use Rattle.osi_tap.specs.Tapping.{State, after, begun, looked_at, octet_passes, stream_of, with_stream}
-use Rattle.osi_tap.proofs.a_piece_comes_to_what_its_octets_do.{looks}
-use Rattle.osi_watched.specs.Joint.{Joint, Step, Steps, StepsAlong, begins_other, begins_own, passes_other, passes_own, turns}
+use Rattle.osi_watched.proofs.Vocabulary.{[], Bool, Err, false, if◌then◌else◌, length, List, Ok, refl, Result, subst, sym, true, ℕ, ◌++◌}
+use Rattle.osi_watched.proofs.Vocabulary.{◌∷◌, ◌≡◌, units_of, Value, TpduFault, Capture, of, other, Direction, Left, Right, looks}
+use Rattle.osi_watched.proofs.Vocabulary.{packet_by, unit_passes, units_pass, unread, counted, faulty, Front, front_of, gathered, partial}
+use Rattle.osi_watched.proofs.Vocabulary.{Streamed, whole, after, begun, looked_at, octet_passes, stream_of, with_stream, Cause, BadPacket}
+use Rattle.osi_watched.proofs.Vocabulary.{BadUnit, begins_other, begins_own, Joint, passes_other, passes_own, Step, Steps, turns}
+use Rattle.osi_tap.specs.Courses.{Course, packet_begins}
+use Rattle.osi_tap.specs.Tapping.{State}
 
 pub record IsClaim (P : Course → Type 0) : Type 0 where
   pub begins : (d : Direction) (c : Course) → P c → P (packet_begins d c)
@@ -66,10 +59,6 @@ module _ (P : Course → Type 0) (k : IsClaim P) where
   step_kept d begins_other old new is h = subst (λ (j : Joint). P j.course) (sym is) (k.begins (other d) old.course h)
   step_kept d (passes_other at packet units) old new steps h =
       subst (λ (j : Joint). P j.course) (sym steps.2) (units_kept (other d) at units old.course h)
-
-  pub along_kept : (d : Direction) (steps : List Step) (old new : Joint) → StepsAlong d old steps new → P old.course → P new.course
-  along_kept d [] old new is h = subst (λ (j : Joint). P j.course) (sym is) h
-  along_kept d (step ∷ steps) old new (mid, one, more) h = along_kept d steps mid new more (step_kept d step old mid one h)
 
 -- one capture after the other
 pub after_join : (front back : Capture) (s : State) → after (front ++ back) s ≡ after back (after front s)

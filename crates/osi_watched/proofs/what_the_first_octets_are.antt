@@ -1,20 +1,11 @@
 -- What the first octets of a packet are to the reader of a tap: of a packet that an end writes, and of one that has just passed.
 -- For what an octet does to an end and a tap.
-use Rattle.std.proofs.Common.{◌≡◌, ◌∙◌, refl, sym, ap, subst, ℕ, ◌+◌, ◌-◌, ◌*◌, ◌/◌, ◌%◌, ◌==◌, ◌<◌, ◌≤◌, ◌⊎◌, inl, inr, nat_lt}
-use Rattle.std.proofs.Common.{Bool, true, false, if◌then◌else◌, leb, List, [], ◌∷◌, ◌++◌, length, take, append_assoc, arith}
-use Rattle.std.proofs.lemmas.Bool.{eqb-true, le-ltb, lt-ltb, ltb-false, ltb-true}
-use Rattle.std.proofs.lemmas.Bool.Decides.{leb_tells}
-use Rattle.std.proofs.lemmas.List.{append-nil, length-append, take_all, take_at}
-use Rattle.std.proofs.Math.Seq.{take-append_seam}
-use Rattle.osi_tpkt.specs.Octets.{IsOctets}
-use Rattle.osi_tpkt.specs.Packet.{IsPacket, packet_of}
-use Rattle.osi_tpkt.specs.Stream.{ArePackets}
-use Rattle.osi_tpkt.specs.declared.faults.TpktFault.TheVariants.{BadVersion, BadLength}
-use Rattle.osi_tpkt.proofs.lists_of_octets_stay_octets.{octets_append}
-use Rattle.osi_honest.proofs.reading.two_readings_of_a_stream_agree.{GoesBeyond, first, packets_on, second, two_readings}
-use Rattle.osi_honest.proofs.sessions.what_an_end_put_was_caused.{front_of as part_of}
-use Rattle.osi_tap.proofs.octets_are_looked_at.{packet_front}
-use Rattle.osi_tap.specs.Streams.{Front, partial, faulty, whole, sized, by_version, front_of}
+use Rattle.osi_watched.proofs.Vocabulary.{[], ap, append_assoc, arith, Bool, false, if◌then◌else◌, inl, inr, leb, length, List, nat_lt}
+use Rattle.osi_watched.proofs.Vocabulary.{refl, subst, sym, take, true, ℕ, ◌%◌, ◌*◌, ◌++◌, ◌+◌, ◌-◌, ◌/◌, ◌<◌, ◌==◌, ◌∙◌, ◌∷◌, ◌≡◌, ◌≤◌}
+use Rattle.osi_watched.proofs.Vocabulary.{◌⊎◌, take-append_seam, eqb-true, le-ltb, lt-ltb, ltb-false, ltb-true, leb_tells, append-nil}
+use Rattle.osi_watched.proofs.Vocabulary.{length-append, take_all, take_at, octets_append, IsOctets, IsPacket, packet_of, ArePackets}
+use Rattle.osi_watched.proofs.Vocabulary.{BadLength, BadVersion, first, GoesBeyond, packets_on, second, two_readings, part_of, packet_front}
+use Rattle.osi_watched.proofs.Vocabulary.{by_version, faulty, Front, front_of, partial, sized, whole}
 
 -- ---- the version, and the length that the header states
 
@@ -73,18 +64,6 @@ same_parts (a ∷ some) (b ∷ others) x y l e =
     let long : length some ≡ length others = omega arith in
     let more = same_parts some others x y long rest in
     (λ i. first i ∷ more.0 i, more.1)
-
-same_length : (n m : ℕ) → (n + 4) / 256 ≡ (m + 4) / 256 → (n + 4) % 256 ≡ (m + 4) % 256 → n ≡ m
-same_length n m high low = omega arith
-
-heads : (high low h l : ℕ) (s t : List ℕ) → (3 ∷ 0 ∷ high ∷ low ∷ s) ≡ (3 ∷ 0 ∷ h ∷ l ∷ t) → (high ≡ h) × (low ≡ l) × (s ≡ t)
-heads high low h l s t e = (cc, cc, cc)
-
--- two packets that are written at the front of the same octets are the same
-pub same_packet : (u v x y : List ℕ) → packet_of u ++ x ≡ packet_of v ++ y → (u ≡ v) × (x ≡ y)
-same_packet u v x y e =
-    let h = heads ((length u + 4) / 256) ((length u + 4) % 256) ((length v + 4) / 256) ((length v + 4) % 256) (u ++ x) (v ++ y) e in
-    same_parts u v x y (same_length (length u) (length v) h.0 h.1) h.2
 
 never_both : (w : List ℕ) → whole w ≡ partial → ⊥
 never_both w e = cc

@@ -1,18 +1,10 @@
 -- Steps of an end and a tap, with what each turn among them does at each connection of the end: it puts the units that are put for
 -- them, and no others.
 -- For the sessions of an end, and for the law that a capture of an end is steps.
-use Rattle.std.specs.Prelude.{◌≡◌, ◌⊎◌, ℕ, Bool, List, [], ◌∷◌}
-use Rattle.osi_judge.specs.Captures.{Capture}
-use Rattle.osi_judge.specs.declared.directions.Direction.{Direction}
-use Rattle.osi_stack.specs.State.{Holding}
-use Rattle.osi_honest.specs.Courses.{Deeds, all_did, no_deeds}
-use Rattle.osi_honest.specs.Marked.{all_units}
-use Rattle.osi_honest.specs.Turns.{Turn}
-use Rattle.osi_honest.proofs.courses.what_a_run_does_to_it.{TurnOf}
-use Rattle.osi_tap.specs.Tapping.{comes_to}
-use Rattle.osi_watched.specs.Joint.{Joint, Step, Steps, StepsAlong, TakesTurn, begin, begins_other, begins_own, passes_other, passes_own}
-use Rattle.osi_watched.specs.Joint.{turns}
-use Rattle.osi_watched.specs.Passing.{ComesBySteps, TurnsBad}
+use Rattle.osi_watched.proofs.Vocabulary.{[], Bool, List, ℕ, ◌∷◌, ◌≡◌, ◌⊎◌, Holding, Capture, Direction, TurnOf, all_did, Deeds, no_deeds}
+use Rattle.osi_watched.proofs.Vocabulary.{all_units, Turn, comes_to, begins_other, begins_own, Joint, passes_other, passes_own, Step, Steps}
+use Rattle.osi_watched.proofs.Vocabulary.{StepsAlong, TakesTurn, turns, ComesBySteps, TurnsBad}
+use Rattle.osi_watched.specs.Joint.{begin}
 
 -- what a turn does at each connection, at which this was done before
 pub record TurnDoes (is_caller : Bool) (deeds : ℕ → Deeds) (turn : Turn) (old new : Joint) (t : TakesTurn turn old new) : Type 0 where
@@ -39,10 +31,7 @@ pub tap_first : (d : Direction) (is_caller : Bool) (deeds : ℕ → Deeds) (step
     (old mid new : Joint) (one : Steps d step old mid) (along : StepsAlong d mid steps new) →
     StepsDo d is_caller deeds mid steps new along → StepsDo d is_caller deeds old (step ∷ steps) new (mid, one, along)
 tap_first d is_caller deeds (turns turn) tap steps old mid new one along does = absurd tap
-tap_first d is_caller deeds begins_own tap steps old mid new one along does = does
-tap_first d is_caller deeds (passes_own at unit) tap steps old mid new one along does = does
-tap_first d is_caller deeds begins_other tap steps old mid new one along does = does
-tap_first d is_caller deeds (passes_other at packet units) tap steps old mid new one along does = does
+tap_first d is_caller deeds _ tap steps old mid new one along does = does
 
 -- What a capture comes to is what some steps come to, or these are all until the other side sends what can't be read; and this is what
 -- the turns among them do, from the beginning.

@@ -1,18 +1,10 @@
 -- What a carrier does doesn't depend on the events that it has still to report, and the octets that it has still to send.
 -- For what a turn of an end does to its carrier.
-use Rattle.std.proofs.Common.{◌≡◌, ◌∙◌, ℕ, List, [], ◌∷◌, ◌++◌, Result, sym, ap, subst}
-use Rattle.std.proofs.lemmas.List.{append-nil, append_cancel_left}
-use Rattle.osi_tpdu.specs.Value.{Value}
-use Rattle.osi_tpdu.specs.Writing.{Fits, written}
-use Rattle.osi_tpdu.specs.declared.faults.TpduFault.{TpduFault}
-use Rattle.osi_tpdu.proofs.the_units_of_a_packet.{units_only}
-use Rattle.osi_tpdu.proofs.the_written_form_spells_its_value.{written_spells}
-use Rattle.osi_carrier.specs.Happenings.{Happening}
-use Rattle.osi_carrier.specs.Packets.{acts_by, after_packet}
-use Rattle.osi_carrier.specs.React.{react}
-use Rattle.osi_carrier.specs.Runs.{UserCall, packet, put_back, user, user_does}
-use Rattle.osi_carrier.specs.State.{State}
-use Rattle.osi_carrier.proofs.effects.what_is_in_front_changes_nothing.{apart_all}
+use Rattle.osi_watched.proofs.Vocabulary.{[], ap, List, Result, subst, sym, ℕ, ◌++◌, ◌∙◌, ◌∷◌, ◌≡◌, append-nil, append_cancel_left}
+use Rattle.osi_watched.proofs.Vocabulary.{units_only, written_spells, Value, Fits, written, TpduFault, apart_all, Happening, acts_by, react}
+use Rattle.osi_watched.proofs.Vocabulary.{put_back, user, user_does, UserCall, Carrier as State}
+use Rattle.osi_carrier.specs.Packets.{after_packet}
+use Rattle.osi_carrier.specs.Runs.{packet}
 
 -- a carrier without them
 abbrev pub bare : State → State

@@ -1,18 +1,11 @@
 -- As long as nobody has broken a rule and class 0 is not selected at the tap, each CC that a called end has put and that has not passed
 -- selects class 2; or the end has selected class 0, and the CC that says so is the first unit that waits.
 -- For all connections of a called end and a tap.
-use Rattle.std.proofs.Common.{◌⊎◌, inl, inr, sym, subst, false}
-use Rattle.std.specs.List.{AllByRecursion}
-use Rattle.osi_class.specs.declared.terms.Local.{Local}
+use Rattle.osi_watched.proofs.Vocabulary.{false, inl, inr, subst, sym, ◌⊎◌, AllByRecursion, Local, Traffic, CanBeWritten, lines, selected}
+use Rattle.osi_watched.proofs.Vocabulary.{selecting, Selecting, IsClear, Joint, HaveSamePlaces}
 use Rattle.osi_judge.specs.declared.directions.Direction.TheVariants as side
-use Rattle.osi_rules.specs.Traffic.{State as Traffic}
 use Rattle.osi_fair.specs.Wholes.{begin}
-use Rattle.osi_fair.proofs.a_called_end_is_fair.{Stage, lines, selected, selecting}
-use Rattle.osi_fair.proofs.a_called_end_selects_class_zero.{Selecting}
-use Rattle.osi_fair.proofs.what_the_other_side_closes.{IsClear}
-use Rattle.osi_honest.proofs.reading.what_is_written_is_read_again.{CanBeWritten}
-use Rattle.osi_watched.specs.Joint.{Joint}
-use Rattle.osi_watched.specs.ShownPlaces.{HaveSamePlaces}
+use Rattle.osi_fair.proofs.a_called_end_is_fair.{Stage}
 use Rattle.osi_watched.proofs.steps_are_events.{IsFollowed}
 use Rattle.osi_watched.proofs.sessions.a_called_end_has_its_lines.{called_joined}
 use Rattle.osi_watched.proofs.sessions.a_called_end_of_class_2_has_its_lines.{calm_of}

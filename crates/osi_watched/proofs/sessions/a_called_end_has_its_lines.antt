@@ -1,44 +1,25 @@
 -- A called end that has not selected class 0, and that runs along with an end and a tap, has its lines as long as nobody has broken a
 -- rule; and no CC has come to it.
 -- For the units that a called end puts.
-use Rattle.std.proofs.Common.{◌≡◌, ◌∙◌, sym, ap, subst, ℕ, Bool, true, false, if◌then◌else◌, List, [], ◌∷◌, ◌++◌, Option, Some, None}
-use Rattle.std.proofs.Common.{is_some}
-use Rattle.std.specs.Prelude.{slice_get}
-use Rattle.std.specs.List.{AllByRecursion}
-use Rattle.osi_tpdu.specs.Value.{Connect, Value, confirm}
-use Rattle.osi_class.specs.declared.terms.Class.TheVariants.{Two, Zero}
-use Rattle.osi_class.specs.declared.terms.Local.{Local}
-use Rattle.osi_carrier.specs.State.{State as Carrier}
-use Rattle.osi_carrier.specs.declared.ends.EndReason.{EndReason}
+use Rattle.osi_watched.proofs.Vocabulary.{[], ap, Bool, false, if◌then◌else◌, is_some, List, None, Some, subst, sym, true, ℕ, ◌++◌, ◌∙◌}
+use Rattle.osi_watched.proofs.Vocabulary.{◌∷◌, ◌≡◌, AllByRecursion, slice_get, confirm, Connect, Value, Two, Zero, Local, Carrier}
+use Rattle.osi_watched.proofs.Vocabulary.{is_applied, reach_of, course_after, found_on, one_told, Outcome, Traffic, takes, Connection}
+use Rattle.osi_watched.proofs.Vocabulary.{Broke, NotJudged, lines, selected, selecting, no_item, AreJudged, still_judged, IsNoCc, Called}
+use Rattle.osi_watched.proofs.Vocabulary.{IsInZero, lasts_passing, asks_so, calm_before, calm_reach, Came, came_so, for_one, IsCalm, lost}
+use Rattle.osi_watched.proofs.Vocabulary.{only, packet, passes, Passing, rubbish, unit, arrives, calls, Event, HappenAlong, Happens}
+use Rattle.osi_watched.proofs.Vocabulary.{passes_rubbish, Whole, Joint}
 use Rattle.osi_judge.specs.declared.directions.Direction.TheVariants as side
-use Rattle.osi_rules.specs.declared.connections.Connection.{Connection}
 use Rattle.osi_rules.specs.declared.directions.Direction.TheVariants.{Left, Right}
-use Rattle.osi_rules.specs.declared.findings.Finding.TheVariants.{Broke, NotJudged}
 use Rattle.osi_rules.specs.declared.findings.Reach.TheVariants as reach
 use Rattle.osi_rules.specs.declared.findings.Rule.TheVariants as rule
-use Rattle.osi_rules.specs.Reaches.{is_applied, reach_of}
-use Rattle.osi_rules.specs.Traffic.{Outcome, State as Traffic, course_after, found_on, one_told, takes}
-use Rattle.osi_fair.specs.Naming.{Passing, packet, passes, rubbish, unit}
-use Rattle.osi_fair.specs.Wholes.{Event, HappenAlong, Happens, Whole, arrives, begin, begins_other, begins_own, calls}
-use Rattle.osi_fair.specs.Wholes.{passes_other, passes_own}
-use Rattle.osi_fair.specs.Wholes.{passes_rubbish}
-use Rattle.osi_fair.proofs.a_called_end_is_fair.{Joined, Stage, all_joined, first_joined, lines, selected, selecting}
-use Rattle.osi_fair.proofs.a_reference_names_one_connection.{no_item}
-use Rattle.osi_fair.proofs.all_are_judged_unless_one_broke.{AreJudged, still_judged}
-use Rattle.osi_fair.proofs.each_connection_has_its_line.{IsNoCc}
-use Rattle.osi_fair.proofs.each_connection_of_a_called_end.{Called}
-use Rattle.osi_fair.proofs.what_an_end_does_in_class_zero.{IsInZero, over, talks}
-use Rattle.osi_fair.proofs.what_lasts_at_the_tap.{lasts_passing}
-use Rattle.osi_fair.proofs.which_unit_comes_to_a_called_end.{Came, IsCalm, asks_so, calm_before, calm_reach, came_so, for_one, lost, only}
-use Rattle.osi_watched.specs.Joint.{Joint}
-use Rattle.osi_watched.proofs.a_carrier_does_events.{none_of}
+use Rattle.osi_fair.specs.Wholes.{begin, begins_other, begins_own, passes_other, passes_own}
+use Rattle.osi_fair.proofs.a_called_end_is_fair.{Joined, Stage, all_joined, first_joined}
+use Rattle.osi_fair.proofs.what_an_end_does_in_class_zero.{over, talks}
+use Rattle.osi_watched.proofs.small_facts_that_many_lemmas_use.{over_not}
+use Rattle.osi_fair.proofs.small_facts_that_many_lemmas_use.{none_of}
 use Rattle.osi_watched.proofs.steps_are_events.{IsFollowed}
 
 -- ---- the lines
-
-over_not : {A : Type 0} (o : Option EndReason) → is_some o ≡ true → o ≡ None → A
-over_not None h e = absurd (cc)
-over_not (Some x) h e = absurd (cc)
 
 in_zero : (limit : ℕ) (s : Carrier) (begun : ℕ) (units : List Value) → IsInZero limit s begun units → s.ended ≡ None → s.class ≡ Some Zero
 in_zero limit s begun units (talks r peer link class live plain puts) lasts = class
@@ -62,9 +43,6 @@ called_lines local j f calm lasts two =
     (λ zero. two (sym (ap (λ (c : Carrier). c.class) (f.like.lasts still)) ∙ zero))
 
 -- ---- no CC has come
-
-differ : {A : Type 0} (b : Bool) → b ≡ true → b ≡ false → A
-differ b h k = absurd (cc)
 
 found_wrong : (n : ℕ) (x : Connect) (s : Traffic) (c : Connection) → c.is_judged ≡ true →
     found_on Left s c (confirm n x) ≡ Broke rule.WrongForm

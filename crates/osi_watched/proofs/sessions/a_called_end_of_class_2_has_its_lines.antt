@@ -1,24 +1,12 @@
 -- A called end of which no CC that waits selects class 0 has its lines as long as nobody has broken a rule, also when it is over.
 -- For the units that a called end puts.
-use Rattle.std.proofs.Common.{refl, sym, subst, false}
-use Rattle.std.specs.List.{AllByRecursion}
-use Rattle.osi_class.specs.declared.terms.Class.TheVariants.{Zero}
-use Rattle.osi_class.specs.declared.terms.Local.{Local}
-use Rattle.osi_carrier.specs.Negotiation.{acceptance}
+use Rattle.osi_watched.proofs.Vocabulary.{false, refl, subst, sym, AllByRecursion, Zero, Local, acceptance, Traffic, Rules as Course}
+use Rattle.osi_watched.proofs.Vocabulary.{CanBeWritten, lines, selected, selecting, Called, IsCalled, HoldsOfEach, NamesApart as AreApart}
+use Rattle.osi_watched.proofs.Vocabulary.{IsClear, IsCalm, Whole, Joint}
 use Rattle.osi_judge.specs.declared.directions.Direction.TheVariants as side
-use Rattle.osi_rules.specs.declared.courses.Course.{Course}
-use Rattle.osi_rules.specs.Traffic.{State as Traffic}
-use Rattle.osi_fair.specs.Wholes.{Whole, begin}
-use Rattle.osi_fair.proofs.a_called_end_is_fair.{Stage, lines, selected, selecting}
+use Rattle.osi_fair.specs.Wholes.{begin}
+use Rattle.osi_fair.proofs.a_called_end_is_fair.{Stage}
 use Rattle.osi_fair.proofs.all_are_judged_unless_one_broke.{IsJudged}
-use Rattle.osi_fair.proofs.each_connection_of_a_called_end.{Called}
-use Rattle.osi_fair.proofs.what_becomes_of_a_called_end.{IsCalled}
-use Rattle.osi_fair.proofs.what_holds_of_one_item.{HoldsOfEach}
-use Rattle.osi_fair.proofs.what_keeps_names_apart.{AreApart}
-use Rattle.osi_fair.proofs.what_the_other_side_closes.{IsClear}
-use Rattle.osi_fair.proofs.which_unit_comes_to_a_called_end.{IsCalm}
-use Rattle.osi_honest.proofs.reading.what_is_written_is_read_again.{CanBeWritten}
-use Rattle.osi_watched.specs.Joint.{Joint}
 use Rattle.osi_watched.proofs.steps_are_events.{IsFollowed}
 use Rattle.osi_watched.proofs.sessions.a_called_end_has_its_lines.{called_joined}
 use Rattle.osi_watched.proofs.sessions.units_written_alike_have_the_same_ccs.{AnswersTwo, AreAlike, first_not_zero}

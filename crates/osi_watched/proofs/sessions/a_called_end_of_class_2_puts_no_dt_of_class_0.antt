@@ -1,34 +1,24 @@
 -- What a called end of class 2 has put and what has not passed has no DT of class 0.
 -- For the units that a called end puts.
-use Rattle.std.proofs.Common.{◌≡◌, ◌∙◌, refl, sym, ap, subst, ℕ, false, List, [], ◌∷◌, ◌++◌, map, Option, Some, None, Ok, append_assoc}
-use Rattle.std.specs.Prelude.{◌&&◌, slice_get}
-use Rattle.std.specs.List.{AllByRecursion}
-use Rattle.osi_tpdu.specs.Value.{Value, acknowledge, confirm, data0, data2, disconnect, disconnected, error, request}
-use Rattle.osi_class.specs.Link.{Standing, ack, part0, part2, taken}
-use Rattle.osi_class.specs.Runs.{Move, Moves, give_out, hand_in, hand_out, take_in}
-use Rattle.osi_class.specs.declared.terms.Local.{Local}
-use Rattle.osi_class.specs.Flow.{Flow}
-use Rattle.osi_rules.specs.declared.connections.Connection.{Connection}
-use Rattle.osi_rules.specs.declared.directions.Direction.{Direction}
+use Rattle.osi_watched.proofs.Vocabulary.{[], ap, append_assoc, false, List, map, None, Ok, Option, refl, Some, subst, sym, ℕ, ◌&&◌, ◌++◌}
+use Rattle.osi_watched.proofs.Vocabulary.{◌∙◌, ◌∷◌, ◌≡◌, AllByRecursion, slice_get, acknowledge, data0, data2, disconnect, disconnected}
+use Rattle.osi_watched.proofs.Vocabulary.{Value, written, Flow, ack, part0, part2, Standing, give_out, hand_in, hand_out, Move, Moves}
+use Rattle.osi_watched.proofs.Vocabulary.{take_in, Local, Connection, Way as Direction, Continues, Deeds, all_units, Turn, answering}
+use Rattle.osi_watched.proofs.Vocabulary.{AreStrays, Called, refuses, runs, Stand, StrayIf, at_first, at_join, first_at, Placed, values}
+use Rattle.osi_watched.proofs.Vocabulary.{gives_so, takes_so, Act, Acts, ActsAlong, begins_elsewhere, ignores, Line, moves, units_put}
+use Rattle.osi_watched.proofs.Vocabulary.{Whole, Joint, TakesTurn, comes}
+use Rattle.osi_class.specs.Link.{taken}
 use Rattle.osi_rules.specs.declared.directions.Direction.TheVariants.{Right}
-use Rattle.osi_fair.specs.Lines.{Act, Acts, ActsAlong, Line, answers, begins_elsewhere, begins_other, begins_own, closes, ignores, moves}
-use Rattle.osi_fair.specs.Lines.{passes_other, passes_own, units_put}
-use Rattle.osi_fair.specs.Wholes.{Whole}
-use Rattle.osi_fair.proofs.each_connection_of_a_called_end.{AreStrays, Called, Stand, StrayIf, comes, past, refuses, runs}
-use Rattle.osi_fair.proofs.each_connection_of_a_called_end.{answers as answering}
-use Rattle.osi_fair.proofs.units_by_their_place.{Placed, at_first, at_join, first_at, units_at, values}
-use Rattle.osi_fair.proofs.what_a_link_does.{gives_so, takes_so}
-use Rattle.osi_tpdu.specs.Writing.{written}
-use Rattle.osi_honest.specs.Courses.{Continues, Deeds}
-use Rattle.osi_honest.specs.Marked.{all_units}
-use Rattle.osi_honest.specs.Turns.{Turn}
+use Rattle.osi_fair.specs.Lines.{answers, begins_other, begins_own, closes, passes_other, passes_own}
+use Rattle.osi_fair.proofs.units_by_their_place.{units_at}
 use Rattle.osi_judge.specs.declared.directions.Direction.TheVariants as side
 use Rattle.osi_fair.specs.Wholes.{begin}
-use Rattle.osi_watched.specs.Joint.{Joint, TakesTurn}
+use Rattle.osi_watched.proofs.small_facts_that_many_lemmas_use.{all_join as all_of_both}
 use Rattle.osi_watched.proofs.steps_are_events.{IsFollowed}
 use Rattle.osi_watched.proofs.what_is_put_is_what_is_written.{same_written, written_join}
 use Rattle.osi_watched.proofs.sessions.each_unit_of_a_calling_end_has_a_home.{IsWrittenAs, first, not_two, written_as}
-use Rattle.osi_watched.proofs.sessions.what_a_turn_puts_goes_to_its_peer.{IsNotZero, all_back, all_of_both, all_so, one_of}
+use Rattle.osi_watched.proofs.sessions.what_a_turn_puts_goes_to_its_peer.{IsNotZero, all_back, all_so, one_of}
+use Rattle.osi_fair.proofs.each_connection_of_a_called_end.{past}
 
 -- ---- a line of class 2
 
@@ -47,12 +37,7 @@ taken_two peer old new f (data2 n number end user) is e =
     record { flow = _; is = (takes_so old new f (data2 n number end user) is e).0; put = tt }
 taken_two peer old new f (acknowledge credit n number) is e =
     record { flow = _; is = (takes_so old new f (acknowledge credit n number) is e).2; put = tt }
-taken_two peer old new f (request x) is e = absurd (takes_so old new f (request x) is e)
-taken_two peer old new f (confirm n x) is e = absurd (takes_so old new f (confirm n x) is e)
-taken_two peer old new f (disconnect n source reason user) is e = absurd (takes_so old new f (disconnect n source reason user) is e)
-taken_two peer old new f (disconnected n source) is e = absurd (takes_so old new f (disconnected n source) is e)
-taken_two peer old new f (data0 end user) is e = absurd (takes_so old new f (data0 end user) is e)
-taken_two peer old new f (error n cause) is e = absurd (takes_so old new f (error n cause) is e)
+taken_two peer old new f v is e = absurd (takes_so old new f v is e)
 
 move_two : (peer : ℕ) (move : Move) (old new : Standing) (f : Flow) → old.flow ≡ Some f → Moves move old new → Moved peer move new
 move_two peer (hand_in tsdu) old new f is e = record { flow = f; is = ap (λ (l : Standing). l.flow) e ∙ is; put = tt }
@@ -155,14 +140,8 @@ written_two : (u v : Value) → IsNotZero u → written u ≡ written v → IsNo
 written_two u v h same end user is = by u h (same ∙ ap written is)
   where
     by : (x : Value) → IsNotZero x → written x ≡ written (data0 end user) → ⊥
-    by (request y) k e = not_two _ (ap first e)
-    by (confirm n y) k e = not_two _ (ap first e)
-    by (disconnect n source reason told) k e = not_two _ (ap first e)
-    by (disconnected n source) k e = not_two _ (ap first e)
     by (data0 last octets) k e = k last octets refl
-    by (data2 n number last octets) k e = not_two _ (ap first e)
-    by (acknowledge credit n number) k e = not_two _ (ap first e)
-    by (error n cause) k e = not_two _ (ap first e)
+    by _ k e = not_two _ (ap first e)
 
 pub called_turn_two : (local : Local) (deeds : ℕ → Deeds) (turn : Turn) (old new : Joint) (step : TakesTurn turn old new)
     (on : Continues false deeds old.holding turn new.holding) (g : IsFollowed side.Right (begin false local) new) → Called local g.whole →

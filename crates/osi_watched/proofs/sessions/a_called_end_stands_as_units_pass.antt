@@ -1,40 +1,23 @@
 -- A called end of class 2 and a tap: what passes and breaks no rule leaves all connections of the end standing, and so does a turn. After
 -- one connection too many nobody is to blame.
 -- For the session of each connection of an end.
-use Rattle.std.proofs.Common.{◌≡◌, ◌∙◌, refl, sym, ap, subst, ℕ, ◌^◌, ◌<◌, false, true, List, [], ◌∷◌, ◌++◌, Some, length}
-use Rattle.std.specs.Prelude.{slice_get}
-use Rattle.std.specs.List.{AllByRecursion}
-use Rattle.std.proofs.lemmas.List.{append-nil}
-use Rattle.osi_tpdu.specs.Packet.{units_of}
-use Rattle.osi_tpdu.specs.Value.{Value}
-use Rattle.osi_class.specs.declared.terms.Local.{Local}
-use Rattle.osi_judge.specs.declared.directions.Direction.TheVariants.{Left, Right}
-use Rattle.osi_judge.proofs.honest.a_call_is_explained.{AsSent}
-use Rattle.osi_judge.proofs.honest.an_honest_run_stays_in_the_profile.{AsParts}
-use Rattle.osi_judge.proofs.honest.an_honest_side_is_kept.{CalledLaw, CallerLaw}
-use Rattle.osi_fair.proofs.what_the_other_side_closes.{IsClear}
-use Rattle.osi_honest.specs.Courses.{Continues, Course, Deeds, then_did, units_in, units_read}
-use Rattle.osi_honest.specs.Marked.{all_units}
-use Rattle.osi_honest.specs.Turns.{Turn}
-use Rattle.osi_honest.proofs.class_0.what_a_packet_does_in_class_0.{AllProper}
-use Rattle.osi_honest.proofs.courses.how_long_a_connection_is_open.{Life, stage_at}
-use Rattle.osi_honest.proofs.reading.what_is_written_is_read_again.{CanBeWritten}
-use Rattle.osi_tap.specs.Connections.{Joined, reference_of, spoken}
-use Rattle.osi_tap.specs.Courses.{Course as Passed, packet_begins, units_pass}
-use Rattle.osi_tap.specs.Lines.{heard}
-use Rattle.osi_watched.specs.Joint.{Joint, Steps, TakesTurn, begins_other, begins_own, passes_other, passes_own}
-use Rattle.osi_watched.proofs.what_a_carrier_puts_can_be_written.{all_more}
+use Rattle.osi_watched.proofs.Vocabulary.{[], ap, false, length, List, refl, Some, subst, sym, true, ℕ, ◌++◌, ◌<◌, ◌^◌, ◌∙◌, ◌∷◌, ◌≡◌}
+use Rattle.osi_watched.proofs.Vocabulary.{append-nil, AllByRecursion, slice_get, units_of, Value, Local, Left, Right, AllProper, Life}
+use Rattle.osi_watched.proofs.Vocabulary.{stage_at, CanBeWritten, Continues, Deeds, then_did, units_in, units_read, all_units, Turn, Joined}
+use Rattle.osi_watched.proofs.Vocabulary.{reference_of, spoken, units_pass, heard, IsClear, begins_other, begins_own, Joint, passes_other}
+use Rattle.osi_watched.proofs.Vocabulary.{passes_own, Steps, TakesTurn}
+use Rattle.osi_honest.specs.Courses.{Course}
+use Rattle.osi_tap.specs.Courses.{Course as Passed, packet_begins}
+use Rattle.osi_watched.proofs.small_facts_that_many_lemmas_use.{can_more as all_more}
 use Rattle.osi_watched.proofs.what_is_put_is_what_is_written.{none_written}
-use Rattle.osi_watched.proofs.sessions.a_called_end_hears_what_breaks_no_rule.{AreFine, AreHeard, AreTooMany, room_of}
-use Rattle.osi_watched.proofs.sessions.a_called_end_hears_what_breaks_no_rule.{units_heard, units_too_many}
-use Rattle.osi_watched.proofs.sessions.a_called_end_is_ready.{IsCalled, begins_other_called, begins_own_called, first}
-use Rattle.osi_watched.proofs.sessions.a_called_end_is_ready.{is_ready, passes_other_called, passes_own_called, turn_homed, turns_called}
+use Rattle.osi_watched.proofs.sessions.a_called_end_hears_what_breaks_no_rule.{AreFine, AreHeard, room_of, units_heard}
+use Rattle.osi_watched.proofs.sessions.a_called_end_is_ready.{IsCalled, begins_other_called, begins_own_called, first, is_ready}
+use Rattle.osi_watched.proofs.sessions.a_called_end_is_ready.{passes_other_called, passes_own_called, turn_homed, turns_called}
 use Rattle.osi_watched.proofs.sessions.a_called_end_of_class_2_has_its_lines.{has_lines}
 use Rattle.osi_watched.proofs.sessions.a_called_end_takes_what_is_in_flight.{called_takes}
 use Rattle.osi_watched.proofs.sessions.a_calling_end_stands_as_units_pass.{known_at}
 use Rattle.osi_watched.proofs.sessions.a_turn_does_what_its_deeds_say.{units_join}
 use Rattle.osi_watched.proofs.sessions.a_turn_leaves_all_standing.{Turns}
-use Rattle.osi_watched.proofs.sessions.after_too_many_nobody_is_to_blame.{IsSilenced}
 use Rattle.osi_watched.proofs.sessions.all_connections_stand.{AllStand, there_too}
 use Rattle.osi_watched.proofs.sessions.connections_have_the_same_places.{unit_joins}
 use Rattle.osi_watched.proofs.sessions.each_cc_that_passes_gives_a_new_reference.{gives_new}
@@ -119,16 +102,6 @@ module _ (local : Local) (proper : AllProper) where
         distinct = k.all.distinct;
         can = h.can;
       })
-
-  -- one of its units is one connection too many
-  pub passes_other_silenced : (known_so : AsSent) → (parts : AsParts) → (caller : CallerLaw) → (called : CalledLaw) →
-      (deeds : ℕ → Deeds) (at : ℕ) (packet : List ℕ) (units : List Value) (old new : Joint) →
-      Steps Right (passes_other at packet units) old new → ((r : ℕ) → Course false r (deeds r) old.holding.end) →
-      AreTooMany at units old.course → StandsCalled deeds old → IsSilenced Right new.course
-  passes_other_silenced known_so parts caller called deeds at packet units old new (octets, read, is) courses many h =
-      subst (λ (j : Joint). IsSilenced Right j.course) (sym is)
-      (units_too_many deeds (may_take old.holding.end.carrier) old.put old.begun h.called.ahead.bound at known_so parts caller called
-      old.holding.end courses units (units_in old.coming) old.course many (heard_now deeds at old h))
 
   -- A turn that puts the units of its deeds, if none of the CCs that wait then selects class 0.
   pub turns_stand : (turn : Turn) (old new : Joint) (t : TakesTurn turn old new) (deeds : ℕ → Deeds)

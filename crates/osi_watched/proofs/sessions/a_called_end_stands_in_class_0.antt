@@ -1,39 +1,23 @@
 -- Once the CC has passed that selects class 0, all connections of a called end stand at a tap: after what passes and breaks no rule, and
 -- after turns. For the session of the connection of a called end in class 0.
-use Rattle.std.proofs.Common.{◌≡◌, ◌≢◌, ◌∙◌, refl, sym, ap, subst, ℕ, ◌^◌, ◌<◌, Bool, true, false, List, [], ◌∷◌, ◌++◌}
-use Rattle.std.proofs.Common.{length, Option, Some, None, inl, inr, ◌⊎◌}
-use Rattle.std.specs.Prelude.{slice_get}
-use Rattle.std.specs.List.{AllByRecursion}
-use Rattle.std.proofs.lemmas.List.{append-nil}
-use Rattle.osi_tpdu.specs.Packet.{units_of}
-use Rattle.osi_tpdu.specs.Value.{Connect, Value, acknowledge, confirm, data0, data2, disconnect, disconnected, error, request}
-use Rattle.osi_tpdu.specs.Writing.{written}
-use Rattle.osi_class.specs.declared.terms.Class.{Class}
-use Rattle.osi_class.specs.declared.terms.Class.TheVariants.{Two, Zero}
-use Rattle.osi_class.specs.declared.terms.Local.{Local}
-use Rattle.osi_judge.specs.declared.directions.Direction.TheVariants.{Left, Right}
+use Rattle.osi_watched.proofs.Vocabulary.{[], ap, Bool, false, inl, inr, length, List, None, Option, refl, Some, subst, sym, true, ℕ, ◌++◌}
+use Rattle.osi_watched.proofs.Vocabulary.{◌<◌, ◌^◌, ◌∙◌, ◌∷◌, ◌≡◌, ◌≢◌, ◌⊎◌, append-nil, AllByRecursion, slice_get, units_of, confirm}
+use Rattle.osi_watched.proofs.Vocabulary.{Connect, data0, request, Value, written, Class, Two, Zero, Local, Traffic as State, takes, Left}
+use Rattle.osi_watched.proofs.Vocabulary.{Right, AllProper, amid, early, Life, opens_by, past, Time, stage_at, stays, Answers, Opens, Deeds}
+use Rattle.osi_watched.proofs.Vocabulary.{units_in, units_read, Marked, Joined, Sessions, spoken, units_pass, heard, lines, selected}
+use Rattle.osi_watched.proofs.Vocabulary.{selecting, zero_stays, zero_puts, IsFirm, unit as passing, Whole, begins_other, begins_own, Joint}
+use Rattle.osi_watched.proofs.Vocabulary.{passes_other, passes_own, Steps}
 use Rattle.osi_rules.specs.declared.directions.Direction.TheVariants as way
-use Rattle.osi_rules.specs.Traffic.{State, takes}
-use Rattle.osi_fair.specs.Naming.{unit as passing}
-use Rattle.osi_fair.specs.Wholes.{Whole}
 use Rattle.osi_fair.specs.Wholes as wholes
-use Rattle.osi_fair.proofs.a_called_end_is_fair.{Stage, lines, selected, selecting}
-use Rattle.osi_fair.proofs.class_0_stays_selected.{zero_stays}
-use Rattle.osi_fair.proofs.what_an_end_does_in_class_zero.{zero_puts}
-use Rattle.osi_fair.proofs.what_the_other_side_closes.{IsFirm}
-use Rattle.osi_honest.specs.Arriving.{Answers, AreApart, Opens}
-use Rattle.osi_honest.specs.Courses.{Course, Deeds, units_in, units_read}
-use Rattle.osi_honest.specs.Marked.{Marked}
-use Rattle.osi_honest.proofs.class_0.what_a_packet_does_in_class_0.{AllProper}
-use Rattle.osi_honest.proofs.courses.how_long_a_connection_is_open.{Life, Stage as Time, amid, early, opens_by, past, stage_at, stays}
-use Rattle.osi_tap.specs.Connections.{Joined, Sessions, spoken}
-use Rattle.osi_tap.specs.Courses.{Course as Passed, packet_begins, units_pass}
-use Rattle.osi_tap.specs.Lines.{heard}
-use Rattle.osi_watched.specs.Joint.{Joint, Steps, begins_other, begins_own, passes_other, passes_own}
+use Rattle.osi_fair.proofs.a_called_end_is_fair.{Stage}
+use Rattle.osi_honest.specs.Arriving.{AreApart}
+use Rattle.osi_honest.specs.Courses.{Course}
+use Rattle.osi_tap.specs.Courses.{Course as Passed, packet_begins}
+use Rattle.osi_watched.proofs.small_facts_that_many_lemmas_use.{none_some, zero_two}
 use Rattle.osi_watched.proofs.steps_are_events.{IsFollowed, own_first, step_followed}
 use Rattle.osi_watched.proofs.sessions.a_called_end_has_its_lines.{called_joined}
 use Rattle.osi_watched.proofs.sessions.a_called_end_hears_what_comes_until_class_2.{AreTaken, IsNone, StandsCalledEarly, known_one}
-use Rattle.osi_watched.proofs.sessions.a_called_end_hears_what_comes_until_class_2.{none_some, units_early}
+use Rattle.osi_watched.proofs.sessions.a_called_end_hears_what_comes_until_class_2.{units_early}
 use Rattle.osi_watched.proofs.sessions.a_turn_does_what_its_deeds_say.{units_join}
 use Rattle.osi_watched.proofs.sessions.a_turn_of_a_calling_end_until_class_2.{early_amid, past_amid}
 use Rattle.osi_watched.proofs.sessions.all_connections_stand.{AllStand, all_begin_other, all_begin_own}
@@ -46,9 +30,6 @@ use Rattle.osi_watched.proofs.sessions.steps_of_either_class_leave_all_standing.
 use Rattle.osi_watched.proofs.sessions.what_the_stage_of_a_calling_end_says.{IsDt0, all_data}
 
 -- ---- small facts
-
-zero_two : {A : Type 0} (k : Option Class) → k ≡ Some Zero → k ≡ Some Two → A
-zero_two k h e = absurd (let no : Some Zero ≡ Some Two = sym h ∙ e in cc)
 
 -- ---- what it has put
 
@@ -78,12 +59,7 @@ opened_so q peer (confirm n x) took put some later others answer put_later o is 
 opened_so q peer (request x) took put some later others answer put_later o is (cc_put, source, alone) put_is =
     answers_now peer cc_put others put_later source
     (put_is ∙ ap (λ (l : List Marked). others ++ (l ++ put_later)) alone)
-opened_so q peer (disconnect n source reason user) took put some later others answer put_later o is a put_is = absurd o
-opened_so q peer (disconnected n source) took put some later others answer put_later o is a put_is = absurd o
-opened_so q peer (data0 end user) took put some later others answer put_later o is a put_is = absurd o
-opened_so q peer (data2 n number end user) took put some later others answer put_later o is a put_is = absurd o
-opened_so q peer (acknowledge credit n number) took put some later others answer put_later o is a put_is = absurd o
-opened_so q peer (error n cause) took put some later others answer put_later o is a put_is = absurd o
+opened_so q peer _ took put some later others answer put_later o is a put_is = absurd o
 
 pub put_so : (q : ℕ) (s t : Time) (took put : List Marked) → Life false q s took put t → AreApart q put ⊎ WasOpen q s took put
 put_so q early t took put (stays a b k) = inl b
@@ -119,13 +95,7 @@ cc_not_dt n x w = by w.u w.so w.same
   where
     by : {A : Type 0} (u : Value) → IsDt0 u → written u ≡ written (confirm n x) → A
     by (data0 end user) h e = absurd (not_two _ (ap first_octet (sym e)))
-    by (request y) h e = absurd h
-    by (confirm m y) h e = absurd h
-    by (disconnect m source reason user) h e = absurd h
-    by (disconnected m source) h e = absurd h
-    by (data2 m number end user) h e = absurd h
-    by (acknowledge credit m number) h e = absurd h
-    by (error m cause) h e = absurd h
+    by _ h e = absurd h
 
 module _ (local : Local) where
   abbrev pub first : Whole
@@ -234,13 +204,7 @@ module _ (local : Local) where
 
   dt_still : (v : Value) (s : State) → IsDt0 v → IsStill Right v s
   dt_still (data0 end user) s h = tt
-  dt_still (request x) s h = absurd h
-  dt_still (confirm n x) s h = absurd h
-  dt_still (disconnect n source reason user) s h = absurd h
-  dt_still (disconnected n source) s h = absurd h
-  dt_still (data2 n number end user) s h = absurd h
-  dt_still (acknowledge credit n number) s h = absurd h
-  dt_still (error n cause) s h = absurd h
+  dt_still _ s h = absurd h
 
   pub passes_own_zero : AllProper → (deeds : ℕ → Deeds) (at : ℕ) (unit : Value) (old new : Joint) →
       Steps Right (passes_own at unit) old new → IsRight Right unit old.course → IsFirm old.course.traffic.course →

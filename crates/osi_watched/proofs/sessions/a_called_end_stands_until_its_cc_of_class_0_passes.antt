@@ -1,33 +1,19 @@
 -- From the turn in which a called end puts its CC of class 0 until this CC passes, all its connections stand at a tap; and after that, as
 -- in class 0. For the session of the connection of a called end in class 0.
-use Rattle.std.proofs.Common.{◌≡◌, ◌∙◌, refl, sym, ap, subst, ℕ, ◌^◌, ◌<◌, Bool, true, false, List, [], ◌∷◌, ◌++◌}
-use Rattle.std.proofs.Common.{length, Option, Some, None, if◌then◌else◌}
-use Rattle.std.specs.Prelude.{◌==◌, slice_get}
-use Rattle.std.specs.List.{AllByRecursion}
-use Rattle.std.proofs.lemmas.Bool.{eqb-true}
-use Rattle.std.proofs.lemmas.List.{append-nil}
-use Rattle.osi_tpdu.specs.Packet.{units_of}
-use Rattle.osi_tpdu.specs.Value.{Connect, Value, acknowledge, confirm, data0, data2, disconnect, disconnected, error, request}
-use Rattle.osi_class.specs.Runs.{parts_in}
-use Rattle.osi_class.specs.declared.terms.Class.{Class}
-use Rattle.osi_class.specs.declared.terms.Class.TheVariants.{Two, Zero}
-use Rattle.osi_class.specs.declared.terms.Local.{Local}
-use Rattle.osi_judge.specs.declared.directions.Direction.TheVariants.{Left, Right}
+use Rattle.osi_watched.proofs.Vocabulary.{[], ap, Bool, false, if◌then◌else◌, length, List, None, Option, refl, Some, subst, sym, true, ℕ}
+use Rattle.osi_watched.proofs.Vocabulary.{◌++◌, ◌<◌, ◌==◌, ◌^◌, ◌∙◌, ◌∷◌, ◌≡◌, eqb-true, append-nil, AllByRecursion, slice_get, units_of}
+use Rattle.osi_watched.proofs.Vocabulary.{confirm, Connect, disconnected, request, Value, parts_in, Class, Two, Zero, Local, class_of}
+use Rattle.osi_watched.proofs.Vocabulary.{Traffic as State, takes, Left, Right, AllProper, amid, early, stage_at, CanBeWritten, Deeds}
+use Rattle.osi_watched.proofs.Vocabulary.{units_in, units_read, Joined, Sessions, spoken, unit_passes, units_pass, heard, left_class}
+use Rattle.osi_watched.proofs.Vocabulary.{begins_other, begins_own, Joint, passes_other, passes_own, Steps, parts_of}
 use Rattle.osi_rules.specs.declared.directions.Direction.TheVariants as way
-use Rattle.osi_rules.specs.Traffic.{State, class_of, takes}
-use Rattle.osi_fair.proofs.left_selects_no_class.{left_class}
-use Rattle.osi_honest.specs.Courses.{Course, Deeds, units_in, units_read}
-use Rattle.osi_honest.proofs.class_0.what_a_packet_does_in_class_0.{AllProper}
-use Rattle.osi_honest.proofs.courses.how_long_a_connection_is_open.{amid, early, stage_at}
-use Rattle.osi_honest.proofs.reading.what_is_written_is_read_again.{CanBeWritten}
-use Rattle.osi_tap.specs.Connections.{Joined, Sessions, spoken}
-use Rattle.osi_tap.specs.Courses.{Course as Passed, packet_begins, unit_passes, units_pass}
-use Rattle.osi_tap.specs.Lines.{heard}
-use Rattle.osi_watched.specs.Joint.{Joint, Steps, begins_other, begins_own, passes_other, passes_own}
-use Rattle.osi_watched.specs.Shown.{parts_of}
+use Rattle.osi_honest.specs.Courses.{Course}
+use Rattle.osi_tap.specs.Courses.{Course as Passed, packet_begins}
+use Rattle.osi_fair.proofs.small_facts_that_many_lemmas_use.{first_is}
+use Rattle.osi_watched.proofs.small_facts_that_many_lemmas_use.{none_some}
 use Rattle.osi_watched.proofs.steps_are_events.{IsFollowed, step_followed}
 use Rattle.osi_watched.proofs.sessions.a_called_end_hears_what_comes_until_class_2.{AreTaken, IsAsking, IsNone, StandsCalledEarly}
-use Rattle.osi_watched.proofs.sessions.a_called_end_hears_what_comes_until_class_2.{known_one, none_some, units_early}
+use Rattle.osi_watched.proofs.sessions.a_called_end_hears_what_comes_until_class_2.{known_one, units_early}
 use Rattle.osi_watched.proofs.sessions.a_called_end_stands_in_class_0.{StandsInZero, first}
 use Rattle.osi_watched.proofs.sessions.a_cc_of_class_0_opens_one_connection.{HasEffect, cc_answers, has_effect}
 use Rattle.osi_watched.proofs.sessions.a_turn_does_what_its_deeds_say.{units_join}
@@ -43,20 +29,12 @@ use Rattle.osi_watched.proofs.sessions.what_stands_of_a_connection.{waiting_for}
 
 -- ---- small facts
 
-first_is : (u v : Value) (us vs : List Value) → u ∷ us ≡ v ∷ vs → u ≡ v
-first_is u v us vs e = cc
-
 -- CRs and DCs are for no connection
 pub asking_none : (r : ℕ) (vs : List Value) → AllByRecursion IsAsking vs → waiting_for (Some r) vs ≡ []
 asking_none r [] h = refl
 asking_none r (request x ∷ vs) h = asking_none r vs h.1
 asking_none r (disconnected n source ∷ vs) h = asking_none r vs h.1
-asking_none r (confirm n x ∷ vs) h = absurd h.0
-asking_none r (disconnect n source reason user ∷ vs) h = absurd h.0
-asking_none r (data0 end user ∷ vs) h = absurd h.0
-asking_none r (data2 n number end user ∷ vs) h = absurd h.0
-asking_none r (acknowledge credit n number ∷ vs) h = absurd h.0
-asking_none r (error n cause ∷ vs) h = absurd h.0
+asking_none r _ h = absurd h.0
 
 -- units of the other side select no class
 pub units_select_none : (at : ℕ) (vs : List Value) (c : Passed) → c.traffic.course.class ≡ None →

@@ -1,42 +1,23 @@
 -- What a called end of class 2 takes in a turn at a connection is the first of what is in flight to it: nothing is for a connection that
 -- the end has not answered.
 -- For all connections of an end and a tap.
-use Rattle.std.proofs.Common.{◌≡◌, ◌∙◌, refl, sym, ap, ℕ, ◌<◌, Bool, true, false, List, ◌++◌, Option, Some, None, arith, is_some}
-use Rattle.std.specs.Prelude.{nat_le}
-use Rattle.std.specs.List.{AllByRecursion}
-use Rattle.std.proofs.lemmas.Bool.{leb-false, leb-true}
-use Rattle.osi_class.specs.Tsdus.{Part}
-use Rattle.osi_class.specs.declared.terms.Local.{Local}
-use Rattle.osi_carrier.specs.Rows.{value_at}
-use Rattle.osi_carrier.specs.State.{Connection as Live, State as Carrier, asked, closing, linked}
-use Rattle.osi_stack.specs.Calls.{has_given}
-use Rattle.osi_fair.proofs.what_becomes_of_a_called_end.{above_up}
-use Rattle.osi_fair.proofs.what_the_other_side_closes.{IsClear}
-use Rattle.osi_honest.specs.Courses.{Continues, Deeds, units_in}
-use Rattle.osi_honest.specs.Turns.{Turn}
-use Rattle.osi_honest.proofs.courses.how_long_a_connection_is_open.{Life, Stage, amid, early, past, stage_at, stage_is}
-use Rattle.osi_honest.proofs.reading.what_is_written_is_read_again.{CanBeWritten}
-use Rattle.osi_watched.specs.Joint.{Joint, TakesTurn}
-use Rattle.osi_watched.proofs.a_carrier_does_events.{none_of}
+use Rattle.osi_watched.proofs.Vocabulary.{ap, arith, Bool, false, is_some, List, None, Option, refl, Some, sym, true, ℕ, ◌++◌, ◌<◌, ◌∙◌}
+use Rattle.osi_watched.proofs.Vocabulary.{◌≡◌, leb-false, leb-true, AllByRecursion, nat_le, Part, Local, value_at, Live, linked, Carrier}
+use Rattle.osi_watched.proofs.Vocabulary.{has_given, early, Life, stage_at, stage_is, CanBeWritten, Continues, Deeds, units_in, Turn}
+use Rattle.osi_watched.proofs.Vocabulary.{above_up, IsClear, Joint, TakesTurn}
+use Rattle.osi_carrier.specs.State.{asked}
+use Rattle.osi_watched.proofs.small_facts_that_many_lemmas_use.{amid_not, given_so, past_not}
+use Rattle.osi_fair.proofs.small_facts_that_many_lemmas_use.{differ, none_of}
 use Rattle.osi_watched.proofs.sessions.a_called_end_is_ready.{IsCalled}
 use Rattle.osi_watched.proofs.sessions.a_called_end_of_class_2_has_its_lines.{has_lines}
 use Rattle.osi_watched.proofs.sessions.a_calling_end_takes_nothing_before_its_cc.{quiet_turn}
-use Rattle.osi_watched.proofs.sessions.a_calling_end_takes_what_is_in_flight.{early_lasts, given_so}
+use Rattle.osi_watched.proofs.sessions.a_calling_end_takes_what_is_in_flight.{early_lasts}
 use Rattle.osi_watched.proofs.sessions.a_turn_does_what_its_deeds_say.{turn_uses}
 use Rattle.osi_watched.proofs.sessions.nothing_comes_before_a_cc_passes.{none_waits}
 use Rattle.osi_watched.proofs.sessions.nothing_is_done_before_a_cr_passes.{may_take}
 use Rattle.osi_watched.proofs.sessions.what_an_end_takes_at_each_stage.{AreCalm, turn_takes}
 use Rattle.osi_watched.proofs.sessions.what_is_in_flight_to_an_end.{known_of}
 use Rattle.osi_watched.proofs.sessions.what_stands_of_a_connection.{Takes, waiting_for}
-
-past_not : {A : Type 0} (s : Stage) → s ≡ early → s ≡ past → A
-past_not s e h = absurd (cc (sym e ∙ h))
-
-amid_not : {A : Type 0} (s : Stage) (peer : ℕ) → s ≡ early → s ≡ amid peer → A
-amid_not s peer e h = absurd (cc (sym e ∙ h))
-
-not_given : {A : Type 0} (b : Bool) → b ≡ true → b ≡ false → A
-not_given b h k = absurd (cc)
 
 -- a connection that may open at a called end has no reference yet
 early_not_given : (r : ℕ) (c : Carrier) → c.ended ≡ None → ((m : ℕ) → value_at m c.live ≡ Some asked → ⊥) → stage_at r c ≡ early →
@@ -45,18 +26,17 @@ early_not_given r c lasts none may = by (has_given r c) (value_at r c.live) refl
   where
     by : (b : Bool) (o : Option Live) → has_given r c ≡ b → value_at r c.live ≡ o → b ≡ false
     by false o given there = refl
-    by true None given there = past_not (stage_at r c) may (stage_is r c None true lasts given there)
     by true (Some asked) given there = absurd (none r there)
     by true (Some (linked peer link)) given there =
         amid_not (stage_at r c) peer may (stage_is r c (Some (linked peer link)) true lasts given there)
-    by true (Some (closing peer)) given there =
-        past_not (stage_at r c) may (stage_is r c (Some (closing peer)) true lasts given there)
+    by true v given there =
+        past_not (stage_at r c) may (stage_is r c v true lasts given there)
 
 above_given : (r : ℕ) (c : Carrier) → 0 < r → has_given r c ≡ false → c.given < r
 above_given r c some not = by (nat_le r c.given) refl
   where
     by : (b : Bool) → nat_le r c.given ≡ b → c.given < r
-    by true e = not_given (has_given r c) (given_so r c some (leb-true r c.given e)) not
+    by true e = differ (has_given r c) (given_so r c some (leb-true r c.given e)) not
     by false e = leb-false r c.given e
 
 module _ (local : Local) where

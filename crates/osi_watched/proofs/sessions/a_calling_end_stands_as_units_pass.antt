@@ -1,29 +1,13 @@
 -- A calling end of class 2 and a tap: what passes and breaks no rule leaves all connections of the end standing, and so does a turn.
 -- For the session of each connection of an end.
-use Rattle.std.proofs.Common.{◌≡◌, ◌∙◌, ◌⊎◌, refl, sym, ap, subst, ℕ, ◌^◌, ◌<◌, false, true, List, [], ◌∷◌, ◌++◌, Some, length}
-use Rattle.std.specs.Prelude.{slice_get}
-use Rattle.std.specs.List.{AllByRecursion}
-use Rattle.std.proofs.lemmas.List.{append-nil}
-use Rattle.osi_tpdu.specs.Packet.{units_of}
-use Rattle.osi_tpdu.specs.Value.{HasFieldsInRange, Value}
-use Rattle.osi_tpdu.specs.Writing.{Fits}
-use Rattle.osi_tpdu.proofs.the_units_of_a_packet.{units_fit, units_found}
-use Rattle.osi_class.specs.Tsdus.{Part}
-use Rattle.osi_class.specs.declared.terms.Local.{Local}
-use Rattle.osi_judge.specs.declared.directions.Direction.TheVariants.{Left, Right}
-use Rattle.osi_fair.proofs.each_connection_has_its_line.{Tracked}
-use Rattle.osi_fair.proofs.what_the_other_side_closes.{IsClear}
-use Rattle.osi_honest.specs.Courses.{Continues, Course, Deeds, then_did, units_in, units_read}
-use Rattle.osi_honest.specs.Marked.{all_units}
-use Rattle.osi_honest.specs.Turns.{Turn}
-use Rattle.osi_honest.proofs.class_0.what_a_packet_does_in_class_0.{AllProper}
-use Rattle.osi_honest.proofs.courses.how_long_a_connection_is_open.{Life, early, stage_at}
-use Rattle.osi_honest.proofs.reading.what_is_written_is_read_again.{CanBeWritten}
-use Rattle.osi_tap.specs.Connections.{Joined, reference_of, spoken}
-use Rattle.osi_tap.specs.Courses.{Course as Passed, packet_begins, units_pass}
-use Rattle.osi_tap.specs.Lines.{heard}
-use Rattle.osi_watched.specs.Joint.{Joint, Steps, TakesTurn, begins_other, begins_own, passes_other, passes_own}
-use Rattle.osi_watched.proofs.what_a_carrier_puts_can_be_written.{all_more}
+use Rattle.osi_watched.proofs.Vocabulary.{[], ap, false, length, List, refl, Some, subst, sym, true, ℕ, ◌++◌, ◌<◌, ◌^◌, ◌∙◌, ◌∷◌, ◌≡◌, ◌⊎◌}
+use Rattle.osi_watched.proofs.Vocabulary.{append-nil, AllByRecursion, slice_get, units_fit, units_found, units_of, Value, Part, Local, Left}
+use Rattle.osi_watched.proofs.Vocabulary.{Right, AllProper, early, Life, stage_at, CanBeWritten, Continues, Deeds, then_did, units_in}
+use Rattle.osi_watched.proofs.Vocabulary.{units_read, all_units, Turn, Joined, reference_of, spoken, units_pass, heard, Tracked, IsClear}
+use Rattle.osi_watched.proofs.Vocabulary.{begins_other, begins_own, Joint, passes_other, passes_own, Steps, TakesTurn}
+use Rattle.osi_honest.specs.Courses.{Course}
+use Rattle.osi_tap.specs.Courses.{Course as Passed, packet_begins}
+use Rattle.osi_watched.proofs.small_facts_that_many_lemmas_use.{can_more as all_more, ranges_of}
 use Rattle.osi_watched.proofs.what_is_put_is_what_is_written.{none_written}
 use Rattle.osi_watched.proofs.sessions.a_calling_end_hears_what_breaks_no_rule.{AreFine, IsBehind, fine_plain, room_of, units_heard}
 use Rattle.osi_watched.proofs.sessions.a_calling_end_is_ready.{IsCalling, begins_other_calling, begins_own_calling, is_ready}
@@ -46,10 +30,6 @@ use Rattle.osi_watched.proofs.sessions.what_stands_of_a_connection.{Known, Takes
 -- what is known of the parts in flight
 abbrev pub known_at : Joint → Known
 known_at j = known_from (may_take j.holding.end.carrier) (units_in j.coming)
-
-pub ranges_of : (units : List Value) → AllByRecursion Fits units → AllByRecursion HasFieldsInRange units
-ranges_of [] h = tt
-ranges_of (v ∷ units) h = (h.0.in_range, ranges_of units h.1)
 
 module _ (local : Local) (two : local.class2 ≡ true) (proper : AllProper) where
   pub record StandsCalling (deeds : ℕ → Deeds) (j : Joint) : Type 0 where

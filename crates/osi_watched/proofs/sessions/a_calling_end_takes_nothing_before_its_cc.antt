@@ -1,25 +1,13 @@
 -- A calling end takes no unit of a connection before its CC: of what comes for the connection, only DCs come before the CC, and after it no
 -- other CC. So the end is calm in a turn before the connection opens.
 -- For all connections of an end and a tap.
-use Rattle.std.proofs.Common.{◌≡◌, ◌∙◌, ◌⊎◌, inl, inr, refl, sym, ap, subst, ℕ, Bool, true, List, [], ◌∷◌, ◌++◌, Option, Some, None}
-use Rattle.std.proofs.Common.{append_assoc, is_some}
-use Rattle.std.specs.List.{AllByRecursion}
-use Rattle.std.proofs.lemmas.Bool.{eq-eqb}
-use Rattle.std.proofs.lemmas.List.{append-nil}
-use Rattle.osi_tpdu.specs.Value.{Connect, Value, acknowledge, confirm, data0, data2, disconnect, disconnected, error, request}
-use Rattle.osi_class.specs.declared.terms.Local.{Local}
-use Rattle.osi_carrier.specs.Rows.{value_at}
-use Rattle.osi_carrier.specs.State.{Connection as Live, State as Carrier, closing, linked}
-use Rattle.osi_carrier.specs.declared.ends.EndReason.{EndReason}
-use Rattle.osi_stack.specs.Calls.{has_given}
-use Rattle.osi_fair.specs.Lines.{Line}
-use Rattle.osi_fair.specs.Wholes.{Whole}
-use Rattle.osi_fair.proofs.each_connection_has_its_line.{Followed, IsNoCc, Row, Tracked, asks, closes, over, talks}
-use Rattle.osi_fair.proofs.which_units_are_for_a_connection.{IsDc, first_kept, picked_join, those, those_join}
-use Rattle.osi_honest.specs.Arriving.{Opens}
-use Rattle.osi_honest.specs.Marked.{Marked, all_units}
-use Rattle.osi_honest.proofs.courses.how_long_a_connection_is_open.{Stage, amid, early, past, stage_at, stage_is}
-use Rattle.osi_honest.proofs.courses.units_of_each_connection.{all_units_more}
+use Rattle.osi_watched.proofs.Vocabulary.{[], ap, append_assoc, Bool, inl, inr, List, None, Option, refl, Some, subst, sym, true, ℕ, ◌++◌}
+use Rattle.osi_watched.proofs.Vocabulary.{◌∙◌, ◌∷◌, ◌≡◌, ◌⊎◌, eq-eqb, append-nil, AllByRecursion, confirm, Connect, request, Value, Local}
+use Rattle.osi_watched.proofs.Vocabulary.{value_at, closing, Live, linked, Carrier, has_given, early, Time as Stage, stage_at, stage_is}
+use Rattle.osi_watched.proofs.Vocabulary.{all_units_more, Opens, all_units, Marked, Followed, IsNoCc, Row, Tracked, first_kept, IsDc}
+use Rattle.osi_watched.proofs.Vocabulary.{picked_join, those, those_join, Line, Whole}
+use Rattle.osi_fair.proofs.each_connection_has_its_line.{asks, closes, over, talks}
+use Rattle.osi_watched.proofs.small_facts_that_many_lemmas_use.{amid_not, over_not, past_not}
 use Rattle.osi_watched.proofs.sessions.nothing_is_done_before_a_cr_passes.{IsNoZero, dcs_none}
 use Rattle.osi_watched.proofs.sessions.what_an_end_takes_at_each_stage.{AreCalm, EndsEarly, calm_before, dcs_before, opens_next, opens_not}
 use Rattle.osi_watched.proofs.sessions.what_stands_of_a_connection.{is_for, waiting_for}
@@ -35,21 +23,11 @@ pub record AwaitsCc (r : ℕ) (coming : List Value) : Type 0 where
   pub only : AllByRecursion IsDc before
   pub calm : AllByRecursion IsNoCc after
 
-early_amid : {A : Type 0} (s : Stage) (peer : ℕ) → s ≡ early → s ≡ amid peer → A
-early_amid s peer e h = absurd (cc (sym e ∙ h))
-
-early_past : {A : Type 0} (s : Stage) → s ≡ early → s ≡ past → A
-early_past s e h = absurd (cc (sym e ∙ h))
-
-lasts_not : {A : Type 0} (o : Option EndReason) → is_some o ≡ true → o ≡ None → A
-lasts_not None h e = absurd (cc)
-lasts_not (Some x) h e = absurd (cc)
-
 module _ (local : Local) (c : Carrier) (r : ℕ) (given : has_given r c ≡ true) (may : stage_at r c ≡ early) (lasts : c.ended ≡ None) where
   row_gone : {A : Type 0} (o : Option Live) (q : ℕ) → value_at r c.live ≡ o → (o ≡ Some (closing q)) ⊎ (o ≡ None) → A
   row_gone o q e (inl is) =
-      early_past (stage_at r c) may (stage_is r c (Some (closing q)) true lasts given (e ∙ is))
-  row_gone o q e (inr is) = early_past (stage_at r c) may (stage_is r c None true lasts given (e ∙ is))
+      past_not (stage_at r c) may (stage_is r c (Some (closing q)) true lasts given (e ∙ is))
+  row_gone o q e (inr is) = past_not (stage_at r c) may (stage_is r c None true lasts given (e ∙ is))
 
   -- as long as it may open, its row awaits the CC
   row_awaits : (coming : List Value) (peer : ℕ) (line : Line) → AllByRecursion IsNoCc line.coming → Row local c coming r peer line →
@@ -63,9 +41,9 @@ module _ (local : Local) (c : Carrier) (r : ℕ) (given : has_given r c ≡ true
     calm = calm;
   }
   row_awaits coming peer line calm (talks link there is those_are) =
-      early_amid (stage_at r c) peer may (stage_is r c (Some (linked peer link)) true lasts given there)
+      amid_not (stage_at r c) peer may (stage_is r c (Some (linked peer link)) true lasts given there)
   row_awaits coming peer line calm (closes o there q e is those_are) = row_gone o q there e
-  row_awaits coming peer line calm (over h) = lasts_not c.ended h lasts
+  row_awaits coming peer line calm (over h) = over_not c.ended h lasts
 
 -- of a whole end
 pub awaits_cc : (local : Local) (w : Whole) (r : ℕ) → Followed local w → Tracked w.tap.connections r → has_given r w.end ≡ true →
@@ -99,12 +77,7 @@ before_opening : (r peer : ℕ) (unit : Value) (front rest : List Value) → Ope
 before_opening r peer (confirm n x) front rest o a zero =
     before_cc r front rest x (subst (λ (m : ℕ). AwaitsCc r (front ++ confirm m x ∷ rest)) o.0 a) zero
 before_opening r peer (request x) front rest o a zero = absurd (cc o.0)
-before_opening r peer (disconnect n source reason user) front rest o a zero = absurd o
-before_opening r peer (disconnected n source) front rest o a zero = absurd o
-before_opening r peer (data0 end user) front rest o a zero = absurd o
-before_opening r peer (data2 n number end user) front rest o a zero = absurd o
-before_opening r peer (acknowledge credit n number) front rest o a zero = absurd o
-before_opening r peer (error n cause) front rest o a zero = absurd o
+before_opening r peer _ front rest o a zero = absurd o
 
 -- The end took these units, the first of those that had come. If it may still open afterwards, the CC is among the others.
 pub calm_turn : (r : ℕ) (t : Stage) (took : List Marked) (others : List Value) → AwaitsCc r (all_units took ++ others) →

@@ -1,20 +1,17 @@
 -- As long as nobody breaks a rule, a calling end that doesn't offer class 2 puts no DT unless class 0 is selected.
 -- For the law that no session of an end is blamed first.
-use Rattle.std.proofs.Common.{◌≡◌, ◌∙◌, sym, ap, subst, Bool, true, false, List, [], ◌∷◌, Some}
-use Rattle.osi_tpdu.specs.Value.{Value, request}
-use Rattle.osi_class.specs.declared.terms.Class.TheVariants.{Zero}
-use Rattle.osi_class.specs.declared.terms.Local.{Local}
-use Rattle.osi_judge.specs.declared.directions.Direction.TheVariants.{Left}
+use Rattle.osi_watched.proofs.Vocabulary.{[], ap, false, List, Some, subst, sym, true, ◌∙◌, ◌∷◌, ◌≡◌, request, Value, Zero, Local}
+use Rattle.osi_watched.proofs.Vocabulary.{Traffic as State, Left, known, Holds, holds_first, holds_next, Event, HappenAlong, Whole}
+use Rattle.osi_watched.proofs.Vocabulary.{answered, quiet, refused}
 use Rattle.osi_rules.specs.declared.directions.Direction.TheVariants as way
-use Rattle.osi_rules.specs.Traffic.{State}
-use Rattle.osi_fair.specs.Wholes.{Event, HappenAlong, Whole, begin}
-use Rattle.osi_fair.proofs.how_requests_go_on.{Stage, answered, asks, ended, known, quiet, refused, waits, zero}
-use Rattle.osi_fair.proofs.no_request_is_blamed.{Holds, holds_first, holds_next}
+use Rattle.osi_fair.specs.Wholes.{begin}
+use Rattle.osi_fair.proofs.how_requests_go_on.{Stage, asks, zero, ended, waits}
+use Rattle.osi_fair.proofs.small_facts_that_many_lemmas_use.{differ}
 use Rattle.osi_watched.proofs.steps_are_events.{own_first}
 use Rattle.osi_watched.proofs.sessions.an_end_that_has_said_nothing_is_not_to_blame.{PutsNoDt}
 use Rattle.osi_watched.proofs.sessions.what_stands_of_a_connection.{is_part}
 
-holds_along : (local : Local) (events : List Event) (old new : Whole) → HappenAlong way.Left old events new → Holds local old →
+pub holds_along : (local : Local) (events : List Event) (old new : Whole) → HappenAlong way.Left old events new → Holds local old →
     Holds local new
 holds_along local [] old new is h = subst (Holds local) (sym is) h
 holds_along local (event ∷ events) old new (mid, one, more) h =
@@ -25,9 +22,6 @@ none_put v rest put e none = let without : v ∷ rest ≡ [] = sym e ∙ none in
 
 first_of : (u v : Value) (xs ys : List Value) → u ∷ xs ≡ v ∷ ys → v ≡ u
 first_of u v xs ys e = cc
-
-differ : {A : Type 0} (b : Bool) → b ≡ true → b ≡ false → A
-differ b h k = absurd (cc)
 
 by_stage : (local : Local) → local.class2 ≡ false → (w : Whole) (v : Value) (rest : List Value) → w.put ≡ v ∷ rest → w.begun ≡ true →
     (w.tap.course.class ≡ Some Zero → ⊥) → Stage local w → is_part v ≡ false

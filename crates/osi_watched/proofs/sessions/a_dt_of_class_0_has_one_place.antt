@@ -1,29 +1,15 @@
 -- In class 0 one connection was opened, and each other one was refused: there is one place for a DT of either side.
 -- For the session of the connection of an end in class 0.
-use Rattle.std.proofs.Common.{◌≡◌, ◌∙◌, refl, ap, ℕ, Bool, true, false, if◌then◌else◌, List, Option, Some}
-use Rattle.std.specs.Prelude.{◌&&◌, ◌||◌, is_some, not, position, slice_get}
-use Rattle.osi_tpdu.specs.Value.{Value, data0}
-use Rattle.osi_class.specs.declared.terms.Class.{Class}
-use Rattle.osi_class.specs.declared.terms.Class.TheVariants.{Zero}
-use Rattle.osi_judge.specs.Captures.{other}
-use Rattle.osi_judge.specs.declared.directions.Direction.{Direction}
-use Rattle.osi_judge.specs.declared.directions.Direction.TheVariants.{Left, Right}
-use Rattle.osi_rules.specs.declared.connections.Connection.{Connection}
-use Rattle.osi_rules.specs.declared.directions.Direction.{Direction as Way}
+use Rattle.osi_watched.proofs.Vocabulary.{ap, Bool, false, if◌then◌else◌, is_some, List, not, Option, refl, Some, true, ℕ, ◌&&◌, ◌∙◌, ◌≡◌}
+use Rattle.osi_watched.proofs.Vocabulary.{position, slice_get, ◌||◌, data0, Value, Class, Zero, is_closed, is_closing, is_live, is_open}
+use Rattle.osi_watched.proofs.Vocabulary.{is_over, is_over_by, is_refused, own, at_found, at_place, class_for, is_stopped, none_told}
+use Rattle.osi_watched.proofs.Vocabulary.{one_told, route, route_in, route_zero, routed, Traffic as State, takes, Connection, Way}
+use Rattle.osi_watched.proofs.Vocabulary.{NotJudged, Phase, other, Direction, Left, Right, Joined, reference_of, way_of, only_first}
+use Rattle.osi_watched.proofs.Vocabulary.{AreJudged, NamesApart as AreApart, Sound, IsOneOf, named_by}
 use Rattle.osi_rules.specs.declared.directions.Direction.TheVariants as way
-use Rattle.osi_rules.specs.declared.findings.Finding.TheVariants.{NotJudged}
-use Rattle.osi_rules.specs.declared.halves.Phase.{Phase}
 use Rattle.osi_rules.specs.declared.halves.Phase.TheVariants as phase
-use Rattle.osi_rules.specs.Sides.{is_closed, is_closing, is_live, is_open, is_over, is_over_by, is_refused, own, theirs}
 use Rattle.osi_rules.specs.Sides as sides
-use Rattle.osi_rules.specs.Traffic.{State, at_found, at_place, class_for, is_stopped, none_told, one_told, route, route_in, route_zero}
-use Rattle.osi_rules.specs.Traffic.{routed, takes}
-use Rattle.osi_fair.proofs.a_dt_of_class_zero_passes.{only_first}
-use Rattle.osi_fair.proofs.what_keeps_names_apart.{AreApart, Sound}
-use Rattle.osi_fair.proofs.all_are_judged_unless_one_broke.{AreJudged}
-use Rattle.osi_tap.specs.Connections.{Joined, reference_of}
-use Rattle.osi_tap.specs.Courses.{way_of}
-use Rattle.osi_watched.specs.ShownPlaces.{IsOneOf, named_by}
+use Rattle.osi_fair.proofs.small_facts_that_many_lemmas_use.{is_false}
 
 -- The connection at this place is open for both sides. All others are refused, and left knows that as soon as it knows the class.
 pub record IsOnly (s : State) : Type 0 where
@@ -38,43 +24,26 @@ pub record IsOnly (s : State) : Type 0 where
 
 -- ---- small facts
 
-differ : {A : Type 0} (b : Bool) → b ≡ true → b ≡ false → A
-differ b h k = absurd (cc)
-
-not_so : (b : Bool) → (b ≡ true → ⊥) → b ≡ false
-not_so true h = absurd (h refl)
-not_so false h = refl
-
 pub open_not_refused : (p : Phase) → is_open p ≡ true → is_refused p ≡ true → ⊥
 open_not_refused phase.Silent h k = cc
-open_not_refused phase.Open h k = cc
-open_not_refused phase.Refused h k = cc
-open_not_refused phase.Closing h k = cc
-open_not_refused phase.Closed h k = cc
+open_not_refused _ h k = cc
 
 over_mine : (p k : Phase) → is_refused p ≡ true →
     (is_refused p || (is_refused k || (is_closed p || (is_closing p && (is_closing k || is_closed k))))) ≡ true
-over_mine phase.Silent k h = absurd (cc)
-over_mine phase.Open k h = absurd (cc)
 over_mine phase.Refused k h = refl
-over_mine phase.Closing k h = absurd (cc)
-over_mine phase.Closed k h = absurd (cc)
+over_mine _ k h = absurd (cc)
 
 over_known : (p k : Phase) → is_refused k ≡ true →
     (is_refused p || (is_refused k || (is_closed p || (is_closing p && (is_closing k || is_closed k))))) ≡ true
-over_known phase.Silent k h = ap (λ (b : Bool). b || false) h
-over_known phase.Open k h = ap (λ (b : Bool). b || false) h
 over_known phase.Refused k h = refl
 over_known phase.Closing k h = ap (λ (b : Bool). b || (is_closing k || is_closed k)) h
 over_known phase.Closed k h = ap (λ (b : Bool). b || true) h
+over_known _ k h = ap (λ (b : Bool). b || false) h
 
 open_goes : (p k : Phase) → is_open p ≡ true → is_refused k ≡ false →
     (is_refused p || (is_refused k || (is_closed p || (is_closing p && (is_closing k || is_closed k))))) ≡ false
-open_goes phase.Silent k h e = absurd (cc)
 open_goes phase.Open k h e = ap (λ (b : Bool). b || false) e
-open_goes phase.Refused k h e = absurd (cc)
-open_goes phase.Closing k h e = absurd (cc)
-open_goes phase.Closed k h e = absurd (cc)
+open_goes _ k h e = absurd (cc)
 
 both : (a b : Bool) → a ≡ true → b ≡ true → (a && b) ≡ true
 both true b h k = k
@@ -95,12 +64,12 @@ module _ (s : State) (judged : AreJudged s) (firm : s.course.loose ≡ false) (a
   is_live_there way.Left =
       and_not o.connection.is_judged (is_over_by o.connection.left o.connection.seen_by_left)
       (open_goes o.connection.left.phase o.connection.seen_by_left.phase o.left
-      (not_so (is_refused o.connection.seen_by_left.phase)
+      (is_false (is_refused o.connection.seen_by_left.phase)
       (λ e. open_not_refused o.connection.right.phase o.right (sound.left_knows.refused e))))
   is_live_there way.Right =
       and_not o.connection.is_judged (is_over_by o.connection.right o.connection.seen_by_right)
       (open_goes o.connection.right.phase o.connection.seen_by_right.phase o.right
-      (not_so (is_refused o.connection.seen_by_right.phase)
+      (is_false (is_refused o.connection.seen_by_right.phase)
       (λ e. open_not_refused o.connection.left.phase o.left (sound.right_knows.refused e))))
 
   -- all others are
@@ -144,19 +113,13 @@ dt_takes d end user s judged firm apart o goes class =
 
 -- ---- its references
 
-named_open : (p : Phase) (r : ℕ) → is_open p ≡ true → is_some (named_by p r) ≡ true
-named_open phase.Silent r h = absurd (cc)
+pub named_open : (p : Phase) (r : ℕ) → is_open p ≡ true → is_some (named_by p r) ≡ true
 named_open phase.Open r h = refl
-named_open phase.Refused r h = absurd (cc)
-named_open phase.Closing r h = absurd (cc)
-named_open phase.Closed r h = absurd (cc)
+named_open _ r h = absurd (cc)
 
 named_refused : (p : Phase) (r : ℕ) → is_refused p ≡ true → is_some (named_by p r) ≡ false
-named_refused phase.Silent r h = absurd (cc)
-named_refused phase.Open r h = absurd (cc)
 named_refused phase.Refused r h = refl
-named_refused phase.Closing r h = absurd (cc)
-named_refused phase.Closed r h = absurd (cc)
+named_refused _ r h = absurd (cc)
 
 -- both sides gave it one
 pub both_named : (e : Direction) (c : Connection) (j : Joined) → IsOneOf c j → is_open c.right.phase ≡ true →

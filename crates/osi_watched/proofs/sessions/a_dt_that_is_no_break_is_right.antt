@@ -1,37 +1,18 @@
 -- A DT that breaks no rule is right, as long as its side and its connection are judged.
 -- For the law on places.
-use Rattle.std.proofs.Common.{◌≡◌, refl, sym, subst, ℕ, Bool, true, false, if◌then◌else◌, is_some, List, [], ◌∷◌, length, Option, Some}
-use Rattle.std.proofs.Common.{None, inl, inr, ◌⊎◌}
-use Rattle.std.specs.Prelude.{position, slice_get}
-use Rattle.std.specs.List.{AllByRecursion}
-use Rattle.osi_tpdu.specs.Value.{Value, acknowledge, confirm, data0, data2, disconnect, disconnected, error, request}
-use Rattle.osi_class.specs.Runs.{unit_parts}
-use Rattle.osi_class.specs.declared.terms.Class.{Class}
-use Rattle.osi_class.specs.declared.terms.Class.TheVariants.{Two, Zero}
-use Rattle.osi_judge.specs.Captures.{Capture}
-use Rattle.osi_judge.specs.declared.directions.Direction.{Direction}
-use Rattle.osi_rules.specs.declared.connections.Connection.{Connection}
-use Rattle.osi_rules.specs.declared.courses.Course.{Course as Rules}
-use Rattle.osi_rules.specs.declared.directions.Direction.{Direction as Way}
+use Rattle.osi_watched.proofs.Vocabulary.{[], Bool, false, if◌then◌else◌, inl, inr, is_some, length, List, None, Option, refl, Some, subst}
+use Rattle.osi_watched.proofs.Vocabulary.{sym, true, ℕ, ◌∷◌, ◌≡◌, ◌⊎◌, AllByRecursion, position, slice_get, data0, data2, Value, unit_parts}
+use Rattle.osi_watched.proofs.Vocabulary.{Class, Two, Zero, data0_tests, data2_tests, first_failed, Test, is_live, is_named, at_found}
+use Rattle.osi_watched.proofs.Vocabulary.{at_place, class_for, found, is_stopped, none_told, route, route_in, routed, Traffic as State}
+use Rattle.osi_watched.proofs.Vocabulary.{takes, unnamed_by, uses_source, Connection, Rules, Way, Finding, Broke, Kept, NotJudged, Rule}
+use Rattle.osi_watched.proofs.Vocabulary.{Capture, Direction, user_of, marked, marks_of, moved, unread_mark, unread_moment, way_of}
+use Rattle.osi_watched.proofs.Vocabulary.{comes_to, Cause, no_item, AreJudged, still_judged, packet, rubbish, unit}
 use Rattle.osi_rules.specs.declared.directions.Direction.TheVariants as way
-use Rattle.osi_rules.specs.declared.findings.Finding.{Finding}
-use Rattle.osi_rules.specs.declared.findings.Finding.TheVariants.{Broke, Kept, NotJudged}
-use Rattle.osi_rules.specs.declared.findings.Rule.{Rule}
 use Rattle.osi_rules.specs.declared.findings.Rule.TheVariants as rule
-use Rattle.osi_rules.specs.Rows.{Test, data0_tests, data2_tests, first_failed}
-use Rattle.osi_rules.specs.Sides.{is_live, is_named}
 use Rattle.osi_rules.specs.Sides as sides
-use Rattle.osi_rules.specs.Traffic.{State, at_found, at_place, class_for, found, is_stopped, none_told, route, route_in, routed, takes}
-use Rattle.osi_rules.specs.Traffic.{unnamed_by}
-use Rattle.osi_rules.specs.Traffic.{uses_source}
 use Rattle.osi_rules.specs.Traffic as traffic
-use Rattle.osi_fair.specs.Naming.{packet, rubbish, unit}
-use Rattle.osi_fair.proofs.a_reference_names_one_connection.{no_item}
-use Rattle.osi_fair.proofs.all_are_judged_unless_one_broke.{AreJudged, still_judged}
-use Rattle.osi_tap.specs.declared.marks.Cause.{Cause}
-use Rattle.osi_tap.specs.Connections.{user_of}
-use Rattle.osi_tap.specs.Courses.{Course, marked, marks_of, moved, unread_mark, unread_moment, way_of}
-use Rattle.osi_tap.specs.Tapping.{begin, comes_to}
+use Rattle.osi_tap.specs.Courses.{Course}
+use Rattle.osi_tap.specs.Tapping.{begin}
 use Rattle.osi_watched.proofs.what_passes_keeps_a_claim.{IsClaim, after_kept}
 use Rattle.osi_watched.proofs.sessions.connections_have_the_same_places.{marked_traffic, unit_knows}
 
@@ -121,16 +102,14 @@ routed_two (Some Two) way.Right b n number end user s firm judged =
 
 routed_zero : (k : Option Class) (d : Way) (b : Bool) (end : Bool) (user : List ℕ) (s : State) → s.course.loose ≡ false → AreJudged s →
     IsClear (routed d (data0 end user) s (route_in k d b (data0 end user))).told.finding
-routed_zero None way.Left b end user s firm judged = inr (rule.UnexpectedUnit, refl)
-routed_zero None way.Right b end user s firm judged = inr (rule.UnexpectedUnit, refl)
 routed_zero (Some Zero) way.Left b end user s firm judged =
     clear_any way.Left (data0 end user) s firm judged (nowhere_zero s.course.strays end user)
     (λ c. found_zero way.Left end user s.course false c) (position (is_live way.Left) s.connections)
 routed_zero (Some Zero) way.Right b end user s firm judged =
     clear_any way.Right (data0 end user) s firm judged (nowhere_zero s.course.strays end user)
     (λ c. found_zero way.Right end user s.course false c) (position (is_live way.Right) s.connections)
-routed_zero (Some Two) way.Left b end user s firm judged = inr (rule.UnexpectedUnit, refl)
-routed_zero (Some Two) way.Right b end user s firm judged = inr (rule.UnexpectedUnit, refl)
+routed_zero _ way.Left b end user s firm judged = inr (rule.UnexpectedUnit, refl)
+routed_zero _ way.Right b end user s firm judged = inr (rule.UnexpectedUnit, refl)
 
 pub goes_clear : (b : Bool) (d : Way) (s : State) (o : traffic.Outcome) → b ≡ false → IsClear o.told.finding →
     IsClear (if b then none_told d NotJudged s else o).told.finding
@@ -145,12 +124,7 @@ dt_clear d (data0 e user) end s parts goes firm judged =
 dt_clear d (data2 n number e user) end s parts goes firm judged =
     goes_clear (is_stopped d s.course) d s (routed d (data2 n number e user) s (route d s.course (data2 n number e user))) goes
     (routed_two (class_for d s.course) d (is_stopped (sides.other d) s.course) n number e user s firm judged)
-dt_clear d (request x) end s parts goes firm judged = absurd (cc)
-dt_clear d (confirm m x) end s parts goes firm judged = absurd (cc)
-dt_clear d (disconnect m source reason user) end s parts goes firm judged = absurd (cc)
-dt_clear d (disconnected m source) end s parts goes firm judged = absurd (cc)
-dt_clear d (acknowledge credit m number) end s parts goes firm judged = absurd (cc)
-dt_clear d (error m cause) end s parts goes firm judged = absurd (cc)
+dt_clear d _ end s parts goes firm judged = absurd (cc)
 
 right_by : (f : Finding) → IsClear f → ((r : Rule) → f ≡ Broke r → ⊥) → f ≡ Kept
 right_by f (inl is) none = is

@@ -1,50 +1,26 @@
 -- A session of an end is not to blame for what a tap has joined of its connection.
 -- For the law on a connection of an end and a tap.
-use Rattle.std.proofs.Common.{◌≡◌, ◌∙◌, refl, sym, ap, subst, ℕ, ◌+◌, ◌≤◌, ◌&&◌, nat_lt, Bool, true, false, List, [], ◌∷◌, ◌++◌}
-use Rattle.std.proofs.Common.{length, map, take, drop, inl, inr, append_assoc}
-use Rattle.std.specs.List.{AllByRecursion}
-use Rattle.std.proofs.lemmas.Grind.{flat_map-append}
-use Rattle.std.proofs.lemmas.List.{append-nil, take-append-drop}
-use Rattle.osi_class.specs.Link.{Given, ack, part0, part2, unit_of}
-use Rattle.osi_class.specs.Runs.{Move, give_out, given_parts, hand_in, hand_out, parts_in, parts_out, take_in, tsdus_in, tsdus_out}
-use Rattle.osi_class.specs.Runs.{unit_parts}
-use Rattle.osi_class.specs.Tsdus.{Part, tsdus, tsdus_after, uncut}
-use Rattle.osi_session.specs.Standing.{Seen}
-use Rattle.osi_judge.specs.Captures.{other}
-use Rattle.osi_judge.specs.Explaining.{IsExplained, Told}
-use Rattle.osi_judge.specs.Explaining.Explains.{done}
-use Rattle.osi_judge.specs.Judging.{IsFound}
-use Rattle.osi_judge.specs.Profiles.{selects_outside}
-use Rattle.osi_judge.specs.Running.{IsHonest, IsSentFrom}
+use Rattle.osi_watched.proofs.Vocabulary.{[], ap, append_assoc, Bool, drop, false, inl, inr, length, List, map, nat_lt, refl, subst, sym}
+use Rattle.osi_watched.proofs.Vocabulary.{take, true, ℕ, ◌&&◌, ◌++◌, ◌+◌, ◌∙◌, ◌∷◌, ◌≡◌, ◌≤◌, flat_map-append, append-nil, take-append-drop}
+use Rattle.osi_watched.proofs.Vocabulary.{AllByRecursion, Given, part0, unit_of, give_out, given_parts, hand_in, hand_out, Move, parts_in}
+use Rattle.osi_watched.proofs.Vocabulary.{parts_out, tsdus_in, tsdus_out, unit_parts, Part, tsdus, tsdus_after, uncut, Listener, Seen, End}
+use Rattle.osi_watched.proofs.Vocabulary.{AsSent, front_told, first_asked, AllInside, AsParts, front_inside, honest_inside, CalledLaw}
+use Rattle.osi_watched.proofs.Vocabulary.{CallerLaw, other, IsExplained, done, IsFound, selects_outside, IsHonest, IsSentFrom}
+use Rattle.osi_watched.proofs.Vocabulary.{broke_session, begin_of, Direction, Left as left, Right as right, none_said, out_more, said_more}
+use Rattle.osi_watched.proofs.Vocabulary.{IsSaid, nothing, shown_said, something, units_came, opens_so, history_runs, Deeds, Gone, no_deeds}
+use Rattle.osi_watched.proofs.Vocabulary.{said_in, Speaks, units_given, is_gone, closed, never, Shows, octets_said, IsToBlame, Joined}
+use Rattle.osi_watched.proofs.Vocabulary.{spoken, heard, told, AreAfter, before_of, calls_from, IsShownOf, left_over, parts_of, take_in}
+use Rattle.osi_judge.specs.Explaining.{Told}
 use Rattle.osi_judge.specs.Running as running
-use Rattle.osi_judge.specs.Stops.{broke_session}
-use Rattle.osi_judge.specs.Tapping.{begin_of}
-use Rattle.osi_judge.specs.declared.directions.Direction.{Direction}
-use Rattle.osi_judge.specs.declared.directions.Direction.TheVariants.{Left as left, Right as right}
 use Rattle.osi_judge.specs.declared.findings.Finding.{Finding}
-use Rattle.osi_judge.specs.declared.findings.Finding.TheVariants.{Kept, Broke, Left, TooMany}
-use Rattle.osi_judge.proofs.honest.a_call_is_explained.{AsSent}
-use Rattle.osi_judge.proofs.honest.a_caller_is_explained.{front_told}
-use Rattle.osi_judge.proofs.honest.a_cn_is_answered_within_its_units.{first_asked}
-use Rattle.osi_judge.proofs.honest.an_honest_run_stays_in_the_profile.{AllInside, AsParts, front_inside, honest_inside}
-use Rattle.osi_judge.proofs.honest.an_honest_side_is_kept.{CalledLaw, CallerLaw}
-use Rattle.osi_stack.specs.State.{End}
-use Rattle.osi_session.specs.Listening.{Listener}
-use Rattle.osi_honest.specs.Courses.{Course, Deeds, Gone, Speaks, no_deeds, said_in, units_given}
-use Rattle.osi_honest.specs.Courses.Course.{awaited, is_gone, is_open, unknown}
-use Rattle.osi_honest.specs.Courses.Gone.{closed, never, over}
-use Rattle.osi_honest.specs.Showing.{Shows}
-use Rattle.osi_honest.specs.Stretches.{octets_said}
+use Rattle.osi_judge.specs.declared.findings.Finding.TheVariants.{Broke, Left}
+use Rattle.osi_honest.specs.Courses.{Course}
+use Rattle.osi_honest.specs.Courses.Course.{is_open, awaited, unknown}
+use Rattle.osi_honest.specs.Courses.Gone.{over}
 use Rattle.osi_honest.specs.Talking.{Said, told_of}
-use Rattle.osi_honest.proofs.courses.what_calls_of_a_link_say.{none_said, out_more, said_more}
-use Rattle.osi_honest.proofs.courses.what_was_said_is_explained.{IsSaid, nothing, shown_said, something, units_came, units_put}
-use Rattle.osi_honest.proofs.opening.the_session_of_a_request_is_a_caller.{opens_so}
-use Rattle.osi_honest.proofs.sessions.a_history_is_a_run.{history_runs}
-use Rattle.osi_tap.specs.Blaming.{IsToBlame}
-use Rattle.osi_tap.specs.Connections.{Joined, spoken}
-use Rattle.osi_tap.specs.Lines.{Spoken, heard, told}
+use Rattle.osi_honest.proofs.courses.what_was_said_is_explained.{units_put}
 use Rattle.osi_tap.specs.Lines as lines
-use Rattle.osi_watched.specs.Shown.{AreAfter, IsShownOf, before_of, calls_from, left_over, parts_of}
+use Rattle.osi_fair.proofs.small_facts_that_many_lemmas_use.{and_false}
 
 -- ---- what was said is a run of a session, also if more was heard than it took
 
@@ -94,8 +70,7 @@ tsdus_more begun ((true, octets) ∷ some) more = ap (λ (l : List (List ℕ)). 
 
 parts_given : (peer : ℕ) (given : Given) → unit_parts (unit_of peer given) ≡ given_parts given
 parts_given peer (part0 end octets) = refl
-parts_given peer (part2 number end octets) = refl
-parts_given peer (ack number credit) = refl
+parts_given peer _ = refl
 
 pub parts_put : (peer : ℕ) (moves : List Move) → parts_of (map (unit_of peer) (units_given moves)) ≡ parts_out moves
 parts_put peer [] = refl
@@ -167,10 +142,6 @@ pub not_both : (b : Bool) → b ≡ true → b ≡ false → ⊥
 not_both true h k = cc
 not_both false h k = cc
 
-and_false : (b : Bool) → (b && false) ≡ false
-and_false true = refl
-and_false false = refl
-
 not_outside : (us : List (List ℕ)) (told : List Told) → AllInside (first_asked us) told → selects_outside us told ≡ false
 not_outside us [] a = refl
 not_outside us (t ∷ told) a = ap (λ (b : Bool). nat_lt 0 t.before && b) a.0 ∙ and_false (nat_lt 0 t.before)
@@ -190,11 +161,10 @@ not_broken begin us told i e n =
 
 no_break : (begin : Seen) (us : List (List ℕ)) (told : List Told) (finding : Finding) → IsExplained begin us told →
     AllInside (first_asked us) told → IsFound begin us told finding → broke_session finding ≡ false
-no_break begin us told Kept e a f = refl
 no_break begin us told (Broke i) e a f = absurd (not_broken begin us told i e f.0.broke)
 no_break begin us told (Left i) e a f =
     absurd (elim f.2 [ inl n ↦ not_broken begin us told i e n | inr s ↦ front_outside us told (i + 1) a s ])
-no_break begin us told TooMany e a f = refl
+no_break begin us told _ e a f = refl
 
 pub none_broken : (begin : Seen) (us : List (List ℕ)) (told : List Told) (finding : Finding) → told ≡ [] → IsFound begin us told finding →
     broke_session finding ≡ false

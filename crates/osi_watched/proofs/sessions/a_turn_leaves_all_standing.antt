@@ -1,26 +1,11 @@
 -- A turn of an end leaves all its connections standing at a tap; and while they stand, no session of the end is to blame.
 -- For the session of each connection of an end.
-use Rattle.std.proofs.Common.{◌≡◌, ap, ℕ, Bool, true, false, List, [], ◌++◌, map, Some}
-use Rattle.std.specs.Prelude.{slice_get}
-use Rattle.osi_tpdu.specs.Value.{Value}
-use Rattle.osi_class.specs.Tsdus.{Part}
-use Rattle.osi_judge.specs.Captures.{other}
-use Rattle.osi_judge.specs.declared.directions.Direction.{Direction}
-use Rattle.osi_judge.specs.Tapping.{begin_of}
-use Rattle.osi_judge.specs.Stops.{broke_session}
-use Rattle.osi_judge.proofs.honest.a_call_is_explained.{AsSent}
-use Rattle.osi_judge.proofs.honest.an_honest_run_stays_in_the_profile.{AsParts}
-use Rattle.osi_judge.proofs.honest.an_honest_side_is_kept.{CalledLaw, CallerLaw}
-use Rattle.osi_rules.specs.declared.connections.Connection.{Connection}
-use Rattle.osi_rules.specs.Sides.{is_open, own}
-use Rattle.osi_rules.specs.Traffic.{State}
-use Rattle.osi_stack.specs.State.{End}
-use Rattle.osi_honest.specs.Courses.{Course, Deeds, then_did}
-use Rattle.osi_tap.specs.Blaming.{IsToBlame}
-use Rattle.osi_tap.specs.Connections.{Joined, Sessions, reference_of, spoken}
-use Rattle.osi_tap.specs.Courses.{way_of}
-use Rattle.osi_tap.specs.Lines.{Said, heard, told, told_of}
-use Rattle.osi_watched.specs.Shown.{IsShownNow, calls_from}
+use Rattle.osi_watched.proofs.Vocabulary.{[], ap, Bool, false, List, map, Some, true, ℕ, ◌++◌, ◌≡◌, slice_get, Value, Part, End, is_open}
+use Rattle.osi_watched.proofs.Vocabulary.{own, Traffic as State, Connection, AsSent, AsParts, CalledLaw, CallerLaw, other, broke_session}
+use Rattle.osi_watched.proofs.Vocabulary.{begin_of, Direction, Deeds, then_did, IsToBlame, Joined, reference_of, Sessions, spoken, way_of}
+use Rattle.osi_watched.proofs.Vocabulary.{heard, told, told_of, calls_from, IsShownNow}
+use Rattle.osi_honest.specs.Courses.{Course}
+use Rattle.osi_tap.specs.Lines.{Said}
 use Rattle.osi_watched.proofs.sessions.a_session_that_is_shown_is_not_to_blame.{none_broken, not_both, not_to_blame}
 use Rattle.osi_watched.proofs.sessions.all_connections_stand.{AllStand, Rests, quiet, rests, there_too}
 use Rattle.osi_watched.proofs.sessions.what_a_tap_shows_goes_on.{end_turns}

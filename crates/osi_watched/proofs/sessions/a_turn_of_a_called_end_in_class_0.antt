@@ -1,41 +1,21 @@
 -- Once the CC of class 0 has passed, a turn of a called end leaves all its connections standing at a tap: what it puts is for its one
 -- connection, and what it takes there is the first of what is in flight. And no session of it is to blame then. For the session of the
 -- connection of a called end in class 0.
-use Rattle.std.proofs.Common.{◌≡◌, ◌∙◌, refl, sym, ap, subst, ℕ, zero, suc, ◌<◌, Bool, true, false, List, [], ◌∷◌, ◌++◌}
-use Rattle.std.proofs.Common.{map, Option, Some, arith, is_some, inl, inr, ◌⊎◌}
-use Rattle.std.specs.Prelude.{◌==◌, nat_lt, slice_get}
-use Rattle.std.specs.List.{AllByRecursion}
-use Rattle.std.proofs.lemmas.Bool.{eq-eqb, eqb-true, lt-ltb}
-use Rattle.osi_tpdu.specs.Value.{Connect, Value, confirm}
-use Rattle.osi_tpdu.specs.Writing.{written}
-use Rattle.osi_class.specs.declared.terms.Class.TheVariants.{Zero}
-use Rattle.osi_class.specs.declared.terms.Local.{Local}
-use Rattle.osi_carrier.specs.State.{State as Carrier}
-use Rattle.osi_judge.specs.declared.directions.Direction.TheVariants.{Left, Right}
-use Rattle.osi_judge.proofs.honest.a_call_is_explained.{AsSent}
-use Rattle.osi_judge.proofs.honest.an_honest_run_stays_in_the_profile.{AsParts}
-use Rattle.osi_judge.proofs.honest.an_honest_side_is_kept.{CalledLaw, CallerLaw}
-use Rattle.osi_rules.specs.declared.connections.Connection.{Connection}
-use Rattle.osi_rules.specs.Sides.{is_open, is_refused}
-use Rattle.osi_rules.specs.Traffic.{State}
+use Rattle.osi_watched.proofs.Vocabulary.{[], ap, arith, Bool, false, inl, inr, is_some, List, map, nat_lt, Option, refl, Some, subst, suc}
+use Rattle.osi_watched.proofs.Vocabulary.{sym, true, zero, ℕ, ◌++◌, ◌<◌, ◌==◌, ◌∙◌, ◌∷◌, ◌≡◌, ◌⊎◌, eq-eqb, eqb-true, lt-ltb, AllByRecursion}
+use Rattle.osi_watched.proofs.Vocabulary.{slice_get, confirm, Connect, Value, written, Zero, Local, Carrier, is_open, is_refused}
+use Rattle.osi_watched.proofs.Vocabulary.{Traffic as State, Connection, AsSent, AsParts, CalledLaw, CallerLaw, Left, Right, AllProper}
+use Rattle.osi_watched.proofs.Vocabulary.{early, Life, stage_at, all_units_more, none_mark, Continues, Deeds, then_did, units_in, all_units}
+use Rattle.osi_watched.proofs.Vocabulary.{is_of_link, Marked, Turn, Joined, reference_of, unlike, IsFirm, Joint, TakesTurn, turns, IsOneOf}
 use Rattle.osi_fair.proofs.a_called_end_is_fair.{Stage}
-use Rattle.osi_fair.proofs.a_dt_of_class_zero_passes.{unlike}
-use Rattle.osi_fair.proofs.what_the_other_side_closes.{IsFirm}
 use Rattle.osi_honest.specs.Arriving.{AreApart}
-use Rattle.osi_honest.specs.Courses.{Continues, Course, Deeds, then_did, units_in}
-use Rattle.osi_honest.specs.Marked.{Marked, all_units, is_of_link}
-use Rattle.osi_honest.specs.Turns.{Turn}
-use Rattle.osi_honest.proofs.class_0.what_a_packet_does_in_class_0.{AllProper}
-use Rattle.osi_honest.proofs.courses.how_long_a_connection_is_open.{Life, early, stage_at}
-use Rattle.osi_honest.proofs.courses.units_of_each_connection.{all_units_more, none_mark}
-use Rattle.osi_tap.specs.Connections.{Joined, reference_of}
+use Rattle.osi_honest.specs.Courses.{Course}
 use Rattle.osi_tap.specs.Courses.{Course as Passed}
-use Rattle.osi_watched.specs.Joint.{Joint, TakesTurn, turns}
-use Rattle.osi_watched.specs.ShownPlaces.{IsOneOf}
+use Rattle.osi_fair.proofs.small_facts_that_many_lemmas_use.{differ, number_is}
+use Rattle.osi_watched.proofs.small_facts_that_many_lemmas_use.{all_front, none_first, none_some, same_item}
 use Rattle.osi_watched.proofs.steps_are_events.{IsFollowed, step_followed}
 use Rattle.osi_watched.proofs.what_is_put_is_what_is_written.{written_join}
 use Rattle.osi_watched.proofs.sessions.a_called_end_hears_what_comes_until_class_2.{IsNoCc, IsNone, StandsCalledEarly, known_one}
-use Rattle.osi_watched.proofs.sessions.a_called_end_hears_what_comes_until_class_2.{none_some}
 use Rattle.osi_watched.proofs.sessions.a_called_end_stands_in_class_0.{StandsInZero, WasOpen, answers_now, cc_not_dt, dts_of, first}
 use Rattle.osi_watched.proofs.sessions.a_called_end_stands_in_class_0.{not_early, open_before, open_so, opens_now, put_so, stage_of}
 use Rattle.osi_watched.proofs.sessions.a_dt_of_class_0_has_one_place.{IsOnly, both_named}
@@ -50,26 +30,13 @@ use Rattle.osi_watched.proofs.sessions.each_unit_of_a_calling_end_has_a_home.{Is
 use Rattle.osi_watched.proofs.sessions.no_connection_is_opened_before_a_class_is_selected.{UncalledUntil}
 use Rattle.osi_watched.proofs.sessions.steps_leave_all_standing.{step_turns}
 use Rattle.osi_watched.proofs.sessions.steps_of_either_class_leave_all_standing.{stand_none}
-use Rattle.osi_watched.proofs.sessions.what_a_turn_puts_goes_to_its_peer.{all_back, all_front, none_for, one_of}
+use Rattle.osi_watched.proofs.sessions.what_a_turn_puts_goes_to_its_peer.{all_back, none_for, one_of}
 use Rattle.osi_watched.proofs.sessions.what_a_turn_puts_waits.{Agree, marks_wait}
 use Rattle.osi_watched.proofs.sessions.what_an_end_takes_at_each_stage.{turn_takes}
 use Rattle.osi_watched.proofs.sessions.what_stands_of_a_connection.{is_for, waiting_for}
 use Rattle.osi_watched.proofs.sessions.what_the_stage_of_a_calling_end_says.{IsDt0}
 
 -- ---- small facts
-
-differ : {A : Type 0} (b : Bool) → b ≡ true → b ≡ false → A
-differ b h k = absurd (cc)
-
-none_first : (xs ys : List Value) → xs ++ ys ≡ [] → xs ≡ []
-none_first [] ys e = refl
-none_first (x ∷ xs) ys e = absurd (cc)
-
-same_item : (x y : Connection) → Some x ≡ Some y → x ≡ y
-same_item x y e = cc
-
-some_same : (m n : ℕ) → Some m ≡ Some n → m ≡ n
-some_same m n e = cc
 
 -- ---- a turn
 
@@ -210,7 +177,7 @@ module _ (local : Local) (proper : AllProper) (turn : Turn) (old new : Joint) (t
           let same : i ≡ only.place = eqb-true i only.place at in
           let is : c ≡ only.connection = same_item c only.connection (sym there ∙ ap (slice_get s.connections) same ∙ only.there) in
           let mine_too = one.mine j (ap (slice_get old.course.sessions.live) (sym (same ∙ only_is)) ∙ here) in
-          let is_r_too : r ≡ h.r = some_same r h.r (sym mine ∙ mine_too) in
+          let is_r_too : r ≡ h.r = number_is r h.r (sym mine ∙ mine_too) in
           let some : 0 < r = subst (λ (n : ℕ). 0 < n) (sym is_r_too) h.positive in
           on.own r some
           ∙ marks_wait r (reference_of Left j) on.put

@@ -1,30 +1,18 @@
 -- A unit that names a connection is joined at the place of the connection to which the other side gave this reference.
 -- For the law on places.
-use Rattle.std.proofs.Common.{◌≡◌, ◌∙◌, refl, sym, ap, subst, ℕ, Bool, true, false, if◌then◌else◌, Option, Some, None}
-use Rattle.std.specs.Prelude.{◌&&◌, ◌||◌, ◌==◌, not, position, slice_get}
-use Rattle.std.proofs.lemmas.Bool.{eqb-true}
-use Rattle.osi_tpdu.specs.Value.{Value, acknowledge, confirm, data0, data2, destination_of, disconnect, disconnected, error, request}
-use Rattle.osi_class.specs.declared.terms.Class.{Class}
-use Rattle.osi_class.specs.declared.terms.Class.TheVariants.{Two, Zero}
-use Rattle.osi_judge.specs.Captures.{other}
-use Rattle.osi_judge.specs.declared.directions.Direction.{Direction}
-use Rattle.osi_judge.specs.declared.directions.Direction.TheVariants.{Left, Right}
-use Rattle.osi_rules.specs.declared.connections.Connection.{Connection}
-use Rattle.osi_rules.specs.declared.directions.Direction.{Direction as Way}
+use Rattle.osi_watched.proofs.Vocabulary.{ap, Bool, false, if◌then◌else◌, None, not, Option, refl, Some, subst, sym, true, ℕ, ◌&&◌, ◌==◌}
+use Rattle.osi_watched.proofs.Vocabulary.{◌∙◌, ◌≡◌, eqb-true, position, slice_get, ◌||◌, acknowledge, confirm, data0, data2, destination_of}
+use Rattle.osi_watched.proofs.Vocabulary.{disconnect, disconnected, error, request, Value, Class, Two, Zero, is_named, is_over_by}
+use Rattle.osi_watched.proofs.Vocabulary.{is_refused, is_silent, at_found, at_place, class_for, is_stopped, none_told, route, route_in}
+use Rattle.osi_watched.proofs.Vocabulary.{routed, Traffic as State, takes, Connection, Way, Finding, NotJudged, Phase, Route, Named}
+use Rattle.osi_watched.proofs.Vocabulary.{Unnamed, other, Direction, Left, Right, Joined, reference_of, way_of, first_true, HaveSamePlaces}
+use Rattle.osi_watched.proofs.Vocabulary.{IsOneOf, named_by}
 use Rattle.osi_rules.specs.declared.directions.Direction.TheVariants as way
-use Rattle.osi_rules.specs.declared.findings.Finding.{Finding}
-use Rattle.osi_rules.specs.declared.findings.Finding.TheVariants.{NotJudged}
-use Rattle.osi_rules.specs.declared.halves.Phase.{Phase}
 use Rattle.osi_rules.specs.declared.halves.Phase.TheVariants as phase
-use Rattle.osi_rules.specs.declared.routes.Route.{Route}
-use Rattle.osi_rules.specs.declared.routes.Route.TheVariants.{Named, Unnamed}
-use Rattle.osi_rules.specs.Sides.{is_named, is_over_by, is_refused, is_silent}
-use Rattle.osi_rules.specs.Traffic.{State, at_found, at_place, class_for, is_stopped, none_told, route, route_in, routed, takes}
 use Rattle.osi_rules.specs.Sides as sides
-use Rattle.osi_fair.proofs.what_holds_of_one_item.{first_true}
-use Rattle.osi_tap.specs.Connections.{Joined, reference_of}
-use Rattle.osi_tap.specs.Courses.{Course, way_of}
-use Rattle.osi_watched.specs.ShownPlaces.{HaveSamePlaces, IsOneOf, named_by}
+use Rattle.osi_tap.specs.Courses.{Course}
+use Rattle.osi_fair.proofs.small_facts_that_many_lemmas_use.{number_is}
+use Rattle.osi_watched.proofs.small_facts_that_many_lemmas_use.{or_first}
 use Rattle.osi_watched.proofs.sessions.connections_have_the_same_places.{at_same}
 
 -- ---- how a unit with a reference is routed
@@ -33,66 +21,47 @@ data IsRouted (n : ℕ) (r : Route) : Type 0 where
   named : r ≡ Named n → IsRouted n r
   unnamed : (f : Finding) → r ≡ Unnamed f → IsRouted n r
 
-same_reference : (m n : ℕ) → Some m ≡ Some n → m ≡ n
-same_reference m n e = cc
-
 to_named : (m n : ℕ) → Some m ≡ Some n → IsRouted n (Named m)
-to_named m n e = named (ap (λ (i : ℕ). Named i) (same_reference m n e))
+to_named m n e = named (ap (λ (i : ℕ). Named i) (number_is m n e))
 
 how_routed : (k : Option Class) (d : Way) (b : Bool) (v : Value) (n : ℕ) → destination_of v ≡ Some n → IsRouted n (route_in k d b v)
-how_routed None way.Left b (confirm m c) n e = unnamed _ refl
-how_routed None way.Left b (disconnect m source reason user) n e = unnamed _ refl
 how_routed None way.Left b (disconnected m source) n e = to_named m n e
-how_routed None way.Left b (data2 m number end user) n e = unnamed _ refl
-how_routed None way.Left b (acknowledge credit m number) n e = unnamed _ refl
-how_routed None way.Left b (error m cause) n e = unnamed _ refl
 how_routed None way.Right b (confirm m c) n e = to_named m n e
 how_routed None way.Right b (disconnect m source reason user) n e = to_named m n e
 how_routed None way.Right b (disconnected m source) n e = to_named m n e
-how_routed None way.Right b (data2 m number end user) n e = unnamed _ refl
-how_routed None way.Right b (acknowledge credit m number) n e = unnamed _ refl
 how_routed None way.Right b (error m cause) n e = to_named m n e
-how_routed (Some Zero) way.Left b (confirm m c) n e = unnamed _ refl
-how_routed (Some Zero) way.Left b (disconnect m source reason user) n e = unnamed _ refl
-how_routed (Some Zero) way.Left b (disconnected m source) n e = to_named m n e
-how_routed (Some Zero) way.Left b (data2 m number end user) n e = unnamed _ refl
-how_routed (Some Zero) way.Left b (acknowledge credit m number) n e = unnamed _ refl
 how_routed (Some Zero) way.Left true (error m cause) n e = unnamed _ refl
 how_routed (Some Zero) way.Left false (error m cause) n e = unnamed _ refl
-how_routed (Some Zero) way.Right b (confirm m c) n e = unnamed _ refl
-how_routed (Some Zero) way.Right b (disconnect m source reason user) n e = unnamed _ refl
-how_routed (Some Zero) way.Right b (disconnected m source) n e = to_named m n e
-how_routed (Some Zero) way.Right b (data2 m number end user) n e = unnamed _ refl
-how_routed (Some Zero) way.Right b (acknowledge credit m number) n e = unnamed _ refl
 how_routed (Some Zero) way.Right true (error m cause) n e = unnamed _ refl
 how_routed (Some Zero) way.Right false (error m cause) n e = unnamed _ refl
 how_routed (Some Two) way.Left b (confirm m c) n e = to_named m n e
 how_routed (Some Two) way.Left b (disconnect m source reason user) n e = to_named m n e
-how_routed (Some Two) way.Left b (disconnected m source) n e = to_named m n e
+how_routed _ way.Left b (disconnected m source) n e = to_named m n e
 how_routed (Some Two) way.Left b (data2 m number end user) n e = to_named m n e
 how_routed (Some Two) way.Left b (acknowledge credit m number) n e = to_named m n e
 how_routed (Some Two) way.Left b (error m cause) n e = to_named m n e
 how_routed (Some Two) way.Right b (confirm m c) n e = to_named m n e
 how_routed (Some Two) way.Right b (disconnect m source reason user) n e = to_named m n e
-how_routed (Some Two) way.Right b (disconnected m source) n e = to_named m n e
+how_routed _ way.Right b (disconnected m source) n e = to_named m n e
 how_routed (Some Two) way.Right b (data2 m number end user) n e = to_named m n e
 how_routed (Some Two) way.Right b (acknowledge credit m number) n e = to_named m n e
 how_routed (Some Two) way.Right b (error m cause) n e = to_named m n e
 how_routed k d b (request c) n e = absurd (cc)
 how_routed k d b (data0 end user) n e = absurd (cc)
+how_routed None way.Left b _ n e = unnamed _ refl
+how_routed (Some Zero) way.Left b _ n e = unnamed _ refl
+how_routed (Some Zero) way.Right b _ n e = unnamed _ refl
+how_routed None way.Right b _ n e = unnamed _ refl
 
 -- ---- the place of a unit with a reference
 
 no_place : {A : Type 0} (i : ℕ) → None ≡ Some i → A
 no_place i e = absurd (cc)
 
-same_place : (p i : ℕ) → Some p ≡ Some i → p ≡ i
-same_place p i e = cc
-
 module _ (d : Way) (v : Value) (s : State) (n i : ℕ) (c : Connection) (there : slice_get s.connections i ≡ Some c) where
   at_found_there : (p : ℕ) (o : Option Connection) → slice_get s.connections p ≡ o → (at_found d v s p o).told.place ≡ Some i → p ≡ i
   at_found_there p None e h = no_place i h
-  at_found_there p (Some x) e h = same_place p i h
+  at_found_there p (Some x) e h = number_is p i h
 
   at_place_named : (o : Option ℕ) → position (is_named d n) s.connections ≡ o → (at_place d v s o).told.place ≡ Some i →
       is_named d n c ≡ true
@@ -125,20 +94,14 @@ three false true c h = absurd (cc)
 three false false true h = (refl, refl, refl)
 three false false false h = absurd (cc)
 
-or_first : (a b : Bool) → (a || b) ≡ false → a ≡ false
-or_first true b h = absurd (cc)
-or_first false b h = refl
-
 or_second : (a b : Bool) → (a || b) ≡ false → b ≡ false
 or_second true b h = absurd (cc)
 or_second false b h = h
 
 given_so : (p : Phase) (r n : ℕ) → is_silent p ≡ false → is_refused p ≡ false → r ≡ n → named_by p r ≡ Some n
 given_so phase.Silent r n h k e = absurd (cc)
-given_so phase.Open r n h k e = ap (λ (i : ℕ). Some i) e
 given_so phase.Refused r n h k e = absurd (cc)
-given_so phase.Closing r n h k e = ap (λ (i : ℕ). Some i) e
-given_so phase.Closed r n h k e = ap (λ (i : ℕ). Some i) e
+given_so _ r n h k e = ap (λ (i : ℕ). Some i) e
 
 judged_so : (j over silent same : Bool) → j ≡ true → (not (j && over) && (not silent && same)) ≡ true →
     (over ≡ false) × (silent ≡ false) × (same ≡ true)

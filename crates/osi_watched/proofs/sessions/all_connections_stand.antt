@@ -1,65 +1,36 @@
 -- All connections of an end of class 2 stand at a tap as packets begin and as units pass that are right.
 -- For the session of each connection of an end.
-use Rattle.std.proofs.Common.{◌≡◌, ◌∙◌, ◌⊎◌, inl, inr, refl, sym, ap, subst, ℕ, zero, suc, ◌^◌, ◌<◌, ◌≤◌, Bool, true, false, List, [], ◌∷◌}
-use Rattle.std.proofs.Common.{◌++◌, length, map, Option, Some, None, arith}
-use Rattle.std.specs.Prelude.{is_some, slice_get}
-use Rattle.std.proofs.lemmas.Bool.{eq-eqb}
-use Rattle.std.proofs.lemmas.Option.{slice_get_within}
-use Rattle.osi_tpdu.specs.Value.{Connect, Value, acknowledge, confirm, data0, data2, disconnect, disconnected, error, request}
-use Rattle.osi_class.specs.Runs.{unit_parts}
-use Rattle.osi_class.specs.Tsdus.{Part}
-use Rattle.osi_judge.specs.Captures.{other}
-use Rattle.osi_judge.specs.declared.directions.Direction.{Direction}
-use Rattle.osi_judge.specs.declared.directions.Direction.TheVariants.{Left, Right}
-use Rattle.osi_rules.specs.declared.connections.Connection.{Connection}
+use Rattle.osi_watched.proofs.Vocabulary.{[], ap, arith, Bool, false, inl, inr, is_some, length, List, map, None, Option, refl, Some, subst}
+use Rattle.osi_watched.proofs.Vocabulary.{suc, sym, true, zero, ℕ, ◌++◌, ◌<◌, ◌^◌, ◌∙◌, ◌∷◌, ◌≡◌, ◌≤◌, ◌⊎◌, eq-eqb, slice_get_within}
+use Rattle.osi_watched.proofs.Vocabulary.{slice_get, acknowledge, confirm, Connect, data0, data2, disconnect, disconnected, error, request}
+use Rattle.osi_watched.proofs.Vocabulary.{Value, unit_parts, Part, End, is_applied, begins, is_open, is_silent, own, asked_by}
+use Rattle.osi_watched.proofs.Vocabulary.{closing_phase, connection_after, found_on, half_after, judged_on, meaning_if, meant, sent_on}
+use Rattle.osi_watched.proofs.Vocabulary.{Traffic as State, takes, Connection, Reach, Half, other, Direction, Left, Right, Deeds}
+use Rattle.osi_watched.proofs.Vocabulary.{adds, all_begin, asked, Joined, reference_of, Sessions, shut, spoken, taken, way_of, heard, Room}
+use Rattle.osi_watched.proofs.Vocabulary.{All, passes_apart, AreJudged, still_judged, after_add, after_map, NamesApart as AreApart}
+use Rattle.osi_watched.proofs.Vocabulary.{after_change, packet, unit, calls_from, IsShownNow, HaveSamePlaces, IsOneOf}
 use Rattle.osi_rules.specs.declared.directions.Direction.TheVariants as way
-use Rattle.osi_rules.specs.declared.findings.Reach.{Reach}
 use Rattle.osi_rules.specs.declared.findings.Reach.TheVariants as reach
-use Rattle.osi_rules.specs.declared.halves.Half.{Half}
-use Rattle.osi_rules.specs.declared.halves.Phase.{Phase}
-use Rattle.osi_rules.specs.declared.halves.Phase.TheVariants as phase
-use Rattle.osi_rules.specs.Reaches.{is_applied}
-use Rattle.osi_rules.specs.Sides.{begins, is_open, is_silent, own}
-use Rattle.osi_rules.specs.Traffic.{State, asked_by, closing_phase, connection_after, found, found_on, half_after, judged_on}
-use Rattle.osi_rules.specs.Traffic.{meaning_if, meant}
-use Rattle.osi_rules.specs.Traffic.{sent_on, takes, uses_source}
 use Rattle.osi_rules.specs.Traffic as traffic
-use Rattle.osi_fair.specs.Naming.{packet, unit}
-use Rattle.osi_fair.proofs.a_reference_names_one_connection.{passes_apart}
-use Rattle.osi_fair.proofs.all_are_judged_unless_one_broke.{AreJudged, still_judged}
-use Rattle.osi_fair.proofs.what_holds_of_one_item.{after_add, after_map}
-use Rattle.osi_fair.proofs.what_keeps_names_apart.{AreApart}
-use Rattle.osi_fair.proofs.while_no_class_is_selected.{after_change}
-use Rattle.osi_stack.specs.State.{End}
-use Rattle.osi_honest.specs.Courses.{Course, Deeds}
-use Rattle.osi_tap.specs.declared.rooms.Room.{Room}
-use Rattle.osi_tap.specs.declared.rooms.Room.TheVariants.{All}
-use Rattle.osi_tap.specs.Connections.{Joined, Sessions, adds, all_begin, asked, opened, packet_begins, reference_of, shut, spoken}
-use Rattle.osi_tap.specs.Connections.{taken, user_of}
+use Rattle.osi_honest.specs.Courses.{Course}
+use Rattle.osi_tap.specs.Connections.{packet_begins}
 use Rattle.osi_tap.specs.Connections as joined
-use Rattle.osi_tap.specs.Courses.{way_of}
-use Rattle.osi_tap.specs.Lines.{heard}
-use Rattle.osi_watched.specs.Shown.{IsShownNow, calls_from}
-use Rattle.osi_watched.specs.ShownPlaces.{HaveSamePlaces, IsOneOf, named_by}
+use Rattle.osi_fair.proofs.small_facts_that_many_lemmas_use.{some_same}
 use Rattle.osi_watched.proofs.sessions.connections_have_the_same_places.{as_long, at_same, begun_same, unit_places}
 use Rattle.osi_watched.proofs.sessions.what_a_tap_shows_goes_on.{named_added}
 use Rattle.osi_watched.proofs.sessions.what_a_unit_does_at_its_place.{Does, asks_again, asks_more, nowhere, somewhere, unit_does}
 use Rattle.osi_watched.proofs.sessions.what_stands_of_a_connection.{IsLike, IsUnsaid, Known, Stands, is_next, lives, names_it, no_next}
-use Rattle.osi_watched.proofs.sessions.what_stands_of_a_connection.{past}
-use Rattle.osi_watched.proofs.sessions.what_stands_of_a_connection.{stands_begins, stands_none, stands_other_begins}
+use Rattle.osi_watched.proofs.sessions.what_stands_of_a_connection.{past, stands_begins, stands_none, stands_other_begins}
 use Rattle.osi_watched.proofs.sessions.what_stands_of_a_connection.{stands_other_none, stands_other_part, stands_part, unnamed, waiting_for}
+use Rattle.osi_watched.proofs.sessions.a_dt_of_class_0_has_one_place.{named_open}
 
 -- ---- what a unit leaves of the half of a side
 
 judged_own : (d : Direction) (r : Reach) (c : Connection) → own (way_of d) (judged_on r c) ≡ own (way_of d) c
 judged_own Left reach.Nothing c = refl
-judged_own Left reach.Connection c = refl
-judged_own Left reach.Side c = refl
-judged_own Left reach.Everything c = refl
+judged_own Left _ c = refl
 judged_own Right reach.Nothing c = refl
-judged_own Right reach.Connection c = refl
-judged_own Right reach.Side c = refl
-judged_own Right reach.Everything c = refl
+judged_own Right _ c = refl
 
 -- of this side, a unit of the other one leaves all
 pub other_after : (d : Direction) (v : Value) (b : Bool) (r : Reach) (c : Connection) →
@@ -69,24 +40,12 @@ other_after Left v true r c = judged_own Left r (sent_on way.Right v c) ∙ by v
   where
     by : (v : Value) → (sent_on way.Right v c).left ≡ c.left
     by (request x) = refl
-    by (confirm n x) = refl
-    by (disconnect n source reason user) = refl
-    by (disconnected n source) = refl
-    by (data0 end user) = refl
-    by (data2 n number end user) = refl
-    by (acknowledge credit n number) = refl
-    by (error n cause) = refl
+    by _ = refl
 other_after Right v true r c = judged_own Right r (sent_on way.Left v c) ∙ by v
   where
     by : (v : Value) → (sent_on way.Left v c).right ≡ c.right
     by (request x) = refl
-    by (confirm n x) = refl
-    by (disconnect n source reason user) = refl
-    by (disconnected n source) = refl
-    by (data0 end user) = refl
-    by (data2 n number end user) = refl
-    by (acknowledge credit n number) = refl
-    by (error n cause) = refl
+    by _ = refl
 
 -- of its own side, this is left
 pub own_after : (d : Direction) (v : Value) (r : Reach) (c : Connection) →
@@ -95,24 +54,12 @@ own_after Left v r c = judged_own Left r (sent_on way.Left v c) ∙ by v
   where
     by : (v : Value) → (sent_on way.Left v c).left ≡ half_after v c.left
     by (request x) = refl
-    by (confirm n x) = refl
-    by (disconnect n source reason user) = refl
-    by (disconnected n source) = refl
-    by (data0 end user) = refl
-    by (data2 n number end user) = refl
-    by (acknowledge credit n number) = refl
-    by (error n cause) = refl
+    by _ = refl
 own_after Right v r c = judged_own Right r (sent_on way.Right v c) ∙ by v
   where
     by : (v : Value) → (sent_on way.Right v c).right ≡ half_after v c.right
     by (request x) = refl
-    by (confirm n x) = refl
-    by (disconnect n source reason user) = refl
-    by (disconnected n source) = refl
-    by (data0 end user) = refl
-    by (data2 n number end user) = refl
-    by (acknowledge credit n number) = refl
-    by (error n cause) = refl
+    by _ = refl
 
 -- ---- a unit at its place that adds to no TSDU
 
@@ -132,21 +79,12 @@ abbrev pub IsPlain : Bool → Value → Type 0
 IsPlain b (data0 end user) = ⊥
 IsPlain b (data2 n number end user) = ⊥
 IsPlain b (confirm n x) = b ≡ false
-IsPlain b (request x) = Unit {0}
-IsPlain b (disconnect n source reason user) = Unit {0}
-IsPlain b (disconnected n source) = Unit {0}
-IsPlain b (acknowledge credit n number) = Unit {0}
-IsPlain b (error n cause) = Unit {0}
+IsPlain b _ = Unit {0}
 
 plain_parts : (b : Bool) (v : Value) → IsPlain b v → unit_parts v ≡ []
 plain_parts b (data0 end user) h = absurd h
 plain_parts b (data2 n number end user) h = absurd h
-plain_parts b (confirm n x) h = refl
-plain_parts b (request x) h = refl
-plain_parts b (disconnect n source reason user) h = refl
-plain_parts b (disconnected n source) h = refl
-plain_parts b (acknowledge credit n number) h = refl
-plain_parts b (error n cause) h = refl
+plain_parts b _ h = refl
 
 -- what is joined stays
 record Left_so (d : Direction) (j k : Joined) : Type 0 where
@@ -165,11 +103,9 @@ plain_left d e at false v j h = same_left d j
 plain_left d e at true (data0 end user) j h = absurd h
 plain_left d e at true (data2 n number end user) j h = absurd h
 plain_left d e at true (confirm n x) j h = absurd (cc)
-plain_left d e at true (request x) j h = same_left d j
 plain_left d e at true (disconnect n source reason user) j h = shut_left d j
-plain_left d e at true (disconnected n source) j h = same_left d j
-plain_left d e at true (acknowledge credit n number) j h = same_left d j
 plain_left d e at true (error n cause) j h = shut_left d j
+plain_left d e at true _ j h = same_left d j
 
 -- a side that has a connection open after it had it open before
 plain_open : (v : Value) (half : Half) → IsPlain true v → is_open (half_after v half).phase ≡ true → is_open half.phase ≡ true
@@ -220,13 +156,6 @@ stands_room d deeds known put b c j (unnamed none mine theirs room) = room
 stands_room d deeds known put b c j (lives r o is live later sure h) = h.room
 stands_room d deeds known put b c j (past r closed waiting later sure h) = h.room
 
-named_open : (p : Phase) (r : ℕ) → is_open p ≡ true → is_some (named_by p r) ≡ true
-named_open phase.Silent r h = absurd (cc)
-named_open phase.Open r h = refl
-named_open phase.Refused r h = absurd (cc)
-named_open phase.Closing r h = absurd (cc)
-named_open phase.Closed r h = absurd (cc)
-
 open_named : (d : Direction) (c : Connection) (j : Joined) → IsOneOf c j → is_open (own (way_of d) c).phase ≡ true →
     is_some (reference_of d j) ≡ true
 open_named Left c j one live = refl
@@ -263,13 +192,10 @@ other_part d deeds known then_known at n number end user put x r c j named grows
 
 -- ---- all connections
 
-same_item : {X : Type 0} (x y : X) → Some x ≡ Some y → y ≡ x
-same_item x y e = cc
-
 pub map_of : (f : Joined → Joined) (xs : List Joined) (i : ℕ) (y : Joined) → slice_get (map f xs) i ≡ Some y →
     (x : Joined) × (slice_get xs i ≡ Some x) × (y ≡ f x)
 map_of f [] i y h = absurd (cc)
-map_of f (z ∷ xs) zero y h = (z, refl, same_item (f z) y h)
+map_of f (z ∷ xs) zero y h = (z, refl, some_same (f z) y h)
 map_of f (z ∷ xs) (suc i) y h = map_of f xs i y h
 
 -- one whose place was given to another: nothing more passes there
@@ -368,7 +294,7 @@ pub one_at : (cs : List Connection) (js : List Joined) (i : ℕ) (c : Connection
     slice_get cs i ≡ Some c → slice_get js i ≡ Some j → IsOneOf c j
 one_at cs js i c j h there here =
     let (k, at, one) = at_same cs js i c h there in
-    subst (λ (x : Joined). IsOneOf c x) (sym (same_item k j (sym at ∙ here))) one
+    subst (λ (x : Joined). IsOneOf c x) (sym (some_same k j (sym at ∙ here))) one
 
 not_there : {A : Type 0} (js : List Joined) (i : ℕ) (j : Joined) → length js ≤ i → slice_get js i ≡ Some j → A
 not_there js i j far e = let near = slice_get_within js i j e in absurd (omega (arith, far, near))

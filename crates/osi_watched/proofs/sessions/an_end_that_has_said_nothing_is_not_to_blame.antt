@@ -1,30 +1,17 @@
 -- No session of an end is to blame that has sent no DT; and what passes keeps that so, unless it is a DT of the end.
 -- For the law that no session of an end is blamed first, if the end doesn't offer class 2 and class 0 is not selected.
-use Rattle.std.proofs.Common.{◌≡◌, ◌∙◌, ◌⊎◌, inl, inr, refl, sym, ap, subst, ℕ, Bool, true, false, List, [], ◌∷◌, length, map, Some}
-use Rattle.std.specs.Prelude.{slice_get}
-use Rattle.osi_tpdu.specs.Value.{Value, acknowledge, confirm, data0, data2, disconnect, disconnected, error, request}
-use Rattle.osi_class.specs.declared.terms.Local.{Local}
-use Rattle.osi_judge.specs.Captures.{other}
-use Rattle.osi_judge.specs.Stops.{broke_session}
-use Rattle.osi_judge.specs.Tapping.{begin_of}
-use Rattle.osi_judge.specs.declared.directions.Direction.{Direction}
-use Rattle.osi_judge.specs.declared.directions.Direction.TheVariants.{Left, Right}
+use Rattle.osi_watched.proofs.Vocabulary.{[], ap, Bool, false, inl, inr, length, List, map, refl, Some, subst, sym, true, ℕ, ◌∙◌, ◌∷◌, ◌≡◌}
+use Rattle.osi_watched.proofs.Vocabulary.{◌⊎◌, slice_get, confirm, data0, data2, disconnect, error, Value, Local, meaning_if, meant}
+use Rattle.osi_watched.proofs.Vocabulary.{Traffic as State, takes, other, broke_session, begin_of, Direction, Left, Right, AllProper, Deeds}
+use Rattle.osi_watched.proofs.Vocabulary.{IsToBlame, adds_if, all_begin, asked, Joined, Sessions, spoken, taken, unit_passes, units_pass}
+use Rattle.osi_watched.proofs.Vocabulary.{way_of, heard, told, told_of, fits, spent, Room, after_add, after_set, IsClear, begins_other}
+use Rattle.osi_watched.proofs.Vocabulary.{begins_own, Joint, passes_other, passes_own, Step, Steps, calls_from}
 use Rattle.osi_rules.specs.declared.findings.Meaning.TheVariants as meaning
-use Rattle.osi_rules.specs.Traffic.{State, meaning_if, meant, takes}
 use Rattle.osi_fair.specs.Wholes as wholes
-use Rattle.osi_fair.proofs.what_holds_of_one_item.{after_add, after_set}
-use Rattle.osi_fair.proofs.what_the_other_side_closes.{IsClear}
-use Rattle.osi_honest.specs.Courses.{Deeds}
-use Rattle.osi_honest.proofs.class_0.what_a_packet_does_in_class_0.{AllProper}
-use Rattle.osi_tap.specs.declared.rooms.Room.{Room}
-use Rattle.osi_tap.specs.Blaming.{IsToBlame}
-use Rattle.osi_tap.specs.Connections.{Joined, Sessions, adds_if, all_begin, asked, packet_begins, spoken, taken}
+use Rattle.osi_tap.specs.Connections.{packet_begins}
 use Rattle.osi_tap.specs.Connections as joined
-use Rattle.osi_tap.specs.Courses.{Course, unit_passes, units_pass, way_of}
-use Rattle.osi_tap.specs.Lines.{Said, heard, told, told_of}
-use Rattle.osi_tap.specs.Rooms.{fits, spent}
-use Rattle.osi_watched.specs.Joint.{Joint, Step, Steps, begins_other, begins_own, passes_other, passes_own}
-use Rattle.osi_watched.specs.Shown.{calls_from}
+use Rattle.osi_tap.specs.Courses.{Course}
+use Rattle.osi_tap.specs.Lines.{Said}
 use Rattle.osi_watched.proofs.steps_are_events.{IsFollowed, begin_followed, step_followed}
 use Rattle.osi_watched.proofs.sessions.a_session_that_is_shown_is_not_to_blame.{none_broken, not_both}
 use Rattle.osi_watched.proofs.sessions.after_too_many_nobody_is_to_blame.{NoneIsToBlame}
@@ -97,14 +84,12 @@ differ e = cc
 said_meant : (d e : Direction) (at : ℕ) (v : Value) (b : Bool) (j : Joined) → (e ≡ d → is_part v ≡ false) →
     (spoken d (joined.meant e at v (meaning_if b (meant v)) j)).said ≡ (spoken d j).said
 said_meant d e at v false j not = refl
-said_meant d e at (request x) true j not = refl
 said_meant d e at (confirm n x) true j not = said_opened d e at (confirm n x) j
 said_meant d e at (disconnect n source reason user) true j not = said_shut d j
-said_meant d e at (disconnected n source) true j not = refl
 said_meant d e at (data0 end user) true j not = said_part d e at end user j (λ same. differ (not same))
 said_meant d e at (data2 n number end user) true j not = said_part d e at end user j (λ same. differ (not same))
-said_meant d e at (acknowledge credit n number) true j not = refl
 said_meant d e at (error n cause) true j not = said_shut d j
+said_meant d e at _ true j not = refl
 
 said_asked : (d : Direction) (number calling : ℕ) (room : Room) → (spoken d (asked number calling room)).said ≡ []
 said_asked Left number calling room = refl

@@ -1,41 +1,24 @@
 -- A CR and a CC leave all connections of an end standing at a tap: those of the end, and those of the other side.
 -- For the session of each connection of an end.
-use Rattle.std.proofs.Common.{◌≡◌, ◌∙◌, refl, sym, ap, subst, ℕ, ◌≤◌, Bool, true, false, List, [], ◌∷◌, ◌++◌, length, map, Option, Some}
-use Rattle.std.proofs.Common.{None, arith}
-use Rattle.std.specs.Prelude.{◌&&◌, is_none, nat_le, not, slice_get}
-use Rattle.std.specs.List.{AllByRecursion}
-use Rattle.std.proofs.lemmas.List.{append-nil}
-use Rattle.osi_tpdu.specs.Value.{Connect, Value, acknowledge, confirm, data0, data2, disconnect, disconnected, error, request}
-use Rattle.osi_class.specs.Runs.{parts_in}
-use Rattle.osi_class.specs.Tsdus.{Part}
-use Rattle.osi_class.specs.declared.terms.Class.{Class}
-use Rattle.osi_judge.specs.Captures.{other}
-use Rattle.osi_judge.specs.declared.directions.Direction.{Direction}
-use Rattle.osi_judge.specs.declared.directions.Direction.TheVariants.{Left, Right}
-use Rattle.osi_rules.specs.declared.connections.Connection.{Connection}
+use Rattle.osi_watched.proofs.Vocabulary.{[], ap, arith, Bool, false, length, List, map, None, not, Option, refl, Some, subst, sym, true, ℕ}
+use Rattle.osi_watched.proofs.Vocabulary.{◌&&◌, ◌++◌, ◌∙◌, ◌∷◌, ◌≡◌, ◌≤◌, append-nil, AllByRecursion, is_none, nat_le, slice_get, confirm}
+use Rattle.osi_watched.proofs.Vocabulary.{Connect, request, Value, parts_in, Part, Class, is_applied, code_named, is_inside, is_offered}
+use Rattle.osi_watched.proofs.Vocabulary.{is_open, is_silent, asked_by, connection_after, found, found_on, meaning_if, meant}
+use Rattle.osi_watched.proofs.Vocabulary.{Traffic as State, takes, uses_source, Connection, Reach, Half, other, Direction, Left, Right}
+use Rattle.osi_watched.proofs.Vocabulary.{Deeds, said_in, asked, Joined, opened, reference_of, Sessions, spoken, begun_octets, heard}
+use Rattle.osi_watched.proofs.Vocabulary.{octets_of, Spoken, All, applied_found, picked_first, picked_rest, all_before, AreAfter}
+use Rattle.osi_watched.proofs.Vocabulary.{before_begun, before_of, IsJoinedFrom, IsShownNow, IsOneOf}
 use Rattle.osi_rules.specs.declared.directions.Direction.TheVariants as way
-use Rattle.osi_rules.specs.declared.findings.Reach.{Reach}
-use Rattle.osi_rules.specs.declared.halves.Half.{Half}
-use Rattle.osi_rules.specs.Reaches.{is_applied}
-use Rattle.osi_rules.specs.Rows.{code_named, is_inside, is_offered}
-use Rattle.osi_rules.specs.Sides.{is_open, is_silent}
-use Rattle.osi_rules.specs.Traffic.{State, asked_by, connection_after, found, found_on, meaning_if, meant, takes, uses_source}
-use Rattle.osi_fair.proofs.a_reference_names_one_connection.{applied_found}
-use Rattle.osi_fair.proofs.which_units_are_for_a_connection.{picked_first, picked_rest}
-use Rattle.osi_honest.specs.Courses.{Deeds, said_in}
-use Rattle.osi_tap.specs.declared.rooms.Room.TheVariants.{All}
-use Rattle.osi_tap.specs.Connections.{Joined, Sessions, asked, class_of, opened, reference_of, spoken}
+use Rattle.osi_tap.specs.Connections.{class_of}
 use Rattle.osi_tap.specs.Connections as joined
-use Rattle.osi_tap.specs.Lines.{Said, Spoken, begun_octets, heard, octets_of}
-use Rattle.osi_watched.specs.Shown.{AreAfter, IsJoinedFrom, IsShownNow, all_before, before_begun, before_of}
-use Rattle.osi_watched.specs.ShownPlaces.{IsOneOf}
-use Rattle.osi_watched.proofs.sessions.all_connections_stand.{AllStand, Leaves, like_same, other_after, other_plain, own_after}
-use Rattle.osi_watched.proofs.sessions.all_connections_stand.{own_plain}
+use Rattle.osi_tap.specs.Lines.{Said}
+use Rattle.osi_watched.proofs.small_facts_that_many_lemmas_use.{not_some}
+use Rattle.osi_fair.proofs.small_facts_that_many_lemmas_use.{and_false, no_list}
+use Rattle.osi_watched.proofs.sessions.all_connections_stand.{AllStand, Leaves, like_same, other_after, other_plain, own_after, own_plain}
 use Rattle.osi_watched.proofs.sessions.connections_have_the_same_places.{first_answer, none_given}
 use Rattle.osi_watched.proofs.sessions.right_units_leave_all_standing.{rests_on}
 use Rattle.osi_watched.proofs.sessions.what_stands_of_a_connection.{IsLike, IsUnsaid, Known, Stands, is_for, is_next, is_part, like_shown}
-use Rattle.osi_watched.proofs.sessions.what_stands_of_a_connection.{lives}
-use Rattle.osi_watched.proofs.sessions.what_stands_of_a_connection.{no_next, past, stands_elsewhere, stands_other_none, unnamed}
+use Rattle.osi_watched.proofs.sessions.what_stands_of_a_connection.{lives, no_next, past, stands_elsewhere, stands_other_none, unnamed}
 use Rattle.osi_watched.proofs.sessions.what_stands_of_a_connection.{waiting_for}
 
 -- ---- a connection at its beginning
@@ -78,13 +61,7 @@ starts_shown d r deeds waiting j named mine theirs room put none = record {
 -- as long as the other side gave no reference, nothing is for the connection
 for_none : (v : Value) → is_for None v ≡ false
 for_none (request x) = refl
-for_none (confirm n x) = refl
-for_none (disconnect n source reason user) = refl
-for_none (disconnected n source) = refl
-for_none (data0 end user) = refl
-for_none (data2 n number end user) = refl
-for_none (acknowledge credit n number) = refl
-for_none (error n cause) = refl
+for_none _ = refl
 
 pub none_for : (put : List Value) → waiting_for None put ≡ []
 none_for [] = refl
@@ -143,9 +120,6 @@ other_cr deeds known then_known at x put b s t stays = record {
 
 -- ---- a CC
 
-not_some : {A : Type 0} (o : Option ℕ) (n : ℕ) → o ≡ Some n → o ≡ None → A
-not_some o n h e = absurd (cc)
-
 -- it is the first answer: right had given no reference
 unanswered : (s : State) (n : ℕ) (x : Connect) (c : Connection) (j : Joined) → IsOneOf c j →
     is_applied (found_on way.Right s c (confirm n x)) ≡ true → j.called ≡ None
@@ -192,21 +166,14 @@ own_cc deeds known at n x rest s t put none sure a = record {
     by false p c j r is place at_j one h = own_plain Right deeds known at (confirm n x) rest false true r c j refl h
     by true p c j r is place at_j one h = opens p c j r place at_j (unanswered s n x c j one is) h
 
-and_not : (b : Bool) → (b && false) ≡ false
-and_not true = refl
-and_not false = refl
-
-no_list : (v : Value) (vs : List Value) → v ∷ vs ≡ [] → ⊥
-no_list v vs e = cc
-
 -- of no unit that waits none is the next
 next_none : (o : Option ℕ) (b : Bool) (put : List Value) → waiting_for o put ≡ [] → is_next o b put ≡ false
-next_none o b [] none = and_not b
+next_none o b [] none = and_false b
 next_none o b (v ∷ put) none = by (is_for o v) refl
   where
     by : (x : Bool) → is_for o v ≡ x → is_next o b (v ∷ put) ≡ false
     by true e = absurd (no_list v (waiting_for o put) (sym (picked_first (is_for o) v put e) ∙ none))
-    by false e = ap (λ (x : Bool). b && (x && is_part v)) e ∙ and_not b
+    by false e = ap (λ (x : Bool). b && (x && is_part v)) e ∙ and_false b
 
 like_opened : (called : ℕ) (class : Class) (j : Joined) → IsLike Left j (opened called class j)
 like_opened called class j = record { own_is = refl; theirs = refl; named = refl; room = refl }

@@ -1,34 +1,23 @@
 -- Each CC that a called end has put and that has not passed gives a reference above those of all connections that a tap has seen. So the
 -- CC that passes gives a new one.
 -- For all connections of an end and a tap.
-use Rattle.std.proofs.Common.{◌≡◌, refl, sym, subst, ℕ, ◌+◌, ◌<◌, ◌≤◌, Bool, true, false, if◌then◌else◌, List, [], ◌∷◌, ◌++◌}
-use Rattle.std.proofs.Common.{Option, Some, None, Result, Ok, Err, arith, is_some}
-use Rattle.std.specs.List.{AllByRecursion}
-use Rattle.osi_tpdu.specs.Value.{Connect, Value, acknowledge, confirm, data0, data2, disconnect, disconnected, error, request}
-use Rattle.osi_class.specs.Giving.{all_given}
-use Rattle.osi_class.specs.Link.{Standing, taken, with_tsdu}
-use Rattle.osi_class.specs.Negotiation.{Selection, accept, refuse, selected_by}
-use Rattle.osi_class.specs.declared.faults.LinkFault.{LinkFault}
-use Rattle.osi_class.specs.declared.terms.Class.{Class}
-use Rattle.osi_class.specs.declared.terms.Class.TheVariants.{Two, Zero}
-use Rattle.osi_carrier.specs.Calls.{open_link, sent}
-use Rattle.osi_carrier.specs.React.{answers, answers_request, before_class, denies, handed_out, has_peer, in_class, in_two, is_full}
-use Rattle.osi_carrier.specs.React.{react_by}
+use Rattle.osi_watched.proofs.Vocabulary.{[], arith, Bool, Err, false, if◌then◌else◌, is_some, List, None, Ok, Option, refl, Result, Some}
+use Rattle.osi_watched.proofs.Vocabulary.{subst, sym, true, ℕ, ◌++◌, ◌+◌, ◌<◌, ◌∷◌, ◌≡◌, ◌≤◌, AllByRecursion, acknowledge, confirm, Connect}
+use Rattle.osi_watched.proofs.Vocabulary.{data0, data2, disconnect, disconnected, error, request, Value, all_given, Standing, with_tsdu}
+use Rattle.osi_watched.proofs.Vocabulary.{accept, refuse, selected_by, Selection, LinkFault, Class, Two, Zero, open_link, sent}
+use Rattle.osi_watched.proofs.Vocabulary.{answers_request, before_class, denies, handed_out, has_peer, in_class, in_two, is_full, react_by}
+use Rattle.osi_watched.proofs.Vocabulary.{Rows, value_at, connects, sends, sends_all, user_does, UserCall, Live, linked, Carrier}
+use Rattle.osi_watched.proofs.Vocabulary.{unit_gives, AreAbove, all_gives, closed_gives, ended_gives, not_less, sent_gives, above_more}
+use Rattle.osi_watched.proofs.Vocabulary.{units_no_cc, put_at, put_before, put_by, put_closed, put_closing, put_for, put_for_request}
+use Rattle.osi_watched.proofs.Vocabulary.{put_for_selection, put_in, put_in_two, put_in_zero, put_leaving, put_linked, put_only, put_sent}
+use Rattle.osi_watched.proofs.Vocabulary.{put_taking, put_together, put_unknown, refusal, Event, HappenAlong, Happens, Whole}
+use Rattle.osi_class.specs.Link.{taken}
+use Rattle.osi_carrier.specs.React.{answers}
 unfoldable use Rattle.osi_carrier.specs.React.{react}
-use Rattle.osi_carrier.specs.Rows.{Rows, value_at}
-use Rattle.osi_carrier.specs.Runs.{UserCall, breaks, closes, connects, sends, sends_all, user_does}
-use Rattle.osi_carrier.specs.State.{Connection as Live, State as Carrier, asked, closing, linked}
+use Rattle.osi_carrier.specs.Runs.{breaks, closes}
 use Rattle.osi_rules.specs.declared.directions.Direction.TheVariants as way
-use Rattle.osi_fair.specs.Putting.{put_at, put_before, put_by, put_closed, put_closing, put_for, put_for_request, put_for_selection}
-use Rattle.osi_fair.specs.Putting.{put_in, put_in_two, put_in_zero, put_leaving, put_linked, put_only, put_sent, put_taking}
-use Rattle.osi_fair.specs.Putting.{put_together, put_unknown, refusal}
-use Rattle.osi_fair.specs.Wholes.{Event, HappenAlong, Happens, Whole}
 use Rattle.osi_fair.specs.Wholes as wholes
-use Rattle.osi_fair.proofs.a_request_of_a_whole_end_is_new.{unit_gives}
-use Rattle.osi_fair.proofs.each_connection_of_a_called_end.{AreAbove}
-use Rattle.osi_fair.proofs.references_of_requests_rise.{all_gives, closed_gives, ended_gives, not_less, sent_gives}
-use Rattle.osi_fair.proofs.what_a_called_end_does_to_its_lines.{above_more}
-use Rattle.osi_fair.proofs.what_becomes_of_a_called_end.{IsNoCc, units_no_cc}
+use Rattle.osi_fair.proofs.each_connection_has_its_line.{IsNoCc}
 
 -- ---- which CCs are put
 
@@ -40,42 +29,26 @@ no_ccs_join [] ys a b = b
 no_ccs_join (x ∷ xs) ys a b = (a.0, no_ccs_join xs ys a.1 b)
 
 for_unknown : (unit : Value) → NoCcs (put_unknown unit)
-for_unknown (request c) = tt
-for_unknown (confirm destination c) = tt
 for_unknown (disconnect destination source reason user) = (λ m x e. cc e, tt)
-for_unknown (disconnected destination source) = tt
-for_unknown (data0 end user) = tt
-for_unknown (data2 destination number end user) = tt
-for_unknown (acknowledge credit destination number) = tt
-for_unknown (error destination cause) = tt
+for_unknown _ = tt
 
 for_taking : (r peer : ℕ) (result : Result Standing LinkFault) (held : Option Class) → NoCcs (put_taking r peer result held)
 for_taking r peer (Ok link) held = units_no_cc peer (all_given (handed_out link))
-for_taking r peer (Err fault) None = tt
-for_taking r peer (Err fault) (Some Zero) = tt
 for_taking r peer (Err fault) (Some Two) = (λ m x e. cc e, tt)
+for_taking r peer (Err fault) _ = tt
 
 for_leaving : (r peer : ℕ) (held : Option Class) → NoCcs (put_leaving r peer held)
-for_leaving r peer None = tt
-for_leaving r peer (Some Zero) = tt
 for_leaving r peer (Some Two) = (λ m x e. cc e, tt)
+for_leaving r peer _ = tt
 
 for_linked : (r peer : ℕ) (link : Standing) (unit : Value) (held : Option Class) → NoCcs (put_linked r peer link unit held)
-for_linked r peer link (request c) held = for_taking r peer (taken link (request c)) held
-for_linked r peer link (confirm destination c) held = for_taking r peer (taken link (confirm destination c)) held
 for_linked r peer link (disconnect destination source reason user) held = for_leaving r peer held
-for_linked r peer link (disconnected destination source) held = for_taking r peer (taken link (disconnected destination source)) held
-for_linked r peer link (data0 end user) held = for_taking r peer (taken link (data0 end user)) held
-for_linked r peer link (data2 destination number end user) held = for_taking r peer (taken link (data2 destination number end user)) held
-for_linked r peer link (acknowledge credit destination number) held =
-    for_taking r peer (taken link (acknowledge credit destination number)) held
-for_linked r peer link (error destination cause) held = for_taking r peer (taken link (error destination cause)) held
+for_linked r peer link v held = for_taking r peer (taken link v) held
 
 for_connection : (r : ℕ) (o : Option Live) (unit : Value) (held : Option Class) → NoCcs (put_at r o unit held)
 for_connection r None unit held = for_unknown unit
-for_connection r (Some asked) unit held = tt
 for_connection r (Some (linked peer link)) unit held = for_linked r peer link unit held
-for_connection r (Some (closing peer)) unit held = tt
+for_connection r _ unit held = tt
 
 -- none, or one with the next reference
 data Puts (s new : Carrier) (units : List Value) : Type 0 where
@@ -104,25 +77,15 @@ for_request : (c : Connect) (s : Carrier) → Puts s (answers_request c s) (put_
 for_request c s = by_room c (has_peer c.source s.live) (is_full s) s
 
 before : (is_caller : Bool) (unit : Value) (s : Carrier) → Puts s (before_class is_caller unit s) (put_before is_caller unit s)
-before true (request c) s = puts_none tt
 before true (confirm destination c) s =
     puts_none (for_connection destination (value_at destination s.live) (confirm destination c) s.class)
 before true (disconnect destination source reason user) s =
     puts_none (for_connection destination (value_at destination s.live) (disconnect destination source reason user) s.class)
-before true (disconnected destination source) s = puts_none tt
-before true (data0 end user) s = puts_none tt
-before true (data2 destination number end user) s = puts_none tt
-before true (acknowledge credit destination number) s = puts_none tt
 before true (error destination cause) s =
     puts_none (for_connection destination (value_at destination s.live) (error destination cause) s.class)
+before true _ s = puts_none tt
 before false (request c) s = for_request c s
-before false (confirm destination c) s = puts_none tt
-before false (disconnect destination source reason user) s = puts_none tt
-before false (disconnected destination source) s = puts_none tt
-before false (data0 end user) s = puts_none tt
-before false (data2 destination number end user) s = puts_none tt
-before false (acknowledge credit destination number) s = puts_none tt
-before false (error destination cause) s = puts_none tt
+before false _ s = puts_none tt
 
 only : (live : Rows Live) (unit : Value) (s : Carrier) → NoCcs (put_only live unit s)
 only [] unit s = tt
@@ -131,13 +94,7 @@ only ((r, connection) ∷ rows) unit s = for_connection r (Some connection) unit
 in_class_zero : (is_caller : Bool) (unit : Value) (s : Carrier) → NoCcs (put_in_zero is_caller unit s)
 in_class_zero false unit s = only s.live unit s
 in_class_zero true (request c) s = tt
-in_class_zero true (confirm destination c) s = only s.live (confirm destination c) s
-in_class_zero true (disconnect destination source reason user) s = only s.live (disconnect destination source reason user) s
-in_class_zero true (disconnected destination source) s = only s.live (disconnected destination source) s
-in_class_zero true (data0 end user) s = only s.live (data0 end user) s
-in_class_zero true (data2 destination number end user) s = only s.live (data2 destination number end user) s
-in_class_zero true (acknowledge credit destination number) s = only s.live (acknowledge credit destination number) s
-in_class_zero true (error destination cause) s = only s.live (error destination cause) s
+in_class_zero true v s = only s.live v s
 
 -- a unit that is no CR
 in_class_two : (is_caller : Bool) (unit : Value) (s : Carrier) → ((c : Connect) → unit ≡ request c → ⊥) →
@@ -174,13 +131,7 @@ two_by : (is_caller : Bool) (unit : Value) (s : Carrier) → Puts s (in_two is_c
 two_by true (request c) s = puts_none tt
 two_by false (request c) s = for_request c s
 two_by b (confirm destination c) s = puts_none (in_class_two b (confirm destination c) s (λ x e. cc e))
-two_by b (disconnect destination source reason user) s =
-    puts_none (in_class_two b (disconnect destination source reason user) s (λ x e. cc e))
-two_by b (disconnected destination source) s = puts_none (in_class_two b (disconnected destination source) s (λ x e. cc e))
-two_by b (data0 end user) s = puts_none (in_class_two b (data0 end user) s (λ x e. cc e))
-two_by b (data2 destination number end user) s = puts_none (in_class_two b (data2 destination number end user) s (λ x e. cc e))
-two_by b (acknowledge credit destination number) s = puts_none (in_class_two b (acknowledge credit destination number) s (λ x e. cc e))
-two_by b (error destination cause) s = puts_none (in_class_two b (error destination cause) s (λ x e. cc e))
+two_by b v s = puts_none (in_class_two b v s (λ x e. cc e))
 
 by_class : (held : Option Class) (unit : Value) (s : Carrier) → Puts s (in_class held unit s) (put_in held unit s)
 by_class None unit s = before s.is_caller unit s
@@ -207,9 +158,8 @@ for_together r (tsdu ∷ tsdus) s =
     (for_together r tsdus (sent r tsdu s))
 
 for_closed : (r reason peer : ℕ) (held : Option Class) → NoCcs (put_closed r reason peer held)
-for_closed r reason peer None = (λ m x e. cc e, tt)
 for_closed r reason peer (Some Zero) = tt
-for_closed r reason peer (Some Two) = (λ m x e. cc e, tt)
+for_closed r reason peer _ = (λ m x e. cc e, tt)
 
 for_closing : (r reason : ℕ) (o : Option (ℕ × Standing)) (held : Option Class) → NoCcs (put_closing r reason o held)
 for_closing r reason None held = tt
@@ -287,12 +237,7 @@ module _ (b : ℕ) where
   passes_one : (given : ℕ) (v : Value) (put : List Value) → AreAbove given b (v ∷ put) → AreAbove given b put
   passes_one given (request x) put h = h
   passes_one given (confirm destination x) put (above, h) = above_lower given b x.source put (omega arith) h
-  passes_one given (disconnect destination source reason user) put h = h
-  passes_one given (disconnected destination source) put h = h
-  passes_one given (data0 end user) put h = h
-  passes_one given (data2 destination number end user) put h = h
-  passes_one given (acknowledge credit destination number) put h = h
-  passes_one given (error destination cause) put h = h
+  passes_one given _ put h = h
 
   above_happens : (event : Event) (old new : Whole) → Happens way.Right event old new → AreAboveAt b old → AreAboveAt b new
   above_happens wholes.arrives old new (unit, coming, is) a =

@@ -1,48 +1,26 @@
 -- Until class 2 is selected, one connection at most is not over for left; so in class 0 one was opened, and each other one was refused.
 -- For the session of the connection of an end in class 0.
-use Rattle.std.proofs.Common.{◌≡◌, ◌∙◌, ◌⊎◌, inl, inr, refl, sym, ap, subst, ℕ, zero, suc, Bool, true, false, if◌then◌else◌}
-use Rattle.std.proofs.Common.{List, [], ◌∷◌, set, Option, Some, None, is_some}
-use Rattle.std.specs.Prelude.{◌&&◌, ◌||◌, ◌==◌, not, option_map, position, slice_get}
-use Rattle.std.specs.List.{list_all}
-use Rattle.std.proofs.lemmas.Bool.{eqb-true}
-use Rattle.std.proofs.lemmas.Option.{slice_get-map}
-use Rattle.osi_tpdu.specs.Value.{Connect, Value, acknowledge, confirm, data0, data2, disconnect, disconnected, error, request}
-use Rattle.osi_class.specs.declared.terms.Class.{Class}
-use Rattle.osi_class.specs.declared.terms.Class.TheVariants.{Two, Zero}
-use Rattle.osi_rules.specs.declared.connections.Connection.{Connection}
-use Rattle.osi_rules.specs.declared.courses.Course.{Course as Rules}
-use Rattle.osi_rules.specs.declared.directions.Direction.{Direction}
+use Rattle.osi_watched.proofs.Vocabulary.{[], ap, Bool, false, if◌then◌else◌, inl, inr, is_some, List, None, not, Option, option_map, refl}
+use Rattle.osi_watched.proofs.Vocabulary.{set, Some, subst, suc, sym, true, zero, ℕ, ◌&&◌, ◌==◌, ◌∙◌, ◌∷◌, ◌≡◌, ◌⊎◌, eqb-true}
+use Rattle.osi_watched.proofs.Vocabulary.{slice_get-map, list_all, position, slice_get, ◌||◌, confirm, Connect, data0, disconnect}
+use Rattle.osi_watched.proofs.Vocabulary.{disconnected, error, request, Value, Class, Two, Zero, is_applied, reach_of, first_failed, is_due}
+use Rattle.osi_watched.proofs.Vocabulary.{begins, is_closed, is_closing, is_free, is_live, is_named, is_open, is_over, is_over_by}
+use Rattle.osi_watched.proofs.Vocabulary.{is_refused, is_silent, seen, asked_by, asks_by, asks_kept, at_found, at_place, class_for}
+use Rattle.osi_watched.proofs.Vocabulary.{closing_phase, connection_after, course_after, course_after_none, course_begins, found, found_on}
+use Rattle.osi_watched.proofs.Vocabulary.{fresh, half_after, is_stopped, judged_on, none_told, refused_reach, request_tests, route}
+use Rattle.osi_watched.proofs.Vocabulary.{route_in, routed, sent_on, Traffic as State, takes, unnamed, unnamed_told, uses_source}
+use Rattle.osi_watched.proofs.Vocabulary.{Connection, Rules, Way as Direction, Finding, Broke, Kept, NotJudged, Reach, Half, Phase, Route}
+use Rattle.osi_watched.proofs.Vocabulary.{unlike, applied_found, applied_judged, no_item, not_first, not_true, AreJudged, reached_class}
+use Rattle.osi_watched.proofs.Vocabulary.{begun_live, each_add, each_map, each_set, first_true, HoldsOfEach, one_added, one_changed}
+use Rattle.osi_watched.proofs.Vocabulary.{one_mapped, one_put, passes_each, NamesApart as AreApart, Sound, lasts_passing, set_there}
+use Rattle.osi_watched.proofs.Vocabulary.{HoldsOfOne, packet, passes, Passing, rubbish, unit}
 use Rattle.osi_rules.specs.declared.directions.Direction.TheVariants.{Left, Right}
-use Rattle.osi_rules.specs.declared.findings.Finding.{Finding}
-use Rattle.osi_rules.specs.declared.findings.Finding.TheVariants.{Broke, Kept, NotJudged, Outside, TooMany}
-use Rattle.osi_rules.specs.declared.findings.Reach.{Reach}
 use Rattle.osi_rules.specs.declared.findings.Reach.TheVariants as reach
 use Rattle.osi_rules.specs.declared.findings.Rule.TheVariants as rule
-use Rattle.osi_rules.specs.declared.halves.Half.{Half}
-use Rattle.osi_rules.specs.declared.halves.Phase.{Phase}
 use Rattle.osi_rules.specs.declared.halves.Phase.TheVariants as phase
-use Rattle.osi_rules.specs.declared.routes.Route.{Route}
-use Rattle.osi_rules.specs.Reaches.{is_applied, reach_of}
-use Rattle.osi_rules.specs.Rows.{first_failed, is_due}
-use Rattle.osi_rules.specs.Sides.{begins, is_closed, is_closing, is_free, is_live, is_named, is_open, is_over, is_over_by, is_refused}
-use Rattle.osi_rules.specs.Sides.{is_silent, seen}
-use Rattle.osi_rules.specs.Traffic.{State, asked_by, asks_by, asks_kept, at_found, at_place, class_for, closing_phase, connection_after}
-use Rattle.osi_rules.specs.Traffic.{course_after, course_after_none, course_begins, found, found_on, fresh, half_after, is_stopped}
-use Rattle.osi_rules.specs.Traffic.{judged_on}
-use Rattle.osi_rules.specs.Traffic.{none_told, reached, refused_reach, request_tests, route, route_in, routed, sent_on}
-use Rattle.osi_rules.specs.Traffic.{takes, unnamed, unnamed_told, uses_source}
-use Rattle.osi_fair.specs.Naming.{HoldsOfOne, Passing, packet, passes, rubbish, unit}
-use Rattle.osi_fair.proofs.a_reference_names_one_connection.{applied_found, applied_judged, differ, no_item, not_first, not_true}
-use Rattle.osi_fair.proofs.a_dt_of_class_zero_passes.{unlike}
-use Rattle.osi_fair.proofs.all_are_judged_unless_one_broke.{AreJudged}
-use Rattle.osi_fair.proofs.class_0_stays_selected.{reached_class}
-use Rattle.osi_fair.proofs.one_request_waits.{begun_live}
-use Rattle.osi_fair.proofs.what_holds_of_one_item.{HoldsOfEach, each_add, each_map, each_set, first_true, one_added, one_changed}
-use Rattle.osi_fair.proofs.what_holds_of_one_item.{one_mapped, one_put}
-use Rattle.osi_fair.proofs.what_is_right_passes_each_test.{passes_each}
-use Rattle.osi_fair.proofs.what_keeps_names_apart.{AreApart, Sound}
-use Rattle.osi_fair.proofs.what_lasts_at_the_tap.{lasts_passing}
-use Rattle.osi_fair.proofs.while_no_class_is_selected.{set_there}
+use Rattle.osi_rules.specs.Traffic.{reached}
+use Rattle.osi_watched.proofs.small_facts_that_many_lemmas_use.{same_item}
+use Rattle.osi_fair.proofs.small_facts_that_many_lemmas_use.{begun_left, begun_right, differ}
 use Rattle.osi_watched.proofs.sessions.a_dt_of_class_0_has_one_place.{IsOnly, open_not_refused}
 
 -- ---- what holds until class 2 is selected
@@ -76,14 +54,9 @@ NarrowIf s = (s.course.class ≡ Some Two → ⊥) → Narrow s
 over_so : (j : Bool) (p k : Phase) → is_open p ≡ true →
     (j && (is_refused p || (is_refused k || (is_closed p || (is_closing p && (is_closing k || is_closed k)))))) ≡ true → is_refused k ≡ true
 over_so true phase.Open phase.Refused h e = refl
-over_so true phase.Open phase.Silent h e = absurd (cc)
-over_so true phase.Open phase.Open h e = absurd (cc)
-over_so true phase.Open phase.Closing h e = absurd (cc)
-over_so true phase.Open phase.Closed h e = absurd (cc)
+over_so true phase.Open _ h e = absurd (cc)
 over_so true phase.Silent k h e = absurd (cc)
-over_so true phase.Refused k h e = absurd (cc)
-over_so true phase.Closing k h e = absurd (cc)
-over_so true phase.Closed k h e = absurd (cc)
+over_so true _ k h e = absurd (cc)
 over_so false p k h e = absurd (cc)
 
 both_first : (a b : Bool) → (a && b) ≡ true → a ≡ true
@@ -136,42 +109,24 @@ narrow_only s apart judged firm n class =
 
 pub reached_seen : (d : Direction) (r : Reach) (c : Rules) → (reached d r c).class_seen ≡ c.class_seen
 reached_seen d reach.Nothing c = refl
-reached_seen d reach.Connection c = refl
 reached_seen Left reach.Side c = refl
 reached_seen Right reach.Side c = refl
-reached_seen d reach.Everything c = refl
+reached_seen d _ c = refl
 
 pub none_same : (v : Value) (c : Rules) → ((course_after_none v c).class ≡ c.class) × ((course_after_none v c).class_seen ≡ c.class_seen)
 none_same (request x) c = (refl, refl)
-none_same (confirm destination x) c = (refl, refl)
-none_same (disconnect destination source reason user) c = (refl, refl)
-none_same (disconnected destination source) c = (refl, refl)
-none_same (data0 end user) c = (refl, refl)
-none_same (data2 destination number end user) c = (refl, refl)
-none_same (acknowledge credit destination number) c = (refl, refl)
-none_same (error destination cause) c = (refl, refl)
+none_same _ c = (refl, refl)
 
 pub after_seen : (d : Direction) (c : Connection) (v : Value) (x : Bool) (course : Rules) →
     (course_after d c v x course).class_seen ≡ course.class_seen
 after_seen d c (confirm destination y) true course = refl
 after_seen d c (confirm destination y) false course = refl
 after_seen d c (disconnect destination source reason user) x course = refl
-after_seen d c (request y) x course = refl
-after_seen d c (disconnected destination source) x course = refl
-after_seen d c (data0 end user) x course = refl
-after_seen d c (data2 destination number end user) x course = refl
-after_seen d c (acknowledge credit destination number) x course = refl
-after_seen d c (error destination cause) x course = refl
+after_seen d c _ x course = refl
 
 after_false : (d : Direction) (c : Connection) (v : Value) (course : Rules) → (course_after d c v false course).class ≡ course.class
 after_false d c (confirm destination y) course = refl
-after_false d c (disconnect destination source reason user) course = refl
-after_false d c (request y) course = refl
-after_false d c (disconnected destination source) course = refl
-after_false d c (data0 end user) course = refl
-after_false d c (data2 destination number end user) course = refl
-after_false d c (acknowledge credit destination number) course = refl
-after_false d c (error destination cause) course = refl
+after_false d c _ course = refl
 
 with_course : (s : State) (c : Rules) → c.class ≡ s.course.class → c.class_seen ≡ s.course.class_seen → Narrow s →
     Narrow (record s { course = c })
@@ -203,9 +158,6 @@ set_other (z ∷ cs) zero zero x h = absurd (h refl)
 set_other (z ∷ cs) zero (suc q) x h = refl
 set_other (z ∷ cs) (suc p) zero x h = refl
 set_other (z ∷ cs) (suc p) (suc q) x h = set_other cs p q x (λ e. h (ap suc e))
-
-same_item : (c e : Connection) → Some c ≡ Some e → c ≡ e
-same_item c e h = cc
 
 -- for left only what was not over before is not over after it
 abbrev WasLive : Connection → Connection → Type 0
@@ -257,9 +209,6 @@ module _ (s : State) (p : ℕ) (c new : Connection) (course : Rules) (there : sl
 -- ---- a unit for a connection
 
 judged_fits : (s : State) (course : Rules) (c new : Connection) (r : Reach) → Fits s course c new → Fits s course c (judged_on r new)
-judged_fits s course c new reach.Nothing f = f
-judged_fits s course c new reach.Side f = f
-judged_fits s course c new reach.Everything f = f
 judged_fits s course c new reach.Connection f = record {
   up = f.up;
   answers = f.answers;
@@ -267,6 +216,7 @@ judged_fits s course c new reach.Connection f = record {
   none = f.none;
   zero = f.zero;
 }
+judged_fits s course c new _ f = f
 
 -- which units may be for a connection: a DR of right, while no class is selected
 abbrev IsRefusal : Direction → State → Type 0
@@ -275,13 +225,7 @@ IsRefusal Right s = s.course.class ≡ None
 
 abbrev MayBe : Value → Direction → State → Type 0
 MayBe (disconnect destination source reason user) d s = IsRefusal d s
-MayBe (request x) d s = Unit {0}
-MayBe (confirm destination x) d s = Unit {0}
-MayBe (disconnected destination source) d s = Unit {0}
-MayBe (data0 end user) d s = Unit {0}
-MayBe (data2 destination number end user) d s = Unit {0}
-MayBe (acknowledge credit destination number) d s = Unit {0}
-MayBe (error destination cause) d s = Unit {0}
+MayBe _ d s = Unit {0}
 
 one_test : (b : Bool) → is_applied (first_failed ((b, Broke rule.Closed) ∷ [])) ≡ true → b ≡ true
 one_test true h = refl
@@ -304,24 +248,15 @@ due_closing false b c h = absurd (cc)
 
 open_silent : (p : Phase) → is_open p ≡ true → is_silent p ≡ true → ⊥
 open_silent phase.Silent h k = cc
-open_silent phase.Open h k = cc
-open_silent phase.Refused h k = cc
-open_silent phase.Closing h k = cc
-open_silent phase.Closed h k = cc
+open_silent _ h k = cc
 
 open_closing : (p : Phase) → is_open p ≡ true → is_closing p ≡ true → ⊥
 open_closing phase.Silent h k = cc
-open_closing phase.Open h k = cc
-open_closing phase.Refused h k = cc
-open_closing phase.Closing h k = cc
-open_closing phase.Closed h k = cc
+open_closing _ h k = cc
 
 silent_closed : (p : Phase) → is_silent p ≡ true → is_open p ≡ false
-silent_closed phase.Silent h = refl
 silent_closed phase.Open h = absurd (cc)
-silent_closed phase.Refused h = refl
-silent_closed phase.Closing h = refl
-silent_closed phase.Closed h = refl
+silent_closed _ h = refl
 
 or_not : (a b : Bool) → (a || b) ≡ true → b ≡ false → a ≡ true
 or_not true b h k = refl
@@ -350,11 +285,9 @@ module _ (s : State) (c : Connection) (in_use : Bool) (up : is_open c.left.phase
       let due = due_test (is_due Left c source) s.course.strays h in
       let closing = due_closing (is_open c.left.phase) (is_closing c.seen_by_left.phase) (source == c.left.reference) due in
       differ (is_closing c.right.phase) (sound.left_knows.closing closing) answers.closing
-  left_fits (data0 end user) may live h = left_same (half_after (data0 end user) c.left) refl live
-  left_fits (data2 destination number end user) may live h = left_same (half_after (data2 destination number end user) c.left) refl live
-  left_fits (acknowledge credit destination number) may live h =
-      left_same (half_after (acknowledge credit destination number) c.left) refl live
   left_fits (error destination cause) may live h = absurd (open_silent c.left.phase up (form_test (is_silent c.left.phase) h))
+  left_fits v may live h =
+      left_same (half_after v c.left) refl live
 
   -- ---- of right
 
@@ -405,12 +338,10 @@ module _ (s : State) (c : Connection) (in_use : Bool) (up : is_open c.left.phase
       let due = due_test (is_due Right c source) s.course.strays h in
       let closing = due_closing (is_open c.right.phase) (is_closing c.seen_by_right.phase) (source == c.right.reference) due in
       absurd (open_closing c.left.phase up (sound.right_knows.closing closing))
-  right_fits (data0 end user) may h = right_same (half_after (data0 end user) c.right) refl
-  right_fits (data2 destination number end user) may h = right_same (half_after (data2 destination number end user) c.right) refl
-  right_fits (acknowledge credit destination number) may h = right_same (half_after (acknowledge credit destination number) c.right) refl
   right_fits (error destination cause) may h =
       right_refuses (half_after (error destination cause) c.right) refl
       (silent_closed c.right.phase (form_test (is_silent c.right.phase) h))
+  right_fits v may h = right_same (half_after v c.right) refl
 
   both_fits : (d : Direction) (v : Value) → MayBe v d s → is_over d c ≡ false → is_applied (found d s.course in_use c v) ≡ true →
       Fits s (course_after d c v true s.course) c (sent_on d v c)
@@ -540,10 +471,7 @@ asks_narrow Kept x s e apart n unknown =
     let t = passes_each (request_tests s x) refl e in
     kept_narrow x s apart n unknown (unknown_all s.course.class_seen (list_all (is_over Left) s.connections) unknown t.0)
     (position is_free s.connections)
-asks_narrow (Broke rule) x s e apart n unknown = none_narrow Left (Broke rule) s n
-asks_narrow Outside x s e apart n unknown = none_narrow Left Outside s n
-asks_narrow TooMany x s e apart n unknown = none_narrow Left TooMany s n
-asks_narrow NotJudged x s e apart n unknown = none_narrow Left NotJudged s n
+asks_narrow v x s e apart n unknown = none_narrow Left v s n
 
 -- ---- a unit passes
 
@@ -552,46 +480,32 @@ module _ (s : State) (apart : AreApart s.connections) (n : Narrow s) where
   left_routed (Some Two) b v e = absurd (n.known e)
   left_routed None b (request x) e = asks_narrow (first_failed (request_tests s x)) x s refl apart n e
   left_routed None b (disconnected destination source) e = named_narrow Left (disconnected destination source) s apart n tt destination
-  left_routed None b (confirm destination x) e = none_narrow Left (Broke rule.UnexpectedUnit) s n
-  left_routed None b (disconnect destination source reason user) e = none_narrow Left (Broke rule.UnexpectedUnit) s n
-  left_routed None b (data0 end user) e = none_narrow Left (Broke rule.UnexpectedUnit) s n
-  left_routed None b (data2 destination number end user) e = none_narrow Left (Broke rule.UnexpectedUnit) s n
-  left_routed None b (acknowledge credit destination number) e = none_narrow Left (Broke rule.UnexpectedUnit) s n
-  left_routed None b (error destination cause) e = none_narrow Left (Broke rule.UnexpectedUnit) s n
+  left_routed None b _ e = none_narrow Left (Broke rule.UnexpectedUnit) s n
   left_routed (Some Zero) b (request x) e = none_narrow Left (Broke rule.OneConnection) s n
   left_routed (Some Zero) b (data0 end user) e = only_narrow Left (data0 end user) s apart n tt
   left_routed (Some Zero) b (disconnected destination source) e =
       named_narrow Left (disconnected destination source) s apart n tt destination
   left_routed (Some Zero) true (error destination cause) e = none_narrow Left Kept s n
   left_routed (Some Zero) false (error destination cause) e = none_narrow Left (Broke rule.WrongForm) s n
-  left_routed (Some Zero) b (confirm destination x) e = none_narrow Left (Broke rule.WrongForm) s n
-  left_routed (Some Zero) b (disconnect destination source reason user) e = none_narrow Left (Broke rule.WrongForm) s n
-  left_routed (Some Zero) b (data2 destination number end user) e = none_narrow Left (Broke rule.WrongForm) s n
-  left_routed (Some Zero) b (acknowledge credit destination number) e = none_narrow Left (Broke rule.WrongForm) s n
+  left_routed (Some Zero) b _ e = none_narrow Left (Broke rule.WrongForm) s n
 
   right_routed : (k : Option Class) (b : Bool) (v : Value) → s.course.class ≡ k → (k ≡ Some Two → ⊥) →
       Narrow (routed Right v s (route_in k Right b v)).state
   right_routed (Some Two) b v e not_two = absurd (not_two refl)
-  right_routed None b (request x) e not_two = none_narrow Right (Broke rule.UnexpectedUnit) s n
   right_routed None b (confirm destination x) e not_two = named_narrow Right (confirm destination x) s apart n tt destination
   right_routed None b (disconnect destination source reason user) e not_two =
       named_narrow Right (disconnect destination source reason user) s apart n e destination
   right_routed None b (disconnected destination source) e not_two =
       named_narrow Right (disconnected destination source) s apart n tt destination
-  right_routed None b (data0 end user) e not_two = none_narrow Right (Broke rule.UnexpectedUnit) s n
-  right_routed None b (data2 destination number end user) e not_two = none_narrow Right (Broke rule.UnexpectedUnit) s n
-  right_routed None b (acknowledge credit destination number) e not_two = none_narrow Right (Broke rule.UnexpectedUnit) s n
   right_routed None b (error destination cause) e not_two = named_narrow Right (error destination cause) s apart n tt destination
+  right_routed None b _ e not_two = none_narrow Right (Broke rule.UnexpectedUnit) s n
   right_routed (Some Zero) b (request x) e not_two = none_narrow Right (Broke rule.UnexpectedUnit) s n
   right_routed (Some Zero) b (data0 end user) e not_two = only_narrow Right (data0 end user) s apart n tt
   right_routed (Some Zero) b (disconnected destination source) e not_two =
       named_narrow Right (disconnected destination source) s apart n tt destination
   right_routed (Some Zero) true (error destination cause) e not_two = none_narrow Right Kept s n
   right_routed (Some Zero) false (error destination cause) e not_two = none_narrow Right (Broke rule.WrongForm) s n
-  right_routed (Some Zero) b (confirm destination x) e not_two = none_narrow Right (Broke rule.WrongForm) s n
-  right_routed (Some Zero) b (disconnect destination source reason user) e not_two = none_narrow Right (Broke rule.WrongForm) s n
-  right_routed (Some Zero) b (data2 destination number end user) e not_two = none_narrow Right (Broke rule.WrongForm) s n
-  right_routed (Some Zero) b (acknowledge credit destination number) e not_two = none_narrow Right (Broke rule.WrongForm) s n
+  right_routed (Some Zero) b _ e not_two = none_narrow Right (Broke rule.WrongForm) s n
 
   goes_narrow : (b : Bool) (d : Direction) (v : Value) (r : Route) → Narrow (routed d v s r).state →
       Narrow (if b then none_told d NotJudged s else routed d v s r).state
@@ -607,14 +521,6 @@ module _ (s : State) (apart : AreApart s.connections) (n : Narrow s) where
       (right_routed s.course.class (is_stopped Left s.course) v refl not_two)
 
 -- ---- a packet begins
-
-begun_left : (d : Direction) (c : Connection) → (begins d c).left ≡ c.left
-begun_left Left c = refl
-begun_left Right c = refl
-
-begun_right : (d : Direction) (c : Connection) → (begins d c).right ≡ c.right
-begun_right Left c = refl
-begun_right Right c = refl
 
 begun_judged : (d : Direction) (c : Connection) → (begins d c).is_judged ≡ true → c.is_judged ≡ true
 begun_judged Left c j = j

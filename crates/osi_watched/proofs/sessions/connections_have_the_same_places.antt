@@ -1,58 +1,34 @@
 -- A unit leaves each connection at one place for the rules of transport and for what is joined of it; and a DT that is right is
 -- joined at the place that the rules tell.
 -- For the law on places.
-use Rattle.std.proofs.Common.{◌≡◌, ◌∙◌, refl, sym, ap, subst, ℕ, zero, suc, Bool, true, false, if◌then◌else◌, is_some}
-use Rattle.std.proofs.Common.{List, [], ◌∷◌, ◌++◌, length, map, set, Option, Some, None, arith}
-use Rattle.std.specs.Prelude.{◌&&◌, ◌||◌, nat_le, not, position, slice_get}
-use Rattle.std.proofs.lemmas.Option.{slice_get_past}
-use Rattle.osi_tpdu.specs.Value.{Value, Connect, request, confirm, disconnect, disconnected, data0, data2, acknowledge, error}
-use Rattle.osi_judge.specs.Captures.{Capture}
-use Rattle.osi_judge.specs.declared.directions.Direction.{Direction}
-use Rattle.osi_judge.specs.declared.directions.Direction.TheVariants.{Left, Right}
-use Rattle.osi_rules.specs.declared.connections.Connection.{Connection}
-use Rattle.osi_rules.specs.declared.courses.Course.{Course as Rules}
+use Rattle.osi_watched.proofs.Vocabulary.{[], ap, arith, Bool, false, if◌then◌else◌, is_some, length, List, map, None, not, Option, refl}
+use Rattle.osi_watched.proofs.Vocabulary.{set, Some, subst, suc, sym, true, zero, ℕ, ◌++◌, ◌∙◌, ◌∷◌, ◌≡◌, slice_get_past, nat_le, position}
+use Rattle.osi_watched.proofs.Vocabulary.{slice_get, ◌||◌, offset_of, acknowledge, confirm, Connect, data0, data2, disconnect, disconnected}
+use Rattle.osi_watched.proofs.Vocabulary.{error, request, Value, is_applied, reach_of, code_named, first_failed, is_due, is_inside}
+use Rattle.osi_watched.proofs.Vocabulary.{is_offered, begins, is_free, is_live, is_named, is_open, is_refused, is_silent, asked_by, asks_by}
+use Rattle.osi_watched.proofs.Vocabulary.{asks_kept, asks_of, at_found, at_place, class_for, closing_phase, connection_after, found}
+use Rattle.osi_watched.proofs.Vocabulary.{found_on, half_after, is_stopped, judged_on, meaning_if, meant, none_told, Outcome, request_tests}
+use Rattle.osi_watched.proofs.Vocabulary.{route, routed, sent_on, Traffic as State, takes, uses_source, Connection, Rules, Finding, Reach}
+use Rattle.osi_watched.proofs.Vocabulary.{Told, Half, Phase, Route, Asks, Named, Only, Unnamed, Capture, Direction, Left, Right, adds}
+use Rattle.osi_watched.proofs.Vocabulary.{adds_if, asked, changed, count, Joined, placed, Sessions, shut, source_of, taken, taken_at}
+use Rattle.osi_watched.proofs.Vocabulary.{user_of, cause_of, changes, first_marked, halts, marked, marks_of, moved, noted_by, reached}
+use Rattle.osi_watched.proofs.Vocabulary.{unit_passes, units_pass, unread, unread_mark, unread_moment, way_of, fits, spent, comes_to, Cause}
+use Rattle.osi_watched.proofs.Vocabulary.{Mark, Marks, Room, applied_found, first_there, HasAsked, HaveSamePlaces, IsOneOf, named_by}
 use Rattle.osi_rules.specs.declared.directions.Direction.TheVariants as way
-use Rattle.osi_rules.specs.declared.findings.Finding.{Finding}
 use Rattle.osi_rules.specs.declared.findings.Finding.TheVariants as finding
 use Rattle.osi_rules.specs.declared.findings.Meaning.TheVariants as meaning
-use Rattle.osi_rules.specs.declared.findings.Reach.{Reach}
 use Rattle.osi_rules.specs.declared.findings.Reach.TheVariants as reach
 use Rattle.osi_rules.specs.declared.findings.Rule.TheVariants as rule
-use Rattle.osi_rules.specs.declared.findings.Told.{Told}
-use Rattle.osi_rules.specs.declared.halves.Half.{Half}
-use Rattle.osi_rules.specs.declared.halves.Phase.{Phase}
 use Rattle.osi_rules.specs.declared.halves.Phase.TheVariants as phase
-use Rattle.osi_rules.specs.declared.routes.Route.{Route}
-use Rattle.osi_rules.specs.declared.routes.Route.TheVariants.{Asks, Named, Only, Unnamed}
-use Rattle.osi_rules.specs.Reaches.{is_applied, reach_of}
-use Rattle.osi_rules.specs.Rows.{code_named, first_failed, is_due, is_inside, is_offered}
-use Rattle.osi_rules.specs.Sides.{begins, is_free, is_live, is_named, is_open, is_refused, is_silent}
-use Rattle.osi_rules.specs.Traffic.{Outcome, State, asked_by, asks_by, asks_kept, asks_of, at_found, at_place, class_for, closing_phase}
-use Rattle.osi_rules.specs.Traffic.{connection_after, found, found_on, half_after, is_stopped, judged_on, meaning_if, meant, none_told}
-use Rattle.osi_rules.specs.Traffic.{one_told, request_tests, route, routed, sent_on, takes, uses_source}
 use Rattle.osi_rules.specs.Traffic as traffic
-use Rattle.osi_fair.proofs.a_reference_names_one_connection.{applied_found}
-use Rattle.osi_fair.proofs.a_right_unit_is_not_blamed.{first_there}
-use Rattle.osi_tap.specs.declared.marks.Cause.{Cause}
-use Rattle.osi_tap.specs.declared.marks.Mark.{Mark}
-use Rattle.osi_tap.specs.declared.marks.Marks.{Marks}
-use Rattle.osi_tap.specs.declared.rooms.Room.{Room}
-use Rattle.osi_tap.specs.Connections.{Joined, Sessions, adds, adds_all, adds_if, all_begin, asked, asked_at, changed, count, opened, placed}
-use Rattle.osi_tap.specs.Connections.{shut, source_of, taken, taken_at, user_of}
 use Rattle.osi_tap.specs.Connections as joined
-use Rattle.osi_tap.specs.Courses.{Course, breaks, cause_of, changes, first_marked, halts, marked, marks_of, moved, noted_by}
-use Rattle.osi_tap.specs.Courses.{packet_begins, reached, unit_passes, units_pass, unread, unread_mark}
-use Rattle.osi_tap.specs.Courses.{unread_moment, way_of}
-use Rattle.osi_tap.specs.Rooms.{fits, spent}
-use Rattle.osi_tap.specs.Tapping.{begin, comes_to}
-use Rattle.osi_tpkt.specs.Stream.{offset_of}
-use Rattle.osi_watched.specs.ShownPlaces.{HasAsked, HaveSamePlaces, IsOneOf, named_by}
+use Rattle.osi_tap.specs.Courses.{Course, breaks, packet_begins}
+use Rattle.osi_tap.specs.Tapping.{begin}
+use Rattle.osi_watched.proofs.small_facts_that_many_lemmas_use.{not_some, or_first, same_one}
+use Rattle.osi_fair.proofs.small_facts_that_many_lemmas_use.{and_first, closing_same, differ}
 use Rattle.osi_watched.proofs.what_passes_keeps_a_claim.{IsClaim, after_kept}
 
 -- ---- lists of the same length
-
-same_one : {X : Type 0} (x y : X) → Some x ≡ Some y → x ≡ y
-same_one x y e = cc
 
 pub at_same : (cs : List Connection) (js : List Joined) (i : ℕ) (c : Connection) → HaveSamePlaces cs js → slice_get cs i ≡ Some c →
     (j : Joined) × (slice_get js i ≡ Some j) × IsOneOf c j
@@ -123,10 +99,8 @@ like_one c e j k left asks right known seen calling called h = record {
 }
 
 judged_one : (r : Reach) (c : Connection) (j : Joined) → IsOneOf c j → IsOneOf (judged_on r c) j
-judged_one reach.Nothing c j h = h
 judged_one reach.Connection c j h = like_one c (record c { is_judged = false }) j j refl h.asks refl refl refl refl refl h
-judged_one reach.Side c j h = h
-judged_one reach.Everything c j h = h
+judged_one _ c j h = h
 
 -- what a DT adds changes no reference
 if_one : (b : Bool) (room : Room) (d : Direction) (at : ℕ) (end : Bool) (octets : List ℕ) (c : Connection) (j : Joined) → IsOneOf c j →
@@ -158,50 +132,24 @@ due_test true strays h = refl
 due_test false true h = cc
 due_test false false h = cc
 
-and_first : (a b : Bool) → (a && b) ≡ true → a ≡ true
-and_first true b h = refl
-and_first false b h = cc
-
 closed_so : (half : Half) (p : Phase) → half.phase ≡ p → (is_silent p || is_open p) ≡ true →
     Stays half (closing_phase (is_silent p) half)
 closed_so half phase.Silent e h = ap (λ (p : Phase). named_by p half.reference) (sym e)
 closed_so half phase.Open e h = ap (λ (p : Phase). named_by p half.reference) (sym e)
-closed_so half phase.Refused e h = absurd (cc)
-closed_so half phase.Closing e h = absurd (cc)
-closed_so half phase.Closed e h = absurd (cc)
+closed_so half _ e h = absurd (cc)
 
 answered_so : (half : Half) (p : Phase) → half.phase ≡ p → is_open p ≡ true → Stays half (record half { phase = phase.Closed })
-answered_so half phase.Silent e h = absurd (cc)
 answered_so half phase.Open e h = ap (λ (p : Phase). named_by p half.reference) (sym e)
-answered_so half phase.Refused e h = absurd (cc)
-answered_so half phase.Closing e h = absurd (cc)
-answered_so half phase.Closed e h = absurd (cc)
+answered_so half _ e h = absurd (cc)
 
 refused_so : (half : Half) (p : Phase) → half.phase ≡ p → is_silent p ≡ true → Stays half (record half { phase = phase.Refused })
 refused_so half phase.Silent e h = ap (λ (p : Phase). named_by p half.reference) (sym e)
-refused_so half phase.Open e h = absurd (cc)
-refused_so half phase.Refused e h = absurd (cc)
-refused_so half phase.Closing e h = absurd (cc)
-refused_so half phase.Closed e h = absurd (cc)
+refused_so half _ e h = absurd (cc)
 
 -- left has asked for it: it stays neither silent nor refused
 closing_asked : (half : Half) (p : Phase) → half.phase ≡ p → HasAsked half → HasAsked (closing_phase (is_silent p) half)
 closing_asked half phase.Silent e h = absurd (cc)
-closing_asked half phase.Open e h = refl
-closing_asked half phase.Refused e h = refl
-closing_asked half phase.Closing e h = refl
-closing_asked half phase.Closed e h = refl
-
-or_first : (a b : Bool) → (a || b) ≡ false → a ≡ false
-or_first true b h = absurd (cc)
-or_first false b h = refl
-
-differ : {A : Type 0} (b : Bool) → b ≡ true → b ≡ false → A
-differ b h k = absurd (cc)
-
-closing_reference : (b : Bool) (half : Half) → (closing_phase b half).reference ≡ half.reference
-closing_reference true half = refl
-closing_reference false half = refl
+closing_asked half _ e h = refl
 
 -- a CC is the first answer
 pub first_answer : (a b i u z : Bool) →
@@ -212,13 +160,7 @@ first_answer true b i u z h = refl
 
 pub none_given : (p : Phase) (r : ℕ) → is_silent p ≡ true → named_by p r ≡ None
 none_given phase.Silent r h = refl
-none_given phase.Open r h = absurd (cc)
-none_given phase.Refused r h = absurd (cc)
-none_given phase.Closing r h = absurd (cc)
-none_given phase.Closed r h = absurd (cc)
-
-not_some : {A : Type 0} (o : Option ℕ) (n : ℕ) → o ≡ Some n → o ≡ None → A
-not_some o n h e = absurd (cc)
+none_given _ r h = absurd (cc)
 
 module _ (course : Rules) (in_use : Bool) (at : ℕ) (c : Connection) (j : Joined) (h : IsOneOf c j) where
   left_half : (half : Half) (k : Joined) → half.reference ≡ c.left.reference → HasAsked half → k.calling ≡ j.calling →
@@ -231,10 +173,8 @@ module _ (course : Rules) (in_use : Bool) (at : ℕ) (c : Connection) (j : Joine
 
   left_one : (v : Value) → is_applied (found way.Left course in_use c v) ≡ true →
       IsOneOf (sent_on way.Left v c) (joined.meant Left at v (meant v) j)
-  left_one (request x) k = absurd (cc)
-  left_one (confirm destination x) k = absurd (cc)
   left_one (disconnect destination source reason user) k =
-      left_half (half_after (disconnect destination source reason user) c.left) (shut j) (closing_reference (is_silent c.left.phase) c.left)
+      left_half (half_after (disconnect destination source reason user) c.left) (shut j) (closing_same (is_silent c.left.phase) c.left)
       (closing_asked c.left c.left.phase refl h.asks) refl refl
   left_one (disconnected destination source) k = left_half (half_after (disconnected destination source) c.left) j refl refl refl refl
   left_one (data0 end user) k =
@@ -248,6 +188,7 @@ module _ (course : Rules) (in_use : Bool) (at : ℕ) (c : Connection) (j : Joine
   left_one (error destination cause) k =
       differ (is_silent c.left.phase) (form_test (is_silent c.left.phase) k) (or_first (is_silent c.left.phase)
       (is_refused c.left.phase) h.asks)
+  left_one _ k = absurd (cc)
 
   right_one : (v : Value) → is_applied (found way.Right course in_use c v) ≡ true →
       IsOneOf (sent_on way.Right v c) (joined.meant Right at v (meant v) j)
@@ -292,13 +233,7 @@ pub not_asked : (d : Direction) (at : ℕ) (v : Value) (b : Bool) (i : ℕ) (s :
     taken_at d at v (meaning_if b (meant v)) i s ≡ changed i (joined.meant d at v (meaning_if b (meant v))) s (slice_get s.live i)
 not_asked d at v false i s = refl
 not_asked d at (request x) true i s = refl
-not_asked d at (confirm destination x) true i s = refl
-not_asked d at (disconnect destination source reason user) true i s = refl
-not_asked d at (disconnected destination source) true i s = refl
-not_asked d at (data0 end user) true i s = refl
-not_asked d at (data2 destination number end user) true i s = refl
-not_asked d at (acknowledge credit destination number) true i s = refl
-not_asked d at (error destination cause) true i s = refl
+not_asked d at _ true i s = refl
 
 -- the connections after a unit of which this is told
 abbrev pub Places : Direction → (at : ℕ) → Value → Outcome → Sessions → Type 0
@@ -361,21 +296,12 @@ module _ (d : Direction) (at : ℕ) (v : Value) (s : State) (t : Sessions) (h : 
 
   asks_same : (f : Finding) (c : Connect) → v ≡ request c → Places d at v (asks_by (way_of d) f c s) t
   asks_same finding.Kept c is = placed_same c (position is_free s.connections) refl is
-  asks_same (finding.Broke rule) c is = h
-  asks_same finding.Outside c is = h
-  asks_same finding.TooMany c is = h
-  asks_same finding.NotJudged c is = h
+  asks_same _ c is = h
 
 asks_places : (d : Direction) (at : ℕ) (v : Value) (s : State) (t : Sessions) → HaveSamePlaces s.connections t.live →
     Places d at v (asks_of (way_of d) v s) t
 asks_places d at (request c) s t h = asks_same d at (request c) s t h (first_failed (request_tests s c)) c refl
-asks_places d at (confirm destination c) s t h = h
-asks_places d at (disconnect destination source reason user) s t h = h
-asks_places d at (disconnected destination source) s t h = h
-asks_places d at (data0 end user) s t h = h
-asks_places d at (data2 destination number end user) s t h = h
-asks_places d at (acknowledge credit destination number) s t h = h
-asks_places d at (error destination cause) s t h = h
+asks_places d at _ s t h = h
 
 -- ---- by route
 
@@ -404,10 +330,8 @@ changes_leaves Left f c = refl
 changes_leaves Right f c = refl
 
 reached_leaves : (m : Mark) (r : Reach) (c : Course) → (reached m r c).sessions ≡ c.sessions
-reached_leaves m reach.Nothing c = refl
-reached_leaves m reach.Connection c = refl
 reached_leaves m reach.Side c = changes_leaves m.direction (halts m) c
-reached_leaves m reach.Everything c = refl
+reached_leaves m _ c = refl
 
 pub marked_leaves : (m : Mark) (r : Reach) (c : Course) → (marked m r c).sessions ≡ c.sessions
 marked_leaves m r c =
@@ -424,10 +348,8 @@ changes_traffic Left f c = refl
 changes_traffic Right f c = refl
 
 reached_traffic : (m : Mark) (r : Reach) (c : Course) → (reached m r c).traffic ≡ c.traffic
-reached_traffic m reach.Nothing c = refl
-reached_traffic m reach.Connection c = refl
 reached_traffic m reach.Side c = changes_traffic m.direction (halts m) c
-reached_traffic m reach.Everything c = refl
+reached_traffic m _ c = refl
 
 pub marked_traffic : (m : Mark) (r : Reach) (c : Course) → (marked m r c).traffic ≡ c.traffic
 marked_traffic m r c =

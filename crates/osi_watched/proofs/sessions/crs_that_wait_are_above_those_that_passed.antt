@@ -1,23 +1,14 @@
 -- Each CR that a calling end has put and that has not passed gives a reference above those of all connections that a tap has seen. So the
 -- CR that passes gives a new one.
 -- For all connections of an end and a tap.
-use Rattle.std.proofs.Common.{◌≡◌, ◌∙◌, refl, sym, ap, subst, ℕ, ◌+◌, ◌<◌, ◌≤◌, List, [], ◌∷◌, ◌++◌, arith, is_some}
-use Rattle.std.specs.List.{AllByRecursion}
-use Rattle.std.proofs.lemmas.Grind.{flat_map-append}
-use Rattle.std.proofs.lemmas.List.{append-nil}
-use Rattle.osi_tpdu.specs.Value.{Connect, Value, acknowledge, confirm, data0, data2, disconnect, disconnected, error, request}
-use Rattle.osi_carrier.specs.Calls.{open_link}
-use Rattle.osi_carrier.specs.React.{react}
-use Rattle.osi_carrier.specs.Runs.{UserCall, breaks, closes, connects, sends, sends_all, user_does}
-use Rattle.osi_carrier.specs.State.{State as Carrier}
+use Rattle.osi_watched.proofs.Vocabulary.{[], ap, arith, is_some, List, refl, subst, sym, ℕ, ◌++◌, ◌+◌, ◌<◌, ◌∙◌, ◌∷◌, ◌≡◌, ◌≤◌}
+use Rattle.osi_watched.proofs.Vocabulary.{flat_map-append, append-nil, AllByRecursion, Connect, request, Value, open_link, react, connects}
+use Rattle.osi_watched.proofs.Vocabulary.{sends, sends_all, user_does, UserCall, Carrier, unit_gives, all_gives, closed_gives, ended_gives}
+use Rattle.osi_watched.proofs.Vocabulary.{not_less, Rise, rise_from, sent_gives, asked_among, call_asks, unit_asks, asked_in, put_by}
+use Rattle.osi_watched.proofs.Vocabulary.{put_for, Event, HappenAlong, Happens, Whole}
+use Rattle.osi_carrier.specs.Runs.{breaks, closes}
 use Rattle.osi_rules.specs.declared.directions.Direction.TheVariants as way
-use Rattle.osi_fair.specs.Asking.{asked_in}
-use Rattle.osi_fair.specs.Putting.{put_by, put_for}
-use Rattle.osi_fair.specs.Wholes.{Event, HappenAlong, Happens, Whole}
 use Rattle.osi_fair.specs.Wholes as wholes
-use Rattle.osi_fair.proofs.a_request_of_a_whole_end_is_new.{unit_gives}
-use Rattle.osi_fair.proofs.references_of_requests_rise.{Rise, all_gives, closed_gives, ended_gives, not_less, rise_from, sent_gives}
-use Rattle.osi_fair.proofs.which_requests_are_put.{asked_among, call_asks, unit_asks}
 
 -- ---- a whole end
 
@@ -129,14 +120,7 @@ passes_one b (request x) put w new e p same a =
       up = k.above.up;
       given = (let less = k.new_is in let g = k.above.given in omega arith);
     }
-passes_one b (confirm n x) put w new e p same a = passes_another b (confirm n x) put w new refl e p same a
-passes_one b (disconnect n source reason user) put w new e p same a =
-    passes_another b (disconnect n source reason user) put w new refl e p same a
-passes_one b (disconnected n source) put w new e p same a = passes_another b (disconnected n source) put w new refl e p same a
-passes_one b (data0 end user) put w new e p same a = passes_another b (data0 end user) put w new refl e p same a
-passes_one b (data2 n number end user) put w new e p same a = passes_another b (data2 n number end user) put w new refl e p same a
-passes_one b (acknowledge credit n number) put w new e p same a = passes_another b (acknowledge credit n number) put w new refl e p same a
-passes_one b (error n cause) put w new e p same a = passes_another b (error n cause) put w new refl e p same a
+passes_one b v put w new e p same a = passes_another b v put w new refl e p same a
 
 as_before : (b : ℕ) (w new : Whole) → new.put ≡ w.put → new.end ≡ w.end → AreAbove b w → AreAbove b new
 as_before b w new p same a = record {

@@ -1,35 +1,21 @@
 -- Of the CCs that a called end of class 2 has put and that have not passed a tap, no two are for one reference of either side. Each comes
 -- before all that is put for it, and no other connection that the end has open at the tap has its reference of the other side.
 -- For all connections of a called end and a tap.
-use Rattle.std.proofs.Common.{◌≡◌, ◌∙◌, ◌⊎◌, inl, inr, refl, sym, ap, subst, ℕ, Bool, true, false, List, [], ◌∷◌, ◌++◌, append_assoc}
-use Rattle.std.proofs.Common.{Option, Some, None}
-use Rattle.std.specs.Prelude.{◌&&◌, slice_get}
-use Rattle.std.specs.List.{AllByRecursion}
-use Rattle.std.proofs.lemmas.Bool.{eqb-true}
-use Rattle.osi_tpdu.specs.Value.{Connect, Value, acknowledge, confirm, data0, data2, disconnect, disconnected, error, request}
-use Rattle.osi_class.specs.Link.{Given, Standing, ack, part0, part2, unit_of}
-use Rattle.osi_class.specs.Runs.{Move, give_out, hand_in, hand_out, take_in}
-use Rattle.osi_class.specs.declared.terms.Class.TheVariants.{Two}
-use Rattle.osi_class.specs.declared.terms.Local.{Local}
-use Rattle.osi_carrier.specs.Negotiation.{acceptance, opened_link}
-use Rattle.osi_carrier.specs.Rows.{value_at}
-use Rattle.osi_carrier.specs.State.{linked}
+use Rattle.osi_watched.proofs.Vocabulary.{[], ap, append_assoc, Bool, false, inl, inr, List, None, Option, refl, Some, subst, sym, true, ℕ}
+use Rattle.osi_watched.proofs.Vocabulary.{◌&&◌, ◌++◌, ◌∙◌, ◌∷◌, ◌≡◌, ◌⊎◌, eqb-true, AllByRecursion, slice_get, acknowledge, confirm}
+use Rattle.osi_watched.proofs.Vocabulary.{Connect, data0, data2, disconnect, disconnected, Value, Given, part0, Standing, unit_of, give_out}
+use Rattle.osi_watched.proofs.Vocabulary.{Move, Two, Local, acceptance, opened_link, value_at, linked, is_open, uses, Connection}
+use Rattle.osi_watched.proofs.Vocabulary.{Way as Direction, Half, Sessions, Answering, answering, AreStrays, Asked, Called, comes, line_of}
+use Rattle.osi_watched.proofs.Vocabulary.{refuses, Running, runs, Stand, StrayIf, at_first, at_join, first_at, is_at, Placed, values}
+use Rattle.osi_watched.proofs.Vocabulary.{NamesApart as AreApart, keep, Act, Acts, ActsAlong, begins_elsewhere, ignores, Line, moves}
+use Rattle.osi_watched.proofs.Vocabulary.{opened_line, units_put, Whole, HaveSamePlaces}
 use Rattle.osi_judge.specs.declared.directions.Direction.TheVariants as side
-use Rattle.osi_rules.specs.declared.connections.Connection.{Connection}
-use Rattle.osi_rules.specs.declared.directions.Direction.{Direction}
 use Rattle.osi_rules.specs.declared.directions.Direction.TheVariants.{Left, Right}
-use Rattle.osi_rules.specs.declared.halves.Half.{Half}
-use Rattle.osi_rules.specs.Sides.{is_open, uses}
-use Rattle.osi_fair.specs.Lines.{Act, Acts, ActsAlong, Line, answers, begins_elsewhere, begins_other, begins_own, closes, ignores, moves}
-use Rattle.osi_fair.specs.Lines.{opened_line, passes_other, passes_own, units_put}
-use Rattle.osi_fair.specs.Wholes.{Whole}
-use Rattle.osi_fair.proofs.each_connection_of_a_called_end.{AreStrays, Asked, Called, Running, Stand, StrayIf, comes, past, refuses, runs}
-use Rattle.osi_fair.proofs.each_connection_of_a_called_end.{Answering, answers as answering, line_of}
-use Rattle.osi_fair.proofs.units_by_their_place.{Placed, at_first, at_join, first_at, is_at, units_at, values}
-use Rattle.osi_fair.proofs.what_keeps_names_apart.{AreApart}
-use Rattle.osi_fair.proofs.which_units_are_for_a_connection.{keep}
-use Rattle.osi_tap.specs.Connections.{Sessions}
-use Rattle.osi_watched.specs.ShownPlaces.{HaveSamePlaces}
+use Rattle.osi_fair.specs.Lines.{answers, begins_other, begins_own, closes, passes_other, passes_own}
+use Rattle.osi_fair.proofs.each_connection_of_a_called_end.{past}
+use Rattle.osi_fair.proofs.units_by_their_place.{units_at}
+use Rattle.osi_watched.proofs.small_facts_that_many_lemmas_use.{all_join as all_of_both}
+use Rattle.osi_fair.proofs.small_facts_that_many_lemmas_use.{differ}
 use Rattle.osi_watched.proofs.sessions.a_called_end_of_class_2_puts_no_dt_of_class_0.{called_put_two}
 use Rattle.osi_watched.proofs.sessions.a_right_dt_has_one_place.{still_used}
 use Rattle.osi_watched.proofs.sessions.connections_have_the_same_places.{at_same}
@@ -37,7 +23,7 @@ use Rattle.osi_watched.proofs.sessions.each_unit_of_a_called_end_has_a_home.{nam
 use Rattle.osi_watched.proofs.sessions.each_unit_of_a_called_end_has_a_home.{used_asked}
 use Rattle.osi_watched.proofs.sessions.each_unit_of_a_turn_has_one_connection.{HasHome}
 use Rattle.osi_watched.proofs.sessions.units_written_alike_have_the_same_ccs.{AnswersTwo, AreOrdered, HasCc, IsCc, has_back}
-use Rattle.osi_watched.proofs.sessions.what_a_turn_puts_goes_to_its_peer.{IsNotZero, all_of_both, all_so, differ, one_of}
+use Rattle.osi_watched.proofs.sessions.what_a_turn_puts_goes_to_its_peer.{IsNotZero, all_so, one_of}
 use Rattle.osi_watched.proofs.sessions.what_stands_of_a_connection.{is_for}
 
 -- ---- what a line puts
@@ -47,22 +33,15 @@ abbrev IsTo : ℕ → Value → Type 0
 IsTo peer (data2 n number end user) = n ≡ peer
 IsTo peer (acknowledge credit n number) = n ≡ peer
 IsTo peer (confirm n x) = ⊥
-IsTo peer (data0 end user) = Unit {0}
-IsTo peer (request x) = Unit {0}
-IsTo peer (disconnect n source reason user) = Unit {0}
-IsTo peer (disconnected n source) = Unit {0}
-IsTo peer (error n cause) = Unit {0}
+IsTo peer _ = Unit {0}
 
 given_to : (peer : ℕ) (g : Given) → IsTo peer (unit_of peer g)
 given_to peer (part0 end octets) = tt
-given_to peer (part2 number end octets) = refl
-given_to peer (ack number credit) = refl
+given_to peer _ = refl
 
 move_to : (peer : ℕ) (move : Move) → AllByRecursion (IsTo peer) (units_put peer move)
-move_to peer (hand_in tsdu) = tt
 move_to peer (give_out unit) = (given_to peer unit, tt)
-move_to peer (take_in unit) = tt
-move_to peer (hand_out tsdu) = tt
+move_to peer _ = tt
 
 module _ (d : Direction) (r peer : ℕ) where
   abbrev PutsTo : Line → Type 0
@@ -91,13 +70,7 @@ module _ (d : Direction) (r peer : ℕ) where
 
 cc_not_to : {A : Type 0} (n r peer : ℕ) (v : Value) → IsCc n r v → IsTo peer v → A
 cc_not_to n r peer (confirm m x) h k = absurd k
-cc_not_to n r peer (request x) h k = absurd h
-cc_not_to n r peer (disconnect m source reason user) h k = absurd h
-cc_not_to n r peer (disconnected m source) h k = absurd h
-cc_not_to n r peer (data0 end user) h k = absurd h
-cc_not_to n r peer (data2 m number end user) h k = absurd h
-cc_not_to n r peer (acknowledge credit m number) h k = absurd h
-cc_not_to n r peer (error m cause) h k = absurd h
+cc_not_to n r peer _ h k = absurd h
 
 has_not_to : {A : Type 0} (n r peer : ℕ) (vs : List Value) → HasCc n r vs → AllByRecursion (IsTo peer) vs → A
 has_not_to n r peer [] h all = absurd h
@@ -106,13 +79,7 @@ has_not_to n r peer (v ∷ vs) (inr h) all = has_not_to n r peer vs h all.1
 
 to_two : (peer : ℕ) (v : Value) → IsTo peer v → AnswersTwo v
 to_two peer (confirm m x) h = absurd h
-to_two peer (request x) h = tt
-to_two peer (disconnect m source reason user) h = tt
-to_two peer (disconnected m source) h = tt
-to_two peer (data0 end user) h = tt
-to_two peer (data2 m number end user) h = tt
-to_two peer (acknowledge credit m number) h = tt
-to_two peer (error m cause) h = tt
+to_two peer _ h = tt
 
 -- a unit for this reference that a line puts is for its peer
 to_peer : (n peer : ℕ) (v : Value) → is_for (Some n) v ≡ true → IsNotZero v → IsTo peer v → n ≡ peer
@@ -120,10 +87,7 @@ to_peer n peer (data2 m number end user) h zero to = sym (eqb-true m n h) ∙ to
 to_peer n peer (acknowledge credit m number) h zero to = sym (eqb-true m n h) ∙ to
 to_peer n peer (data0 end user) h zero to = absurd (zero end user refl)
 to_peer n peer (confirm m x) h zero to = absurd to
-to_peer n peer (request x) h zero to = absurd (cc)
-to_peer n peer (disconnect m source reason user) h zero to = absurd (cc)
-to_peer n peer (disconnected m source) h zero to = absurd (cc)
-to_peer n peer (error m cause) h zero to = absurd (cc)
+to_peer n peer _ h zero to = absurd (cc)
 
 -- one of these is the first, or one of the others
 first_or : (xs ys us : List Value) (u v : Value) → xs ++ v ∷ ys ≡ u ∷ us →

@@ -1,42 +1,21 @@
 -- Each DT and each AK that a called end of class 2 puts in a turn is for a connection that the tap knows by its references and that this
 -- end has not closed there, or for one whose CC has not passed; each other unit is for none.
 -- For all connections of an end and a tap.
-use Rattle.std.proofs.Common.{◌≡◌, ◌∙◌, refl, sym, ap, subst, ℕ, Bool, true, false, List, [], ◌∷◌, ◌++◌}
-use Rattle.std.proofs.Common.{Option, Some, None, is_some, inl, inr, append_assoc}
-use Rattle.std.specs.Prelude.{◌&&◌, ◌==◌, not, slice_get}
-use Rattle.std.specs.List.{AllByRecursion}
-use Rattle.std.proofs.lemmas.Bool.{eq-eqb}
-use Rattle.osi_tpdu.specs.Value.{Connect, Value, acknowledge, confirm, data0, data2, disconnect, disconnected, error, request}
-use Rattle.osi_class.specs.Link.{Standing}
-use Rattle.osi_class.specs.declared.terms.Class.TheVariants.{Zero}
-use Rattle.osi_class.specs.declared.terms.Local.{Local}
-use Rattle.osi_carrier.specs.Rows.{value_at}
-use Rattle.osi_carrier.specs.State.{State as Carrier, linked}
-use Rattle.osi_carrier.specs.declared.ends.EndReason.{EndReason}
-use Rattle.osi_judge.specs.declared.directions.Direction.TheVariants.{Left, Right}
-use Rattle.osi_rules.specs.declared.connections.Connection.{Connection}
+use Rattle.osi_watched.proofs.Vocabulary.{[], ap, append_assoc, Bool, false, inl, inr, List, None, not, Option, refl, Some, subst, sym}
+use Rattle.osi_watched.proofs.Vocabulary.{true, ℕ, ◌&&◌, ◌++◌, ◌==◌, ◌∙◌, ◌∷◌, ◌≡◌, eq-eqb, AllByRecursion, slice_get, confirm, Connect}
+use Rattle.osi_watched.proofs.Vocabulary.{disconnect, request, Value, Standing, Zero, Local, value_at, linked, Carrier, is_open, is_over_by}
+use Rattle.osi_watched.proofs.Vocabulary.{is_refused, is_silent, uses, silent_half, Traffic as State, Connection, Half, Phase, Open}
+use Rattle.osi_watched.proofs.Vocabulary.{Refused, Silent, Left, Right, Answers, Begins, is_shut, Opens, opens, Continues, Deeds, all_units}
+use Rattle.osi_watched.proofs.Vocabulary.{Marked, Turn, Joined, reference_of, Sessions, IsNoCc, answering as answers, Asked, Called, comes}
+use Rattle.osi_watched.proofs.Vocabulary.{refuses, runs, Stand, Untagged, at_first, at_join, first_at, Placed, values, NamesApart, IsCalm}
+use Rattle.osi_watched.proofs.Vocabulary.{opened_half, Whole, Joint, TakesTurn, HaveSamePlaces, named_by}
 use Rattle.osi_rules.specs.declared.directions.Direction.TheVariants as way
-use Rattle.osi_rules.specs.declared.halves.Half.{Half}
-use Rattle.osi_rules.specs.declared.halves.Phase.{Phase}
-use Rattle.osi_rules.specs.declared.halves.Phase.TheVariants.{Silent, Open, Refused, Closing, Closed}
-use Rattle.osi_rules.specs.Sides.{is_open, is_over_by, is_refused, is_silent, uses}
-use Rattle.osi_rules.specs.Traffic.{State, silent_half}
-use Rattle.osi_fair.specs.Lines.{opened_half}
-use Rattle.osi_fair.specs.Wholes.{Whole, begin}
-use Rattle.osi_fair.proofs.each_connection_has_its_line.{IsNoCc}
-use Rattle.osi_fair.proofs.each_connection_of_a_called_end.{Asked, Called, Row, Stand, Untagged, answers, closes, comes}
-use Rattle.osi_fair.proofs.each_connection_of_a_called_end.{over, past, refuses, runs, talks}
-use Rattle.osi_fair.proofs.units_by_their_place.{Placed, at_first, at_join, first_at, units_at, values}
-use Rattle.osi_fair.proofs.what_keeps_names_apart.{AreApart as NamesApart}
-use Rattle.osi_fair.proofs.which_unit_comes_to_a_called_end.{IsCalm}
-use Rattle.osi_honest.specs.Arriving.{Answers, AreApart, Begins, Opens, is_shut, opens}
-use Rattle.osi_honest.specs.Arriving.{is_open as opened}
-use Rattle.osi_honest.specs.Courses.{Continues, Deeds}
-use Rattle.osi_honest.specs.Marked.{Marked, all_units}
-use Rattle.osi_honest.specs.Turns.{Turn}
-use Rattle.osi_tap.specs.Connections.{Joined, Sessions, reference_of}
-use Rattle.osi_watched.specs.Joint.{Joint, TakesTurn}
-use Rattle.osi_watched.specs.ShownPlaces.{HaveSamePlaces, named_by}
+use Rattle.osi_fair.specs.Wholes.{begin}
+use Rattle.osi_fair.proofs.each_connection_of_a_called_end.{Row, closes, over, past, talks}
+use Rattle.osi_fair.proofs.units_by_their_place.{units_at}
+use Rattle.osi_honest.specs.Arriving.{AreApart, is_open as opened}
+use Rattle.osi_watched.proofs.small_facts_that_many_lemmas_use.{all_front, over_not}
+use Rattle.osi_fair.proofs.small_facts_that_many_lemmas_use.{differ}
 use Rattle.osi_watched.proofs.steps_are_events.{IsFollowed}
 use Rattle.osi_watched.proofs.sessions.a_called_end_has_its_lines.{called_joined, called_lines, called_no_cc}
 use Rattle.osi_watched.proofs.sessions.a_right_dt_has_one_place.{still_used}
@@ -44,9 +23,8 @@ use Rattle.osi_watched.proofs.sessions.all_connections_stand.{one_at, there_too}
 use Rattle.osi_watched.proofs.sessions.connections_have_the_same_places.{at_same}
 use Rattle.osi_watched.proofs.sessions.each_unit_of_a_turn_has_one_connection.{IsHomed, IsMarked, known, unknown}
 use Rattle.osi_watched.proofs.sessions.references_of_an_end_are_distinct.{GivesNew, IsUnused}
-use Rattle.osi_watched.proofs.sessions.what_a_turn_puts_goes_to_its_peer.{IsNotZero, IsThere, Lived, all_front, by_units, came}
-use Rattle.osi_watched.proofs.sessions.what_a_turn_puts_goes_to_its_peer.{differ, linked_so}
-use Rattle.osi_watched.proofs.sessions.what_a_turn_puts_goes_to_its_peer.{none_shut, one_of, turn_marked, whole_lasts}
+use Rattle.osi_watched.proofs.sessions.what_a_turn_puts_goes_to_its_peer.{IsNotZero, IsThere, Lived, by_units, came, linked_so, none_shut}
+use Rattle.osi_watched.proofs.sessions.what_a_turn_puts_goes_to_its_peer.{one_of, turn_marked, whole_lasts}
 
 -- ---- small facts
 
@@ -56,28 +34,19 @@ not_none o n h k = let no : Some n ≡ None = sym h ∙ k in absurd (cc)
 pub same_number : (o : Option ℕ) (m n : ℕ) → o ≡ Some m → o ≡ Some n → m ≡ n
 same_number o m n h k = let both : Some m ≡ Some n = sym h ∙ k in cc
 
-over_not : {A : Type 0} (o : Option EndReason) → is_some o ≡ true → o ≡ None → A
-over_not None h e = absurd (cc)
-over_not (Some x) h e = absurd (cc)
-
-same_peer : (m n : ℕ) (a b : Standing) → Some (linked m a) ≡ Some (linked n b) → m ≡ n
+pub same_peer : (m n : ℕ) (a b : Standing) → Some (linked m a) ≡ Some (linked n b) → m ≡ n
 same_peer m n a b e = cc
 
 -- ---- the reference of right
 
 named_is : (p : Phase) (n q : ℕ) → named_by p n ≡ Some q → n ≡ q
 named_is Silent n q h = absurd (cc)
-named_is Open n q h = cc
 named_is Refused n q h = absurd (cc)
-named_is Closing n q h = cc
-named_is Closed n q h = cc
+named_is _ n q h = cc
 
 pub named_open : (p : Phase) (n : ℕ) → is_open p ≡ true → named_by p n ≡ Some n
-named_open Silent n h = absurd (cc)
 named_open Open n h = refl
-named_open Refused n h = absurd (cc)
-named_open Closing n h = absurd (cc)
-named_open Closed n h = absurd (cc)
+named_open _ n h = absurd (cc)
 
 silent_none : (c : Connection) (q : ℕ) → c.right ≡ silent_half → named_by c.right.phase c.right.reference ≡ Some q → ⊥
 silent_none c q silent h =
@@ -85,10 +54,7 @@ silent_none c q silent h =
 
 refused_none : (p : Phase) (n q : ℕ) → is_refused p ≡ true → named_by p n ≡ Some q → ⊥
 refused_none Silent n q r h = cc
-refused_none Open n q r h = cc
-refused_none Refused n q r h = cc
-refused_none Closing n q r h = cc
-refused_none Closed n q r h = cc
+refused_none _ n q r h = cc
 
 -- ---- a connection that is asked for
 
@@ -328,11 +294,7 @@ module _ (local : Local) (deeds : ℕ → Deeds) (turn : Turn) (old new : Joint)
           (came Right false (begin false local) deeds turn old new step on f lasts (request x) front q l come)
           (new_reference q l others answer put cc_is source one))
       by (disconnect n source reason user) h gives come = absurd h
-      by (disconnected n source) h gives come = absurd h
-      by (data0 end user) h gives come = absurd h
-      by (data2 n number end user) h gives come = absurd h
-      by (acknowledge credit n number) h gives come = absurd h
-      by (error n cause) h gives come = absurd h
+      by _ h gives come = absurd h
   home_by lasts q l (is_shut shut then_shut none none_left) some =
       absurd (some (none_shut Right false (begin false local) deeds turn old new step on f q l none_left))
 

@@ -1,60 +1,34 @@
 -- Each DT and each AK that a calling end puts in a turn is for a connection that the tap knows by its references and that this end has
 -- not closed there; each other unit is for none.
 -- For all connections of an end and a tap.
-use Rattle.std.proofs.Common.{◌≡◌, ◌∙◌, refl, sym, ap, subst, ℕ, suc, Bool, true, false, List, [], ◌∷◌, ◌++◌, map}
-use Rattle.std.proofs.Common.{Option, Some, None, is_some, inl, inr, ◌⊎◌, arith}
-use Rattle.std.specs.Prelude.{◌&&◌, ◌||◌, slice_get}
-use Rattle.std.specs.List.{AllByRecursion}
-use Rattle.std.proofs.lemmas.Bool.{eq-eqb}
-use Rattle.osi_tpdu.specs.Value.{Connect, Value, acknowledge, confirm, data0, data2, destination_of, disconnect, disconnected}
-use Rattle.osi_tpdu.specs.Value.{error, request}
-use Rattle.osi_tpdu.specs.Writing.{written}
-use Rattle.osi_class.specs.Link.{Standing}
-use Rattle.osi_class.specs.declared.terms.Local.{Local}
-use Rattle.osi_carrier.specs.Rows.{value_at}
-use Rattle.osi_carrier.specs.State.{Connection as Live, State as Carrier, asked, closing, linked}
-use Rattle.osi_carrier.specs.declared.ends.EndReason.{EndReason}
-use Rattle.osi_judge.specs.declared.directions.Direction.TheVariants.{Left}
-use Rattle.osi_rules.specs.declared.connections.Connection.{Connection}
-use Rattle.osi_rules.specs.declared.halves.Phase.{Phase}
-use Rattle.osi_rules.specs.declared.halves.Phase.TheVariants.{Silent, Open, Refused, Closing, Closed}
-use Rattle.osi_rules.specs.Sides.{is_closing, is_open}
-use Rattle.osi_rules.specs.Traffic.{State}
-use Rattle.osi_fair.specs.Lines.{Line}
-use Rattle.osi_fair.specs.Wholes.{Whole, begin}
-use Rattle.osi_fair.proofs.each_connection_has_its_line.{Followed, IsAnswer, IsNoCc, IsOwned, Row, asking, asks, closes, is_tracked}
-use Rattle.osi_fair.proofs.each_connection_has_its_line.{of, over, stray, talks}
-use Rattle.osi_fair.proofs.what_the_other_side_closes.{IsClear}
-use Rattle.osi_fair.proofs.which_units_are_for_a_connection.{IsDc, is_dc, names, picked_each, those}
-use Rattle.osi_honest.specs.Arriving.{AreApart, Begins, Opens, is_shut, opens}
-use Rattle.osi_honest.specs.Arriving.{is_open as opened}
-use Rattle.osi_honest.specs.Courses.{Continues, Deeds}
-use Rattle.osi_honest.specs.Marked.{all_units}
-use Rattle.osi_honest.specs.Turns.{Turn}
-use Rattle.osi_tap.specs.Connections.{Sessions}
+use Rattle.osi_watched.proofs.Vocabulary.{[], ap, arith, Bool, false, inl, inr, List, map, None, Option, refl, Some, subst, suc, sym, true}
+use Rattle.osi_watched.proofs.Vocabulary.{ℕ, ◌++◌, ◌∙◌, ◌∷◌, ◌≡◌, ◌⊎◌, eq-eqb, AllByRecursion, slice_get, ◌||◌, confirm, Connect, data0}
+use Rattle.osi_watched.proofs.Vocabulary.{destination_of, disconnect, request, Value, written, Standing, Local, value_at, closing, Live}
+use Rattle.osi_watched.proofs.Vocabulary.{linked, Carrier, is_closing, is_open, Traffic as State, Connection, Phase, Closing, Open, Left}
+use Rattle.osi_watched.proofs.Vocabulary.{Begins, is_shut, Opens, opens, Continues, Deeds, all_units, Turn, Sessions, asking, Followed}
+use Rattle.osi_watched.proofs.Vocabulary.{is_tracked, IsAnswer, IsNoCc, IsOwned, Row, stray, IsClear, is_dc, IsDc, names, picked_each}
+use Rattle.osi_watched.proofs.Vocabulary.{those, Line, Whole, Joint, TakesTurn, HaveSamePlaces, named_by}
+use Rattle.osi_carrier.specs.State.{asked}
+use Rattle.osi_fair.specs.Wholes.{begin}
+use Rattle.osi_fair.proofs.each_connection_has_its_line.{asks, closes, of, over, talks}
+use Rattle.osi_honest.specs.Arriving.{AreApart, is_open as opened}
 use Rattle.osi_tap.specs.Courses.{Course as Passed}
-use Rattle.osi_watched.specs.Joint.{Joint, TakesTurn}
-use Rattle.osi_watched.specs.ShownPlaces.{HaveSamePlaces, named_by}
+use Rattle.osi_watched.proofs.small_facts_that_many_lemmas_use.{all_join as all_of_both, and_both, over_not}
 use Rattle.osi_watched.proofs.steps_are_events.{IsFollowed}
 use Rattle.osi_watched.proofs.what_is_put_is_what_is_written.{same_written, written_join}
 use Rattle.osi_watched.proofs.sessions.a_whole_end_runs_along.{calling_followed}
 use Rattle.osi_watched.proofs.sessions.connections_have_the_same_places.{at_same}
 use Rattle.osi_watched.proofs.sessions.each_unit_of_a_turn_has_one_connection.{HasHome, IsMarked, known}
-use Rattle.osi_watched.proofs.sessions.what_a_turn_puts_goes_to_its_peer.{IsNotZero, IsThere, Lived, all_back, all_of_both, all_so, came}
-use Rattle.osi_watched.proofs.sessions.what_a_turn_puts_goes_to_its_peer.{linked_so, none_shut, turn_marked, whole_lasts}
+use Rattle.osi_watched.proofs.sessions.what_a_turn_puts_goes_to_its_peer.{IsNotZero, IsThere, Lived, all_back, all_so, came, linked_so}
+use Rattle.osi_watched.proofs.sessions.what_a_turn_puts_goes_to_its_peer.{none_shut, turn_marked, whole_lasts}
+use Rattle.osi_watched.proofs.sessions.each_unit_of_a_called_end_has_a_home.{same_peer}
 
 -- ---- a connection that is open at the tap has a home there
 
-and_both : (a b : Bool) → (a && b) ≡ true → (a ≡ true) × (b ≡ true)
-and_both true b h = (refl, h)
-and_both false b h = absurd (cc)
-
 named_so : (p : Phase) (n : ℕ) → (is_open p || is_closing p) ≡ true → named_by p n ≡ Some n
-named_so Silent n h = absurd (cc)
 named_so Open n h = refl
-named_so Refused n h = absurd (cc)
 named_so Closing n h = refl
-named_so Closed n h = absurd (cc)
+named_so _ n h = absurd (cc)
 
 home_of : (s : State) (t : Sessions) → HaveSamePlaces s.connections t.live → (p : ℕ) (c : Connection) → slice_get s.connections p ≡ Some c →
     is_tracked c ≡ true → HasHome Left c.left.reference c.right.reference s t
@@ -84,13 +58,6 @@ closed_so : (o : Option Live) (q : ℕ) → (o ≡ Some (closing q)) ⊎ (o ≡ 
 closed_so o q (inl h) = inl (q, h)
 closed_so o q (inr h) = inr h
 
-over_not : {A : Type 0} (o : Option EndReason) → is_some o ≡ true → o ≡ None → A
-over_not None h e = absurd (cc)
-over_not (Some x) h e = absurd (cc)
-
-same_peer : (m n : ℕ) (a b : Standing) → Some (linked m a) ≡ Some (linked n b) → m ≡ n
-same_peer m n a b e = cc
-
 -- its line is for the peer of its link
 row_peer : (local : Local) (end : Carrier) (coming : List Value) (r peer : ℕ) (line : Line) (m : ℕ) (link : Standing) →
     Row local end coming r peer line → end.ended ≡ None → value_at r end.live ≡ Some (linked m link) → m ≡ peer
@@ -115,7 +82,7 @@ linked_home local w t f places lasts q peer link is =
 -- ---- its CC has come
 
 -- a CC is of this reference of the other side
-abbrev IsFrom : ℕ → Value → Type 0
+abbrev pub IsFrom : ℕ → Value → Type 0
 IsFrom peer v = (n : ℕ) (y : Connect) → v ≡ confirm n y → y.source ≡ peer
 
 dc_no_cc : (peer : ℕ) (v : Value) → IsDc v → IsFrom peer v
@@ -175,14 +142,8 @@ not_data0 end user s u (asking x is) e = not_two _ (ap first (ap written (sym is
 not_data0 end user s u (of p c at tracked own) e = by u own.named e
   where
     by : (u : Value) → destination_of u ≡ Some c.right.reference → written u ≡ written (data0 end user) → ⊥
-    by (request x) named e = not_two _ (ap first e)
-    by (confirm n x) named e = not_two _ (ap first e)
-    by (disconnect n source reason told) named e = not_two _ (ap first e)
-    by (disconnected n source) named e = not_two _ (ap first e)
     by (data0 last octets) named e = cc
-    by (data2 n number last octets) named e = not_two _ (ap first e)
-    by (acknowledge credit n number) named e = not_two _ (ap first e)
-    by (error n cause) named e = not_two _ (ap first e)
+    by _ named e = not_two _ (ap first e)
 not_data0 end user s u (stray m source is strays) e = not_two _ (ap first (ap written (sym is) ∙ e))
 
 -- a unit is written as one of these
@@ -260,11 +221,7 @@ module _ (local : Local) (two : local.class2 ≡ true) (deeds : ℕ → Deeds) (
           (came Left true (begin true local) deeds turn old new step on f lasts (confirm n x) front q l come)))
       by (request x) (caller, theirs) come = absurd (cc)
       by (disconnect n source reason user) h come = absurd h
-      by (disconnected n source) h come = absurd h
-      by (data0 end user) h come = absurd h
-      by (data2 n number end user) h come = absurd h
-      by (acknowledge credit n number) h come = absurd h
-      by (error n cause) h come = absurd h
+      by _ h come = absurd h
   home_by lasts q l (is_shut shut then_shut none none_left) some =
       absurd (some (none_shut Left true (begin true local) deeds turn old new step on f q l none_left))
 

@@ -1,29 +1,17 @@
 -- A session has said each TSDU of which a unit was put, and by then it had taken no more than its link has handed out.
 -- For what a tap shows of a session.
-use Rattle.std.proofs.Common.{◌≡◌, ◌∙◌, refl, sym, ap, subst, ℕ, suc, ◌+◌, ◌≤◌, Bool, true, false, if◌then◌else◌, nat_lt}
-use Rattle.std.proofs.Common.{List, [], ◌∷◌, ◌++◌, length, take, drop, Option, Some, None, IfSome, arith}
-use Rattle.std.specs.List.{AllByRecursion}
-use Rattle.std.proofs.lemmas.Grind.{flat_map-append}
-use Rattle.std.proofs.lemmas.List.{append-nil, length-append, length-map}
-use Rattle.osi_tpdu.specs.Value.{Value}
-use Rattle.osi_class.specs.Ends.{Ends}
-use Rattle.osi_class.specs.Flow.{Flow, ack_number, after_acked}
-use Rattle.osi_class.specs.Link.{Given, Standing, ack, given_part, next, next_by, sent_flow, two_standing}
-use Rattle.osi_class.specs.Runs.{Move, Moves, MovesAlong, give_out, given_parts, hand_in, hand_out, part_out, parts_out, take_in, tsdus_in}
-use Rattle.osi_class.specs.Runs.{tsdus_out, unit_parts}
-use Rattle.osi_class.specs.Tsdus.{Part, give, tsdus, tsdus_after, uncut}
-use Rattle.osi_class.proofs.between.parts_stay_in_order.{at_some, choose_some}
-use Rattle.osi_class.proofs.bounds.what_a_call_preserves.{Sends, move_keeps}
-use Rattle.osi_class.proofs.giving.what_calls_send.{all as all_sent}
-use Rattle.osi_stack.specs.State.{End}
-use Rattle.osi_honest.specs.Courses.{AreCalls, Course, Deeds, said_in}
-use Rattle.osi_honest.specs.Courses.Course.{awaited, is_gone, is_open, unknown}
-use Rattle.osi_honest.specs.Courses.Gone.{closed, never, over}
-use Rattle.osi_honest.specs.Parts.{ends_whole}
+use Rattle.osi_watched.proofs.Vocabulary.{[], ap, arith, Bool, drop, false, IfSome, if◌then◌else◌, length, List, nat_lt, None, Option, refl}
+use Rattle.osi_watched.proofs.Vocabulary.{Some, subst, suc, sym, take, true, ℕ, ◌++◌, ◌+◌, ◌∙◌, ◌∷◌, ◌≡◌, ◌≤◌, flat_map-append, append-nil}
+use Rattle.osi_watched.proofs.Vocabulary.{length-append, length-map, AllByRecursion, Value, at_some, choose_some, move_keeps, Sends}
+use Rattle.osi_watched.proofs.Vocabulary.{all as all_sent, Ends, ack_number, after_acked, Flow, ack, Given, given_part, next, next_by}
+use Rattle.osi_watched.proofs.Vocabulary.{sent_flow, Standing, two_standing, give_out, given_parts, hand_in, hand_out, Move, Moves}
+use Rattle.osi_watched.proofs.Vocabulary.{MovesAlong, part_out, parts_out, take_in, tsdus_in, tsdus_out, unit_parts, give, Part, tsdus}
+use Rattle.osi_watched.proofs.Vocabulary.{tsdus_after, uncut, End, fresh_of, no_calls, AreCalls, Deeds, said_in, is_gone, closed}
+use Rattle.osi_watched.proofs.Vocabulary.{ends_whole, left_over, parts_of, never}
+use Rattle.osi_honest.specs.Courses.{Course}
+use Rattle.osi_honest.specs.Courses.Course.{is_open, awaited, unknown}
+use Rattle.osi_honest.specs.Courses.Gone.{over}
 use Rattle.osi_honest.specs.Talking.{Said}
-use Rattle.osi_honest.proofs.courses.what_calls_of_a_link_say.{fresh_of}
-use Rattle.osi_honest.proofs.courses.what_units_do_to_a_course.{no_calls}
-use Rattle.osi_watched.specs.Shown.{left_over, parts_of}
 use Rattle.osi_watched.proofs.sessions.a_session_that_is_shown_is_not_to_blame.{octets_in, parts_put, tsdus_more}
 
 -- ---- parts one after the other

@@ -1,24 +1,10 @@
 -- The first break of all at a tap is never of a called end, whatever classes it offers and whichever is selected.
 -- For the law that no session of an end is blamed first.
-use Rattle.std.specs.Prelude.{slice_get}
-use Rattle.std.proofs.Common.{◌⊎◌, ℕ, inl, inr, ◌≡◌, ◌∙◌, refl, sym, ◌^◌, ◌<◌, false, List, length, Option, Some, None}
-use Rattle.osi_class.specs.declared.terms.Class.{Class}
-use Rattle.osi_class.specs.declared.terms.Class.TheVariants.{Two, Zero}
-use Rattle.osi_class.specs.declared.terms.Local.{Local}
-use Rattle.osi_judge.specs.Captures.{Capture}
-use Rattle.osi_judge.specs.declared.directions.Direction.TheVariants.{Left, Right}
-use Rattle.osi_judge.proofs.honest.a_call_is_explained.{AsSent}
-use Rattle.osi_judge.proofs.honest.an_honest_run_stays_in_the_profile.{AsParts}
-use Rattle.osi_judge.proofs.honest.an_honest_side_is_kept.{CalledLaw, CallerLaw}
-use Rattle.osi_stack.specs.State.{Holding}
-use Rattle.osi_honest.specs.Seeing.{IsFresh, IsSeen}
-use Rattle.osi_honest.specs.Turns.{Run, Turn}
-use Rattle.osi_honest.proofs.courses.what_sessions_hear_of_it.{Known}
-use Rattle.osi_tap.specs.declared.marks.First.{First}
-use Rattle.osi_tap.specs.Blaming.{BreaksFirst, IsToBlame}
-use Rattle.osi_tap.specs.Connections.{Joined}
-use Rattle.osi_tap.specs.Tapping.{comes_to}
-use Rattle.osi_watched.specs.Passing.{AreOctets}
+use Rattle.osi_watched.proofs.Vocabulary.{false, inl, inr, length, List, None, Option, refl, Some, sym, ℕ, ◌<◌, ◌^◌, ◌∙◌, ◌≡◌, ◌⊎◌}
+use Rattle.osi_watched.proofs.Vocabulary.{slice_get, Class, Two, Zero, Local, Holding, AsSent, AsParts, CalledLaw, CallerLaw, Capture, Left}
+use Rattle.osi_watched.proofs.Vocabulary.{Right, Known, IsFresh, IsSeen, Run, Turn, BreaksFirst, IsToBlame, Joined, comes_to, First}
+use Rattle.osi_watched.proofs.Vocabulary.{AreOctets}
+use Rattle.osi_watched.proofs.small_facts_that_many_lemmas_use.{zero_two}
 use Rattle.osi_watched.proofs.a_capture_is_steps.{capture_steps}
 use Rattle.osi_watched.proofs.no_unit_of_a_whole_end_is_a_break.{called_is_fair}
 use Rattle.osi_watched.proofs.what_the_turns_among_steps_do.{ComesByDoing}
@@ -28,9 +14,6 @@ use Rattle.osi_watched.proofs.sessions.no_session_of_a_called_end_breaks_first.{
 use Rattle.osi_watched.proofs.sessions.after_too_many_nobody_is_to_blame.{NoneIsToBlame}
 use Rattle.osi_watched.proofs.sessions.the_first_break_of_all_is_of_the_other_side.{AreQuiet, Ends, first_of_ends, none_of_ends}
 use Rattle.osi_watched.proofs.sessions.no_session_of_an_end_breaks_first.{ends_within, ends_without}
-
-zero_two : {A : Type 0} (k : Option Class) → k ≡ Some Zero → k ≡ Some Two → A
-zero_two k h e = absurd (let no : Some Zero ≡ Some Two = sym h ∙ e in cc)
 
 module _ (known : Known) (known_of : AsSent) (parts : AsParts) (caller : CallerLaw) (called : CalledLaw) (local : Local)
     (capture : Capture) (few : length (comes_to capture).course.past < 2 ^ 64) where

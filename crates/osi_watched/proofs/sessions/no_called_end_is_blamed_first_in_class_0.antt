@@ -1,13 +1,7 @@
 -- What holds of a called end until class 2 is selected is as it is asked for: nobody of the end is to blame, as long as nobody has broken
 -- a rule.
 -- For the law that no session of an end is blamed first.
-use Rattle.osi_class.specs.declared.terms.Class.TheVariants.{Two}
-use Rattle.osi_class.specs.declared.terms.Local.{Local}
-use Rattle.osi_judge.specs.declared.directions.Direction.TheVariants.{Right}
-use Rattle.osi_judge.proofs.honest.a_call_is_explained.{AsSent}
-use Rattle.osi_judge.proofs.honest.an_honest_run_stays_in_the_profile.{AsParts}
-use Rattle.osi_judge.proofs.honest.an_honest_side_is_kept.{CalledLaw, CallerLaw}
-use Rattle.osi_honest.proofs.class_0.what_a_packet_does_in_class_0.{AllProper}
+use Rattle.osi_watched.proofs.Vocabulary.{Two, Local, AsSent, AsParts, CalledLaw, CallerLaw, Right, AllProper}
 use Rattle.osi_watched.proofs.sessions.a_called_end_stands_until_class_2.{StandsCalledUntilTwo, begins_called, begins_other_called}
 use Rattle.osi_watched.proofs.sessions.a_called_end_stands_until_class_2.{begins_own_called, none_amid_called, none_called}
 use Rattle.osi_watched.proofs.sessions.a_called_end_stands_until_class_2.{passes_other_called, passes_own_called, turns_called}

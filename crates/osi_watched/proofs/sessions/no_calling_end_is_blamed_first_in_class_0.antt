@@ -1,16 +1,9 @@
 -- What holds of a calling end until class 2 is selected is as it is asked for: nobody of the end is to blame, as long as nobody has broken
 -- a rule.
 -- For the law that no session of an end is blamed first.
-use Rattle.std.proofs.Common.{ℕ, List, [], ◌∷◌}
-use Rattle.osi_tpdu.specs.Value.{Value}
-use Rattle.osi_class.specs.declared.terms.Class.TheVariants.{Two}
-use Rattle.osi_class.specs.declared.terms.Local.{Local}
-use Rattle.osi_judge.specs.declared.directions.Direction.TheVariants.{Left, Right}
-use Rattle.osi_judge.proofs.honest.a_call_is_explained.{AsSent}
-use Rattle.osi_judge.proofs.honest.an_honest_run_stays_in_the_profile.{AsParts}
-use Rattle.osi_judge.proofs.honest.an_honest_side_is_kept.{CalledLaw, CallerLaw}
-use Rattle.osi_honest.proofs.class_0.what_a_packet_does_in_class_0.{AllProper}
-use Rattle.osi_tap.specs.Courses.{Course, unit_passes}
+use Rattle.osi_watched.proofs.Vocabulary.{[], List, ℕ, ◌∷◌, Value, Two, Local, AsSent, AsParts, CalledLaw, CallerLaw, Left, Right}
+use Rattle.osi_watched.proofs.Vocabulary.{AllProper, unit_passes}
+use Rattle.osi_tap.specs.Courses.{Course}
 use Rattle.osi_watched.proofs.sessions.a_calling_end_hears_what_comes_until_class_2.{AreTaken}
 use Rattle.osi_watched.proofs.sessions.a_calling_end_stands_until_class_2.{StandsUntilTwo, begin_early, begins_other_early}
 use Rattle.osi_watched.proofs.sessions.a_calling_end_stands_until_class_2.{begins_own_early, passes_other_early, passes_own_early}

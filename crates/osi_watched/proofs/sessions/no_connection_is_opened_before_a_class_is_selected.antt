@@ -1,41 +1,22 @@
 -- As long as no class is selected on a byte connection, right has given no connection a reference, whatever passes.
 -- For a called end that has selected class 0, and whose CC has not passed.
-use Rattle.std.proofs.Common.{◌≡◌, ◌∙◌, ◌⊎◌, inl, inr, refl, sym, ap, subst, ℕ, Bool, true, false, if◌then◌else◌, List}
-use Rattle.std.proofs.Common.{length, Option, Some, None, is_some}
-use Rattle.std.specs.Prelude.{position, slice_get}
-use Rattle.osi_tpdu.specs.Value.{Value, acknowledge, confirm, data0, data2, disconnect, disconnected, error, request}
-use Rattle.osi_class.specs.declared.terms.Class.{Class}
-use Rattle.osi_class.specs.declared.terms.Class.TheVariants.{Two, Zero}
-use Rattle.osi_judge.specs.declared.directions.Direction.{Direction}
-use Rattle.osi_judge.specs.declared.directions.Direction.TheVariants.{Left, Right}
-use Rattle.osi_rules.specs.declared.connections.Connection.{Connection}
-use Rattle.osi_rules.specs.declared.directions.Direction.{Direction as Way}
-use Rattle.osi_rules.specs.declared.findings.Finding.{Finding}
-use Rattle.osi_rules.specs.declared.findings.Finding.TheVariants.{Broke, Kept, NotJudged, Outside, TooMany}
-use Rattle.osi_rules.specs.declared.findings.Meaning.{Meaning}
+use Rattle.osi_watched.proofs.Vocabulary.{ap, Bool, false, if◌then◌else◌, inl, inr, is_some, length, List, None, Option, refl, Some, subst}
+use Rattle.osi_watched.proofs.Vocabulary.{sym, true, ℕ, ◌∙◌, ◌≡◌, ◌⊎◌, position, slice_get, offset_of, acknowledge, confirm, data0, data2}
+use Rattle.osi_watched.proofs.Vocabulary.{disconnect, disconnected, error, request, Value, Class, Two, Zero, is_applied, reach_of}
+use Rattle.osi_watched.proofs.Vocabulary.{first_failed, is_free, is_live, is_named, asks_by, asks_kept, asks_of, at_found, at_place}
+use Rattle.osi_watched.proofs.Vocabulary.{class_for, course_after, found_on, is_stopped, meaning_if, meant, none_told, Outcome}
+use Rattle.osi_watched.proofs.Vocabulary.{request_tests, route, routed, Traffic as State, takes, Connection, Way, Finding, Kept, NotJudged}
+use Rattle.osi_watched.proofs.Vocabulary.{Meaning, Route, Asks, Named, Only, Unnamed, Direction, Left, Right, adds_if, asked, changed}
+use Rattle.osi_watched.proofs.Vocabulary.{count, Joined, placed, Sessions, source_of, taken, user_of, marked, marks_of, moved, unit_passes}
+use Rattle.osi_watched.proofs.Vocabulary.{unread_mark, unread_moment, way_of, fits, spent, Cause, Room, reached_class, zero_stays}
+use Rattle.osi_watched.proofs.Vocabulary.{after_add, after_set, lasts_passing, rubbish, unit}
 use Rattle.osi_rules.specs.declared.findings.Meaning.TheVariants as meaning
-use Rattle.osi_rules.specs.declared.routes.Route.{Route}
-use Rattle.osi_rules.specs.declared.routes.Route.TheVariants.{Asks, Named, Only, Unnamed}
-use Rattle.osi_rules.specs.Reaches.{is_applied, reach_of}
-use Rattle.osi_rules.specs.Rows.{first_failed}
-use Rattle.osi_rules.specs.Sides.{is_free, is_live, is_named}
-use Rattle.osi_rules.specs.Traffic.{Outcome, State, asks_by, asks_kept, asks_of, at_found, at_place, class_for, course_after, found_on}
-use Rattle.osi_rules.specs.Traffic.{is_stopped, meaning_if, meant, none_told, request_tests, route, routed, takes}
 use Rattle.osi_rules.specs.Traffic as traffic
-use Rattle.osi_fair.specs.Naming.{rubbish, unit}
-use Rattle.osi_fair.proofs.class_0_stays_selected.{reached_class, zero_stays}
-use Rattle.osi_fair.proofs.what_holds_of_one_item.{after_add, after_set}
-use Rattle.osi_fair.proofs.what_lasts_at_the_tap.{lasts_passing}
-use Rattle.osi_tap.specs.declared.marks.Cause.{Cause}
-use Rattle.osi_tap.specs.Connections.{Joined, Sessions, adds_if, all_begin, asked, changed, count, placed, source_of, taken, user_of}
 use Rattle.osi_tap.specs.Connections as joined
-use Rattle.osi_tap.specs.Courses.{Course, marked, marks_of, moved, unit_passes, unread_mark, unread_moment, way_of}
-use Rattle.osi_tap.specs.Rooms.{fits, spent}
-use Rattle.osi_tpkt.specs.Stream.{offset_of}
+use Rattle.osi_tap.specs.Courses.{Course}
 use Rattle.osi_watched.proofs.what_passes_keeps_a_claim.{IsClaim}
 use Rattle.osi_watched.proofs.sessions.all_connections_stand.{map_of}
 use Rattle.osi_watched.proofs.sessions.connections_have_the_same_places.{marked_leaves, marked_traffic, unit_joins, unit_knows}
-use Rattle.osi_tap.specs.declared.rooms.Room.{Room}
 
 -- ---- a unit that opens a connection selects a class
 
@@ -52,13 +33,7 @@ opens_applied : (d : Way) (c : Connection) (v : Value) (b : Bool) (s : State) �
     (course_after d c v b s.course).class ≡ None → ⊥
 opens_applied d c v false s opens none = no_meaning opens
 opens_applied d c (confirm n x) true s opens none = cc
-opens_applied d c (request x) true s opens none = cc
-opens_applied d c (disconnect n source reason user) true s opens none = cc
-opens_applied d c (disconnected n source) true s opens none = cc
-opens_applied d c (data0 end user) true s opens none = cc
-opens_applied d c (data2 n number end user) true s opens none = cc
-opens_applied d c (acknowledge credit n number) true s opens none = cc
-opens_applied d c (error n cause) true s opens none = cc
+opens_applied d c _ true s opens none = cc
 
 found_selects : (d : Way) (v : Value) (s : State) (p : ℕ) (o : Option Connection) → Selects (at_found d v s p o)
 found_selects d v s p None opens none = no_meaning opens
@@ -80,10 +55,7 @@ asks_selects d (request x) s = by (first_failed (request_tests s x))
 
     by : (f : Finding) → Selects (asks_by d f x s)
     by Kept = kept (position is_free s.connections)
-    by (Broke rule) = none_selects d (Broke rule) s
-    by Outside = none_selects d Outside s
-    by TooMany = none_selects d TooMany s
-    by NotJudged = none_selects d NotJudged s
+    by v = none_selects d v s
 asks_selects d (confirm n x) s = none_selects d NotJudged s
 asks_selects d (disconnect n source reason user) s = none_selects d NotJudged s
 asks_selects d (disconnected n source) s = none_selects d NotJudged s
@@ -126,11 +98,9 @@ called_added false room d at end octets j = refl
 called_meant : (d : Direction) (at : ℕ) (v : Value) (m : Meaning) (j : Joined) → (m ≡ meaning.Opens → ⊥) →
     (joined.meant d at v m j).called ≡ j.called
 called_meant d at v meaning.Opens j not = absurd (not refl)
-called_meant d at v meaning.Nothing j not = refl
-called_meant d at v meaning.Asks j not = refl
-called_meant d at v meaning.Closes j not = refl
 called_meant d at v (meaning.Adds end) j not =
     called_added (fits j.room (length (user_of v))) (spent j.room (length (user_of v))) d at end (user_of v) j
+called_meant d at v _ j not = refl
 
 module _ (t : Sessions) (h : AreUncalled t) where
   one_or : (p i : ℕ) (new j : Joined) → new.called ≡ None → ((i ≡ p) × (j ≡ new)) ⊎ (slice_get t.live i ≡ Some j) → j.called ≡ None

@@ -1,26 +1,16 @@
 -- On a connection no more TSDUs of a side have passed than moments in all.
 -- For the law that no session of an end is blamed first: a tap counts TSDUs up to 2^64.
-use Rattle.std.proofs.Common.{◌≡◌, ◌⊎◌, inl, inr, refl, sym, ap, subst, ℕ, suc, ◌≤◌, Bool, true, false, if◌then◌else◌, List, [], ◌∷◌}
-use Rattle.std.proofs.Common.{◌++◌, length, map, Option, Some, None, is_some, arith}
-use Rattle.std.specs.Prelude.{slice_get}
-use Rattle.std.proofs.lemmas.List.{length-append}
-use Rattle.osi_tpkt.specs.Stream.{offset_of}
-use Rattle.osi_tpdu.specs.Value.{Value}
-use Rattle.osi_judge.specs.declared.directions.Direction.{Direction}
-use Rattle.osi_judge.specs.declared.directions.Direction.TheVariants.{Left, Right}
-use Rattle.osi_rules.specs.declared.findings.Meaning.{Meaning}
+use Rattle.osi_watched.proofs.Vocabulary.{[], ap, arith, Bool, false, if◌then◌else◌, inl, inr, is_some, length, List, map, None, Option}
+use Rattle.osi_watched.proofs.Vocabulary.{refl, Some, subst, suc, sym, true, ℕ, ◌++◌, ◌∷◌, ◌≡◌, ◌≤◌, ◌⊎◌, length-append, slice_get}
+use Rattle.osi_watched.proofs.Vocabulary.{offset_of, Value, takes, Meaning, Direction, Left, Right, marked_past, adds_if, asked, changed}
+use Rattle.osi_watched.proofs.Vocabulary.{count, Joined, placed, Sessions, source_of, spoken, taken, user_of, marked, marks_of, moved}
+use Rattle.osi_watched.proofs.Vocabulary.{unit_passes, unread_mark, unread_moment, way_of, added, before, begun_octets, heard, octets_of}
+use Rattle.osi_watched.proofs.Vocabulary.{Spoken, fits, spent, Cause, Room, after_add, after_set}
 use Rattle.osi_rules.specs.declared.findings.Meaning.TheVariants as meaning
-use Rattle.osi_rules.specs.Traffic.{takes}
 use Rattle.osi_rules.specs.Traffic as traffic
-use Rattle.osi_fair.proofs.what_holds_of_one_item.{after_add, after_set}
-use Rattle.osi_tap.specs.declared.marks.Cause.{Cause}
-use Rattle.osi_tap.specs.declared.rooms.Room.{Room}
-use Rattle.osi_tap.specs.Connections.{Joined, Sessions, adds_if, asked, changed, count, meant, packet_begins, placed, source_of}
-use Rattle.osi_tap.specs.Connections.{spoken, taken, user_of}
-use Rattle.osi_tap.specs.Courses.{Course, marked, marks_of, moved, unit_passes, unread_mark, unread_moment, way_of}
-use Rattle.osi_tap.specs.Lines.{Said, Spoken, added, before, begun_octets, heard, octets_of}
-use Rattle.osi_tap.specs.Rooms.{fits, spent}
-use Rattle.osi_tap.proofs.no_break_was_before_the_first.{marked_past}
+use Rattle.osi_tap.specs.Connections.{meant, packet_begins}
+use Rattle.osi_tap.specs.Courses.{Course}
+use Rattle.osi_tap.specs.Lines.{Said}
 use Rattle.osi_watched.proofs.what_passes_keeps_a_claim.{IsClaim}
 use Rattle.osi_watched.proofs.sessions.all_connections_stand.{map_of}
 use Rattle.osi_watched.proofs.sessions.connections_have_the_same_places.{marked_leaves, unit_joins}

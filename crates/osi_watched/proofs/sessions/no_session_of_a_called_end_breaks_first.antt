@@ -1,37 +1,18 @@
 -- What holds of a called end at each step is as it is asked for: all its connections stand, or it has selected class 0, and the CC that
 -- says so has not passed. Then nobody of the end is to blame, as long as nobody has broken a rule.
 -- For the law that no session of an end is blamed first.
-use Rattle.std.proofs.Common.{◌≡◌, ◌∙◌, ◌⊎◌, inl, inr, refl, sym, ap, subst, ℕ, Bool, false, List, [], ◌∷◌, ◌++◌, map, Option, Some, None}
-use Rattle.std.specs.List.{AllByRecursion}
-use Rattle.osi_tpdu.specs.Value.{Value}
-use Rattle.osi_tpdu.specs.Writing.{written}
-use Rattle.osi_class.specs.declared.terms.Class.TheVariants.{Zero}
-use Rattle.osi_class.specs.declared.terms.Local.{Local}
-use Rattle.osi_carrier.specs.Negotiation.{acceptance}
-use Rattle.osi_judge.specs.declared.directions.Direction.TheVariants.{Left, Right}
-use Rattle.osi_judge.proofs.honest.a_call_is_explained.{AsSent}
-use Rattle.osi_judge.proofs.honest.an_honest_run_stays_in_the_profile.{AsParts}
-use Rattle.osi_judge.proofs.honest.an_honest_side_is_kept.{CalledLaw, CallerLaw}
-use Rattle.osi_rules.specs.declared.connections.Connection.{Connection}
-use Rattle.osi_rules.specs.Traffic.{State, takes}
+use Rattle.osi_watched.proofs.Vocabulary.{[], ap, Bool, false, inl, inr, List, map, None, refl, Some, subst, sym, ℕ, ◌++◌, ◌∙◌, ◌∷◌, ◌≡◌}
+use Rattle.osi_watched.proofs.Vocabulary.{◌⊎◌, AllByRecursion, Value, written, Zero, Local, acceptance, Holding, Traffic as State, takes}
+use Rattle.osi_watched.proofs.Vocabulary.{Connection, AsSent, AsParts, CalledLaw, CallerLaw, Left, Right, AllProper, CanBeWritten, Deeds}
+use Rattle.osi_watched.proofs.Vocabulary.{no_deeds, then_did, units_in, IsFresh, Turn, Joined, none, Sessions, spoken, unit_passes}
+use Rattle.osi_watched.proofs.Vocabulary.{units_pass, Selecting, fresh_apart, no_item, selecting_passes, IsClear, begins_other, begins_own}
+use Rattle.osi_watched.proofs.Vocabulary.{Joint, passes_other, passes_own, Step, Steps, TakesTurn, turns}
 use Rattle.osi_rules.specs.declared.directions.Direction.TheVariants as way
 use Rattle.osi_fair.specs.Wholes as wholes
-use Rattle.osi_fair.proofs.a_called_end_selects_class_zero.{Selecting}
-use Rattle.osi_fair.proofs.a_reference_names_one_connection.{fresh_apart, no_item}
-use Rattle.osi_fair.proofs.a_unit_of_an_end_of_class_zero_passes.{selecting_passes}
-use Rattle.osi_fair.proofs.what_the_other_side_closes.{IsClear}
-use Rattle.osi_stack.specs.State.{Holding}
-use Rattle.osi_honest.specs.Courses.{Deeds, no_deeds, then_did, units_in}
-use Rattle.osi_honest.specs.Seeing.{IsFresh}
-use Rattle.osi_honest.specs.Turns.{Turn}
-use Rattle.osi_honest.proofs.class_0.what_a_packet_does_in_class_0.{AllProper}
-use Rattle.osi_honest.proofs.reading.what_is_written_is_read_again.{CanBeWritten}
-use Rattle.osi_tap.specs.Connections.{Joined, Sessions, none, spoken}
-use Rattle.osi_tap.specs.Courses.{Course as Passed, unit_passes, units_pass}
-use Rattle.osi_watched.specs.Joint.{Joint, Step, Steps, TakesTurn, begin, begins_other, begins_own, passes_other, passes_own}
-use Rattle.osi_watched.specs.Joint.{turns}
+use Rattle.osi_tap.specs.Courses.{Course as Passed}
+use Rattle.osi_watched.specs.Joint.{begin}
+use Rattle.osi_watched.proofs.small_facts_that_many_lemmas_use.{all_front, can_more as all_more, not_some}
 use Rattle.osi_watched.proofs.steps_are_events.{IsFollowed, own_first, step_followed}
-use Rattle.osi_watched.proofs.what_a_carrier_puts_can_be_written.{all_more}
 use Rattle.osi_watched.proofs.what_passes_keeps_a_claim.{step_kept}
 use Rattle.osi_watched.proofs.what_the_turns_among_steps_do.{TurnDoes}
 use Rattle.osi_watched.proofs.sessions.a_called_end_answers_with_class_2_or_selects_class_0.{answers_or_selects}
@@ -73,18 +54,15 @@ standing_first known h = record {
 
 -- ---- before a class is selected nothing has been said
 
-not_named : {A : Type 0} (o : Option ℕ) (r : ℕ) → o ≡ Some r → o ≡ None → A
-not_named o r is not = absurd (cc)
-
 module _ (deeds : ℕ → Deeds) (known : Known) (put : List Value) (b : Bool) where
   stands_mute : (c : Connection) (j : Joined) → j.called ≡ None → Stands Right deeds known put b c j → (spoken Right j).said ≡ []
   stands_mute c j uncalled (unnamed is mine theirs room) = mine.said
-  stands_mute c j uncalled (lives r o is live later sure h) = not_named j.called r h.shown.named uncalled
-  stands_mute c j uncalled (past r closed waiting later sure h) = not_named j.called r h.shown.named uncalled
+  stands_mute c j uncalled (lives r o is live later sure h) = not_some j.called r h.shown.named uncalled
+  stands_mute c j uncalled (past r closed waiting later sure h) = not_some j.called r h.shown.named uncalled
 
   rests_mute : (j : Joined) → j.called ≡ None → Rests Right deeds known j → (spoken Right j).said ≡ []
   rests_mute j uncalled (quiet is mine theirs) = mine.said
-  rests_mute j uncalled (rests r waiting later sure h) = not_named j.called r h.shown.named uncalled
+  rests_mute j uncalled (rests r waiting later sure h) = not_some j.called r h.shown.named uncalled
 
   all_mute : (s : State) (t : Sessions) → AllStand Right deeds known put b s t → AreUncalled t → IsMute Right t
   all_mute s t a uncalled = record {
@@ -99,10 +77,6 @@ module _ (deeds : ℕ → Deeds) (known : Known) (put : List Value) (b : Bool) w
 fine_of : (at : ℕ) (vs : List Value) (c : Passed) → AreTaken Right at vs c → AreFine at vs c
 fine_of at [] c h = tt
 fine_of at (v ∷ vs) c h = (h.0.fine, h.0.clear, fine_of at vs (unit_passes Left at v c) h.1)
-
-all_front : {X : Type 0} (P : X → Type 0) (xs ys : List X) → AllByRecursion P (xs ++ ys) → AllByRecursion P xs
-all_front P [] ys h = tt
-all_front P (x ∷ xs) ys h = (h.0, all_front P xs ys h.1)
 
 module _ (local : Local) (proper : AllProper) where
   -- the end has selected class 0, and its CC has not passed

@@ -1,34 +1,20 @@
 -- What holds of a calling end of class 2 at each step is as it is asked for: nobody of the end is to blame, as long as nobody has broken
 -- a rule.
 -- For the law that no session of an end is blamed first.
-use Rattle.std.proofs.Common.{◌≡◌, refl, ℕ, true, List, [], ◌∷◌, ◌++◌, Some}
-use Rattle.std.specs.List.{AllByRecursion}
-use Rattle.osi_tpdu.specs.Value.{HasFieldsInRange, Value}
-use Rattle.osi_tpdu.proofs.the_units_of_a_packet.{units_fit, units_found}
-use Rattle.osi_class.specs.declared.terms.Class.TheVariants.{Zero}
-use Rattle.osi_class.specs.declared.terms.Local.{Local}
-use Rattle.osi_judge.specs.declared.directions.Direction.TheVariants.{Left, Right}
-use Rattle.osi_judge.proofs.honest.a_call_is_explained.{AsSent}
-use Rattle.osi_judge.proofs.honest.an_honest_run_stays_in_the_profile.{AsParts}
-use Rattle.osi_judge.proofs.honest.an_honest_side_is_kept.{CalledLaw, CallerLaw}
+use Rattle.osi_watched.proofs.Vocabulary.{[], List, refl, Some, true, ℕ, ◌++◌, ◌∷◌, ◌≡◌, units_fit, units_found, HasFieldsInRange, Value}
+use Rattle.osi_watched.proofs.Vocabulary.{Zero, Local, Holding, AsSent, AsParts, CalledLaw, CallerLaw, Left, Right, AllProper, Deeds}
+use Rattle.osi_watched.proofs.Vocabulary.{no_deeds, then_did, units_in, IsFresh, Turn, none, unit_passes, units_pass, fresh_apart, no_item}
+use Rattle.osi_watched.proofs.Vocabulary.{IsClear, Joint, passes_other, passes_own, Steps, TakesTurn}
 use Rattle.osi_fair.specs.Wholes as wholes
-use Rattle.osi_fair.proofs.a_reference_names_one_connection.{fresh_apart, no_item}
-use Rattle.osi_fair.proofs.what_the_other_side_closes.{IsClear}
-use Rattle.osi_stack.specs.State.{Holding}
-use Rattle.osi_honest.specs.Courses.{Deeds, no_deeds, then_did, units_in}
-use Rattle.osi_honest.specs.Seeing.{IsFresh}
-use Rattle.osi_honest.specs.Turns.{Turn}
-use Rattle.osi_honest.proofs.class_0.what_a_packet_does_in_class_0.{AllProper}
-use Rattle.osi_tap.specs.Connections.{none}
-use Rattle.osi_tap.specs.Courses.{Course as Passed, unit_passes, units_pass}
-use Rattle.osi_watched.specs.Joint.{Joint, Steps, TakesTurn, begin, passes_other, passes_own}
+use Rattle.osi_tap.specs.Courses.{Course as Passed}
+use Rattle.osi_watched.specs.Joint.{begin}
+use Rattle.osi_watched.proofs.small_facts_that_many_lemmas_use.{all_front, ranges_of}
 use Rattle.osi_watched.proofs.steps_are_events.{IsFollowed}
 use Rattle.osi_watched.proofs.what_the_turns_among_steps_do.{TurnDoes}
 use Rattle.osi_watched.proofs.sessions.a_calling_end_hears_what_breaks_no_rule.{AreFine, IsBehind, units_heard}
 use Rattle.osi_watched.proofs.sessions.a_calling_end_is_ready.{begin_calling, whole_joined}
 use Rattle.osi_watched.proofs.sessions.a_calling_end_stands_as_units_pass.{StandsCalling, begins_other_stands, begins_own_stands, known_at}
-use Rattle.osi_watched.proofs.sessions.a_calling_end_stands_as_units_pass.{passes_other_stands, passes_own_stands, ranges_of}
-use Rattle.osi_watched.proofs.sessions.a_calling_end_stands_as_units_pass.{turns_stand_early}
+use Rattle.osi_watched.proofs.sessions.a_calling_end_stands_as_units_pass.{passes_other_stands, passes_own_stands, turns_stand_early}
 use Rattle.osi_watched.proofs.sessions.after_too_many_nobody_is_to_blame.{NoneIsToBlame}
 use Rattle.osi_watched.proofs.sessions.each_unit_of_a_calling_end_has_a_home.{calling_marked}
 use Rattle.osi_watched.proofs.sessions.no_session_of_an_end_breaks_first.{AreTaken, HaveCourses, KeepsNoneToBlame}
@@ -62,10 +48,6 @@ standing_first known h = record {
 fine_of : (at : ℕ) (vs : List Value) (c : Passed) → AreTaken Left at vs c → AreFine at vs c
 fine_of at [] c h = tt
 fine_of at (v ∷ vs) c h = (h.0.fine, h.0.clear, fine_of at vs (unit_passes Right at v c) h.1)
-
-all_front : {X : Type 0} (P : X → Type 0) (xs ys : List X) → AllByRecursion P (xs ++ ys) → AllByRecursion P xs
-all_front P [] ys h = tt
-all_front P (x ∷ xs) ys h = (h.0, all_front P xs ys h.1)
 
 module _ (local : Local) (two : local.class2 ≡ true) (proper : AllProper) where
   -- all connections stand, and nothing is in flight to one whose CC has not passed

@@ -1,21 +1,13 @@
 -- Until class 2 is selected, and nobody has broken a rule, no session of a calling end is to blame at a tap: at each step, and after each
 -- unit of a packet of the other side. For the law that no session of an end is blamed first, in class 0.
-use Rattle.std.proofs.Common.{ℕ, true, List, ◌++◌}
-use Rattle.osi_tpdu.specs.Value.{HasFieldsInRange, Value}
-use Rattle.osi_tpdu.proofs.the_units_of_a_packet.{units_fit, units_found}
-use Rattle.osi_class.specs.declared.terms.Local.{Local}
-use Rattle.osi_judge.specs.declared.directions.Direction.TheVariants.{Left, Right}
-use Rattle.osi_judge.proofs.honest.a_call_is_explained.{AsSent}
-use Rattle.osi_judge.proofs.honest.an_honest_run_stays_in_the_profile.{AsParts}
-use Rattle.osi_judge.proofs.honest.an_honest_side_is_kept.{CalledLaw, CallerLaw}
-use Rattle.osi_honest.specs.Courses.{Course, Deeds, units_in}
-use Rattle.osi_tap.specs.Courses.{units_pass}
-use Rattle.osi_watched.specs.Joint.{Joint, Steps, passes_other}
+use Rattle.osi_watched.proofs.Vocabulary.{List, true, ℕ, ◌++◌, units_fit, units_found, HasFieldsInRange, Value, Local, AsSent, AsParts}
+use Rattle.osi_watched.proofs.Vocabulary.{CalledLaw, CallerLaw, Left, Right, Deeds, units_in, units_pass, Joint, passes_other, Steps}
+use Rattle.osi_honest.specs.Courses.{Course}
+use Rattle.osi_watched.proofs.small_facts_that_many_lemmas_use.{all_front, ranges_of}
 use Rattle.osi_watched.proofs.sessions.a_calling_end_hears_what_comes_until_class_2.{AreTaken, IsWith, known_below, units_early}
-use Rattle.osi_watched.proofs.sessions.a_calling_end_stands_until_class_2.{StandsUntilTwo, given_so, ranges_of, runs_staged}
+use Rattle.osi_watched.proofs.sessions.a_calling_end_stands_until_class_2.{StandsUntilTwo, given_so, runs_staged}
 use Rattle.osi_watched.proofs.sessions.after_too_many_nobody_is_to_blame.{NoneIsToBlame}
 use Rattle.osi_watched.proofs.sessions.steps_of_either_class_leave_all_standing.{stand_none}
-use Rattle.osi_watched.proofs.sessions.what_a_turn_puts_goes_to_its_peer.{all_front}
 
 module _ (local : Local) (known_of : AsSent) (parts : AsParts) (caller : CallerLaw) (called : CalledLaw) (deeds : ℕ → Deeds) where
   pub none_early : (j : Joint) → ((r : ℕ) → Course true r (deeds r) j.holding.end) → StandsUntilTwo local deeds j →

@@ -1,21 +1,11 @@
 -- A unit that is no CC leaves the class that is selected on a byte connection, or that none is.
 -- For a called end that has selected no class yet.
-use Rattle.std.proofs.Common.{◌≡◌, ◌∙◌, refl, ℕ, Bool, true, false, if◌then◌else◌, Option, Some, None}
-use Rattle.std.specs.Prelude.{position, slice_get}
-use Rattle.osi_tpdu.specs.Value.{Value, acknowledge, confirm, data0, data2, disconnect, disconnected, error, request}
-use Rattle.osi_rules.specs.declared.connections.Connection.{Connection}
-use Rattle.osi_rules.specs.declared.courses.Course.{Course}
-use Rattle.osi_rules.specs.declared.directions.Direction.{Direction}
-use Rattle.osi_rules.specs.declared.findings.Finding.{Finding}
-use Rattle.osi_rules.specs.declared.findings.Finding.TheVariants.{Broke, Kept, NotJudged, Outside, TooMany}
-use Rattle.osi_rules.specs.declared.routes.Route.{Route}
-use Rattle.osi_rules.specs.declared.routes.Route.TheVariants.{Asks, Named, Only, Unnamed}
-use Rattle.osi_rules.specs.Reaches.{is_applied, reach_of}
-use Rattle.osi_rules.specs.Rows.{first_failed}
-use Rattle.osi_rules.specs.Sides.{is_live, is_named}
-use Rattle.osi_rules.specs.Traffic.{Outcome, State, asks_by, asks_of, at_found, at_place, class_for, course_after, course_after_none}
-use Rattle.osi_rules.specs.Traffic.{found_on, is_stopped, none_told, request_tests, route, routed, takes, unnamed}
-use Rattle.osi_fair.proofs.class_0_stays_selected.{reached_class}
+use Rattle.osi_watched.proofs.Vocabulary.{Bool, false, if◌then◌else◌, None, Option, refl, Some, true, ℕ, ◌∙◌, ◌≡◌, position, slice_get}
+use Rattle.osi_watched.proofs.Vocabulary.{acknowledge, confirm, data0, data2, disconnect, disconnected, error, request, Value, is_applied}
+use Rattle.osi_watched.proofs.Vocabulary.{reach_of, first_failed, is_live, is_named, asks_by, asks_of, at_found, at_place, class_for}
+use Rattle.osi_watched.proofs.Vocabulary.{course_after, course_after_none, found_on, is_stopped, none_told, Outcome, request_tests, route}
+use Rattle.osi_watched.proofs.Vocabulary.{routed, Traffic as State, takes, unnamed, Connection, Rules as Course, Way as Direction, Finding}
+use Rattle.osi_watched.proofs.Vocabulary.{Kept, NotJudged, Route, Asks, Named, Only, Unnamed, reached_class}
 use Rattle.osi_watched.proofs.sessions.a_called_end_hears_what_comes_until_class_2.{IsNoCc}
 
 abbrev Keeps : State → Outcome → Type 0
@@ -27,23 +17,11 @@ module _ (d : Direction) where
 
   after_keeps : (c : Connection) (v : Value) (b : Bool) (course : Course) → IsNoCc v → (course_after d c v b course).class ≡ course.class
   after_keeps c (confirm n x) b course h = absurd h
-  after_keeps c (request x) b course h = refl
-  after_keeps c (disconnect n source reason user) b course h = refl
-  after_keeps c (disconnected n source) b course h = refl
-  after_keeps c (data0 end user) b course h = refl
-  after_keeps c (data2 n number end user) b course h = refl
-  after_keeps c (acknowledge credit n number) b course h = refl
-  after_keeps c (error n cause) b course h = refl
+  after_keeps c _ b course h = refl
 
   unnamed_keeps : (v : Value) (course : Course) → (course_after_none v course).class ≡ course.class
   unnamed_keeps (confirm n x) course = refl
-  unnamed_keeps (request x) course = refl
-  unnamed_keeps (disconnect n source reason user) course = refl
-  unnamed_keeps (disconnected n source) course = refl
-  unnamed_keeps (data0 end user) course = refl
-  unnamed_keeps (data2 n number end user) course = refl
-  unnamed_keeps (acknowledge credit n number) course = refl
-  unnamed_keeps (error n cause) course = refl
+  unnamed_keeps _ course = refl
 
   found_keeps : (v : Value) (s : State) (p : ℕ) (o : Option Connection) → IsNoCc v → Keeps s (at_found d v s p o)
   found_keeps v s p None h =
@@ -65,10 +43,7 @@ module _ (d : Direction) where
     where
       by : (f : Finding) → Keeps s (asks_by d f x s)
       by Kept = refl
-      by (Broke rule) = none_keeps (Broke rule) s
-      by Outside = none_keeps Outside s
-      by TooMany = none_keeps TooMany s
-      by NotJudged = none_keeps NotJudged s
+      by v = none_keeps v s
   asks_keeps (confirm n x) s = none_keeps NotJudged s
   asks_keeps (disconnect n source reason user) s = none_keeps NotJudged s
   asks_keeps (disconnected n source) s = none_keeps NotJudged s

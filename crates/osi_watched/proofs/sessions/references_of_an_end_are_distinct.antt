@@ -1,26 +1,19 @@
 -- No two connections of an end have one reference of it at a tap, also after a place was given to another, if each CR and CC of the end
 -- gives a new one.
 -- For all connections of an end and a tap.
-use Rattle.std.proofs.Common.{◌≡◌, ◌∙◌, ◌⊎◌, inl, inr, refl, sym, ap, subst, ℕ, Bool, true, false, List, [], ◌∷◌, ◌++◌, length, set}
-use Rattle.std.proofs.Common.{Some}
-use Rattle.std.specs.Prelude.{slice_get}
-use Rattle.osi_tpdu.specs.Value.{Connect, Value, acknowledge, confirm, data0, data2, disconnect, disconnected, error, request}
-use Rattle.osi_judge.specs.Captures.{other}
-use Rattle.osi_judge.specs.declared.directions.Direction.{Direction}
-use Rattle.osi_judge.specs.declared.directions.Direction.TheVariants.{Left, Right}
-use Rattle.osi_rules.specs.Traffic.{State, meaning_if, meant, takes}
-use Rattle.osi_fair.proofs.what_holds_of_one_item.{after_add}
-use Rattle.osi_fair.proofs.while_no_class_is_selected.{after_change}
-use Rattle.osi_tap.specs.declared.rooms.Room.TheVariants.{All}
-use Rattle.osi_tap.specs.Connections.{Joined, Sessions, adds, all_begin, asked, packet_begins, reference_of, taken, user_of}
+use Rattle.osi_watched.proofs.Vocabulary.{[], ap, Bool, false, inl, inr, length, List, refl, set, Some, subst, sym, true, ℕ, ◌++◌, ◌∙◌, ◌∷◌}
+use Rattle.osi_watched.proofs.Vocabulary.{◌≡◌, ◌⊎◌, slice_get, confirm, Connect, data0, data2, disconnect, error, request, Value}
+use Rattle.osi_watched.proofs.Vocabulary.{meaning_if, meant, Traffic as State, takes, other, Direction, Left, Right, all_begin, asked}
+use Rattle.osi_watched.proofs.Vocabulary.{Joined, reference_of, Sessions, taken, way_of, All, after_add, after_change, HaveSamePlaces}
+use Rattle.osi_tap.specs.Connections.{packet_begins}
 use Rattle.osi_tap.specs.Connections as joined
-use Rattle.osi_tap.specs.Courses.{way_of}
-use Rattle.osi_watched.specs.ShownPlaces.{HaveSamePlaces}
+use Rattle.osi_fair.proofs.small_facts_that_many_lemmas_use.{number_is}
 use Rattle.osi_watched.proofs.sessions.all_connections_stand.{map_of}
 use Rattle.osi_watched.proofs.sessions.right_units_leave_all_standing.{StaysElsewhere}
 use Rattle.osi_watched.proofs.sessions.what_a_tap_shows_goes_on.{named_added}
 use Rattle.osi_watched.proofs.sessions.what_is_in_flight_to_an_end.{flight_stays, known_of}
 use Rattle.osi_watched.proofs.sessions.what_a_unit_does_at_its_place.{Does, asks_again, asks_more, nowhere, somewhere, unit_does}
+use Rattle.osi_watched.proofs.sessions.what_stands_of_a_connection.{named_begun}
 
 pub record AreDistinct (d : Direction) (t : Sessions) : Type 0 where
   pub live : (i k : ℕ) (j l : Joined) (r : ℕ) → slice_get t.live i ≡ Some j → slice_get t.live k ≡ Some l → reference_of d j ≡ Some r →
@@ -110,13 +103,6 @@ module _ (d : Direction) (new : Joined) (t : Sessions) (h : AreDistinct d t)
 
 -- ---- what passes
 
--- a packet begins
-named_begun : (d e : Direction) (j : Joined) → reference_of d (packet_begins e j) ≡ reference_of d j
-named_begun Left Left j = refl
-named_begun Left Right j = refl
-named_begun Right Left j = refl
-named_begun Right Right j = refl
-
 pub begins_distinct : (d e : Direction) (t : Sessions) → AreDistinct d t → AreDistinct d (all_begin e t)
 begins_distinct d e t h = record {
   live = λ i k j l r x y a b.
@@ -135,29 +121,24 @@ GivesNew Left (request x) t = IsUnused Left x.source t
 GivesNew Right (confirm n x) t = IsUnused Right x.source t
 GivesNew d v t = Unit {0}
 
-some_same : (m n : ℕ) → Some m ≡ Some n → m ≡ n
-some_same m n e = cc
-
-named_shut : (d : Direction) (j : Joined) → reference_of d (joined.shut j) ≡ reference_of d j
+pub named_shut : (d : Direction) (j : Joined) → reference_of d (joined.shut j) ≡ reference_of d j
 named_shut Left j = refl
 named_shut Right j = refl
 
 meant_fresh : (d e : Direction) (at : ℕ) (v : Value) (b : Bool) (j : Joined) (t : Sessions) → j.room ≡ All → GivesNew d v t →
     IsFresh d j (joined.meant e at v (meaning_if b (meant v)) j) t
 meant_fresh d e at v false j t room new = inl refl
-meant_fresh d e at (request x) true j t room new = inl refl
 meant_fresh Left e at (confirm n x) true j t room new = inl refl
-meant_fresh Right e at (confirm n x) true j t room new = inr (λ r is. subst (λ (m : ℕ). IsUnused Right m t) (some_same x.source r is) new)
+meant_fresh Right e at (confirm n x) true j t room new = inr (λ r is. subst (λ (m : ℕ). IsUnused Right m t) (number_is x.source r is) new)
 meant_fresh d e at (disconnect n source reason user) true j t room new = inl (named_shut d j)
-meant_fresh d e at (disconnected n source) true j t room new = inl refl
 meant_fresh d e at (data0 end user) true j t room new = inl (named_added at end user d e j room)
 meant_fresh d e at (data2 n number end user) true j t room new = inl (named_added at end user d e j room)
-meant_fresh d e at (acknowledge credit n number) true j t room new = inl refl
 meant_fresh d e at (error n cause) true j t room new = inl (named_shut d j)
+meant_fresh d e at _ true j t room new = inl refl
 
 asked_fresh : (d : Direction) (x : Connect) (number : ℕ) (t : Sessions) → GivesNew d (request x) t → (r : ℕ) →
     reference_of d (asked number x.source t.room) ≡ Some r → IsUnused d r t
-asked_fresh Left x number t new r is = subst (λ (m : ℕ). IsUnused Left m t) (some_same x.source r is) new
+asked_fresh Left x number t new r is = subst (λ (m : ℕ). IsUnused Left m t) (number_is x.source r is) new
 asked_fresh Right x number t new r is = absurd (cc)
 
 distinct_by : (d e : Direction) (at : ℕ) (v : Value) (s : State) (t : Sessions) → AreDistinct d t → GivesNew d v t →
@@ -182,9 +163,6 @@ unit_distinct d e at v s t places h new rooms = distinct_by d e at v s t h new r
 
 -- ---- so a DT of the other side is in flight to one connection
 
-same_place : (p q : ℕ) → Some p ≡ Some q → p ≡ q
-same_place p q e = cc
-
 pub stays_so : (d : Direction) (is_live : ℕ → Bool) (coming : List Value) (n number : ℕ) (end : Bool) (user : List ℕ) (s : State)
     (t : Sessions) (p : ℕ) (k : Joined) → AreDistinct d t → slice_get t.live p ≡ Some k → reference_of d k ≡ Some n →
     (takes (way_of (other d)) (data2 n number end user) s).told.place ≡ Some p →
@@ -192,7 +170,7 @@ pub stays_so : (d : Direction) (is_live : ℕ → Bool) (coming : List Value) (n
 stays_so d is_live coming n number end user s t p k h there named place = record {
   live = λ q i j apart told here r later is sure.
       flight_stays is_live coming n number end user r later
-      (λ same. apart (h.live i p j k r here there is (named ∙ ap (λ (m : ℕ). Some m) same) ∙ same_place p q (sym place ∙ told))) sure;
+      (λ same. apart (h.live i p j k r here there is (named ∙ ap (λ (m : ℕ). Some m) same) ∙ number_is p q (sym place ∙ told))) sure;
   done = λ i j here r later is sure.
       flight_stays is_live coming n number end user r later
       (λ same. h.done p i k j r there here (named ∙ ap (λ (m : ℕ). Some m) same) is) sure;

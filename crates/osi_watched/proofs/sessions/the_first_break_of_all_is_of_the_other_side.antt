@@ -1,28 +1,16 @@
 -- If in each moment before a break of the other side's transport nobody of this side is to blame, the first break of all, of transport
 -- and of sessions, is of the other side.
 -- For the law that no session of an end is blamed first.
-use Rattle.std.proofs.Common.{◌≡◌, ◌∙◌, ◌⊎◌, inl, inr, refl, sym, ap, subst, ℕ, Bool, true, false, if◌then◌else◌, List, [], ◌∷◌, ◌++◌}
-use Rattle.std.proofs.Common.{Option, Some, None, is_some}
-use Rattle.std.specs.List.{AllByRecursion}
-use Rattle.osi_tpdu.specs.Value.{Value}
-use Rattle.osi_judge.specs.Captures.{other}
-use Rattle.osi_judge.specs.declared.directions.Direction.{Direction}
-use Rattle.osi_judge.specs.declared.directions.Direction.TheVariants.{Left, Right}
-use Rattle.osi_rules.specs.declared.findings.Finding.{Finding}
-use Rattle.osi_rules.specs.declared.findings.Finding.TheVariants.{Broke, Kept, NotJudged, Outside, TooMany}
-use Rattle.osi_rules.specs.declared.findings.Told.{Told}
-use Rattle.osi_rules.specs.Traffic.{Outcome, takes}
+use Rattle.osi_watched.proofs.Vocabulary.{[], ap, Bool, false, if◌then◌else◌, inl, inr, is_some, List, None, Option, refl, Some, subst, sym}
+use Rattle.osi_watched.proofs.Vocabulary.{true, ℕ, ◌++◌, ◌∙◌, ◌∷◌, ◌≡◌, ◌⊎◌, AllByRecursion, Value, stops_last, Outcome, takes, Finding}
+use Rattle.osi_watched.proofs.Vocabulary.{Broke, Outside, TooMany, Told, other, Direction, Left, Right, marked_past, noted_past}
+use Rattle.osi_watched.proofs.Vocabulary.{AreSpotless, BreaksFirst, IsBreakOf, IsFirstOf, IsQuiet, IsToBlame, of_session, of_transport}
+use Rattle.osi_watched.proofs.Vocabulary.{Sessions, taken, cause_of, is_break, kind_of, mark_by, marked, marks_of, Moment, moment_of, moved}
+use Rattle.osi_watched.proofs.Vocabulary.{number_at, unit_passes, unread, unread_mark, unread_moment, way_of, Cause, First, Mark}
 use Rattle.osi_rules.specs.Traffic as traffic
-use Rattle.osi_rules.proofs.a_stop_is_said.{stops_last}
-use Rattle.osi_tap.specs.declared.marks.Cause.{Cause}
 use Rattle.osi_tap.specs.declared.marks.Cause.TheVariants as cause
-use Rattle.osi_tap.specs.declared.marks.First.{First}
-use Rattle.osi_tap.specs.declared.marks.Mark.{Mark}
-use Rattle.osi_tap.specs.Blaming.{AreSpotless, BreaksFirst, IsBreakOf, IsFirstOf, IsQuiet, IsToBlame, of_session, of_transport}
-use Rattle.osi_tap.specs.Connections.{Sessions, taken}
-use Rattle.osi_tap.specs.Courses.{Course, Moment, cause_of, is_break, kind_of, mark_by, marked, marks_of, moment_of, moved, number_at}
-use Rattle.osi_tap.specs.Courses.{unit_passes, unread, unread_mark, unread_moment, way_of}
-use Rattle.osi_tap.proofs.no_break_was_before_the_first.{marked_past, noted_past}
+use Rattle.osi_tap.specs.Courses.{Course}
+use Rattle.osi_fair.proofs.small_facts_that_many_lemmas_use.{differ}
 use Rattle.osi_watched.proofs.the_first_break_is_not_of_an_end.{IsNoBreak}
 use Rattle.osi_watched.proofs.what_a_unit_leaves_at_a_tap.{IsJudged, IsOver, unread_over}
 use Rattle.osi_watched.proofs.what_passes_keeps_a_claim.{IsClaim}
@@ -75,9 +63,6 @@ other_of Right Right h = absurd (h refl)
 
 same_mark : (a b : Mark) → Some a ≡ Some b → a ≡ b
 same_mark a b e = cc
-
-differ : {A : Type 0} (b : Bool) → b ≡ true → b ≡ false → A
-differ b h k = absurd (cc)
 
 quiet_not : {A : Type 0} (o : Option Mark) (k : Mark) → IsQuiet o → o ≡ Some k → is_break k.cause ≡ true → A
 quiet_not None k quiet is bad = let no : None ≡ Some k = is in absurd (cc)
@@ -178,11 +163,10 @@ module _ (e : Direction) (at : ℕ) (v : Value) (c : Course) where
   unit_past = noted_past e at v o.told (cause_of o.told.finding) _
 
   quiet_by : (f : Finding) → IsNoBreak f → IsQuiet (mark_by e at v (number_at o.told.place then_joined) (cause_of f))
-  quiet_by Kept none = tt
-  quiet_by NotJudged none = tt
   quiet_by TooMany none = refl
   quiet_by (Broke rule) none = absurd none
   quiet_by Outside none = absurd none
+  quiet_by _ none = tt
 
   -- it is no break
   pub unit_clean : (d : Direction) → IsNoBreak o.told.finding → NoneIsToBlame d (unit_passes e at v c).sessions → AreClean d c.past →
@@ -215,11 +199,9 @@ module _ (d : Direction) (at : ℕ) (v : Value) (c : Course) where
   }
 
   breaks_by : (f : Finding) → told.finding ≡ f → (IsNoBreak f → ⊥) → BreaksTransport (other d) (moment (other d) at v c)
-  breaks_by Kept is broke = absurd (broke tt)
-  breaks_by NotJudged is broke = absurd (broke tt)
-  breaks_by TooMany is broke = absurd (broke tt)
   breaks_by (Broke rule) is broke = marked_so (Broke rule) (cause.Broke rule) is refl refl
   breaks_by Outside is broke = marked_so Outside cause.Outside is refl refl
+  breaks_by _ is broke = absurd (broke tt)
 
   -- it is a break of the other side
   pub unit_breaks : (IsNoBreak told.finding → ⊥) → AreClean d c.past → HasBroken d (unit_passes (other d) at v c).past

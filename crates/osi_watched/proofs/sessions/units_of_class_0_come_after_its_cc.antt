@@ -1,15 +1,11 @@
 -- What comes to a calling end that gets class 0 is in order: before the CC nothing for a connection, and no CC after it. So the end takes
 -- no DT before its connection opens. For the session of the connection of an end in class 0.
-use Rattle.std.proofs.Common.{◌≡◌, ◌∙◌, refl, sym, ap, subst, ℕ, true, List, [], ◌∷◌, ◌++◌, Some, append_assoc}
-use Rattle.std.specs.List.{AllByRecursion}
-use Rattle.std.proofs.lemmas.List.{append-nil}
-use Rattle.osi_tpdu.specs.Value.{Connect, Value, acknowledge, confirm, data0, data2, disconnect, disconnected, error, request}
-use Rattle.osi_fair.proofs.which_units_are_for_a_connection.{picked_join, picked_rest}
-use Rattle.osi_honest.specs.Arriving.{Opens}
-use Rattle.osi_honest.specs.Marked.{Marked, all_units}
-use Rattle.osi_honest.proofs.courses.how_long_a_connection_is_open.{Stage, early}
-use Rattle.osi_honest.proofs.courses.units_of_each_connection.{all_units_more}
-use Rattle.osi_watched.proofs.sessions.what_a_turn_puts_goes_to_its_peer.{all_back, all_of_both, one_of}
+use Rattle.osi_watched.proofs.Vocabulary.{[], ap, append_assoc, List, refl, Some, subst, sym, true, ℕ, ◌++◌, ◌∙◌, ◌∷◌, ◌≡◌, append-nil}
+use Rattle.osi_watched.proofs.Vocabulary.{AllByRecursion, acknowledge, confirm, Connect, data0, data2, disconnect, disconnected, error}
+use Rattle.osi_watched.proofs.Vocabulary.{request, Value, early, Time as Stage, all_units_more, Opens, all_units, Marked, picked_join}
+use Rattle.osi_watched.proofs.Vocabulary.{picked_rest}
+use Rattle.osi_watched.proofs.small_facts_that_many_lemmas_use.{all_join as all_of_both, none_first}
+use Rattle.osi_watched.proofs.sessions.what_a_turn_puts_goes_to_its_peer.{all_back, one_of}
 use Rattle.osi_watched.proofs.sessions.what_an_end_takes_at_each_stage.{AreCalm, EndsEarly, opens_next, opens_not}
 use Rattle.osi_watched.proofs.sessions.what_stands_of_a_connection.{is_for, waiting_for}
 
@@ -20,22 +16,15 @@ abbrev pub IsQuiet : Value → Type 0
 IsQuiet (disconnect n source reason user) = Unit {0}
 IsQuiet (disconnected n source) = Unit {0}
 IsQuiet (error n cause) = Unit {0}
-IsQuiet (request x) = ⊥
-IsQuiet (confirm n x) = ⊥
-IsQuiet (data0 end user) = ⊥
-IsQuiet (data2 n number end user) = ⊥
-IsQuiet (acknowledge credit n number) = ⊥
+IsQuiet _ = ⊥
 
 -- the same, or a DT of class 0
 abbrev pub IsLater : Value → Type 0
-IsLater (disconnect n source reason user) = Unit {0}
-IsLater (disconnected n source) = Unit {0}
-IsLater (error n cause) = Unit {0}
-IsLater (data0 end user) = Unit {0}
 IsLater (request x) = ⊥
 IsLater (confirm n x) = ⊥
 IsLater (data2 n number end user) = ⊥
 IsLater (acknowledge credit n number) = ⊥
+IsLater _ = Unit {0}
 
 -- no CC comes after a CC or a DT of class 0, and no CR and no DT or AK of class 2 at all
 abbrev pub InOrder : List Value → Type 0
@@ -45,9 +34,7 @@ InOrder (data0 end user ∷ vs) = AllByRecursion IsLater vs
 InOrder (disconnect n source reason user ∷ vs) = InOrder vs
 InOrder (disconnected n source ∷ vs) = InOrder vs
 InOrder (error n cause ∷ vs) = InOrder vs
-InOrder (request x ∷ vs) = ⊥
-InOrder (data2 n number end user ∷ vs) = ⊥
-InOrder (acknowledge credit n number ∷ vs) = ⊥
+InOrder _ = ⊥
 
 -- a CC is for this reference
 abbrev pub IsCcFor : ℕ → Value → Type 0
@@ -61,10 +48,7 @@ later_order (disconnect n source reason user ∷ vs) h = later_order vs h.1
 later_order (disconnected n source ∷ vs) h = later_order vs h.1
 later_order (error n cause ∷ vs) h = later_order vs h.1
 later_order (data0 end user ∷ vs) h = h.1
-later_order (request x ∷ vs) h = absurd h.0
-later_order (confirm n x ∷ vs) h = absurd h.0
-later_order (data2 n number end user ∷ vs) h = absurd h.0
-later_order (acknowledge credit n number ∷ vs) h = absurd h.0
+later_order _ h = absurd h.0
 
 -- what is left of it
 pub order_back : (xs ys : List Value) → InOrder (xs ++ ys) → InOrder ys
@@ -74,9 +58,7 @@ order_back (data0 end user ∷ xs) ys h = later_order ys (all_back IsLater xs ys
 order_back (disconnect n source reason user ∷ xs) ys h = order_back xs ys h
 order_back (disconnected n source ∷ xs) ys h = order_back xs ys h
 order_back (error n cause ∷ xs) ys h = order_back xs ys h
-order_back (request x ∷ xs) ys h = absurd h
-order_back (data2 n number end user ∷ xs) ys h = absurd h
-order_back (acknowledge credit n number ∷ xs) ys h = absurd h
+order_back _ ys h = absurd h
 
 -- one more unit
 pub order_more : (vs : List Value) (v : Value) → InOrder vs → IsLater v → InOrder (vs ++ v ∷ [])
@@ -86,9 +68,7 @@ order_more (data0 end user ∷ vs) v h l = all_of_both IsLater vs (v ∷ []) h (
 order_more (disconnect n source reason user ∷ vs) v h l = order_more vs v h l
 order_more (disconnected n source ∷ vs) v h l = order_more vs v h l
 order_more (error n cause ∷ vs) v h l = order_more vs v h l
-order_more (request x ∷ vs) v h l = absurd h
-order_more (data2 n number end user ∷ vs) v h l = absurd h
-order_more (acknowledge credit n number ∷ vs) v h l = absurd h
+order_more _ v h l = absurd h
 
 -- the CC after what is quiet
 pub quiet_cc : (vs : List Value) (n : ℕ) (x : Connect) → AllByRecursion IsQuiet vs → InOrder (vs ++ confirm n x ∷ [])
@@ -96,11 +76,7 @@ quiet_cc [] n x h = tt
 quiet_cc (disconnect m source reason user ∷ vs) n x h = quiet_cc vs n x h.1
 quiet_cc (disconnected m source ∷ vs) n x h = quiet_cc vs n x h.1
 quiet_cc (error m cause ∷ vs) n x h = quiet_cc vs n x h.1
-quiet_cc (request y ∷ vs) n x h = absurd h.0
-quiet_cc (confirm m y ∷ vs) n x h = absurd h.0
-quiet_cc (data0 end user ∷ vs) n x h = absurd h.0
-quiet_cc (data2 m number end user ∷ vs) n x h = absurd h.0
-quiet_cc (acknowledge credit m number ∷ vs) n x h = absurd h.0
+quiet_cc _ n x h = absurd h.0
 
 -- ---- for a connection
 
@@ -110,11 +86,7 @@ quiet_none o (disconnect m source reason user ∷ vs) h =
     picked_rest (is_for (Some o)) (disconnect m source reason user) vs refl ∙ quiet_none o vs h.1
 quiet_none o (disconnected m source ∷ vs) h = picked_rest (is_for (Some o)) (disconnected m source) vs refl ∙ quiet_none o vs h.1
 quiet_none o (error m cause ∷ vs) h = picked_rest (is_for (Some o)) (error m cause) vs refl ∙ quiet_none o vs h.1
-quiet_none o (request y ∷ vs) h = absurd h.0
-quiet_none o (confirm m y ∷ vs) h = absurd h.0
-quiet_none o (data0 end user ∷ vs) h = absurd h.0
-quiet_none o (data2 m number end user ∷ vs) h = absurd h.0
-quiet_none o (acknowledge credit m number ∷ vs) h = absurd h.0
+quiet_none o _ h = absurd h.0
 
 -- nothing is for one before the CC
 pub before_cc : (r : ℕ) (front rest : List Value) (n : ℕ) (x : Connect) → InOrder (front ++ confirm n x ∷ rest) →
@@ -128,9 +100,7 @@ before_cc r (disconnected m source ∷ front) rest n x h =
     picked_rest (is_for (Some r)) (disconnected m source) front refl ∙ before_cc r front rest n x h
 before_cc r (error m cause ∷ front) rest n x h =
     picked_rest (is_for (Some r)) (error m cause) front refl ∙ before_cc r front rest n x h
-before_cc r (request y ∷ front) rest n x h = absurd h
-before_cc r (data2 m number end user ∷ front) rest n x h = absurd h
-before_cc r (acknowledge credit m number ∷ front) rest n x h = absurd h
+before_cc r _ rest n x h = absurd h
 
 -- ---- a turn
 
@@ -142,21 +112,12 @@ pub record HasCc (vs : List Value) : Type 0 where
   pub rest : List Value
   pub is : vs ≡ front ++ confirm n x ∷ rest
 
-none_first : (xs ys : List Value) → xs ++ ys ≡ [] → xs ≡ []
-none_first [] ys e = refl
-none_first (x ∷ xs) ys e = absurd (cc)
-
 -- those that come right before the unit with which a connection opens
 before_opening : (r peer : ℕ) (unit : Value) (front rest : List Value) → Opens true r peer unit → InOrder (front ++ unit ∷ rest) →
     waiting_for (Some r) front ≡ []
 before_opening r peer (confirm n x) front rest o h = before_cc r front rest n x h
 before_opening r peer (request x) front rest o h = absurd (cc o.0)
-before_opening r peer (disconnect n source reason user) front rest o h = absurd o
-before_opening r peer (disconnected n source) front rest o h = absurd o
-before_opening r peer (data0 end user) front rest o h = absurd o
-before_opening r peer (data2 n number end user) front rest o h = absurd o
-before_opening r peer (acknowledge credit n number) front rest o h = absurd o
-before_opening r peer (error n cause) front rest o h = absurd o
+before_opening r peer _ front rest o h = absurd o
 
 -- The end took these units, the first of those that had come. If the connection may still open afterwards, the CC is among the others.
 pub order_calm : (r : ℕ) (t : Stage) (took : List Marked) (others : List Value) → InOrder (all_units took ++ others) →

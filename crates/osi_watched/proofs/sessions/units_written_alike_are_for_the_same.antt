@@ -1,14 +1,9 @@
 -- Units that are written alike, and can be written, are for the same connections. So of what a joint has put no unit waits for a connection
 -- if none does of what its whole end has put.
 -- For all connections of an end and a tap.
-use Rattle.std.proofs.Common.{◌≡◌, ◌∙◌, refl, sym, ap, ℕ, ◌+◌, ◌*◌, ◌/◌, ◌%◌, Bool, true, false, List, [], ◌∷◌, map}
-use Rattle.std.proofs.Common.{Option, arith}
-use Rattle.std.specs.Prelude.{◌==◌, is_some}
-use Rattle.std.specs.List.{AllByRecursion}
-use Rattle.osi_tpdu.specs.Value.{Value, acknowledge, confirm, data0, data2, disconnect, disconnected, error, request}
-use Rattle.osi_tpdu.specs.Writing.{written}
-use Rattle.osi_fair.proofs.which_units_are_for_a_connection.{picked_first, picked_rest}
-use Rattle.osi_honest.proofs.reading.what_is_written_is_read_again.{CanBeWritten}
+use Rattle.osi_watched.proofs.Vocabulary.{[], ap, arith, Bool, false, is_some, List, map, Option, refl, sym, true, ℕ, ◌%◌, ◌*◌, ◌+◌, ◌/◌}
+use Rattle.osi_watched.proofs.Vocabulary.{◌==◌, ◌∙◌, ◌∷◌, ◌≡◌, AllByRecursion, acknowledge, confirm, data2, error, request, Value, written}
+use Rattle.osi_watched.proofs.Vocabulary.{CanBeWritten, picked_first, picked_rest}
 use Rattle.osi_watched.proofs.sessions.what_stands_of_a_connection.{is_for, names_it, waiting_for}
 
 -- ---- for which connection octets are
@@ -49,15 +44,13 @@ for_written o (confirm n x) can =
     let few = can.credit in
     let kind : (0xD0 + x.credit) / 16 ≡ 13 = omega (arith, few) in
     kind_of o (written (confirm n x)) _ (0xD0 + x.credit) 13 _ refl kind
-for_written o (disconnect n source reason user) can = refl
-for_written o (disconnected n source) can = refl
-for_written o (data0 end user) can = refl
 for_written o (data2 n number end user) can = number_so o n
 for_written o (acknowledge credit n number) can =
     let few = can.0 in
     let kind : (0x60 + credit) / 16 ≡ 6 = omega (arith, few) in
     number_so o n ∙ kind_of o (written (acknowledge credit n number)) _ (0x60 + credit) 6 _ refl kind
 for_written o (error n cause) can = absurd can
+for_written o _ can = refl
 
 -- ---- lists of units
 

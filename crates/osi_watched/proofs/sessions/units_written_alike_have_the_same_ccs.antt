@@ -1,15 +1,11 @@
 -- Among units that are written alike, and can be written, are the same CCs: for the same references of both sides, and of the same class.
 -- So what is known of the CCs that a whole end has put holds of those of its joint.
 -- For all connections of a called end and a tap.
-use Rattle.std.proofs.Common.{◌≡◌, ◌∙◌, ◌⊎◌, inl, inr, refl, sym, ap, subst, ℕ, ◌+◌, ◌*◌, ◌/◌, ◌%◌, ◌<◌, Bool, true, false, List, [], ◌∷◌}
-use Rattle.std.proofs.Common.{◌++◌, map, Option, Some, None, arith, if◌then◌else◌}
-use Rattle.std.specs.Prelude.{◌==◌}
-use Rattle.std.specs.List.{AllByRecursion}
-use Rattle.osi_tpdu.specs.Value.{Connect, Value, acknowledge, confirm, data0, data2, disconnect, disconnected, error, request}
-use Rattle.osi_tpdu.specs.Writing.{written}
-use Rattle.osi_fair.proofs.each_connection_of_a_called_end.{AreAbove}
-use Rattle.osi_fair.proofs.which_units_are_for_a_connection.{picked_rest}
-use Rattle.osi_honest.proofs.reading.what_is_written_is_read_again.{CanBeWritten}
+use Rattle.osi_watched.proofs.Vocabulary.{[], ap, arith, if◌then◌else◌, inl, inr, List, map, None, Option, refl, Some, subst, sym, true, ℕ}
+use Rattle.osi_watched.proofs.Vocabulary.{◌%◌, ◌*◌, ◌++◌, ◌+◌, ◌/◌, ◌<◌, ◌==◌, ◌∙◌, ◌∷◌, ◌≡◌, ◌⊎◌, AllByRecursion, acknowledge, confirm}
+use Rattle.osi_watched.proofs.Vocabulary.{Connect, data0, data2, disconnect, disconnected, error, request, Value, written, CanBeWritten}
+use Rattle.osi_watched.proofs.Vocabulary.{AreAbove, picked_rest}
+use Rattle.osi_fair.proofs.small_facts_that_many_lemmas_use.{is_false}
 use Rattle.osi_watched.proofs.sessions.units_written_alike_are_for_the_same.{for_octets, for_written}
 use Rattle.osi_watched.proofs.sessions.what_stands_of_a_connection.{is_for, waiting_for}
 
@@ -18,13 +14,7 @@ use Rattle.osi_watched.proofs.sessions.what_stands_of_a_connection.{is_for, wait
 -- a CC for this reference of the other side, with this one of the end
 abbrev pub IsCc : (n r : ℕ) → Value → Type 0
 IsCc n r (confirm m x) = (m ≡ n) × (x.source ≡ r)
-IsCc n r (request x) = ⊥
-IsCc n r (disconnect m source reason user) = ⊥
-IsCc n r (disconnected m source) = ⊥
-IsCc n r (data0 end user) = ⊥
-IsCc n r (data2 m number end user) = ⊥
-IsCc n r (acknowledge credit m number) = ⊥
-IsCc n r (error m cause) = ⊥
+IsCc n r _ = ⊥
 
 abbrev pub HasCc : (n r : ℕ) → List Value → Type 0
 HasCc n r [] = ⊥
@@ -51,28 +41,18 @@ has_either n r (x ∷ xs) ys (inr h) = by (has_either n r xs ys h)
 -- a CC selects class 2
 abbrev pub AnswersTwo : Value → Type 0
 AnswersTwo (confirm m x) = x.class ≡ 2
-AnswersTwo (request x) = Unit {0}
-AnswersTwo (disconnect m source reason user) = Unit {0}
-AnswersTwo (disconnected m source) = Unit {0}
-AnswersTwo (data0 end user) = Unit {0}
-AnswersTwo (data2 m number end user) = Unit {0}
-AnswersTwo (acknowledge credit m number) = Unit {0}
-AnswersTwo (error m cause) = Unit {0}
+AnswersTwo _ = Unit {0}
 
 -- each CC comes before all units for its reference of the other side
 abbrev pub AreOrdered : List Value → Type 0
 AreOrdered [] = Unit {0}
 AreOrdered (v ∷ vs) = ((n r : ℕ) → is_for (Some n) v ≡ true → HasCc n r vs → ⊥) × AreOrdered vs
 
-not_so : (b : Bool) → (b ≡ true → ⊥) → b ≡ false
-not_so true h = absurd (h refl)
-not_so false h = refl
-
 -- so nothing waits for that reference before it
 pub none_before : (n r : ℕ) (xs ys : List Value) → AreOrdered (xs ++ ys) → HasCc n r ys → waiting_for (Some n) xs ≡ []
 none_before n r [] ys h has = refl
 none_before n r (x ∷ xs) ys h has =
-    picked_rest (is_for (Some n)) x xs (not_so (is_for (Some n) x) (λ e. h.0 n r e (has_back n r xs ys has)))
+    picked_rest (is_for (Some n)) x xs (is_false (is_for (Some n) x) (λ e. h.0 n r e (has_back n r xs ys has)))
     ∙ none_before n r xs ys h.1 has
 
 -- ---- CCs and their octets
@@ -87,13 +67,7 @@ with_fields m r k = Some (record { destination = m; source = r; class = k })
 
 abbrev fields_of : Value → Option Fields
 fields_of (confirm m x) = with_fields m x.source x.class
-fields_of (request x) = None
-fields_of (disconnect m source reason user) = None
-fields_of (disconnected m source) = None
-fields_of (data0 end user) = None
-fields_of (data2 m number end user) = None
-fields_of (acknowledge credit m number) = None
-fields_of (error m cause) = None
+fields_of _ = None
 
 abbrev fields_there : List ℕ → Option Fields
 fields_there [] = None
@@ -133,15 +107,12 @@ fields_written (confirm m x) can =
     let kind : (0xD0 + x.credit) / 16 ≡ 13 = omega (arith, few) in
     same_fields m x.source x.class x.options can.options
     ∙ kind_of (written (confirm m x)) _ (0xD0 + x.credit) 13 _ refl kind
-fields_written (disconnect m source reason user) can = refl
-fields_written (disconnected m source) can = refl
-fields_written (data0 end user) can = refl
-fields_written (data2 m number end user) can = refl
 fields_written (acknowledge credit m number) can =
     let few = can.0 in
     let kind : (0x60 + credit) / 16 ≡ 6 = omega (arith, few) in
     kind_of (written (acknowledge credit m number)) _ (0x60 + credit) 6 _ refl kind
 fields_written (error m cause) can = absurd can
+fields_written _ can = refl
 
 alike : (u v : Value) → written u ≡ written v → CanBeWritten u → CanBeWritten v → fields_of u ≡ fields_of v
 alike u v same a b = fields_written u a ∙ ap fields_in same ∙ sym (fields_written v b)
@@ -150,12 +121,7 @@ cc_fields : (n r : ℕ) (v : Value) → IsCc n r v → (k : ℕ) × (fields_of v
 cc_fields n r (confirm m x) (mine, source) =
     (x.class, λ i. with_fields (mine i) (source i) x.class)
 cc_fields n r (request x) h = absurd h
-cc_fields n r (disconnect m source reason user) h = absurd h
-cc_fields n r (disconnected m source) h = absurd h
-cc_fields n r (data0 end user) h = absurd h
-cc_fields n r (data2 m number end user) h = absurd h
-cc_fields n r (acknowledge credit m number) h = absurd h
-cc_fields n r (error m cause) h = absurd h
+cc_fields n r _ h = absurd h
 
 some_fields : (a b : Fields) → Some a ≡ Some b → a ≡ b
 some_fields a b e = cc
@@ -163,13 +129,7 @@ some_fields a b e = cc
 fields_cc : (n r k : ℕ) (v : Value) → fields_of v ≡ with_fields n r k → IsCc n r v
 fields_cc n r k (confirm m x) e =
     let same = some_fields _ _ e in (ap (λ (f : Fields). f.destination) same, ap (λ (f : Fields). f.source) same)
-fields_cc n r k (request x) e = absurd (cc)
-fields_cc n r k (disconnect m source reason user) e = absurd (cc)
-fields_cc n r k (disconnected m source) e = absurd (cc)
-fields_cc n r k (data0 end user) e = absurd (cc)
-fields_cc n r k (data2 m number end user) e = absurd (cc)
-fields_cc n r k (acknowledge credit m number) e = absurd (cc)
-fields_cc n r k (error m cause) e = absurd (cc)
+fields_cc n r k _ e = absurd (cc)
 
 cc_alike : (n r : ℕ) (u v : Value) → written u ≡ written v → CanBeWritten u → CanBeWritten v → IsCc n r u → IsCc n r v
 cc_alike n r u v same a b h =
@@ -180,13 +140,7 @@ zero_alike : {A : Type 0} (m : ℕ) (x : Connect) (v : Value) → x.class ≡ 0 
 zero_alike m x (confirm n y) zero_is e two =
     let same : x.class ≡ y.class = ap (λ (f : Fields). f.class) (some_fields _ _ e) in
     absurd (omega (arith, same, zero_is, two))
-zero_alike m x (request y) zero_is e two = absurd (cc)
-zero_alike m x (disconnect n source reason user) zero_is e two = absurd (cc)
-zero_alike m x (disconnected n source) zero_is e two = absurd (cc)
-zero_alike m x (data0 end user) zero_is e two = absurd (cc)
-zero_alike m x (data2 n number end user) zero_is e two = absurd (cc)
-zero_alike m x (acknowledge credit n number) zero_is e two = absurd (cc)
-zero_alike m x (error n cause) zero_is e two = absurd (cc)
+zero_alike m x _ zero_is e two = absurd (cc)
 
 -- ---- lists of units
 
@@ -223,20 +177,9 @@ first_not_zero m x us (v ∷ vs) h zero_is two =
 -- a CC that is written as one of class 2 selects class 2
 two_fields : (u v : Value) → fields_of u ≡ fields_of v → AnswersTwo u → AnswersTwo v
 two_fields (confirm m x) (confirm n y) e two = sym (ap (λ (f : Fields). f.class) (some_fields _ _ e)) ∙ two
-two_fields (request x) (confirm n y) e two = absurd (cc)
-two_fields (disconnect m source reason user) (confirm n y) e two = absurd (cc)
-two_fields (disconnected m source) (confirm n y) e two = absurd (cc)
-two_fields (data0 end user) (confirm n y) e two = absurd (cc)
-two_fields (data2 m number end user) (confirm n y) e two = absurd (cc)
-two_fields (acknowledge credit m number) (confirm n y) e two = absurd (cc)
-two_fields (error m cause) (confirm n y) e two = absurd (cc)
+two_fields _ (confirm n y) e two = absurd (cc)
 two_fields u (request y) e two = tt
-two_fields u (disconnect n source reason user) e two = tt
-two_fields u (disconnected n source) e two = tt
-two_fields u (data0 end user) e two = tt
-two_fields u (data2 n number end user) e two = tt
-two_fields u (acknowledge credit n number) e two = tt
-two_fields u (error n cause) e two = tt
+two_fields u _ e two = tt
 
 two_by : (us vs : List Value) → map written us ≡ map written vs → AllByRecursion CanBeWritten us → AllByRecursion CanBeWritten vs →
     AllByRecursion AnswersTwo us → AllByRecursion AnswersTwo vs

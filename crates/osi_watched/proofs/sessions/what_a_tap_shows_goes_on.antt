@@ -1,43 +1,22 @@
 -- What a tap shows of a session as packets of both sides begin and pass, and as the end does more.
 -- For the law on a connection of an end and a tap.
-use Rattle.std.proofs.Common.{◌≡◌, ◌∙◌, refl, sym, ap, subst, ℕ, ◌+◌, ◌^◌, ◌<◌, ◌≤◌, Bool, true, false, List, [], ◌∷◌, ◌++◌}
-use Rattle.std.proofs.Common.{length, map, Option, Some, None, append_assoc, arith}
-use Rattle.std.specs.Prelude.{is_none}
-use Rattle.std.specs.List.{AllByRecursion}
-use Rattle.std.proofs.lemmas.Grind.{flat_map-append}
-use Rattle.std.proofs.lemmas.List.{append-nil, length-append, length-map, map-append}
-use Rattle.osi_tpkt.specs.Stream.{offset_of}
-use Rattle.osi_tpdu.specs.Value.{Value}
-use Rattle.osi_class.specs.Runs.{part_in, parts_in, tsdus_out, unit_parts}
-use Rattle.osi_class.specs.Tsdus.{Part, tsdus, tsdus_after}
-use Rattle.osi_judge.specs.Captures.{other}
-use Rattle.osi_judge.specs.declared.directions.Direction.{Direction}
-use Rattle.osi_judge.specs.declared.directions.Direction.TheVariants.{Left, Right}
-use Rattle.osi_stack.specs.State.{End}
-use Rattle.osi_honest.specs.Courses.{Course, Deeds, said_in, then_did}
-use Rattle.osi_honest.specs.Parts.{ends_whole}
+use Rattle.osi_watched.proofs.Vocabulary.{[], ap, append_assoc, arith, Bool, false, length, List, map, None, Option, refl, Some, subst, sym}
+use Rattle.osi_watched.proofs.Vocabulary.{true, ℕ, ◌++◌, ◌+◌, ◌<◌, ◌^◌, ◌∙◌, ◌∷◌, ◌≡◌, ◌≤◌, flat_map-append, append-nil, length-append}
+use Rattle.osi_watched.proofs.Vocabulary.{length-map, map-append, AllByRecursion, is_none, offset_of, Value, part_in, parts_in, tsdus_out}
+use Rattle.osi_watched.proofs.Vocabulary.{unit_parts, Part, tsdus, tsdus_after, End, other, Direction, Left, Right, said_more, units_came}
+use Rattle.osi_watched.proofs.Vocabulary.{Deeds, said_in, then_did, ends_whole, adds, adds_all, adds_if, Joined, reference_of, spoken}
+use Rattle.osi_watched.proofs.Vocabulary.{user_of, added, before, Begun, begun_before, begun_octets, heard, octets_of, Spoken, fits, spent}
+use Rattle.osi_watched.proofs.Vocabulary.{Room, All, all_before, AreAfter, before_begun, before_of, calls_from, IsJoinedFrom, IsShownNow}
+use Rattle.osi_watched.proofs.Vocabulary.{left_over, parts_of, with_next}
+use Rattle.osi_honest.specs.Courses.{Course}
 use Rattle.osi_honest.specs.Talking.{Said}
-use Rattle.osi_honest.proofs.courses.what_calls_of_a_link_say.{said_more}
-use Rattle.osi_honest.proofs.courses.what_was_said_is_explained.{units_came}
-use Rattle.osi_tap.specs.declared.rooms.Room.{Room}
-use Rattle.osi_tap.specs.declared.rooms.Room.TheVariants.{All}
-use Rattle.osi_tap.specs.Connections.{Joined, adds, adds_all, adds_if, packet_begins, reference_of, spoken, user_of}
-use Rattle.osi_tap.specs.Lines.{Begun, Spoken, added, before, begins, begun_before, begun_octets, heard, octets_of}
-use Rattle.osi_tap.specs.Rooms.{fits, spent}
-use Rattle.osi_watched.specs.Shown.{AreAfter, IsJoinedFrom, IsShownNow, all_before, before_begun, before_of, calls_from, left_over}
-use Rattle.osi_watched.specs.Shown.{parts_of, with_next}
+use Rattle.osi_tap.specs.Connections.{packet_begins}
+use Rattle.osi_tap.specs.Lines.{begins}
+use Rattle.osi_watched.proofs.small_facts_that_many_lemmas_use.{all_front, all_join}
 use Rattle.osi_watched.proofs.sessions.a_session_that_is_shown_is_not_to_blame.{tsdus_more}
 use Rattle.osi_watched.proofs.sessions.how_many_tsdus_were_begun.{all_taken_by, begun_within, ends_more, left_more, one_if}
 
 -- ---- what holds of all numbers of a list
-
-all_join : {X : Type 0} (P : X → Type 0) (xs ys : List X) → AllByRecursion P xs → AllByRecursion P ys → AllByRecursion P (xs ++ ys)
-all_join P [] ys a b = b
-all_join P (x ∷ xs) ys a b = (a.0, all_join P xs ys a.1 b)
-
-all_front : {X : Type 0} (P : X → Type 0) (xs ys : List X) → AllByRecursion P (xs ++ ys) → AllByRecursion P xs
-all_front P [] ys a = tt
-all_front P (x ∷ xs) ys a = (a.0, all_front P xs ys a.1)
 
 all_up_to : (m n : ℕ) (xs : List ℕ) → m ≤ n → AllByRecursion (λ x. x ≤ m) xs → AllByRecursion (λ x. x ≤ n) xs
 all_up_to m n [] l a = tt
@@ -164,9 +143,6 @@ module _ (j : Joined) where
   room_begun Right = refl
 
 -- ---- what is shown
-
-same_count : (most : ℕ) (n : ℕ) → n ≤ most → offset_of n ≤ n
-same_count most n l = omega arith
 
 below_all : (n : ℕ) → n < 2 ^ 64 → offset_of n ≡ n
 below_all n l = omega (arith, l)

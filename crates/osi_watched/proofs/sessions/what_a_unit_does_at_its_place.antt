@@ -1,29 +1,14 @@
 -- What a unit that passes does to the connections: nothing, or to the one at its place, or it asks for a new one; for the rules of
 -- transport and for what is joined alike.
 -- For all connections of an end and a tap.
-use Rattle.std.proofs.Common.{◌≡◌, ◌∙◌, refl, ap, ℕ, Bool, true, false, if◌then◌else◌, [], ◌∷◌, ◌++◌, length, set, arith}
-use Rattle.std.proofs.Common.{Option, Some, None}
-use Rattle.std.specs.Prelude.{position, slice_get}
-use Rattle.std.proofs.lemmas.Option.{slice_get_past}
-use Rattle.osi_tpdu.specs.Value.{Connect, Value, acknowledge, confirm, data0, data2, disconnect, disconnected, error, request}
-use Rattle.osi_judge.specs.declared.directions.Direction.{Direction}
-use Rattle.osi_rules.specs.declared.connections.Connection.{Connection}
-use Rattle.osi_rules.specs.declared.findings.Finding.{Finding}
-use Rattle.osi_rules.specs.declared.findings.Finding.TheVariants.{Broke, Kept, NotJudged, Outside, TooMany}
-use Rattle.osi_rules.specs.declared.findings.Reach.{Reach}
-use Rattle.osi_rules.specs.declared.routes.Route.{Route}
-use Rattle.osi_rules.specs.declared.routes.Route.TheVariants.{Asks, Named, Only, Unnamed}
-use Rattle.osi_rules.specs.Reaches.{is_applied, reach_of}
-use Rattle.osi_rules.specs.Rows.{first_failed}
-use Rattle.osi_rules.specs.Sides.{is_free, is_live, is_named}
-use Rattle.osi_rules.specs.Traffic.{Outcome, State, asked_by, asks_by, asks_kept, asks_of, at_found, at_place, class_for, connection_after}
-use Rattle.osi_rules.specs.Traffic.{found_on, is_stopped, meaning_if, meant, none_told, request_tests, route, routed, takes}
-use Rattle.osi_fair.proofs.a_right_unit_is_not_blamed.{first_there}
-use Rattle.osi_tap.specs.Connections.{Joined, Sessions, asked, changed, count, placed, taken, taken_at}
+use Rattle.osi_watched.proofs.Vocabulary.{[], ap, arith, Bool, false, if◌then◌else◌, length, None, Option, refl, set, Some, true, ℕ, ◌++◌}
+use Rattle.osi_watched.proofs.Vocabulary.{◌∙◌, ◌∷◌, ◌≡◌, slice_get_past, position, slice_get, offset_of, Connect, request, Value}
+use Rattle.osi_watched.proofs.Vocabulary.{is_applied, reach_of, first_failed, is_free, is_live, is_named, asked_by, asks_by, asks_kept}
+use Rattle.osi_watched.proofs.Vocabulary.{asks_of, at_found, at_place, class_for, connection_after, found_on, is_stopped, meaning_if, meant}
+use Rattle.osi_watched.proofs.Vocabulary.{none_told, Outcome, request_tests, route, routed, Traffic as State, takes, Connection, Finding}
+use Rattle.osi_watched.proofs.Vocabulary.{Kept, NotJudged, Reach, Route, Asks, Named, Only, Unnamed, Direction, asked, changed, count}
+use Rattle.osi_watched.proofs.Vocabulary.{Joined, placed, Sessions, taken, way_of, first_there, HaveSamePlaces, IsOneOf}
 use Rattle.osi_tap.specs.Connections as joined
-use Rattle.osi_tap.specs.Courses.{way_of}
-use Rattle.osi_tpkt.specs.Stream.{offset_of}
-use Rattle.osi_watched.specs.ShownPlaces.{HaveSamePlaces, IsOneOf}
 use Rattle.osi_watched.proofs.sessions.connections_have_the_same_places.{as_long, at_same, not_asked}
 
 -- what a unit does of which this is told
@@ -75,21 +60,12 @@ module _ (d : Direction) (at : ℕ) (x : Connect) (s : State) (t : Sessions) (h 
 
   does_by : (f : Finding) → Does d at (request x) s t (asks_by (way_of d) f x s)
   does_by Kept = does_ask (position is_free s.connections) refl
-  does_by (Broke rule) = nowhere refl refl refl
-  does_by Outside = nowhere refl refl refl
-  does_by TooMany = nowhere refl refl refl
-  does_by NotJudged = nowhere refl refl refl
+  does_by _ = nowhere refl refl refl
 
 asks_does : (d : Direction) (at : ℕ) (v : Value) (s : State) (t : Sessions) → HaveSamePlaces s.connections t.live →
     Does d at v s t (asks_of (way_of d) v s)
 asks_does d at (request c) s t h = does_by d at c s t h (first_failed (request_tests s c))
-asks_does d at (confirm destination c) s t h = nowhere refl refl refl
-asks_does d at (disconnect destination source reason user) s t h = nowhere refl refl refl
-asks_does d at (disconnected destination source) s t h = nowhere refl refl refl
-asks_does d at (data0 end user) s t h = nowhere refl refl refl
-asks_does d at (data2 destination number end user) s t h = nowhere refl refl refl
-asks_does d at (acknowledge credit destination number) s t h = nowhere refl refl refl
-asks_does d at (error destination cause) s t h = nowhere refl refl refl
+asks_does d at _ s t h = nowhere refl refl refl
 
 routed_does : (d : Direction) (at : ℕ) (v : Value) (s : State) (t : Sessions) (r : Route) → HaveSamePlaces s.connections t.live →
     Does d at v s t (routed (way_of d) v s r)

@@ -1,31 +1,17 @@
 -- What an end takes in a turn at a connection is the first of what is in flight to it: all that is for it from the time at which it opens.
 -- For all connections of an end and a tap.
-use Rattle.std.proofs.Common.{◌≡◌, ◌∙◌, refl, ap, ℕ, Bool, true, false, List, [], ◌∷◌, ◌++◌, Some, append_assoc}
-use Rattle.std.proofs.lemmas.List.{append-nil}
-use Rattle.std.specs.Prelude.{if◌then◌else◌}
-use Rattle.osi_tpdu.specs.Value.{Value, acknowledge, confirm, data0, data2, disconnect, disconnected, error, request}
-use Rattle.osi_class.specs.Tsdus.{Part}
-use Rattle.osi_carrier.specs.State.{State}
-use Rattle.osi_honest.specs.Arriving.{AreApart, Lives, TakesAll}
+use Rattle.osi_watched.proofs.Vocabulary.{[], ap, append_assoc, Bool, if◌then◌else◌, List, refl, Some, ℕ, ◌++◌, ◌∙◌, ◌∷◌, ◌≡◌, append-nil}
+use Rattle.osi_watched.proofs.Vocabulary.{data0, Value, all_units_more, units_more, TakesAll, all_units, Marked, units_at, parts_of}
+use Rattle.osi_honest.specs.Arriving.{AreApart}
 use Rattle.osi_honest.specs.Arriving as arriving
-use Rattle.osi_honest.specs.Courses.{Deeds, units_taken}
-use Rattle.osi_honest.specs.Marked.{Marked, all_units, units_at}
-use Rattle.osi_honest.proofs.courses.units_of_each_connection.{all_units_more, units_more}
-use Rattle.osi_watched.specs.Shown.{parts_of}
 use Rattle.osi_watched.proofs.sessions.what_a_turn_puts_waits.{Agree, marks_wait}
-use Rattle.osi_watched.proofs.sessions.what_is_in_flight_to_an_end.{in_flight, in_flight_more, known_of, takes_first, takes_last}
-use Rattle.osi_watched.proofs.sessions.what_stands_of_a_connection.{Takes, is_for, waiting_for}
+use Rattle.osi_watched.proofs.sessions.what_is_in_flight_to_an_end.{in_flight, in_flight_more}
+use Rattle.osi_watched.proofs.sessions.what_stands_of_a_connection.{is_for, waiting_for}
 
 -- the end and the tap say alike for which connection a unit is
 pub same_for : (r : ℕ) (v : Value) → arriving.is_for r v ≡ is_for (Some r) v
 same_for r (data0 end user) = refl
-same_for r (data2 n number end user) = refl
-same_for r (acknowledge credit n number) = refl
-same_for r (request x) = refl
-same_for r (confirm n x) = refl
-same_for r (disconnect n source reason user) = refl
-same_for r (disconnected n source) = refl
-same_for r (error n cause) = refl
+same_for r _ = refl
 
 takes_agree : (r : ℕ) (units : List Marked) → TakesAll r units → Agree r (Some r) units
 takes_agree r [] h = tt
@@ -59,25 +45,3 @@ after_opening r took before during after coming is early =
     ∙ ap (λ (l : List Value). parts_of l ++ in_flight r (all_units (during ++ after) ++ coming)) early
     ∙ ap (λ (l : List Value). in_flight r (l ++ coming)) (all_units_more during after)
     ∙ ap (in_flight r) (append_assoc (all_units during) (all_units after) coming)
-
--- As long as the connection is asked for or open, nothing comes after it was closed. Before it opens nothing is for it.
-pub lives_takes : (is_caller : Bool) (r : ℕ) (old : State) (took put : List Marked) (new : State) (l : Lives is_caller r old took put new)
-    (more : Deeds) (is_live : ℕ → Bool) (later : List Part) (coming : List Value) → units_taken more.calls ≡ units_at r took →
-    waiting_for (Some r) (all_units l.arrived.before) ≡ [] → (is_live r ≡ true → l.arrived.after ≡ []) →
-    later ≡ in_flight r (all_units took ++ coming) → Takes more later (known_of is_live coming r)
-lives_takes is_caller r old took put new l more is_live later coming taken early lasts is = by (is_live r) refl
-  where
-    taken_so : units_taken more.calls ≡ waiting_for (Some r) (all_units l.arrived.during)
-    taken_so =
-        taken ∙ during_taken r took l.arrived.before l.arrived.during l.arrived.after l.arrived.is l.arrived.none_before l.takes
-        l.arrived.none_after
-
-    rest_so : later ≡ in_flight r (all_units l.arrived.during ++ (all_units l.arrived.after ++ coming))
-    rest_so = is ∙ after_opening r took l.arrived.before l.arrived.during l.arrived.after coming l.arrived.is early
-
-    by : (b : Bool) → is_live r ≡ b → Takes more later (known_of is_live coming r)
-    by true live =
-        takes_first more is_live r later (all_units l.arrived.during) coming taken_so
-        (rest_so ∙ ap (λ (u : List Marked). in_flight r (all_units l.arrived.during ++ (all_units u ++ coming))) (lasts live))
-    by false gone =
-        takes_last more is_live r later (all_units l.arrived.during) (all_units l.arrived.after ++ coming) coming taken_so gone rest_so

@@ -1,24 +1,14 @@
 -- What an end takes in a turn at a connection is the first of what is in flight to it, whether the connection opens in this turn, is open,
 -- or is gone: if nothing is for it before the unit with which it opens.
 -- For all connections of an end and a tap.
-use Rattle.std.proofs.Common.{◌≡◌, ◌∙◌, refl, sym, ap, subst, ℕ, Bool, true, false, List, [], ◌∷◌, ◌++◌, Some, append_assoc}
-use Rattle.std.proofs.Common.{Option, None, inl, inr, is_some, ◌<◌, ◌⊎◌}
-use Rattle.std.specs.Prelude.{◌==◌}
-use Rattle.std.specs.List.{AllByRecursion}
-use Rattle.std.proofs.lemmas.List.{append-nil}
-use Rattle.osi_tpdu.specs.Value.{Connect, Value, acknowledge, confirm, data0, data2, disconnect, disconnected, error, request}
-use Rattle.osi_class.specs.Tsdus.{Part}
-use Rattle.osi_carrier.specs.State.{State as Carrier}
-use Rattle.osi_carrier.specs.declared.ends.EndReason.{EndReason}
-use Rattle.osi_fair.proofs.each_connection_has_its_line.{IsNoCc}
-use Rattle.osi_fair.proofs.which_units_are_for_a_connection.{IsDc, picked_join, picked_rest, those, those_join}
-use Rattle.osi_honest.specs.Arriving.{AreApart, Opens, TakesAll}
-use Rattle.osi_honest.specs.Courses.{Continues, Deeds, units_in, units_taken}
-use Rattle.osi_honest.specs.Marked.{Marked, all_units, units_at}
-use Rattle.osi_honest.specs.Turns.{Turn}
-use Rattle.osi_honest.proofs.courses.how_long_a_connection_is_open.{Life, Stage, amid, early, opens_by, past, stage_at, stage_over, stays}
-use Rattle.osi_honest.proofs.courses.units_of_each_connection.{all_units_more, none_mark}
-use Rattle.osi_watched.specs.Joint.{Joint, TakesTurn}
+use Rattle.osi_watched.proofs.Vocabulary.{[], ap, append_assoc, Bool, false, inl, inr, is_some, List, None, Option, refl, Some, subst, sym}
+use Rattle.osi_watched.proofs.Vocabulary.{true, ℕ, ◌++◌, ◌<◌, ◌==◌, ◌∙◌, ◌∷◌, ◌≡◌, ◌⊎◌, append-nil, AllByRecursion, confirm, Connect}
+use Rattle.osi_watched.proofs.Vocabulary.{request, Value, Part, Carrier, EndReason, amid, early, Life, opens_by, past, Time as Stage}
+use Rattle.osi_watched.proofs.Vocabulary.{stage_at, stage_over, stays, all_units_more, none_mark, Opens, TakesAll, Continues, Deeds}
+use Rattle.osi_watched.proofs.Vocabulary.{units_in, units_taken, all_units, Marked, units_at, Turn, IsNoCc, IsDc, picked_join, picked_rest}
+use Rattle.osi_watched.proofs.Vocabulary.{those, those_join, Joint, TakesTurn}
+use Rattle.osi_honest.specs.Arriving.{AreApart}
+use Rattle.osi_watched.proofs.small_facts_that_many_lemmas_use.{all_left}
 use Rattle.osi_watched.proofs.sessions.a_turn_does_what_its_deeds_say.{turn_uses}
 use Rattle.osi_watched.proofs.sessions.nothing_is_done_before_a_cr_passes.{IsNoZero, dcs_none, is_under_way, may_take}
 use Rattle.osi_watched.proofs.sessions.what_an_end_takes_at_a_connection.{after_opening, apart_none, during_taken}
@@ -41,12 +31,7 @@ AreCalm is_caller r t took = (front back : List Marked) → took ≡ front ++ ba
 opening_not : (is_caller : Bool) (r peer : ℕ) (unit : Value) → Opens is_caller r peer unit → is_for (Some r) unit ≡ false
 opening_not is_caller r peer (confirm n x) o = refl
 opening_not is_caller r peer (request x) o = refl
-opening_not is_caller r peer (disconnect n source reason user) o = absurd o
-opening_not is_caller r peer (disconnected n source) o = absurd o
-opening_not is_caller r peer (data0 end user) o = absurd o
-opening_not is_caller r peer (data2 n number end user) o = absurd o
-opening_not is_caller r peer (acknowledge credit n number) o = absurd o
-opening_not is_caller r peer (error n cause) o = absurd o
+opening_not is_caller r peer _ o = absurd o
 
 no_marks : (r : ℕ) (unit : Value) (some : List Marked) → AreApart r some → (0 == r) ≡ false → AreApart r (some ++ (0, unit) ∷ [])
 no_marks r unit [] h zero = (zero, tt)
@@ -54,9 +39,6 @@ no_marks r unit (m ∷ some) h zero = (h.0, no_marks r unit some h.1 zero)
 
 never : {A : Type 0} (t : Stage) → t ≡ past → is_under_way t ≡ true → A
 never t e h = absurd (let gone : is_under_way t ≡ false = ap is_under_way e in cc)
-
-gone_so : (is_live : ℕ → Bool) (r : ℕ) (t : Stage) → is_live r ≡ is_under_way t → t ≡ past → is_live r ≡ false
-gone_so is_live r t same e = same ∙ ap is_under_way e
 
 module _ (is_caller : Bool) (r : ℕ) (zero : (0 == r) ≡ false) (took put : List Marked) (t : Stage) (is_live : ℕ → Bool)
     (live_is : is_live r ≡ is_under_way t) (more : Deeds) (later : List Part) (coming : List Value)
@@ -180,10 +162,6 @@ dcs_before r x y (v ∷ front) rest (d ∷ firsts) later e dcs calm =
     let one : d ≡ v = cc in
     let more : front ++ confirm r y ∷ rest ≡ firsts ++ confirm r x ∷ later = cc in
     (subst IsDc one dcs.0, dcs_before r x y front rest firsts later more dcs.1 calm)
-
-all_left : (P : Value → Type 0) (xs ys : List Value) → AllByRecursion P (xs ++ ys) → AllByRecursion P xs
-all_left P [] ys h = tt
-all_left P (x ∷ xs) ys h = (h.0, all_left P xs ys h.1)
 
 -- So none of the units before it is for the connection: what comes for it is DCs, its CC, and then no other CC.
 pub calm_before : (r : ℕ) (x y : Connect) (front coming firsts later dcs rest : List Value) →

@@ -1,25 +1,15 @@
 -- A unit that has no effect joins nothing: it broke a rule, or nothing more is judged, or it is one connection too many.
 -- For the session of each connection of an end, once nothing more is judged.
-use Rattle.std.proofs.Common.{◌≡◌, ◌∙◌, refl, ap, ℕ, Bool, true, false, if◌then◌else◌, List, Option, Some, None}
-use Rattle.std.specs.Prelude.{position, slice_get}
-use Rattle.osi_tpdu.specs.Value.{Connect, Value, acknowledge, confirm, data0, data2, disconnect, disconnected, error, request}
-use Rattle.osi_judge.specs.declared.directions.Direction.{Direction}
-use Rattle.osi_rules.specs.declared.connections.Connection.{Connection}
-use Rattle.osi_rules.specs.declared.findings.Finding.{Finding}
-use Rattle.osi_rules.specs.declared.findings.Finding.TheVariants.{Broke, Kept, NotJudged, Outside, TooMany}
+use Rattle.osi_watched.proofs.Vocabulary.{ap, Bool, false, if◌then◌else◌, List, None, Option, refl, Some, true, ℕ, ◌∙◌, ◌≡◌, position}
+use Rattle.osi_watched.proofs.Vocabulary.{slice_get, Connect, request, Value, is_applied, reach_of, first_failed, is_live, is_named}
+use Rattle.osi_watched.proofs.Vocabulary.{asks_by, asks_of, at_found, at_place, class_for, is_stopped, meaning_if, meant, none_told}
+use Rattle.osi_watched.proofs.Vocabulary.{Outcome, request_tests, route, routed, Traffic as State, takes, Connection, Finding, Kept}
+use Rattle.osi_watched.proofs.Vocabulary.{NotJudged, TooMany, Route, Asks, Named, Only, Unnamed, Direction, changed, Joined, Sessions}
+use Rattle.osi_watched.proofs.Vocabulary.{taken, taken_at, unit_passes, way_of, set_same}
 use Rattle.osi_rules.specs.declared.findings.Meaning.TheVariants as meaning
 use Rattle.osi_rules.specs.declared.findings.Reach.TheVariants as reach
-use Rattle.osi_rules.specs.declared.routes.Route.{Route}
-use Rattle.osi_rules.specs.declared.routes.Route.TheVariants.{Asks, Named, Only, Unnamed}
-use Rattle.osi_rules.specs.Reaches.{is_applied, reach_of}
-use Rattle.osi_rules.specs.Rows.{first_failed}
-use Rattle.osi_rules.specs.Sides.{is_live, is_named}
-use Rattle.osi_rules.specs.Traffic.{Outcome, State, asks_by, asks_of, at_found, at_place, class_for, is_stopped, meaning_if, meant}
-use Rattle.osi_rules.specs.Traffic.{none_told, request_tests, route, routed, takes}
-use Rattle.osi_fair.proofs.while_no_class_is_selected.{set_same}
-use Rattle.osi_tap.specs.Connections.{Joined, Sessions, changed, taken, taken_at}
 use Rattle.osi_tap.specs.Connections as joined
-use Rattle.osi_tap.specs.Courses.{Course, unit_passes, way_of}
+use Rattle.osi_tap.specs.Courses.{Course}
 use Rattle.osi_watched.proofs.sessions.connections_have_the_same_places.{unit_joins}
 
 -- ---- nothing is joined
@@ -44,20 +34,11 @@ module _ (d : Direction) (at : ℕ) (v : Value) (s : State) (t : Sessions) where
 
   asks_by_none : (f : Finding) (x : Connect) → JoinsNone d at v t (asks_by (way_of d) f x s)
   asks_by_none Kept x h = absurd (cc)
-  asks_by_none (Broke rule) x h = refl
-  asks_by_none Outside x h = refl
-  asks_by_none TooMany x h = refl
-  asks_by_none NotJudged x h = refl
+  asks_by_none _ x h = refl
 
 asks_none : (d : Direction) (at : ℕ) (v : Value) (s : State) (t : Sessions) → JoinsNone d at v t (asks_of (way_of d) v s)
 asks_none d at (request x) s t h = asks_by_none d at (request x) s t (first_failed (request_tests s x)) x h
-asks_none d at (confirm n x) s t h = refl
-asks_none d at (disconnect n source reason user) s t h = refl
-asks_none d at (disconnected n source) s t h = refl
-asks_none d at (data0 end user) s t h = refl
-asks_none d at (data2 n number end user) s t h = refl
-asks_none d at (acknowledge credit n number) s t h = refl
-asks_none d at (error n cause) s t h = refl
+asks_none d at _ s t h = refl
 
 routed_none : (d : Direction) (at : ℕ) (v : Value) (s : State) (t : Sessions) (r : Route) → JoinsNone d at v t (routed (way_of d) v s r)
 routed_none d at v s t Asks h = asks_none d at v s t h
@@ -95,21 +76,12 @@ module _ (d : Direction) (v : Value) (s : State) where
   place_ends (Some i) h = found_ends i (slice_get s.connections i) h
 
   asks_by_ends : (f : Finding) (x : Connect) → EndsAll (asks_by (way_of d) f x s)
-  asks_by_ends Kept x h = absurd (cc)
-  asks_by_ends (Broke rule) x h = absurd (cc)
-  asks_by_ends Outside x h = absurd (cc)
   asks_by_ends TooMany x h = refl
-  asks_by_ends NotJudged x h = absurd (cc)
+  asks_by_ends _ x h = absurd (cc)
 
 asks_ends : (d : Direction) (v : Value) (s : State) → EndsAll (asks_of (way_of d) v s)
 asks_ends d (request x) s h = asks_by_ends d (request x) s (first_failed (request_tests s x)) x h
-asks_ends d (confirm n x) s h = absurd (cc)
-asks_ends d (disconnect n source reason user) s h = absurd (cc)
-asks_ends d (disconnected n source) s h = absurd (cc)
-asks_ends d (data0 end user) s h = absurd (cc)
-asks_ends d (data2 n number end user) s h = absurd (cc)
-asks_ends d (acknowledge credit n number) s h = absurd (cc)
-asks_ends d (error n cause) s h = absurd (cc)
+asks_ends d _ s h = absurd (cc)
 
 routed_ends : (d : Direction) (v : Value) (s : State) (r : Route) → EndsAll (routed (way_of d) v s r)
 routed_ends d v s Asks h = asks_ends d v s h

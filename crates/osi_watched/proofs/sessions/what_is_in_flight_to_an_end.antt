@@ -1,16 +1,10 @@
 -- The parts of TSDUs that are in flight to an end at one of its connections: as units of the other side pass, and as the end takes some.
 -- For all connections of an end and a tap.
-use Rattle.std.proofs.Common.{◌≡◌, ◌∙◌, refl, sym, ap, ℕ, Bool, true, false, List, [], ◌∷◌, ◌++◌, Some}
-use Rattle.std.specs.Prelude.{◌==◌}
-use Rattle.std.proofs.lemmas.Bool.{eq-eqb, eqb-true}
-use Rattle.std.proofs.lemmas.Grind.{flat_map-append}
-use Rattle.std.proofs.lemmas.List.{append-nil}
-use Rattle.osi_tpdu.specs.Value.{Value, data2}
-use Rattle.osi_class.specs.Runs.{Move, give_out, hand_in, hand_out, parts_in, take_in, unit_parts}
-use Rattle.osi_class.specs.Tsdus.{Part}
-use Rattle.osi_honest.specs.Courses.{Deeds, units_taken}
-use Rattle.osi_fair.proofs.which_units_are_for_a_connection.{picked_first, picked_join, picked_more, picked_other, picked_rest}
-use Rattle.osi_watched.specs.Shown.{parts_of}
+use Rattle.osi_watched.proofs.Vocabulary.{[], ap, Bool, false, List, refl, Some, sym, true, ℕ, ◌++◌, ◌==◌, ◌∙◌, ◌∷◌, ◌≡◌, eq-eqb}
+use Rattle.osi_watched.proofs.Vocabulary.{flat_map-append, append-nil, data2, Value, Move, parts_in, take_in, unit_parts, Part, Deeds}
+use Rattle.osi_watched.proofs.Vocabulary.{units_taken, picked_first, picked_join, picked_more, picked_other, picked_rest, parts_of}
+use Rattle.osi_watched.proofs.Vocabulary.{give_out, hand_in, hand_out}
+use Rattle.osi_fair.proofs.small_facts_that_many_lemmas_use.{unequal}
 use Rattle.osi_watched.proofs.sessions.what_stands_of_a_connection.{Known, Takes, is_for, waiting_for}
 
 -- for the connection to which the end gave this reference, among the units that have passed and that the end has not used
@@ -78,15 +72,11 @@ flight_grows is_live coming n number end user later sure live =
     ∙ sym (flat_map-append unit_parts (waiting_for (Some n) coming) (data2 n number end user ∷ []))
     ∙ ap parts_of (sym (picked_more (is_for (Some n)) coming (data2 n number end user) (eq-eqb n n refl)))
 
-unlike : (n r : ℕ) (b : Bool) → (n == r) ≡ b → (n ≡ r → ⊥) → b ≡ false
-unlike n r true e h = absurd (h (eqb-true n r e))
-unlike n r false e h = refl
-
 -- one for another connection
 pub flight_stays : (is_live : ℕ → Bool) (coming : List Value) (n number : ℕ) (end : Bool) (user : List ℕ) (r : ℕ) (later : List Part) →
     (n ≡ r → ⊥) → known_of is_live coming r later → known_of is_live (coming ++ data2 n number end user ∷ []) r later
 flight_stays is_live coming n number end user r later apart sure live =
-    sure live ∙ ap parts_of (sym (picked_other (is_for (Some r)) coming (data2 n number end user) (unlike n r (n == r) refl apart)))
+    sure live ∙ ap parts_of (sym (picked_other (is_for (Some r)) coming (data2 n number end user) (unequal n r (n == r) refl apart)))
 
 -- a unit that adds to no TSDU
 pub flight_same : (is_live : ℕ → Bool) (coming : List Value) (v : Value) (r : ℕ) (later : List Part) → unit_parts v ≡ [] →

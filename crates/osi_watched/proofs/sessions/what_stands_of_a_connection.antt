@@ -1,31 +1,19 @@
 -- How a connection stands that a tap has joined beside what is done at it: open for its end, or closed, or without a CC yet; and that
 -- it stands so as packets begin and units pass, at its place or at another.
 -- For all connections of an end and a tap.
-use Rattle.std.proofs.Common.{◌≡◌, ◌∙◌, ◌⊎◌, inl, inr, refl, sym, ap, subst, ℕ, ◌^◌, ◌<◌, ◌≤◌, Bool, true, false, List, [], ◌∷◌, ◌++◌}
-use Rattle.std.proofs.Common.{length, map, Option, Some, None}
-use Rattle.std.specs.Prelude.{◌&&◌, ◌==◌, is_some}
-use Rattle.std.specs.List.{AllByRecursion}
-use Rattle.osi_tpkt.specs.Stream.{offset_of}
-use Rattle.osi_tpdu.specs.Value.{Value, acknowledge, confirm, data0, data2, disconnect, disconnected, error, request}
-use Rattle.osi_class.specs.Runs.{parts_in, unit_parts}
-use Rattle.osi_class.specs.Tsdus.{Part}
-use Rattle.osi_judge.specs.Captures.{other}
-use Rattle.osi_judge.specs.declared.directions.Direction.{Direction}
-use Rattle.osi_judge.specs.declared.directions.Direction.TheVariants.{Left, Right}
-use Rattle.osi_rules.specs.declared.connections.Connection.{Connection}
-use Rattle.osi_rules.specs.Sides.{begins, is_open, own}
-use Rattle.osi_stack.specs.State.{End}
-use Rattle.osi_honest.specs.Courses.{Course, Deeds, said_in, then_did}
-use Rattle.osi_tap.specs.declared.rooms.Room.TheVariants.{All}
-use Rattle.osi_tap.specs.Connections.{Joined, adds, packet_begins, reference_of, spoken, user_of}
-use Rattle.osi_tap.specs.Courses.{way_of}
-use Rattle.osi_tap.specs.Lines.{Begun, Spoken, heard}
+use Rattle.osi_watched.proofs.Vocabulary.{[], ap, Bool, false, is_some, length, List, None, Option, refl, Some, subst, sym, true, ℕ, ◌&&◌}
+use Rattle.osi_watched.proofs.Vocabulary.{◌++◌, ◌<◌, ◌==◌, ◌^◌, ◌∙◌, ◌∷◌, ◌≡◌, ◌≤◌, AllByRecursion, offset_of, acknowledge, data0, data2}
+use Rattle.osi_watched.proofs.Vocabulary.{Value, parts_in, unit_parts, Part, End, begins, is_open, own, Connection, other, Direction, Left}
+use Rattle.osi_watched.proofs.Vocabulary.{Right, Deeds, said_in, then_did, adds, Joined, reference_of, spoken, user_of, way_of, heard}
+use Rattle.osi_watched.proofs.Vocabulary.{Spoken, All, leads, picked, picked_first, picked_join, picked_rest, all_before, AreAfter}
+use Rattle.osi_watched.proofs.Vocabulary.{calls_from, IsJoinedFrom, IsShownNow, parts_of, with_next}
+use Rattle.osi_honest.specs.Courses.{Course}
+use Rattle.osi_tap.specs.Connections.{packet_begins}
 use Rattle.osi_tap.specs.Lines as lines
-use Rattle.osi_fair.proofs.which_units_are_for_a_connection.{leads, picked, picked_first, picked_join, picked_rest}
-use Rattle.osi_watched.specs.Shown.{AreAfter, IsJoinedFrom, IsShownNow, IsShownOf, all_before, calls_from, parts_of, with_next}
+use Rattle.osi_watched.proofs.small_facts_that_many_lemmas_use.{and_both}
+use Rattle.osi_fair.proofs.small_facts_that_many_lemmas_use.{differ}
 use Rattle.osi_watched.proofs.sessions.what_a_tap_shows_goes_on.{end_turns, none_passes, other_begins, other_passes, own_begins}
-use Rattle.osi_watched.proofs.sessions.what_a_tap_shows_goes_on.{part_begins}
-use Rattle.osi_watched.proofs.sessions.what_a_tap_shows_goes_on.{part_passes}
+use Rattle.osi_watched.proofs.sessions.what_a_tap_shows_goes_on.{part_begins, part_passes}
 
 -- ---- which units are for it
 
@@ -39,11 +27,7 @@ abbrev pub is_for : Option ℕ → Value → Bool
 is_for o (data0 end user) = is_some o
 is_for o (data2 n number end user) = names_it o n
 is_for o (acknowledge credit n number) = names_it o n
-is_for o (request x) = false
-is_for o (confirm n x) = false
-is_for o (disconnect n source reason user) = false
-is_for o (disconnected n source) = false
-is_for o (error n cause) = false
+is_for o _ = false
 
 abbrev pub waiting_for : Option ℕ → List Value → List Value
 waiting_for o put = picked (is_for o) put
@@ -51,12 +35,7 @@ waiting_for o put = picked (is_for o) put
 abbrev pub is_part : Value → Bool
 is_part (data0 end user) = true
 is_part (data2 n number end user) = true
-is_part (acknowledge credit n number) = false
-is_part (request x) = false
-is_part (confirm n x) = false
-is_part (disconnect n source reason user) = false
-is_part (disconnected n source) = false
-is_part (error n cause) = false
+is_part _ = false
 
 abbrev pub adds_to : Option ℕ → Value → Bool
 adds_to o v = is_for o v && is_part v
@@ -142,7 +121,7 @@ with_waiting d r deeds some others later b j e h = subst (λ (l : List Value). I
 
 -- ---- references
 
-named_begun : (d e : Direction) (j : Joined) → reference_of d (packet_begins e j) ≡ reference_of d j
+pub named_begun : (d e : Direction) (j : Joined) → reference_of d (packet_begins e j) ≡ reference_of d j
 named_begun Left Left j = refl
 named_begun Left Right j = refl
 named_begun Right Left j = refl
@@ -184,16 +163,7 @@ is_open_begun d e c b h = ap is_open (open_begun d e c) ∙ h
 part_so : (v : Value) → is_part v ≡ true → (end : Bool) × (unit_parts v ≡ (end, user_of v) ∷ [])
 part_so (data0 end user) h = (end, refl)
 part_so (data2 n number end user) h = (end, refl)
-part_so (acknowledge credit n number) h = absurd (cc)
-part_so (request x) h = absurd (cc)
-part_so (confirm n x) h = absurd (cc)
-part_so (disconnect n source reason user) h = absurd (cc)
-part_so (disconnected n source) h = absurd (cc)
-part_so (error n cause) h = absurd (cc)
-
-and_both : (a b : Bool) → (a && b) ≡ true → (a ≡ true) × (b ≡ true)
-and_both true b h = (refl, h)
-and_both false b h = absurd (cc)
+part_so _ h = absurd (cc)
 
 module _ (d : Direction) (r : ℕ) (deeds : Deeds) (later : List Part) (o : Option ℕ) (e : End) (j : Joined)
     (course : Course (calls_from d) r deeds e) (few : length (heard (spoken (other d) j)) < 2 ^ 64) where
@@ -252,12 +222,6 @@ stands_elsewhere d deeds known v rest b c j not_for (lives r o is live later sur
     (with_waiting d r (deeds r) (waiting_for o (v ∷ rest)) (waiting_for o rest) later (is_next o b (v ∷ rest)) j
     (picked_rest (is_for o) v rest none) h))
 stands_elsewhere d deeds known v rest b c j not_for (past r closed waiting later sure h) = past r closed waiting later sure h
-
-differ : {A : Type 0} (b : Bool) → b ≡ true → b ≡ false → A
-differ b h k = absurd (cc)
-
-not_none : {A : Type 0} (o : Option ℕ) (n : ℕ) → o ≡ Some n → o ≡ None → A
-not_none o n h k = absurd (cc)
 
 -- here: a DT
 pub stands_part : (d : Direction) (deeds : ℕ → Deeds) (known : Known) (v : Value) (rest : List Value) (at : ℕ) (end : Bool)
@@ -356,9 +320,6 @@ pub record Takes (more : Deeds) (later : List Part) (known : List Part → Type 
   pub first : later ≡ parts_in more.calls ++ rest
   pub sure : known rest
 
-no_list : (v : Value) (vs : List Value) → v ∷ vs ≡ [] → ⊥
-no_list v vs e = cc
-
 next_same : (o : Option ℕ) (b : Bool) (put units : List Value) → (b ≡ true → put ≡ [] → ⊥) → is_next o b (put ++ units) ≡ is_next o b put
 next_same o false put units some = refl
 next_same o true [] units some = absurd (some refl refl)
@@ -385,11 +346,3 @@ stands_turns d deeds more known then_known put units b c j some puts takes (live
 stands_turns d deeds more known then_known put units b c j some puts takes (past r closed waiting later sure h) =
     let t = takes r later h.shown.named sure in
     past r closed (waiting ++ (more r).put) t.rest t.sure (end_turns d r (deeds r) waiting later (more r) t.rest false j t.first h)
-
--- ---- it is not to blame
-
-pub stands_shown : (d : Direction) (deeds : ℕ → Deeds) (known : Known) (put : List Value) (b : Bool) (c : Connection) (j : Joined) →
-    Stands d deeds known put b c j → (heard (spoken d j) ≡ []) ⊎ ((r : ℕ) × IsShownOf d r (deeds r) j)
-stands_shown d deeds known put b c j (unnamed none mine theirs room) = inl (ap (λ (l : List lines.Said). map lines.octets_of l) mine.said)
-stands_shown d deeds known put b c j (lives r o is live later sure h) = inr (r, h.shown)
-stands_shown d deeds known put b c j (past r closed waiting later sure h) = inr (r, h.shown)

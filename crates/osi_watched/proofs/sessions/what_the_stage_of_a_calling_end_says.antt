@@ -1,33 +1,17 @@
 -- What the stage of a whole calling end says until class 2 is selected: which unit of it passes, how it is when a CC comes, what it has put
 -- in class 0, and what has come for a connection that may still open.
 -- For the session of the connection of an end in class 0.
-use Rattle.std.proofs.Common.{◌≡◌, ◌∙◌, refl, sym, ap, subst, ℕ, Bool, true, false, if◌then◌else◌, List, [], ◌∷◌}
-use Rattle.std.proofs.Common.{Option, Some, None, is_some, length}
-use Rattle.std.specs.Prelude.{◌==◌}
-use Rattle.std.proofs.lemmas.Bool.{eqb-true}
-use Rattle.std.specs.List.{AllByRecursion}
-use Rattle.osi_tpdu.specs.Value.{Connect, Value, acknowledge, confirm, data0, data2, disconnect, disconnected, error, request}
-use Rattle.osi_class.specs.Link.{Standing}
-use Rattle.osi_class.specs.declared.terms.Class.{Class}
-use Rattle.osi_class.specs.declared.terms.Class.TheVariants.{Two, Zero}
-use Rattle.osi_class.specs.declared.terms.Local.{Local}
-use Rattle.osi_carrier.specs.Rows.{value_at}
-use Rattle.osi_carrier.specs.State.{Connection as Live, asked, closing, linked}
-use Rattle.osi_carrier.specs.declared.ends.EndReason.{EndReason}
-use Rattle.osi_rules.specs.declared.connections.Connection.{Connection}
-use Rattle.osi_rules.specs.declared.connections.Offer.{Offer}
+use Rattle.osi_watched.proofs.Vocabulary.{[], ap, Bool, false, if◌then◌else◌, is_some, length, List, None, Option, refl, Some, subst, sym}
+use Rattle.osi_watched.proofs.Vocabulary.{true, ℕ, ◌==◌, ◌∙◌, ◌∷◌, ◌≡◌, eqb-true, AllByRecursion, confirm, Connect, data0, request, Value}
+use Rattle.osi_watched.proofs.Vocabulary.{Standing, Class, Two, Zero, Local, value_at, Live, linked, EndReason, has_given, Traffic as State}
+use Rattle.osi_watched.proofs.Vocabulary.{takes, Connection, Offer, early, past, stage_at, stage_is, IsOver, one, answered, Calling, known}
+use Rattle.osi_watched.proofs.Vocabulary.{quiet, refused, begun_by, anyhow, IsInZero, zero_puts, PutsData, HoldsOfEach, calm_tap}
+use Rattle.osi_watched.proofs.Vocabulary.{done_takes, GoesOn, IsDone, Waits, Whole, closing}
+use Rattle.osi_carrier.specs.State.{asked}
 use Rattle.osi_rules.specs.declared.directions.Direction.TheVariants.{Right}
-use Rattle.osi_rules.specs.Traffic.{State, takes}
-use Rattle.osi_stack.specs.Calls.{has_given}
-use Rattle.osi_fair.specs.Wholes.{Whole}
-use Rattle.osi_fair.proofs.how_a_calling_end_asks.{IsOver, one}
-use Rattle.osi_fair.proofs.how_requests_go_on.{Calling, Stage, answered, asks, ended, known, quiet, refused, waits, zero}
-use Rattle.osi_fair.proofs.what_an_end_does_in_class_zero.{IsInZero, anyhow, over, talks, zero_puts}
-use Rattle.osi_fair.proofs.what_a_link_does.{begun_by}
-use Rattle.osi_fair.proofs.what_an_end_puts_in_class_zero.{PutsData}
-use Rattle.osi_fair.proofs.what_holds_of_one_item.{HoldsOfEach}
-use Rattle.osi_fair.proofs.while_no_class_is_selected.{GoesOn, IsDone, Waits, calm_tap, done_takes}
-use Rattle.osi_honest.proofs.courses.how_long_a_connection_is_open.{early, past, stage_at, stage_is}
+use Rattle.osi_fair.proofs.how_requests_go_on.{Stage, asks, ended, waits, zero}
+use Rattle.osi_fair.proofs.what_an_end_does_in_class_zero.{over, talks}
+use Rattle.osi_watched.proofs.small_facts_that_many_lemmas_use.{none_some}
 use Rattle.osi_watched.proofs.sessions.units_of_class_0_come_after_its_cc.{HasCc}
 
 -- ---- small facts
@@ -37,9 +21,6 @@ some_put v rest put e none = absurd (cc (sym e ∙ none))
 
 class_not : {A : Type 0} (k : Option Class) (a b : Class) → k ≡ Some a → k ≡ Some b → (a ≡ b → ⊥) → A
 class_not k a b h e apart = absurd (let same : a ≡ b = cc in apart same)
-
-none_class : {A : Type 0} (k : Option Class) (a : Class) → k ≡ None → k ≡ Some a → A
-none_class k a h e = absurd (cc)
 
 zero_two : Zero ≡ Two → ⊥
 zero_two e = cc
@@ -51,13 +32,7 @@ calm_class w cs strays tap = ap (λ (t : State). t.course.class) tap
 
 abbrev pub IsDt0 : Value → Type 0
 IsDt0 (data0 end user) = Unit {0}
-IsDt0 (request x) = ⊥
-IsDt0 (confirm n x) = ⊥
-IsDt0 (disconnect n source reason user) = ⊥
-IsDt0 (disconnected n source) = ⊥
-IsDt0 (data2 n number end user) = ⊥
-IsDt0 (acknowledge credit n number) = ⊥
-IsDt0 (error n cause) = ⊥
+IsDt0 _ = ⊥
 
 none_all : {units : List Value} → units ≡ [] → AllByRecursion IsDt0 units
 none_all e = subst (AllByRecursion IsDt0) (sym e) tt
@@ -65,13 +40,7 @@ none_all e = subst (AllByRecursion IsDt0) (sym e) tt
 pub all_data : (limit begun : ℕ) (units : List Value) → PutsData limit anyhow begun units → AllByRecursion IsDt0 units
 all_data limit begun [] h = tt
 all_data limit begun (data0 end user ∷ units) h = (tt, all_data limit (begun_by begun end (length user)) units h.2)
-all_data limit begun (request x ∷ units) h = absurd h
-all_data limit begun (confirm n x ∷ units) h = absurd h
-all_data limit begun (disconnect n source reason user ∷ units) h = absurd h
-all_data limit begun (disconnected n source ∷ units) h = absurd h
-all_data limit begun (data2 n number end user ∷ units) h = absurd h
-all_data limit begun (acknowledge credit n number ∷ units) h = absurd h
-all_data limit begun (error n cause ∷ units) h = absurd h
+all_data limit begun _ h = absurd h
 
 -- ---- a unit of the end
 
@@ -84,13 +53,7 @@ pub data PassesOwn (w : Whole) (v : Value) : Type 0 where
 data_first : (w : Whole) (limit begun : ℕ) (v : Value) (rest : List Value) → w.tap.course.class ≡ Some Zero →
     w.tap.course.class_seen ≡ Some Zero → PutsData limit anyhow begun (v ∷ rest) → PassesOwn w v
 data_first w limit begun (data0 end user) rest class seen h = adding end user refl class seen
-data_first w limit begun (request x) rest class seen h = absurd h
-data_first w limit begun (confirm n x) rest class seen h = absurd h
-data_first w limit begun (disconnect n source reason user) rest class seen h = absurd h
-data_first w limit begun (disconnected n source) rest class seen h = absurd h
-data_first w limit begun (data2 n number end user) rest class seen h = absurd h
-data_first w limit begun (acknowledge credit n number) rest class seen h = absurd h
-data_first w limit begun (error n cause) rest class seen h = absurd h
+data_first w limit begun _ rest class seen h = absurd h
 
 first_of : (v x : Value) (rest more put : List Value) → put ≡ v ∷ rest → put ≡ x ∷ more → v ≡ x
 first_of v x rest more put e h = let same : v ∷ rest ≡ x ∷ more = sym e ∙ h in cc
@@ -134,9 +97,9 @@ module _ (local : Local) (w : Whole) where
   cc_comes n x (refused r is none not_begun cs strays tap done dcs u more coming are refusal too) class goes =
       no_cc n x cs strays tap done goes
   cc_comes n x (answered r is none not_begun dcs m y more coming are k has after so z) class goes =
-      none_class w.tap.course.class Zero class z.tap.class
-  cc_comes n x (zero has z) class goes = none_class w.tap.course.class Zero class z.tap.class
-  cc_comes n x (known two seen has) class goes = none_class w.tap.course.class Two class two
+      none_some w.tap.course.class Zero class z.tap.class
+  cc_comes n x (zero has z) class goes = none_some w.tap.course.class Zero class z.tap.class
+  cc_comes n x (known two seen has) class goes = none_some w.tap.course.class Two class two
 
   -- ---- what it has put in class 0
 
@@ -144,7 +107,7 @@ module _ (local : Local) (w : Whole) where
   dts_put (ended none h) class = none_all none
   dts_put (quiet is none not_begun cs strays tap done dcs) class = none_all none
   dts_put (asks x put is offers cs strays tap done dcs all) class =
-      none_class w.tap.course.class Zero (calm_class w cs strays tap) class
+      none_some w.tap.course.class Zero (calm_class w cs strays tap) class
   dts_put (waits r is none not_begun cs strays tap p o offers waiting dcs) class = none_all none
   dts_put (refused r is none not_begun cs strays tap done dcs u more coming are refusal too) class = none_all none
   dts_put (answered r is none not_begun dcs n x more coming are k has after so z) class = none_all none
@@ -180,13 +143,13 @@ module _ (local : Local) (w : Whole) where
     pub cc_waits : Stage local w → w.tap.course.class ≡ Some Zero → HasCc w.coming
     cc_waits (ended none h) class = over_not w.end.ended h lasts
     cc_waits (quiet is none not_begun cs strays tap done dcs) class =
-        none_class w.tap.course.class Zero (calm_class w cs strays tap) class
+        none_some w.tap.course.class Zero (calm_class w cs strays tap) class
     cc_waits (asks x put is offers cs strays tap done dcs all) class =
-        none_class w.tap.course.class Zero (calm_class w cs strays tap) class
+        none_some w.tap.course.class Zero (calm_class w cs strays tap) class
     cc_waits (waits q is none not_begun cs strays tap p o offers waiting dcs) class =
-        none_class w.tap.course.class Zero (calm_class w cs strays tap) class
+        none_some w.tap.course.class Zero (calm_class w cs strays tap) class
     cc_waits (refused q is none not_begun cs strays tap done dcs u more coming are refusal too) class =
-        none_class w.tap.course.class Zero (calm_class w cs strays tap) class
+        none_some w.tap.course.class Zero (calm_class w cs strays tap) class
     cc_waits (answered q is none not_begun dcs n x more coming are k has after so z) class =
         record { front = dcs; n = n; x = x; rest = more; is = coming }
     cc_waits (zero has z) class = zero_early z.tap.limit z.tap.c.left.begun w.put z.goes

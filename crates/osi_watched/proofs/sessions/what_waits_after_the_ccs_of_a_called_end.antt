@@ -1,30 +1,17 @@
 -- In a turn of a called end of class 2, what is put at a connection whose CC has not passed is those of the units of the turn that are for
 -- its reference of the other side. And whatever is put is for a connection that the tap knows, or whose CC is among the units that wait.
 -- For all connections of a called end and a tap.
-use Rattle.std.proofs.Common.{◌≡◌, ◌∙◌, ◌⊎◌, inl, inr, refl, sym, ap, subst, ℕ, suc, zero, ◌<◌, ◌≤◌, Bool, true, false, List, [], ◌∷◌}
-use Rattle.std.proofs.Common.{◌++◌, Option, Some, None, IsSome, append_assoc, arith}
-use Rattle.std.specs.Prelude.{◌==◌, nat_lt, slice_get}
-use Rattle.std.specs.List.{AllByRecursion}
-use Rattle.std.proofs.lemmas.Bool.{eq-eqb, eqb-true}
-use Rattle.osi_tpdu.specs.Value.{Connect, Value, acknowledge, confirm, data0, data2, disconnect, disconnected, error, request}
-use Rattle.osi_class.specs.declared.terms.Local.{Local}
-use Rattle.osi_carrier.specs.State.{State as Carrier, packets}
-use Rattle.osi_carrier.specs.declared.ends.EndReason.{EndReason}
-use Rattle.osi_judge.specs.declared.directions.Direction.TheVariants.{Right}
-use Rattle.osi_rules.specs.Traffic.{State}
+use Rattle.osi_watched.proofs.Vocabulary.{[], ap, append_assoc, arith, false, inl, inr, IsSome, List, nat_lt, None, Option, refl, Some}
+use Rattle.osi_watched.proofs.Vocabulary.{subst, suc, sym, true, zero, ℕ, ◌++◌, ◌<◌, ◌==◌, ◌∙◌, ◌∷◌, ◌≡◌, ◌≤◌, ◌⊎◌, eq-eqb, eqb-true}
+use Rattle.osi_watched.proofs.Vocabulary.{AllByRecursion, slice_get, acknowledge, confirm, Connect, data2, disconnect, request, Value}
+use Rattle.osi_watched.proofs.Vocabulary.{Local, packets, Carrier, EndReason, Traffic as State, Right, over_acts, Answers, Begins, is_shut}
+use Rattle.osi_watched.proofs.Vocabulary.{Opens, opens, Continues, Deeds, all_units, is_of_link, Marked, Turn, Sessions, IsNoCc, IsClear}
+use Rattle.osi_watched.proofs.Vocabulary.{Joint, TakesTurn, HaveSamePlaces}
 use Rattle.osi_fair.specs.Wholes.{begin}
-use Rattle.osi_fair.proofs.each_connection_has_its_line.{IsNoCc}
-use Rattle.osi_fair.proofs.what_the_other_side_closes.{IsClear}
-use Rattle.osi_honest.specs.Arriving.{Answers, AreApart, Begins, Opens, is_shut, opens}
-use Rattle.osi_honest.specs.Arriving.{is_open as opened}
-use Rattle.osi_honest.specs.Courses.{Continues, Deeds}
-use Rattle.osi_honest.specs.Marked.{Marked, all_units, is_of_link}
-use Rattle.osi_honest.specs.Turns.{Turn}
-use Rattle.osi_honest.proofs.class_0.what_a_call_does_in_class_0.{over_acts}
-use Rattle.osi_tap.specs.Connections.{Sessions}
+use Rattle.osi_honest.specs.Arriving.{AreApart, is_open as opened}
 use Rattle.osi_tap.specs.Courses.{Course}
-use Rattle.osi_watched.specs.Joint.{Joint, TakesTurn}
-use Rattle.osi_watched.specs.ShownPlaces.{HaveSamePlaces}
+use Rattle.osi_fair.proofs.small_facts_that_many_lemmas_use.{differ, number_is}
+use Rattle.osi_watched.proofs.small_facts_that_many_lemmas_use.{same_bool}
 use Rattle.osi_watched.proofs.steps_are_events.{IsFollowed}
 use Rattle.osi_watched.proofs.sessions.a_called_end_has_its_lines.{called_no_cc}
 use Rattle.osi_watched.proofs.sessions.a_called_end_of_class_2_has_its_lines.{HasLines, calm_of}
@@ -34,7 +21,7 @@ use Rattle.osi_watched.proofs.sessions.each_cc_of_a_called_end_opens_another_con
 use Rattle.osi_watched.proofs.sessions.each_cc_of_a_called_end_opens_another_connection.{same_source}
 use Rattle.osi_watched.proofs.sessions.each_unit_of_a_turn_has_one_connection.{HasHome, IsFor}
 use Rattle.osi_watched.proofs.sessions.units_written_alike_have_the_same_ccs.{AreAlike, HasCc, has_alike, has_back, has_front, turned}
-use Rattle.osi_watched.proofs.sessions.what_a_turn_puts_goes_to_its_peer.{GoesTo, IsNotZero, Lived, by_units, came, differ, for_so, goes_to}
+use Rattle.osi_watched.proofs.sessions.what_a_turn_puts_goes_to_its_peer.{GoesTo, IsNotZero, Lived, by_units, came, for_so, goes_to}
 use Rattle.osi_watched.proofs.sessions.what_a_turn_puts_goes_to_its_peer.{linked_so, none_for, none_shut, one_of, whole_lasts}
 use Rattle.osi_watched.proofs.sessions.what_a_turn_puts_waits.{Agree, marks_wait}
 use Rattle.osi_watched.proofs.sessions.what_an_end_takes_at_a_connection.{same_for}
@@ -46,24 +33,11 @@ pub none_put : (units : List Marked) → packets (all_units units) ≡ [] → un
 none_put [] e = refl
 none_put (m ∷ units) e = absurd (cc)
 
-same_number : (m n : ℕ) → Some m ≡ Some n → m ≡ n
-same_number m n e = cc
-
-same_bool : (a b : Bool) → (a ≡ true → b ≡ true) → (b ≡ true → a ≡ true) → a ≡ b
-same_bool true b h k = sym (h refl)
-same_bool false true h k = k refl
-same_bool false false h k = refl
-
 -- a DT or an AK for both references
 peer_is : (n peer : ℕ) (v : Value) → IsFor peer v → is_for (Some n) v ≡ true → n ≡ peer
 peer_is n peer (data2 m number end user) h e = sym (eqb-true m n e) ∙ h
 peer_is n peer (acknowledge credit m number) h e = sym (eqb-true m n e) ∙ h
-peer_is n peer (data0 end user) h e = absurd h
-peer_is n peer (request x) h e = absurd h
-peer_is n peer (confirm m x) h e = absurd h
-peer_is n peer (disconnect m source reason user) h e = absurd h
-peer_is n peer (disconnected m source) h e = absurd h
-peer_is n peer (error m cause) h e = absurd h
+peer_is n peer _ h e = absurd h
 
 -- a CC among marked units
 marked_has : (n r : ℕ) (front back : List Marked) (x : Connect) → x.source ≡ r → HasCc n r (all_units (front ++ (0, confirm n x) ∷ back))
@@ -141,11 +115,7 @@ module _ (local : Local) (deeds : ℕ → Deeds) (turn : Turn) (old new : Joint)
           inr (inl (has_turn l.peer q (subst (λ (k : List Marked). HasCc l.peer q (all_units k)) (sym parts)
           (marked_has l.peer q others (l.left.during ++ l.left.after) cc_is source))))
       by (disconnect n source reason user) h gives come = absurd h
-      by (disconnected n source) h gives come = absurd h
-      by (data0 end user) h gives come = absurd h
-      by (data2 n number end user) h gives come = absurd h
-      by (acknowledge credit n number) h gives come = absurd h
-      by (error n cause) h gives come = absurd h
+      by _ h gives come = absurd h
   open_named lasts q l (is_shut shut then_shut none none_left) =
       inl (none_shut Right false (begin false local) deeds turn old new step on f q l none_left)
 
@@ -198,7 +168,7 @@ module _ (local : Local) (deeds : ℕ → Deeds) (turn : Turn) (old new : Joint)
           let one = one_at s.connections t.live h.place h.connection h.joined places h.there h.here in
           absurd (none_open_for local g.whole t after.called after.apart after.judged places_g n r (has_whole n r has) h.place
           h.connection (ap (λ (x : State). slice_get x.connections h.place) tap_g ∙ h.there) h.lives
-          (sym one.calling ∙ same_number h.joined.calling l.peer h.theirs ∙ sym (peer_so l mine)))
+          (sym one.calling ∙ number_is h.joined.calling l.peer h.theirs ∙ sym (peer_so l mine)))
 
       back : (q : ℕ) → m.0 ≡ q → is_for (Some n) m.1 ≡ true → (m.0 == r) ≡ true
       back zero e mine =

@@ -1,5 +1,4 @@
-use Rattle.osi_session.proofs.tsdu.what_is_sent_is_taken_as_meant.{said_again}
-use Rattle.osi_judge.proofs.honest.a_call_is_explained.{AsSent}
+use Rattle.osi_watched.proofs.Vocabulary.{said_again, AsSent}
 use Rattle.osi_watched.proofs.sessions.a_session_that_is_shown_is_not_to_blame.{not_to_blame}
 use Rattle.osi_watched.proofs.laws.a_session_that_is_shown_is_not_to_blame.Goals as goal
 

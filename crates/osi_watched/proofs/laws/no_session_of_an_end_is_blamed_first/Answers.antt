@@ -1,16 +1,6 @@
-use Rattle.std.proofs.Common.{◌≡◌, Option, Some, subst}
-use Rattle.osi_judge.proofs.honest.a_call_is_explained.{AsSent}
-use Rattle.osi_judge.specs.Captures.{Capture}
-use Rattle.osi_session.proofs.tsdu.what_is_sent_is_taken_as_meant.{said_again}
-use Rattle.osi_stack.proofs.called.what_is_sent_is_short.{SpduLaws}
-use Rattle.osi_honest.proofs.class_0.what_a_session_answers_fits.{all_proper}
-use Rattle.osi_honest.proofs.courses.what_sessions_hear_of_it.{Known}
-use Rattle.osi_honest.proofs.opening.what_an_asking_end_does.{can_begin}
-use Rattle.osi_tap.specs.declared.marks.First.{First}
-use Rattle.osi_tap.specs.declared.tap.Tap.{Tap}
-use Rattle.osi_tap.specs.Blaming.{BreaksFirst, IsFirstOf}
-use Rattle.osi_tap.specs.Standing.{IsFed, IsJudged, first_in}
-use Rattle.osi_tap.specs.Tapping.{comes_to}
+use Rattle.osi_watched.proofs.Vocabulary.{Option, Some, subst, ◌≡◌, said_again, SpduLaws, AsSent, Capture, all_proper, Known, can_begin}
+use Rattle.osi_watched.proofs.Vocabulary.{BreaksFirst, IsFirstOf, first_in, IsFed, comes_to, First, Tap}
+use Rattle.osi_tap.specs.Standing.{IsJudged}
 use Rattle.osi_watched.proofs.sessions.no_called_end_is_blamed_first.{called_blameless, called_never_first}
 use Rattle.osi_watched.proofs.sessions.no_calling_end_is_blamed_first.{calling_blameless, calling_never_first}
 use Rattle.osi_watched.proofs.sessions.the_first_break_of_all_is_of_the_other_side.{neither_first}

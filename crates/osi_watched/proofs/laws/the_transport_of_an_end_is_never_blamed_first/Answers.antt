@@ -1,8 +1,4 @@
-use Rattle.std.proofs.Common.{false, true}
-use Rattle.osi_judge.specs.declared.directions.Direction.TheVariants.{Left, Right}
-use Rattle.osi_stack.proofs.called.what_is_sent_is_short.{SpduLaws}
-use Rattle.osi_honest.proofs.class_0.what_a_session_answers_fits.{all_proper}
-use Rattle.osi_tap.specs.Tapping.{comes_to}
+use Rattle.osi_watched.proofs.Vocabulary.{false, true, SpduLaws, Left, Right, all_proper, comes_to}
 use Rattle.osi_watched.proofs.no_unit_of_a_whole_end_is_a_break.{called_is_fair, calling_is_fair}
 use Rattle.osi_watched.proofs.the_first_break_is_not_of_an_end.{first_other, neither_first}
 use Rattle.osi_watched.proofs.laws.the_transport_of_an_end_is_never_blamed_first.Goals as goal
