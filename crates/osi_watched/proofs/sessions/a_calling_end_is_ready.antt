@@ -71,7 +71,8 @@ pub right_plain : (b : ℕ) (v : Value) (s : State) → is_stopped way.Right s.c
     IsMild v (takes way.Right v s).told.finding → IsPlain b v
 right_plain b (request x) s goes two none =
     cr_broke (class_for way.Right s.course) (is_stopped way.Left s.course) x s
-    (goes_on (request x) (is_stopped way.Right s.course) s (routed way.Right (request x) s (route way.Right s.course (request x))) goes none)
+    (goes_on (request x) (is_stopped way.Right s.course) s
+    (routed way.Right (request x) s (route way.Right s.course (request x))) goes none)
 right_plain b (data0 end user) s goes two none =
     zero_broke (class_for way.Right s.course) (is_stopped way.Left s.course) end user s two
     (goes_on (data0 end user) (is_stopped way.Right s.course) s

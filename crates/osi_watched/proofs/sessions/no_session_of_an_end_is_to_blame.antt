@@ -137,7 +137,11 @@ abbrev pub IsLost : Direction → Passed → Type 0
 IsLost d c = IsPartly (other d) c ⊎ HasShut c.past
 
 lost_claim : (d : Direction) → IsClaim (IsLost d)
-lost_claim d = record { begins = λ e c h. by_begins e c h; passes = λ e at v c h. by_passes e at v c h; bad = λ e at k c h. by_bad e at k c h }
+lost_claim d = record {
+  begins = λ e c h. by_begins e c h;
+  passes = λ e at v c h. by_passes e at v c h;
+  bad = λ e at k c h. by_bad e at k c h;
+}
   where
     by_begins : (e : Direction) (c : Passed) → IsLost d c → IsLost d (packet_begins e c)
     by_begins e c (inl p) = inl ((partly_claim (other d)).begins e c p)

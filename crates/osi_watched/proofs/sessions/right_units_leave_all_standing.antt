@@ -63,7 +63,8 @@ module _ (d : Way) (credit n number : ℕ) (s : State) where
   ack_any None h e = ack_nowhere s.course.loose s.course.strays credit n number h
   ack_any (Some i) h e = ack_at i (slice_get s.connections i) h e
 
-  ack_goes : {A : Type 0} (b : Bool) (r : Route) → (is_applied (routed d ack s r).told.finding ≡ true → (routed d ack s r).told.place ≡ None → A) →
+  ack_goes : {A : Type 0} (b : Bool) (r : Route) →
+      (is_applied (routed d ack s r).told.finding ≡ true → (routed d ack s r).told.place ≡ None → A) →
       is_applied (if b then none_told d NotJudged s else routed d ack s r).told.finding ≡ true →
       (if b then none_told d NotJudged s else routed d ack s r).told.place ≡ None → A
   ack_goes true r f h e = absurd (cc)

@@ -98,7 +98,8 @@ cc_here : {A : Type 0} (n : ℕ) (x : Connect) (s : State) (i : ℕ) (o : Option
     s.course.loose ≡ false → AreJudged s → IsMild (confirm n x) (at_found way.Left (confirm n x) s i o).told.finding → A
 cc_here n x s i None e firm judged none = by s.course.loose s.course.strays firm none
   where
-    by : {A : Type 0} (loose strays : Bool) → loose ≡ false → IsMild (confirm n x) (if loose then NotJudged else unnamed_by strays (confirm n x)) → A
+    by : {A : Type 0} (loose strays : Bool) → loose ≡ false →
+        IsMild (confirm n x) (if loose then NotJudged else unnamed_by strays (confirm n x)) → A
     by true strays h none = absurd (cc)
     by false true h none = absurd none
     by false false h none = absurd none
@@ -112,7 +113,8 @@ cc_any : {A : Type 0} (n : ℕ) (x : Connect) (s : State) (o : Option ℕ) → s
     IsMild (confirm n x) (at_place way.Left (confirm n x) s o).told.finding → A
 cc_any n x s None firm judged none = by s.course.loose s.course.strays firm none
   where
-    by : {A : Type 0} (loose strays : Bool) → loose ≡ false → IsMild (confirm n x) (if loose then NotJudged else unnamed_by strays (confirm n x)) → A
+    by : {A : Type 0} (loose strays : Bool) → loose ≡ false →
+        IsMild (confirm n x) (if loose then NotJudged else unnamed_by strays (confirm n x)) → A
     by true strays h none = absurd (cc)
     by false true h none = absurd none
     by false false h none = absurd none
