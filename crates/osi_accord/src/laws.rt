@@ -111,7 +111,8 @@ pub fn calls_and_answers_are_a_run_of_the_whole_machine()
         refusal start_0 o ≡ None → AllByRecursion IsMessage messages → AreWritten sent messages → CallsAndAnswers run →
         PlaysWhole start_0 (utters Direction.Left (offer_sent o) ∷ messages) (end_of run) }
     ensures said { (d : Direction) (steps : List Step) → said_in (side_at d) 1 start_0 steps ≡ uttered_by d (uttered_in start_0 steps) }
-    ensures reached { (messages : List Utterance) (last : Pair) (p : PlaysWhole start_0 messages last) → IsTableRun (tables.run start_0 p.steps) }
+    ensures reached { (messages : List Utterance) (last : Pair) (p : PlaysWhole start_0 messages last) →
+        IsTableRun (tables.run start_0 p.steps) }
     ensures wider { (sent : List Sending) (p : Pair) (run : Accords sent p) → TakesNoLiberty run → CallsAndAnswers run }
 {
     what_is_sent_is_read();

@@ -1,7 +1,8 @@
 //! Laws of two carriers and the units between them. Each function does nothing: its clauses are the
 //! laws.
 
-ghost use Rattle.std.specs.Prelude.{◌≡◌, ◌<◌, ◌≤◌, ◌++◌, ◌+◌, ◌⊎◌, ℕ, Bool, true, false, not, List, [], ◌∷◌, Option, Some, None, length, map, take};
+ghost use Rattle.std.specs.Prelude.{◌≡◌, ◌<◌, ◌≤◌, ◌++◌, ◌+◌, ◌⊎◌, ℕ, Bool, true, false, not, List, [], ◌∷◌, Option, Some, None, length};
+ghost use Rattle.std.specs.Prelude.{map, take};
 ghost use Rattle.std.specs.List.{AllByRecursion};
 ghost use Rattle.osi_tpkt.specs.declared.cutting.Fed.{Fed};
 ghost use Rattle.osi_tpkt.specs.Octets.{IsOctets};
@@ -13,7 +14,9 @@ ghost use Rattle.osi_class.specs.declared.terms.Local.{Local};
 ghost use Rattle.osi_carrier.specs.declared.ends.EndReason.{EndReason};
 ghost use Rattle.osi_carrier.specs.declared.ends.EndReason.TheVariants.{Closed, NoMemory};
 ghost use Rattle.osi_between.specs.Addresses.{reference_of};
-ghost use Rattle.osi_between.specs.Between.{Both, side, arriving, Between, last_of, units_from, lost_from, under_way, answers_in, AreBetween, Acted, becomes, Took, Same, handed_over, still_to_tell, Lost, ended_at, broken_at, fresh_both, fresh_between, IsStill, IsAllThere};
+ghost use Rattle.osi_between.specs.Between.{Both, side, arriving, Between, last_of, units_from, lost_from, under_way, answers_in};
+ghost use Rattle.osi_between.specs.Between.{AreBetween, Acted, becomes, Took, Same, handed_over, still_to_tell, Lost, ended_at, broken_at};
+ghost use Rattle.osi_between.specs.Between.{fresh_both, fresh_between, IsStill, IsAllThere};
 ghost use Rattle.osi_between.specs.Terms.{Terms, by_two, by_zero, terms_of};
 ghost use Rattle.osi_tpkt.specs.Packet.{IsPacket, IsFaultOf, packet_of};
 ghost use Rattle.osi_tpkt.specs.declared.faults.TpktFault.{TpktFault};
@@ -44,9 +47,11 @@ ghost use Rattle.osi_between.specs.Progress.{in_use};
 pub fn what_a_connection_carries()
     ensures taken { (n : ℕ) (s : State) (m : Meeting) (unit : Value) (rest : List Value) → IsAt n s m → back n m ≡ unit ∷ rest →
         Moves n m s (react unit s) (unit ∷ []) (answers_of (here n m) unit) }
-    ensures sent { (n : ℕ) (s : State) (m : Meeting) (link : Standing) (tsdu : List ℕ) → IsAt n s m → here n m ≡ Some (linked n link) → IsShortTsdu tsdu → IsOctets tsdu →
+    ensures sent { (n : ℕ) (s : State) (m : Meeting) (link : Standing) (tsdu : List ℕ) → IsAt n s m → here n m ≡ Some (linked n link) →
+        IsShortTsdu tsdu → IsOctets tsdu →
         Moves n m s (sent n tsdu s) [] (message tsdu ∷ []) }
-    ensures closed { (n : ℕ) (s : State) (m : Meeting) (link : Standing) (reason : ℕ) → IsAt n s m → here n m ≡ Some (linked n link) → reason < 256 →
+    ensures closed { (n : ℕ) (s : State) (m : Meeting) (link : Standing) (reason : ℕ) → IsAt n s m → here n m ≡ Some (linked n link) →
+        reason < 256 →
         Moves n m s (closed_with n reason s) [] (bye reason ∷ []) }
     ensures mirrored { (m : Meeting) → Stands m → Stands (mirror m) }
     ensures twice { (m : Meeting) → mirror (mirror m) ≡ m }
@@ -76,10 +81,12 @@ pub fn two_carriers_stay_joined()
         AreJoined (fresh_state true caller) (fresh_state false called) [] [] }
     ensures turned { (end : Bool) (this other : State) (going coming : List Value) → JoinedFrom end this other going coming →
         JoinedFrom (not end) other this coming going }
-    ensures taken { (end : Bool) (this other : State) (going coming rest : List Value) (unit : Value) → JoinedFrom end this other going coming →
+    ensures taken { (end : Bool) (this other : State) (going coming rest : List Value) (unit : Value) →
+        JoinedFrom end this other going coming →
         coming ≡ unit ∷ rest →
         Did end (reference_of unit) this other (react unit this) going coming rest (answers_at (place_at (reference_of unit) this) unit) }
-    ensures asked { (caller called : State) (going coming : List Value) (calling to : Option (List ℕ)) → AreJoined caller called going coming →
+    ensures asked { (caller called : State) (going coming : List Value) (calling to : Option (List ℕ)) →
+        AreJoined caller called going coming →
         may_connect caller ≡ None → IsTsap calling → IsTsap to →
         Did true (caller.given + 1) caller called (asks calling to caller) going coming coming (ask ∷ []) }
     ensures handed_in { (end : Bool) (this other : State) (going coming : List Value) (n : ℕ) (link : Standing) (tsdu : List ℕ) →
@@ -104,12 +111,15 @@ pub fn two_carriers_stay_linked()
         called.state ≡ fresh_state false b → caller.held.octets ≡ [] → called.held.octets ≡ [] → AreLinked true caller called [] [] }
     ensures turned { (end : Bool) (this other : Carrying) (going coming : List Value) → AreLinked end this other going coming →
         AreLinked (not end) other this coming going }
-    ensures fed { (end : Bool) (this other next : Carrying) (going coming : List Value) (k : ℕ) (fed : Fed) → AreLinked end this other going coming →
-        k ≤ length other.state.outgoing → Feeds this (take k other.state.outgoing) fed next → WasFed end this other next going coming fed.used }
+    ensures fed { (end : Bool) (this other next : Carrying) (going coming : List Value) (k : ℕ) (fed : Fed) →
+        AreLinked end this other going coming →
+        k ≤ length other.state.outgoing → Feeds this (take k other.state.outgoing) fed next →
+        WasFed end this other next going coming fed.used }
     ensures called { (end : Bool) (this other : Carrying) (next : State) (n : ℕ) (going coming : List Value) (put : List Message) →
         AreLinked end this other going coming → (did : Did end n this.state other.state next going coming coming put) →
         AreLinked end (with_state next this) other did.behind coming }
-    ensures told { (end : Bool) (this other : Carrying) (events : List Happening) (going coming : List Value) → AreLinked end this other going coming →
+    ensures told { (end : Bool) (this other : Carrying) (events : List Happening) (going coming : List Value) →
+        AreLinked end this other going coming →
         AreLinked end (with_events events this) other going coming }
 {}
 
@@ -123,9 +133,11 @@ pub fn two_carriers_stay_linked()
 /// given for each connection that is requested or accepted, and for no other; a CC, or a CR that is accepted, settles
 /// the class. In class 0 a close ends the carrier.
 pub fn whatever_becomes_of_two_carriers()
-    ensures begins { (caller called : Local) → AreBetween (terms_of caller called) (fresh_both caller called) (fresh_between caller called) }
+    ensures begins { (caller called : Local) →
+        AreBetween (terms_of caller called) (fresh_both caller called) (fresh_between caller called) }
     ensures taken { (terms : Terms) (end : Bool) (both : Both) (b : Between) (packet octets behind : List ℕ) → AreBetween terms both b →
-        (side end both).state.ended ≡ None → IsPacket packet octets → (side end both).held ≡ octets ++ behind → Took terms end packet behind both b }
+        (side end both).state.ended ≡ None → IsPacket packet octets → (side end both).held ≡ octets ++ behind →
+        Took terms end packet behind both b }
     ensures taken_first { (terms : Terms) (end : Bool) (both : Both) (b : Between) (unit : Value) (rest : List Value) (behind : List ℕ) →
         AreBetween terms both b → (side end both).state.ended ≡ None → units_from (not end) b ≡ unit ∷ rest →
         (side end both).held ≡ packet_of (written unit) ++ behind →
@@ -133,22 +145,26 @@ pub fn whatever_becomes_of_two_carriers()
         (answers_in terms (place_at (reference_of unit) (last_of end b)) unit) }
     ensures asked { (terms : Terms) (both : Both) (b : Between) (calling to : Option (List ℕ)) → AreBetween terms both b →
         both.caller.state.ended ≡ None → may_connect both.caller.state ≡ None → IsTsap calling → IsTsap to →
-        Acted terms true (both.caller.state.given + 1) both (becomes true (asks calling to both.caller.state) both.caller.held both) b [] (ask ∷ []) }
+        Acted terms true (both.caller.state.given + 1) both (becomes true (asks calling to both.caller.state) both.caller.held both) b
+        [] (ask ∷ []) }
     ensures handed_in { (terms : Terms) (end : Bool) (both : Both) (b : Between) (n peer : ℕ) (link : Standing) (tsdu : List ℕ) →
         AreBetween terms both b → (side end both).state.ended ≡ None → value_at n (side end both).state.live ≡ Some (linked peer link) →
         IsShortTsdu tsdu → IsOctets tsdu →
         Acted terms end n both (becomes end (sent n tsdu (side end both).state) (side end both).held both) b [] (message tsdu ∷ []) }
-    ensures handed_in_all { (terms : Terms) (end : Bool) (both : Both) (b : Between) (n : ℕ) (tsdus : List (List ℕ)) → AreBetween terms both b →
+    ensures handed_in_all { (terms : Terms) (end : Bool) (both : Both) (b : Between) (n : ℕ) (tsdus : List (List ℕ)) →
+        AreBetween terms both b →
         (side end both).state.ended ≡ None → progress_of (place_at n (last_of end b)) ≡ in_use →
         AllByRecursion IsShortTsdu tsdus → AllByRecursion IsOctets tsdus →
         Acted terms end n both (becomes end (sent_all n tsdus (side end both).state) (side end both).held both) b [] (map message tsdus) }
     ensures closed { (end : Bool) (both : Both) (b : Between) (n peer : ℕ) (link : Standing) (reason : ℕ) → AreBetween by_two both b →
         (side end both).state.ended ≡ None → value_at n (side end both).state.live ≡ Some (linked peer link) → reason < 256 →
-        Acted by_two end n both (becomes end (closed_with n reason (side end both).state) (side end both).held both) b [] (bye reason ∷ []) }
+        Acted by_two end n both (becomes end (closed_with n reason (side end both).state) (side end both).held both) b
+        [] (bye reason ∷ []) }
     ensures closed_in_0 { (end : Bool) (both : Both) (b : Between) (n peer : ℕ) (link : Standing) (reason : ℕ) → AreBetween by_zero both b →
         (side end both).state.ended ≡ None → value_at n (side end both).state.live ≡ Some (linked peer link) →
         closed_with n reason (side end both).state ≡ ends Closed (side end both).state }
-    ensures carried { (terms : Terms) (end : Bool) (both : Both) (b : Between) (k : ℕ) → AreBetween terms both b → k ≤ length (arriving end both) →
+    ensures carried { (terms : Terms) (end : Bool) (both : Both) (b : Between) (k : ℕ) → AreBetween terms both b →
+        k ≤ length (arriving end both) →
         Same terms both (handed_over end k both) b }
     ensures told { (terms : Terms) (end : Bool) (both : Both) (b : Between) (events : List Happening) → AreBetween terms both b →
         Same terms both (still_to_tell end events both) b }
@@ -157,14 +173,16 @@ pub fn whatever_becomes_of_two_carriers()
     ensures broken { (terms : Terms) (both : Both) (b : Between) (k l : ℕ) → AreBetween terms both b → both.reach ≡ None →
         k ≤ length both.caller.state.outgoing → l ≤ length both.called.state.outgoing → Lost terms both (broken_at k l both) b }
     ensures empty { (terms : Terms) (both : Both) (b : Between) (n p q : ℕ) (x y : Standing) → AreBetween terms both b → IsStill both →
-        value_at n both.caller.state.live ≡ Some (linked p x) → value_at n both.called.state.live ≡ Some (linked q y) → IsAllThere n both b x y }
+        value_at n both.caller.state.live ≡ Some (linked p x) → value_at n both.called.state.live ≡ Some (linked q y) →
+        IsAllThere n both b x y }
 {}
 
 /// If an end has not ended, the octets that it holds, those that will still arrive and those that a break discarded are
 /// the packets of all units, with no fault of the stream. If memory runs out at the first packet that it holds, nothing
 /// of this packet was done. A packet is one unit; it acts, or does not act at all.
 pub fn what_an_end_holds()
-    ensures coming { (terms : Terms) (end : Bool) (both : Both) (b : Between) → AreBetween terms both b → (side (not end) both).state.ended ≡ None →
+    ensures coming { (terms : Terms) (end : Bool) (both : Both) (b : Between) →
+        AreBetween terms both b → (side (not end) both).state.ended ≡ None →
         (never : List ℕ) × AreComing (side (not end) both).held (arriving end both ++ never) (units_from end b ++ lost_from end b) }
     ensures sound { (terms : Terms) (end : Bool) (both : Both) (b : Between) (at : ℕ) (fault : TpktFault) → AreBetween terms both b →
         (side end both).state.ended ≡ None → IsFaultOf at (side end both).held fault → ⊥ }
@@ -173,7 +191,8 @@ pub fn what_an_end_holds()
         Starves (side end both).state packet new → new ≡ ends NoMemory (side end both).state }
     ensures acts { (terms : Terms) (end : Bool) (both : Both) (b : Between) (packet octets behind : List ℕ) (new : State) →
         AreBetween terms both b → (side end both).state.ended ≡ None → IsPacket packet octets → (side end both).held ≡ octets ++ behind →
-        Acts (side end both).state packet new → (new ≡ after_packet (side end both).state packet) ⊎ (new ≡ ends NoMemory (side end both).state) }
+        Acts (side end both).state packet new → (new ≡ after_packet (side end both).state packet) ⊎ (new
+        ≡ ends NoMemory (side end both).state) }
 {}
 
 /// Over every list of what can happen to two new carriers: calls at both, octets handed over in whatever pieces,
@@ -187,7 +206,8 @@ pub fn what_no_list_of_calls_can_do()
         StayBetween (terms_of caller called) moves (fresh_both caller called) }
     ensures told { (caller called : Local) (moves : List Move) (from : Bool) (n : ℕ) → MayAll moves (fresh_both caller called) →
         AreFirstOf (all_told (not from) n moves (fresh_both caller called)) (all_handed_in from n moves) }
-    ensures told_on { (terms : Terms) (moves : List Move) (both : Both) (b : Between) (from : Bool) (n : ℕ) → AreBetween terms both b → MayAll moves both →
+    ensures told_on { (terms : Terms) (moves : List Move) (both : Both) (b : Between) (from : Bool) (n : ℕ) → AreBetween terms both b →
+        MayAll moves both →
         AreFirstOf (all_told (not from) n moves both) (tsdus_in (under_way from n both b) ++ all_handed_in from n moves) }
     ensures goes_on { (terms : Terms) (moves : List Move) (both : Both) (b : Between) → AreBetween terms both b → MayAll moves both →
         StayBetween terms moves both }
@@ -196,9 +216,12 @@ pub fn what_no_list_of_calls_can_do()
 /// For a reference that the caller has not given, nothing is in flight, and the called end has given none that the
 /// caller has not. Before a class is agreed, each connection that is live at the caller awaits its answer.
 pub fn what_two_carriers_have()
-    ensures ahead { (terms : Terms) (both : Both) (b : Between) (end : Bool) (n : ℕ) → AreBetween terms both b → b.caller.given < n → under_way end n both b ≡ [] }
+    ensures ahead { (terms : Terms) (both : Both) (b : Between) (end : Bool) (n : ℕ) → AreBetween terms both b →
+        b.caller.given < n → under_way end n both b ≡ [] }
     ensures behind { (terms : Terms) (both : Both) (b : Between) → AreBetween terms both b → b.called.given ≤ b.caller.given }
-    ensures awaits { (terms : Terms) (both : Both) (b : Between) (n : ℕ) (x : Connection) → AreBetween terms both b → b.caller.class ≡ None →
+    ensures awaits { (terms : Terms) (both : Both) (b : Between) (n : ℕ) (x : Connection) → AreBetween terms both b →
+        b.caller.class ≡ None →
         value_at n b.caller.live ≡ Some x → x ≡ asked }
-    ensures roles { (terms : Terms) (both : Both) (b : Between) → AreBetween terms both b → (b.caller.is_caller ≡ true) × (b.called.is_caller ≡ false) }
+    ensures roles { (terms : Terms) (both : Both) (b : Between) →
+        AreBetween terms both b → (b.caller.is_caller ≡ true) × (b.called.is_caller ≡ false) }
 {}

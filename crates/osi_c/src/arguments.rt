@@ -4,7 +4,8 @@ ghost use Rattle.std.specs.Prelude.{◌≡◌, ◌≤◌, length, option_map, If
 ghost use Rattle.osi_session.specs.Calls.{refusal_by};
 ghost use Rattle.osi_spdu.specs.Sizes.{named_by};
 ghost use Rattle.osi_tpdu.specs.Limits.{tsap_octets};
-ghost use Rattle.osi_c.specs.Arguments.{side_of, wish_of, sides_of, wishes_of, serial_of, sizes_of, refusal_of, given, IsTerms, SaysTerms, IsOpening, SaysOpening};
+ghost use Rattle.osi_c.specs.Arguments.{side_of, wish_of, sides_of, wishes_of, serial_of, sizes_of, refusal_of, given, IsTerms, SaysTerms};
+ghost use Rattle.osi_c.specs.Arguments.{IsOpening, SaysOpening};
 
 use bitflags::Flags;
 use osi_class::Local;

@@ -2,7 +2,8 @@
 
 ghost use Rattle.std.specs.Prelude.{◌≡◌, ◌==◌, not, option_map, Some, None};
 ghost use Rattle.osi_message.specs.Tokens.{named};
-ghost use Rattle.osi_session.specs.Calls.{called_by, refusal_with, Accept, Refuse, Data, Give, Please, Minor, MinorConfirm, Major, MajorConfirm, Restart, RestartConfirm, Release, ReleaseAccept, ReleaseRefuse, Abort};
+ghost use Rattle.osi_session.specs.Calls.{called_by, refusal_with, Accept, Refuse, Data, Give, Please, Minor, MinorConfirm, Major};
+ghost use Rattle.osi_session.specs.Calls.{MajorConfirm, Restart, RestartConfirm, Release, ReleaseAccept, ReleaseRefuse, Abort};
 ghost use Rattle.osi_spdu.specs.Sizes.{named_by, no_sizes};
 ghost use Rattle.osi_c.specs.Arguments.{accept_of, accept_with, refuse_of, restart_of, restart_confirm_of};
 ghost use Rattle.osi_c.specs.Codes.{answer_of};
@@ -37,7 +38,8 @@ fn accept(
     sizes: TsduSizes,
     user_data: &[u8],
 ) -> u32
-    ensures { CallsIf reference (accept_with requirements number settled.now (named_by sizes) user_data.now) (answer_of result) end.old.inner.value end.new.inner.value }
+    ensures { CallsIf reference (accept_with requirements number settled.now (named_by sizes) user_data.now) (answer_of result)
+        end.old.inner.value end.new.inner.value }
 {
     let Some(serial) = serial(number) else {
         return BAD_ARGUMENT;
@@ -66,7 +68,8 @@ pub extern "C" fn osi_accept(
     settled: &OsiSides,
     user_data: &[u8],
 ) -> u32
-    ensures { CallsIf reference (accept_with requirements number settled.now no_sizes user_data.now) (answer_of result) end.old.inner.value end.new.inner.value }
+    ensures { CallsIf reference (accept_with requirements number settled.now no_sizes user_data.now) (answer_of result) end.old.inner.value
+        end.new.inner.value }
 {
     accept(
         end,
@@ -92,7 +95,8 @@ pub extern "C" fn osi_accept_sized(
     from_answerer: u16,
     user_data: &[u8],
 ) -> u32
-    ensures { CallsIf reference (accept_of requirements number settled.now from_asker from_answerer user_data.now) (answer_of result) end.old.inner.value end.new.inner.value }
+    ensures { CallsIf reference (accept_of requirements number settled.now from_asker from_answerer user_data.now) (answer_of result)
+        end.old.inner.value end.new.inner.value }
 {
     let Some(sizes) = sizes(from_asker, from_answerer) else {
         return BAD_ARGUMENT;

@@ -33,7 +33,11 @@ impl Model for Class0 {
 
     ghost Value = { Ends };
 
-    ghost view = { λ l. record { limit = l.limit; unsent = l.outgoing.unsent; joining = joining l.begun (map (λ v. v.items) l.whole.items) } };
+    ghost view = { λ l. record {
+      limit = l.limit;
+      unsent = l.outgoing.unsent;
+      joining = joining l.begun (map (λ v. v.items) l.whole.items);
+    } };
 
     ghost invariant = { λ l. (123 ≤ l.limit) × (l.limit ≤ 8189) };
 }

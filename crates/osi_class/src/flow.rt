@@ -2,7 +2,8 @@
 
 ghost use Rattle.std.specs.Prelude.{◌≡◌, ◌<◌, ◌≤◌, ◌+◌, ◌==◌, false, nat_lt, option_map, IfSome, IfNone};
 ghost use Rattle.osi_class.specs.Limits.{credit_units};
-ghost use Rattle.osi_class.specs.Flow.{fresh_sender, fresh_receiver, after_sent, acknowledged, is_awaited, after_taken, ack_number, after_acked};
+ghost use Rattle.osi_class.specs.Flow.{fresh_sender, fresh_receiver, after_sent, acknowledged, is_awaited, after_taken, ack_number};
+ghost use Rattle.osi_class.specs.Flow.{after_acked};
 ghost use Rattle.osi_class.specs.Taking.{TakesUnit};
 
 use crate::faults::LinkFault;
@@ -176,7 +177,8 @@ impl ReceivingFlow {
 
     /// The number of the next Ack, 0 to 127, which is then no longer due; `None` if no Ack is due.
     pub fn next_ack(&mut self) -> Option<u8>
-        ensures number { IfSome result (λ number. (0 < self.old.waiting) × (number ≡ ack_number self.old) × (self.new ≡ after_acked self.old)) }
+        ensures number { IfSome result (λ number. (0 < self.old.waiting) × (number ≡ ack_number self.old) × (self.new
+            ≡ after_acked self.old)) }
         ensures in_range { IfSome result (λ number. number < 128) }
         ensures none { IfNone result ((self.old.waiting ≡ 0) × (self.new ≡ self.old)) }
     {

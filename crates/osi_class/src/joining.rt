@@ -63,7 +63,8 @@ impl Begun {
         octets: &[u8],
         whole: &mut Queue<Vec<u8>>,
     ) -> Result<(), LinkFault>
-        ensures { TakesUnit result (part_needs_memory last octets.now) (joined (joining self.old (map (λ v. v.items) whole.old.items)) last octets.now)
+        ensures { TakesUnit result (part_needs_memory last octets.now) (joined (joining self.old (map (λ v. v.items) whole.old.items))
+            last octets.now)
             (joining self.old (map (λ v. v.items) whole.old.items)) (joining self.new (map (λ v. v.items) whole.new.items)) }
     {
         if octets.len() > LONGEST_TSDU - self.octets.len() {
@@ -97,9 +98,13 @@ impl Begun {
         octets: &[u8],
         whole: &mut Queue<Vec<u8>>,
     ) -> Result<Option<Vec<u8>>, LinkFault>
-        ensures taken { IfOk result (λ tsdu. joined (joining self.old (map (λ v. v.items) whole.old.items)) last octets.now ≡ Ok (before_handing (option_map (λ v. v.items) tsdu) (joining self.new (map (λ v. v.items) whole.new.items)))) }
+        ensures taken { IfOk result (λ tsdu. joined (joining self.old (map (λ v. v.items) whole.old.items)) last octets.now
+            ≡ Ok (before_handing (option_map (λ v. v.items) tsdu) (joining self.new (map (λ v. v.items) whole.new.items)))) }
         ensures none { IfOk result (λ tsdu. IfNone tsdu (whole.new.items ≡ [])) }
-        ensures refused { OnErr result (TakesUnit result (part_needs_memory last octets.now) (joined (joining self.old (map (λ v. v.items) whole.old.items)) last octets.now) (joining self.old (map (λ v. v.items) whole.old.items)) (joining self.new (map (λ v. v.items) whole.new.items))) }
+        ensures refused { OnErr
+            result (TakesUnit result (part_needs_memory last octets.now) (joined (joining self.old (map (λ v. v.items) whole.old.items))
+            last octets.now) (joining self.old (map (λ v. v.items) whole.old.items)) (joining
+            self.new (map (λ v. v.items) whole.new.items))) }
     {
         let room = LONGEST_TSDU - self.octets.len();
         if octets.len() > room {

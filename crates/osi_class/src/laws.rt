@@ -1,9 +1,12 @@
 //! Laws of the definitions that the contracts cite. Each function does nothing: its clauses are the
 //! laws.
 
-ghost use Rattle.std.specs.Prelude.{Bool, ◌≡◌, ◌+◌, ◌-◌, ◌*◌, ◌%◌, ◌<◌, ◌≤◌, ◌++◌, ◌∷◌, ℕ, ◌↔◌, ◌⊎◌, List, [], map, Some, None, Ok, Option, is_some, length, true};
+ghost use Rattle.std.specs.Prelude.{Bool, ◌≡◌, ◌+◌, ◌-◌, ◌*◌, ◌%◌, ◌<◌, ◌≤◌, ◌++◌, ◌∷◌, ℕ, ◌↔◌, ◌⊎◌, List, [], map, Some, None, Ok, Option};
+ghost use Rattle.std.specs.Prelude.{is_some, length, true};
 ghost use Rattle.std.specs.List.{flat_map, AllByRecursion};
-ghost use Rattle.osi_class.specs.Between.{LinkPair, Turn, at_right, Turns, TurnsAlong, swapped, opposite, opened_pair, awaiting_pair, IsFresh, OnlySends, IsQuiet, TakesOldest, given_by, left_in, right_out, parts_under_way, IsShortTsdu, under_way, under_way_before, HasWholeTsdus};
+ghost use Rattle.osi_class.specs.Between.{LinkPair, Turn, at_right, Turns, TurnsAlong, swapped, opposite, opened_pair, awaiting_pair};
+ghost use Rattle.osi_class.specs.Between.{IsFresh, OnlySends, IsQuiet, TakesOldest, given_by, left_in, right_out, parts_under_way};
+ghost use Rattle.osi_class.specs.Between.{IsShortTsdu, under_way, under_way_before, HasWholeTsdus};
 ghost use Rattle.osi_class.specs.Owed.{Direction, InStep, CreditStep, CreditSteps, StepsAlong, known_after, opened, owed, restored};
 ghost use Rattle.osi_class.specs.Directions.{direction, HaveFlows, TurnSteps, Agree, AgreeZero, AgreeInClass};
 ghost use Rattle.osi_tpkt.specs.Octets.{IsOctets};
@@ -12,8 +15,10 @@ ghost use Rattle.osi_tpdu.specs.declared.limits.SizeCode.{SizeCode};
 ghost use Rattle.osi_class.specs.Ends.{Ends, unit_size, fresh_ends};
 ghost use Rattle.osi_class.specs.Flow.{Flow, fresh_sender, fresh_receiver, acknowledged, is_awaited, steps_before};
 ghost use Rattle.osi_class.specs.Joining.{joined, with_part};
-ghost use Rattle.osi_class.specs.Link.{Standing, Given, next, is_of_two, unit_of, given_in, with_tsdus, zero_standing, two_standing, fresh_two};
-ghost use Rattle.osi_class.specs.Giving.{AllGoAtOnce, GoesWhole, left_to_give, drained, all_given, octets_of, octets_in, header_octets, most_given, given_one_by_one, one_by_one};
+ghost use Rattle.osi_class.specs.Link.{Standing, Given, next, is_of_two, unit_of, given_in, with_tsdus, zero_standing, two_standing};
+ghost use Rattle.osi_class.specs.Link.{fresh_two};
+ghost use Rattle.osi_class.specs.Giving.{AllGoAtOnce, GoesWhole, left_to_give, drained, all_given, octets_of, octets_in, header_octets};
+ghost use Rattle.osi_class.specs.Giving.{most_given, given_one_by_one, one_by_one};
 ghost use Rattle.osi_class.specs.Runs.{Move, Moves, MovesAlong, hand_in, give_out, tsdus_in, parts_out, parts_in, tsdus_out};
 ghost use Rattle.osi_class.specs.Sound.{IsSound, HasGivenInRange, TakesInRange};
 ghost use Rattle.osi_class.specs.Tsdus.{Part, MakeTheSame, tsdus, tsdus_after, uncut};
@@ -164,7 +169,8 @@ pub fn a_link_keeps_its_bounds()
 pub fn no_tsdu_is_too_long()
     ensures kept { (old new : LinkPair) (turns : List Turn) → HasWholeTsdus old → AllByRecursion IsShortTsdu (under_way old) →
         AllByRecursion IsShortTsdu (flat_map left_in turns) → TurnsAlong old turns new → AllByRecursion IsShortTsdu (under_way new) }
-    ensures part { (p : LinkPair) (end : Bool) (octets : List ℕ) (rest : List Part) → HasWholeTsdus p → AllByRecursion IsShortTsdu (under_way p) →
+    ensures part { (p : LinkPair) (end : Bool) (octets : List ℕ) (rest : List Part) → HasWholeTsdus p →
+        AllByRecursion IsShortTsdu (under_way p) →
         parts_under_way p.rightward ≡ (end, octets) ∷ rest →
         joined p.right.ends.joining end octets ≡ Ok (with_part p.right.ends.joining end octets) }
 {}

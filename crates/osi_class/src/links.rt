@@ -12,13 +12,15 @@ use std::alloc::AllocError;
 /// What a link holds and what each call does is stated on its `standing`, which both classes have; the laws over lists
 /// of calls are in [`crate::laws`].
 pub trait Link {
-    ghost use Rattle.std.specs.Prelude.{ℕ, List, ◌≡◌, ◌<◌, ◌≤◌, ◌+◌, ◌*◌, ◌^◌, [], None, Ok, true, false, length, map, min, IfSome, IfNone, IfOk, IsOk, IsSome, OnOk, OnErr, option_map};
+    ghost use Rattle.std.specs.Prelude.{ℕ, List, ◌≡◌, ◌<◌, ◌≤◌, ◌+◌, ◌*◌, ◌^◌, [], None, Ok, true, false, length, map, min, IfSome, IfNone};
+    ghost use Rattle.std.specs.Prelude.{IfOk, IsOk, IsSome, OnOk, OnErr, option_map};
     ghost use Rattle.std.specs.Borrow.{sem};
     ghost use Rattle.std.specs.Io.BufRead.{Rests};
     ghost use Rattle.osi_tpdu.specs.View.{value};
     ghost use Rattle.osi_class.specs.Giving.{all_given, octets_in, most_given, AllGoAtOnce, GoesAtOnce, GivesSlot, IsNumbered};
     ghost use Rattle.osi_class.specs.Limits.{longest_tsdu};
-    ghost use Rattle.osi_class.specs.Link.{Standing, with_tsdu, with_tsdus, unsent_octets, given, taken, needs_memory, next, with_handed, Gives, Hands, FitsAUnit};
+    ghost use Rattle.osi_class.specs.Link.{Standing, with_tsdu, with_tsdus, unsent_octets, given, taken, needs_memory, next, with_handed};
+    ghost use Rattle.osi_class.specs.Link.{Gives, Hands, FitsAUnit};
     ghost use Rattle.osi_class.specs.Sound.{IsSound};
     ghost use Rattle.osi_class.specs.Taking.{TakesUnit};
     ghost use Rattle.osi_class.specs.Tsdus.{octets_of_tsdus};
@@ -76,15 +78,19 @@ pub trait Link {
     /// the order of [`LinkFault`], and the link is unchanged. `OutOfMemory` is possible only for a DT that would be
     /// taken and that has an octet or ends its TSDU.
     fn take(&mut self, unit: &Tpdu<'_>) -> Result<(), LinkFault>
-        ensures taken { TakesUnit result (needs_memory (value unit.now)) (taken (standing self.old) (value unit.now)) (standing self.old) (standing self.new) }
+        ensures taken { TakesUnit result (needs_memory (value unit.now)) (taken (standing self.old) (value unit.now)) (standing
+            self.old) (standing self.new) }
         ensures limit { (standing self.new).ends.limit ≡ (standing self.old).ends.limit };
 
     /// Takes a unit as [`Link::take`] does, and then hands out the first complete TSDU as [`Link::next_tsdu`] does. If no
     /// other TSDU waits, one that this unit ends is not queued. A fault is one of [`Link::take`], and changes nothing.
     fn receive(&mut self, unit: &Tpdu<'_>) -> Result<Option<Vec<u8>>, LinkFault>
-        ensures taken { IfOk result (λ tsdu. taken (standing self.old) (value unit.now) ≡ Ok (with_handed (option_map (λ v. v.items) tsdu) (standing self.new))) }
+        ensures taken { IfOk result (λ tsdu. taken (standing self.old) (value unit.now)
+            ≡ Ok (with_handed (option_map (λ v. v.items) tsdu) (standing self.new))) }
         ensures none { IfOk result (λ tsdu. IfNone tsdu ((standing self.new).ends.joining.whole ≡ [])) }
-        ensures refused { OnErr result (TakesUnit result (needs_memory (value unit.now)) (taken (standing self.old) (value unit.now)) (standing self.old) (standing self.new)) }
+        ensures refused { OnErr
+            result (TakesUnit result (needs_memory (value unit.now)) (taken (standing self.old) (value unit.now)) (standing
+            self.old) (standing self.new)) }
         ensures limit { (standing self.new).ends.limit ≡ (standing self.old).ends.limit };
 
     /// The next unit to be written; `None` exactly if no Ack is due and either no data is left or, in class 2, there
@@ -92,7 +98,8 @@ pub trait Link {
     /// carries at least 123 octets, except the last of a TSDU, and at most 8,189. Each unit leaves less to give, so a
     /// loop terminates ([`crate::laws::giving_ends`]).
     fn next_out(&mut self) -> Option<Out<'_>>
-        ensures* given { sem 𝓛 (Rests Self.row self.entry (λ new. Gives result (next (standing self.old)) (standing self.old) (standing new))) }
+        ensures* given { sem 𝓛 (Rests Self.row self.entry (λ new.
+            Gives result (next (standing self.old)) (standing self.old) (standing new))) }
         ensures fits { IfSome result FitsAUnit }
         ensures at_least { 123 ≤ (standing self.old).ends.limit }
         ensures at_most { (standing self.old).ends.limit ≤ 8189 };
@@ -122,8 +129,10 @@ pub trait Link {
     /// If a TSDU of this many octets is handed in at a link that gives no unit now: how many units [`Link::next_out`]
     /// then gives until it gives none, and how many octets of TSDUs are in them.
     fn room_for(&self, octets: usize) -> Room
-        ensures units { (tsdu : List ℕ) → length tsdu ≡ octets → next (standing self.now) ≡ None → result.units ≡ length (all_given (with_tsdu (standing self.now) tsdu)) }
-        ensures octets { (tsdu : List ℕ) → length tsdu ≡ octets → next (standing self.now) ≡ None → result.octets ≡ octets_in (all_given (with_tsdu (standing self.now) tsdu)) }
+        ensures units { (tsdu : List ℕ) → length tsdu ≡ octets → next (standing self.now) ≡ None →
+            result.units ≡ length (all_given (with_tsdu (standing self.now) tsdu)) }
+        ensures octets { (tsdu : List ℕ) → length tsdu ≡ octets → next (standing self.now) ≡ None →
+            result.octets ≡ octets_in (all_given (with_tsdu (standing self.now) tsdu)) }
         ensures few_units { 123 * result.units ≤ octets + 123 }
         ensures few_octets { result.octets ≤ octets }
         ensures some_octets { 0 < result.units → min 123 octets ≤ result.octets };
@@ -132,8 +141,10 @@ pub trait Link {
     /// [`Link::next_out`] then gives until it gives none, with this many octets of headers for each unit
     /// ([`crate::laws::what_units_take`]). `None` only if they don't fit a `usize`.
     fn room_for_all(&self, tsdus: &[Vec<u8>], headers: u8) -> Option<usize>
-        ensures value { IfSome result (λ room. next (standing self.now) ≡ None → room ≡ most_given headers (with_tsdus (standing self.now) (map (λ v. v.items) tsdus.now))) }
-        ensures none { IfNone result (next (standing self.now) ≡ None → 2 ^ 64 ≤ most_given headers (with_tsdus (standing self.now) (map (λ v. v.items) tsdus.now))) }
+        ensures value { IfSome result (λ room. next (standing self.now) ≡ None →
+            room ≡ most_given headers (with_tsdus (standing self.now) (map (λ v. v.items) tsdus.now))) }
+        ensures none { IfNone result (next (standing self.now) ≡ None →
+            2 ^ 64 ≤ most_given headers (with_tsdus (standing self.now) (map (λ v. v.items) tsdus.now))) }
         ensures at_least { 123 ≤ (standing self.now).ends.limit };
 
     /// Whether all units of these TSDUs may be given now, one after the other: nothing is to be sent before them and, in

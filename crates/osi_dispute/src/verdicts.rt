@@ -147,7 +147,8 @@ fn is_blamed(finding: Finding) -> bool
 
 /// Whether right did not answer: it gave no reference, and nothing that it sent stopped its transport.
 fn is_unanswered(judge: &Judge) -> bool
-    ensures { result ≡ is_unanswered (half_of Direction.Right (judged judge.now)).line.reference (stopped_of (half_of Direction.Right (judged judge.now))) }
+    ensures { result ≡ is_unanswered (half_of Direction.Right (judged judge.now)).line.reference (stopped_of (half_of
+        Direction.Right (judged judge.now))) }
 {
     if judge.reference(Direction::Right).is_some() {
         return false;

@@ -9,7 +9,8 @@ ghost use Rattle.osi_message.specs.Tokens.{named};
 ghost use Rattle.osi_spdu.specs.Fields.{bits_of, unit_bits};
 ghost use Rattle.osi_spdu.specs.Sizes.{named_by};
 ghost use Rattle.osi_tpdu.specs.Limits.{size_code, window_units};
-ghost use Rattle.osi_explain.specs.Lines.{classes_name, data_field, units_field, sizes_field, tokens_field, wishes_field, sides_field, call_text, command_text, comment_line};
+ghost use Rattle.osi_explain.specs.Lines.{classes_name, data_field, units_field, sizes_field, tokens_field, wishes_field, sides_field};
+ghost use Rattle.osi_explain.specs.Lines.{call_text, command_text, comment_line};
 
 use bitflags::Flags;
 use osi_listing::{push_number_field, push_octet, push_words};
@@ -143,7 +144,8 @@ fn push_accept(
     sizes: TsduSizes,
     user_data: &[u8],
 ) -> Result<(), AllocError>
-    ensures { OnOk result (text.new.items ≡ text.old.items ++ call_text (Accept (unit_bits requirements) serial.number sides (named_by sizes) user_data.now)) }
+    ensures { OnOk result (text.new.items ≡ text.old.items
+        ++ call_text (Accept (unit_bits requirements) serial.number sides (named_by sizes) user_data.now)) }
 {
     push_words(text, "accept")?;
     push_units(text, requirements)?;
@@ -297,7 +299,8 @@ fn push_connect(
     sizes: TsduSizes,
     user_data: &[u8],
 ) -> Result<(), AllocError>
-    ensures { OnOk result (text.new.items ≡ text.old.items ++ command_text (Connect (unit_bits requirements) serial.number wishes (named_by sizes) user_data.now)) }
+    ensures { OnOk result (text.new.items ≡ text.old.items
+        ++ command_text (Connect (unit_bits requirements) serial.number wishes (named_by sizes) user_data.now)) }
 {
     push_words(text, "connect")?;
     push_units(text, requirements)?;

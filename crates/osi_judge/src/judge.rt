@@ -48,7 +48,8 @@ fn first_after(first: Option<Direction>, direction: Direction, broke: bool) -> O
 fn feed_left(left: &mut Half, right: &mut Half, octets: &[u8]) -> Result<usize, AllocError>
     ensures used { IfOk result (λ n. n ≤ length octets.now) }
     ensures some { IfOk result (λ n. 0 < length octets.now → 0 < n) }
-    ensures taps { IfOk result (λ n. (capture : Capture) → Taps (both left.old right.old) capture → Taps (both left.new right.new) (capture ++ piece Direction.Left (take n octets.now))) }
+    ensures taps { IfOk result (λ n. (capture : Capture) → Taps (both left.old right.old) capture →
+        Taps (both left.new right.new) (capture ++ piece Direction.Left (take n octets.now))) }
     ensures beside { OnOk result (has_broken (tapped right.new) ≡ has_broken (tapped right.old)) }
     ensures still { OnOk result (has_broken (tapped left.old) ≡ true → has_broken (tapped left.new) ≡ true) }
     ensures err { OnErr result (both left.new right.new ≡ both left.old right.old) }
@@ -67,7 +68,8 @@ fn feed_left(left: &mut Half, right: &mut Half, octets: &[u8]) -> Result<usize, 
 fn feed_right(left: &mut Half, right: &mut Half, octets: &[u8]) -> Result<usize, AllocError>
     ensures used { IfOk result (λ n. n ≤ length octets.now) }
     ensures some { IfOk result (λ n. 0 < length octets.now → 0 < n) }
-    ensures taps { IfOk result (λ n. (capture : Capture) → Taps (both left.old right.old) capture → Taps (both left.new right.new) (capture ++ piece Direction.Right (take n octets.now))) }
+    ensures taps { IfOk result (λ n. (capture : Capture) → Taps (both left.old right.old) capture →
+        Taps (both left.new right.new) (capture ++ piece Direction.Right (take n octets.now))) }
     ensures beside { OnOk result (has_broken (tapped left.new) ≡ has_broken (tapped left.old)) }
     ensures still { OnOk result (has_broken (tapped right.old) ≡ true → has_broken (tapped right.new) ≡ true) }
     ensures err { OnErr result (both left.new right.new ≡ both left.old right.old) }
@@ -102,8 +104,10 @@ impl Judge {
     pub fn feed(&mut self, direction: Direction, octets: &[u8]) -> Result<usize, AllocError>
         ensures used { IfOk result (λ n. n ≤ length octets.now) }
         ensures some { IfOk result (λ n. 0 < length octets.now → 0 < n) }
-        ensures taps { IfOk result (λ n. (capture : Capture) → Taps (judged self.old) capture → Taps (judged self.new) (capture ++ piece direction (take n octets.now))) }
-        ensures first { IfOk result (λ n. (capture : Capture) → Taps (judged self.old) capture → FirstIs (first_in self.old) (judged self.old) capture
+        ensures taps { IfOk result (λ n. (capture : Capture) → Taps (judged self.old) capture →
+            Taps (judged self.new) (capture ++ piece direction (take n octets.now))) }
+        ensures first { IfOk result (λ n. (capture : Capture) → Taps (judged self.old) capture →
+            FirstIs (first_in self.old) (judged self.old) capture
             → FirstIs (first_in self.new) (judged self.new) (capture ++ piece direction (take n octets.now))) }
         ensures err { OnErr result ((judged self.new ≡ judged self.old) × (first_in self.new ≡ first_in self.old)) }
     {
@@ -116,9 +120,12 @@ impl Judge {
     fn take(&mut self, direction: Direction, octets: &[u8]) -> Result<usize, AllocError>
         ensures used { IfOk result (λ n. n ≤ length octets.now) }
         ensures some { IfOk result (λ n. 0 < length octets.now → 0 < n) }
-        ensures taps { IfOk result (λ n. (capture : Capture) → Taps (judged self.old) capture → Taps (judged self.new) (capture ++ piece direction (take n octets.now))) }
-        ensures beside { OnOk result (has_broken (half_of (other direction) (judged self.new)) ≡ has_broken (half_of (other direction) (judged self.old))) }
-        ensures still { OnOk result (has_broken (half_of direction (judged self.old)) ≡ true → has_broken (half_of direction (judged self.new)) ≡ true) }
+        ensures taps { IfOk result (λ n. (capture : Capture) → Taps (judged self.old) capture →
+            Taps (judged self.new) (capture ++ piece direction (take n octets.now))) }
+        ensures beside { OnOk result (has_broken (half_of (other direction) (judged self.new))
+            ≡ has_broken (half_of (other direction) (judged self.old))) }
+        ensures still { OnOk result (has_broken (half_of direction (judged self.old)) ≡ true →
+            has_broken (half_of direction (judged self.new)) ≡ true) }
         ensures first { first_in self.new ≡ first_in self.old }
         ensures err { OnErr result (judged self.new ≡ judged self.old) }
     {
@@ -195,7 +202,8 @@ impl Judge {
     /// The side whose break, of session or of transport, passed first.
     pub fn first(&self) -> Option<Direction>
         ensures value { result ≡ first_in self.now }
-        ensures first { (capture : Capture) → Taps (judged self.now) capture → FirstIs (first_in self.now) (judged self.now) capture → IsFirstIn capture result }
+        ensures first { (capture : Capture) → Taps (judged self.now) capture → FirstIs (first_in self.now) (judged self.now) capture →
+            IsFirstIn capture result }
     {
         self.first
     }

@@ -1,6 +1,7 @@
 //! Laws of captures. Each function does nothing: its contract is the law.
 
-ghost use Rattle.std.specs.Prelude.{◌≡◌, ◌≤◌, ◌+◌, ◌++◌, ◌∷◌, ◌⊎◌, [], ℕ, Bool, List, Option, None, Ok, Some, true, false, length, replicate};
+ghost use Rattle.std.specs.Prelude.{◌≡◌, ◌≤◌, ◌+◌, ◌++◌, ◌∷◌, ◌⊎◌, [], ℕ, Bool, List, Option, None, Ok, Some, true, false, length};
+ghost use Rattle.std.specs.Prelude.{replicate};
 ghost use Rattle.osi_message.specs.declared.places.Place.{Place};
 ghost use Rattle.osi_message.specs.Meanings.{Meaning, DT};
 ghost use Rattle.osi_message.specs.Reading.{said_at};
@@ -33,7 +34,8 @@ ghost use Rattle.osi_judge.specs.Transport.{Sent, IsSent};
 /// A side of a capture has one list of TSDUs. Pieces of a side that pass one after the other are one piece: the pieces
 /// in which a capture is fed don't matter, as long as its octets keep their order.
 pub fn a_capture_has_one_reading()
-    ensures one { (d : Direction) (capture : Capture) (some others : List Sent) → IsSent d capture some → IsSent d capture others → some ≡ others }
+    ensures one { (d : Direction) (capture : Capture) (some others : List Sent) → IsSent d capture some → IsSent d capture others →
+        some ≡ others }
     ensures pieces { (d : Direction) (octets more : List ℕ) → piece d (octets ++ more) ≡ piece d octets ++ piece d more }
 {}
 
@@ -62,7 +64,8 @@ pub fn a_side_has_one_list_of_sessions()
 /// What a side of a capture broke when a prefix had passed, it has still broken in the whole. So a capture has one first break:
 /// one side whose break passed first, or neither broke the protocol.
 pub fn a_capture_has_one_first_break()
-    ensures stays { (d : Direction) (front back : Capture) (has_broken : Bool) → StandsIn d front true → StandsIn d (front ++ back) has_broken
+    ensures stays { (d : Direction) (front back : Capture) (has_broken : Bool) → StandsIn d front true →
+        StandsIn d (front ++ back) has_broken
         → has_broken ≡ true }
     ensures first { (capture : Capture) (first second : Option Direction) → IsFirstIn capture first → IsFirstIn capture second
         → first ≡ second }
@@ -100,7 +103,8 @@ pub fn an_outline_has_no_user_data()
         → length (outline tsdu) ≤ length (written n) }
     ensures behind { (tsdu : List ℕ) (item m n : Meaning) → said_at tsdu ≡ Ok (says item ∷ says m ∷ []) → has_no_effect item ≡ true
         → is_second m ≡ true → bare m ≡ Some n → length (outline tsdu) ≤ length (written n) }
-    ensures data_outline { (tsdu octets : List ℕ) (item : Meaning) → said_at tsdu ≡ Ok (says item ∷ says (DT octets) ∷ []) → has_no_effect item ≡ true
+    ensures data_outline { (tsdu octets : List ℕ) (item : Meaning) → said_at tsdu ≡ Ok (says item ∷ says (DT octets) ∷ []) →
+        has_no_effect item ≡ true
         → 4 ≤ length tsdu → outline tsdu ≡ 1 ∷ 0 ∷ 1 ∷ 0 ∷ [] }
     ensures part_outline { (tsdu octets : List ℕ) (place : Place) (item : Meaning) → said_at tsdu ≡ Ok (says item ∷ part place octets ∷ [])
         → has_no_effect item ≡ true → 7 + length octets ≤ length tsdu → outline tsdu ≡ part_octets place (replicate (length octets) 0) }
@@ -110,7 +114,8 @@ pub fn an_outline_has_no_user_data()
 /// octets and any calls, refusals, and a transport connection that is refused or lost at any time. It is explained
 /// up to each TSDU that it sent, by what it took of the other side until then.
 pub fn an_honest_session_is_explained()
-    ensures caller { (o : Opening) (us : List (List ℕ)) (told : List Told) → refusal_of o ≡ None → IsSentFrom (opens o) us told → IsExplained seen_calling us told }
+    ensures caller { (o : Opening) (us : List (List ℕ)) (told : List Told) → refusal_of o ≡ None → IsSentFrom (opens o) us told →
+        IsExplained seen_calling us told }
     ensures called { (us : List (List ℕ)) (told : List Told) → IsSentFrom awaits us told → IsExplained seen_called us told }
 {
     osi_message::laws::what_is_sent_is_read();
@@ -121,7 +126,8 @@ pub fn an_honest_session_is_explained()
 /// So an honest side is never blamed: it is never found to have broken the protocol or to have left the profile,
 /// whatever the other side sent.
 pub fn an_honest_side_is_not_blamed()
-    ensures { (d : Direction) (capture : Capture) (finding : Finding) → IsHonestIn d capture → IsFoundIn d capture finding → broke_session finding ≡ false }
+    ensures { (d : Direction) (capture : Capture) (finding : Finding) → IsHonestIn d capture → IsFoundIn d capture finding →
+        broke_session finding ≡ false }
 {
     osi_message::laws::what_is_sent_is_read();
     osi_message::laws::what_a_part_says();

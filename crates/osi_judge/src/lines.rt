@@ -62,7 +62,18 @@ pub(crate) struct Half {
 
 impl Line {
     fn new(alloc: Global) -> Line
-        ensures { lined result ≡ record { at = 0; since = 0; met = silent; handshake = silent; stage = opening; hasty = None; begun_since = 0; packets = 0; reference = None; last = 0 } }
+        ensures { lined result ≡ record {
+          at = 0;
+          since = 0;
+          met = silent;
+          handshake = silent;
+          stage = opening;
+          hasty = None;
+          begun_since = 0;
+          packets = 0;
+          reference = None;
+          last = 0;
+        } }
     {
         Line {
             packets: 0,
@@ -118,7 +129,8 @@ impl Line {
 
     /// The current packet has a DT before the connection is open.
     fn note(&mut self)
-        ensures { (end : Bool) (octets : List ℕ) → lined self.new ≡ record (lined self.old) { hasty = noted (lined self.old).hasty (lined self.old).at (hurries end octets) } }
+        ensures { (end : Bool) (octets : List ℕ) →
+            lined self.new ≡ record (lined self.old) { hasty = noted (lined self.old).hasty (lined self.old).at (hurries end octets) } }
     {
         if self.hasty.is_none() {
             self.hasty = Some(self.at);
@@ -214,7 +226,8 @@ fn pass(side: &mut Side, other: &mut Side, tsdu: &[u8], before: usize) -> Result
 /// A part of an unfinished TSDU passes. `Err` changes nothing.
 fn add_part(line: &mut Line, octets: &[u8], since: usize) -> Result<(), AllocError>
     requires { line.old.begun.items ≡ begun (lined line.old).stage }
-    ensures ok { OnOk result (lined line.new ≡ record (lined line.old) { stage = added (lined line.old).stage (lined line.old).at false octets.now; begun_since = since }) }
+    ensures ok { OnOk result (lined line.new
+        ≡ record (lined line.old) { stage = added (lined line.old).stage (lined line.old).at false octets.now; begun_since = since }) }
     ensures err { OnErr result (lined line.new ≡ lined line.old) }
 {
     line.begun.extend_from_slice(octets)?;
@@ -244,10 +257,15 @@ fn end_part(
     since: usize,
 ) -> Result<(), AllocError>
     requires { line.old.begun.items ≡ begun (lined line.old).stage }
-    ensures line { OnOk result (lined line.new ≡ record (lined line.old) { stage = between; begun_since = since; last = last_place (watched side.old).finding (lined line.old).at (lined line.old).last }) }
+    ensures line { OnOk result (lined line.new ≡ record (lined line.old) {
+      stage = between;
+      begun_since = since;
+      last = last_place (watched side.old).finding (lined line.old).at (lined line.old).last;
+    }) }
     ensures tells { OnOk result (Tells (begun (lined line.old).stage ++ octets.now) since (watched side.old) (watched side.new)) }
     ensures hears { OnOk result (watched other.new ≡ hears (watched other.old) (begun (lined line.old).stage ++ octets.now)) }
-    ensures err { OnErr result ((lined line.new ≡ lined line.old) × (watched side.new ≡ watched side.old) × (watched other.new ≡ watched other.old)) }
+    ensures err { OnErr result ((lined line.new ≡ lined line.old) × (watched side.new ≡ watched side.old) × (watched other.new
+        ≡ watched other.old)) }
 {
     let begun = line.begun.len();
     let last = last_place(side.finding(), line.at, line.last);
@@ -278,10 +296,14 @@ fn add(
     ensures line { (unit : List ℕ) → OnOk result (lined line.new ≡ record (lined line.old) {
       stage = moved (lined line.old).stage (lined line.old).at (adds end octets.now);
       begun_since = since;
-      last = last_behind (watched side.old).finding (brought (lined line.old).stage (lined line.old).at unit (adds end octets.now)) (lined line.old).last;
+      last = last_behind (watched side.old).finding (brought (lined line.old).stage (lined line.old).at unit (adds end octets.now)) (lined
+          line.old).last;
     }) }
-    ensures passes { (unit : List ℕ) → OnOk result (Passes (brought (lined line.old).stage (lined line.old).at unit (adds end octets.now)) since (watched side.old) (watched side.new) (watched other.old) (watched other.new)) }
-    ensures err { OnErr result ((lined line.new ≡ lined line.old) × (watched side.new ≡ watched side.old) × (watched other.new ≡ watched other.old)) }
+    ensures passes { (unit : List ℕ) →
+        OnOk result (Passes (brought (lined line.old).stage (lined line.old).at unit (adds end octets.now))
+        since (watched side.old) (watched side.new) (watched other.old) (watched other.new)) }
+    ensures err { OnErr result ((lined line.new ≡ lined line.old) × (watched side.new ≡ watched side.old) × (watched other.new
+        ≡ watched other.old)) }
 {
     line.begin();
     if line.begun.len().saturating_add(octets.len()) > LONGEST_TSDU {
@@ -307,10 +329,14 @@ fn take_step(
       hasty = noted (lined line.old).hasty (lined line.old).at (step_move step.now);
       begun_since = since;
       reference = named (lined line.old).reference (step_move step.now);
-      last = last_behind (watched side.old).finding (brought (lined line.old).stage (lined line.old).at unit (step_move step.now)) (lined line.old).last;
+      last = last_behind (watched side.old).finding (brought (lined line.old).stage (lined line.old).at unit (step_move step.now)) (lined
+          line.old).last;
     }) }
-    ensures passes { (unit : List ℕ) → OnOk result (Passes (brought (lined line.old).stage (lined line.old).at unit (step_move step.now)) since (watched side.old) (watched side.new) (watched other.old) (watched other.new)) }
-    ensures err { OnErr result ((lined line.new ≡ lined line.old) × (watched side.new ≡ watched side.old) × (watched other.new ≡ watched other.old)) }
+    ensures passes { (unit : List ℕ) →
+        OnOk result (Passes (brought (lined line.old).stage (lined line.old).at unit (step_move step.now))
+        since (watched side.old) (watched side.new) (watched other.old) (watched other.new)) }
+    ensures err { OnErr result ((lined line.new ≡ lined line.old) × (watched side.new ≡ watched side.old) × (watched other.new
+        ≡ watched other.old)) }
 {
     match step {
         Step::Asks(reference) => {
@@ -356,8 +382,10 @@ fn take_unit(
     since: usize,
     met: Handshake,
 ) -> Result<(), AllocError>
-    ensures ok { OnOk result (TakesUnit direction unit.now since (handshake_in met) (lined line.old) (lined line.new) (watched side.old) (watched side.new) (watched other.old) (watched other.new)) }
-    ensures err { OnErr result ((lined line.new ≡ lined line.old) × (watched side.new ≡ watched side.old) × (watched other.new ≡ watched other.old)) }
+    ensures ok { OnOk result (TakesUnit direction unit.now since (handshake_in met) (lined line.old) (lined line.new) (watched
+        side.old) (watched side.new) (watched other.old) (watched other.new)) }
+    ensures err { OnErr result ((lined line.new ≡ lined line.old) × (watched side.new ≡ watched side.old) × (watched other.new
+        ≡ watched other.old)) }
 {
     let since = line.progress.since(line.begun_since, since);
     let first = read_first(unit);
@@ -381,7 +409,8 @@ fn settle(
     since: usize,
     met: Handshake,
 ) -> Result<(), AllocError>
-    ensures ok { OnOk result (Settles direction since (handshake_in met) (tapped half.old) (tapped half.new) (watched other.old) (watched other.new)) }
+    ensures ok { OnOk result (Settles direction since (handshake_in met) (tapped half.old) (tapped half.new) (watched
+        other.old) (watched other.new)) }
     ensures err { OnErr result ((tapped half.new ≡ tapped half.old) × (watched other.new ≡ watched other.old)) }
 {
     match Packet::read(half.held.as_slice()) {
@@ -418,7 +447,18 @@ impl Half {
           held = [];
           octets = 0;
           fault = None;
-          line = record { at = 0; since = 0; met = silent; handshake = silent; stage = opening; hasty = None; begun_since = 0; packets = 0; reference = None; last = 0 };
+          line = record {
+            at = 0;
+            since = 0;
+            met = silent;
+            handshake = silent;
+            stage = opening;
+            hasty = None;
+            begun_since = 0;
+            packets = 0;
+            reference = None;
+            last = 0;
+          };
           side = watched side;
         } }
     {
@@ -497,7 +537,8 @@ pub(crate) fn feed(
 ) -> Result<usize, AllocError>
     ensures used { IfOk result (λ n. n ≤ length piece.now) }
     ensures some { IfOk result (λ n. 0 < length piece.now → 0 < n) }
-    ensures feeds { IfOk result (λ n. Feeds direction (take n piece.now) (handshake_in now) (tapped half.old) (tapped half.new) (watched other.old) (watched other.new)) }
+    ensures feeds { IfOk result (λ n.
+        Feeds direction (take n piece.now) (handshake_in now) (tapped half.old) (tapped half.new) (watched other.old) (watched other.new)) }
     ensures err { OnErr result ((tapped half.new ≡ tapped half.old) × (watched other.new ≡ watched other.old)) }
 {
     if let Some(_fault) = half.fault {

@@ -54,7 +54,8 @@ fn is_among(members: &[Member], member: &Member) -> bool
 /// Adds one, unless it is there already, among the last.
 pub(crate) fn add(members: &mut Vec<Member>, member: Member) -> Result<(), AllocError>
     ensures explained { OnOk result ((us : List (List ℕ)) (later : List Remark) →
-        (SomeExplains us members.old.items later ⊎ Explains us later member.taken member.standing) ↔ SomeExplains us members.new.items later) }
+        (SomeExplains us members.old.items later ⊎ Explains us later member.taken member.standing) ↔ SomeExplains us
+        members.new.items later) }
     ensures value { OnOk result (members.new.items ≡ added members.old.items member) }
 {
     if is_among(members, &member) {

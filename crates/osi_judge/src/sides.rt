@@ -109,9 +109,13 @@ impl Side {
 
     /// A TSDU of the other side, which has passed completely. Its outline is kept. `Err` changes nothing.
     pub fn hear(&mut self, tsdu: &[u8]) -> Result<(), AllocError>
-        ensures all { OnOk result (watched self.new ≡ record (watched self.old) { heard = (watched self.old).heard ++ outline tsdu.now ∷ [] }) }
+        ensures all { OnOk result (watched self.new ≡ record (watched self.old) {
+          heard = (watched self.old).heard
+              ++ outline tsdu.now ∷ [];
+        }) }
         ensures heard { OnOk result ((watched self.new).heard ≡ (watched self.old).heard ++ outline tsdu.now ∷ []) }
-        ensures others { OnOk result (((watched self.new).begin ≡ (watched self.old).begin) × ((watched self.new).before ≡ (watched self.old).before)) }
+        ensures others { OnOk result (((watched self.new).begin ≡ (watched self.old).begin) × ((watched self.new).before
+            ≡ (watched self.old).before)) }
         ensures watches { OnOk result ((told : List Told) → Watches (watched self.old) told → Watches (watched self.new) told) }
         ensures err { OnErr result (watched self.new ≡ watched self.old) }
     {
@@ -123,7 +127,8 @@ impl Side {
     /// Takes the last TSDU of the other side back.
     pub(crate) fn unhear(&mut self)
         requires { 0 < length (watched self.old).heard }
-        ensures { watched self.new ≡ record (watched self.old) { heard = take (length (watched self.old).heard - 1) (watched self.old).heard } }
+        ensures { watched self.new
+            ≡ record (watched self.old) { heard = take (length (watched self.old).heard - 1) (watched self.old).heard } }
     {
         self.heard.take_back();
     }
@@ -132,12 +137,15 @@ impl Side {
     /// many as for the last TSDU, and at most the number that passed. Otherwise it returns [`TellError::OutOfOrder`].
     /// `Err` changes nothing.
     pub fn tell(&mut self, tsdu: &[u8], before: usize) -> Result<(), TellError>
-        ensures others { OnOk result (((watched self.new).begin ≡ (watched self.old).begin) × ((watched self.new).heard ≡ (watched self.old).heard)) }
+        ensures others { OnOk result (((watched self.new).begin ≡ (watched self.old).begin) × ((watched self.new).heard
+            ≡ (watched self.old).heard)) }
         ensures order { OnOk result ((watched self.new).before ≤ before) }
         ensures finding { OnOk result (FoundNext (watched self.old).finding (watched self.old).told (watched self.new).finding) }
-        ensures watches { OnOk result ((told : List Told) → Watches (watched self.old) told → Watches (watched self.new) (told ++ record { octets = tsdu.now; before = before } ∷ [])) }
+        ensures watches { OnOk result ((told : List Told) → Watches (watched self.old) told →
+            Watches (watched self.new) (told ++ record { octets = tsdu.now; before = before } ∷ [])) }
         ensures in_order { OnOk result (((watched self.old).before ≤ before) × (before ≤ length (watched self.old).heard)) }
-        ensures out_of_order { result ≡ Err TellError.OutOfOrder → (before < (watched self.old).before) ⊎ (length (watched self.old).heard < before) }
+        ensures out_of_order { result
+            ≡ Err TellError.OutOfOrder → (before < (watched self.old).before) ⊎ (length (watched self.old).heard < before) }
         ensures err { OnErr result (watched self.new ≡ watched self.old) }
     {
         if before < self.before {
@@ -156,10 +164,12 @@ impl Side {
     fn tell_in_order(&mut self, tsdu: &[u8], before: usize) -> Result<(), AllocError>
         requires order { (watched self.old).before ≤ before }
         requires passed { before ≤ length (watched self.old).heard }
-        ensures others { OnOk result (((watched self.new).begin ≡ (watched self.old).begin) × ((watched self.new).heard ≡ (watched self.old).heard)) }
+        ensures others { OnOk result (((watched self.new).begin ≡ (watched self.old).begin) × ((watched self.new).heard
+            ≡ (watched self.old).heard)) }
         ensures order { OnOk result ((watched self.new).before ≤ before) }
         ensures finding { OnOk result (FoundNext (watched self.old).finding (watched self.old).told (watched self.new).finding) }
-        ensures watches { OnOk result ((told : List Told) → Watches (watched self.old) told → Watches (watched self.new) (told ++ record { octets = tsdu.now; before = before } ∷ [])) }
+        ensures watches { OnOk result ((told : List Told) → Watches (watched self.old) told →
+            Watches (watched self.new) (told ++ record { octets = tsdu.now; before = before } ∷ [])) }
         ensures err { OnErr result (watched self.new ≡ watched self.old) }
     {
         match self.finding {
@@ -175,10 +185,12 @@ impl Side {
         requires kept { (watched self.old).finding ≡ Finding.Kept }
         requires order { (watched self.old).before ≤ before }
         requires passed { before ≤ length (watched self.old).heard }
-        ensures others { OnOk result (((watched self.new).begin ≡ (watched self.old).begin) × ((watched self.new).heard ≡ (watched self.old).heard)) }
+        ensures others { OnOk result (((watched self.new).begin ≡ (watched self.old).begin) × ((watched self.new).heard
+            ≡ (watched self.old).heard)) }
         ensures order { OnOk result ((watched self.new).before ≤ before) }
         ensures finding { OnOk result (FoundNext (watched self.old).finding (watched self.old).told (watched self.new).finding) }
-        ensures watches { OnOk result ((told : List Told) → Keeps (watched self.old) told → Watches (watched self.new) (told ++ record { octets = tsdu.now; before = before } ∷ [])) }
+        ensures watches { OnOk result ((told : List Told) → Keeps (watched self.old) told →
+            Watches (watched self.new) (told ++ record { octets = tsdu.now; before = before } ∷ [])) }
         ensures err { OnErr result (watched self.new ≡ watched self.old) }
     {
         if self.told == usize::MAX {
@@ -277,7 +289,8 @@ impl Side {
     /// How many TSDUs it said before its break, or in all.
     pub fn told(&self) -> usize
         ensures value { result ≡ (watched self.now).told }
-        ensures kept { (told : List Told) → Watches (watched self.now) told → (watched self.now).finding ≡ Finding.Kept → result ≡ length told }
+        ensures kept { (told : List Told) → Watches (watched self.now) told → (watched self.now).finding ≡ Finding.Kept →
+            result ≡ length told }
     {
         self.told
     }
@@ -294,10 +307,12 @@ impl Side {
     /// What was found of the side, from all that it sent and what it may have taken.
     pub fn finding(&self) -> Finding
         ensures value { result ≡ (watched self.now).finding }
-        ensures found { (told : List Told) → Watches (watched self.now) told → IsFound (watched self.now).begin (watched self.now).heard told result }
+        ensures found { (told : List Told) → Watches (watched self.now) told →
+            IsFound (watched self.now).begin (watched self.now).heard told result }
         ensures room { (told : List Told) → Watches (watched self.now) told → HasRoom (watched self.now).begin
             (watched self.now).heard told result }
-        ensures found_of { (us : List (List ℕ)) (told : List Told) → (watched self.now).heard ≡ outlines us → Watches (watched self.now) told
+        ensures found_of { (us : List (List ℕ)) (told : List Told) → (watched self.now).heard ≡ outlines us →
+            Watches (watched self.now) told
             → IsFound (watched self.now).begin us told result }
     {
         self.finding

@@ -56,7 +56,8 @@ fn behind_units(
 ) -> Result<Vec<Member>, AllocError>
     requires { before ≤ length heard.now }
     ensures explains { IfOk result (λ next. Ever heard.now before (λ us later.
-        SomeExplains us members.now (map (remarked octets before) (acting_words (said_by_units (units_of group.now))) ++ later) ↔ SomeExplains us next.items later)) }
+        SomeExplains us members.now (map (remarked octets before) (acting_words (said_by_units (units_of group.now))) ++ later) ↔
+        SomeExplains us next.items later)) }
     ensures value { IfOk result (λ next. next.items
         ≡ after_words heard.now octets before members.now (acting_words (said_by_units (units_of group.now)))) }
 {
@@ -86,7 +87,8 @@ pub(crate) fn behind_tsdu(
 ) -> Result<Vec<Member>, AllocError>
     requires { before ≤ length heard.now }
     ensures explains { IfOk result (λ next. Ever heard.now before (λ us later.
-        SomeExplains us members.now (remarks_of (record { octets = tsdu.now; before = before }) ++ later) ↔ SomeExplains us next.items later)) }
+        SomeExplains us members.now (remarks_of (record { octets = tsdu.now; before = before }) ++ later) ↔ SomeExplains us
+        next.items later)) }
     ensures value { IfOk result (λ next. next.items
         ≡ after_tsdu heard.now members.now (record { octets = tsdu.now; before = before })) }
 {

@@ -115,7 +115,8 @@ fn turn(
 ) -> Result<Option<Walker>, AllocError>
     requires { walker.at.taken < length heard.now }
     ensures turns { IfOk result (λ r. (before : ℕ) → walker.at.taken < before →
-        Ever heard.now before (λ us later. Turns us later (the_remark (word (said_by unit.now)) octets before) next.old.items next.new.items walker r)) }
+        Ever heard.now before (λ us later. Turns us later (the_remark (word (said_by unit.now)) octets before) next.old.items
+        next.new.items walker r)) }
     ensures moved { IfOk result (λ r. IfSome r (λ w. w.at.taken ≡ walker.at.taken + 1)) }
     ensures value { IfOk result (λ r. (n : ℕ) →
         fold added next.new.items (senders_from heard.now (word (said_by unit.now)) octets n r)
@@ -153,7 +154,9 @@ fn walk_through(
 ) -> Result<(), AllocError>
     requires { before ≤ length heard.now }
     ensures explains { OnOk result (Ever heard.now before (λ us later.
-        (SomeExplains us next.old.items later ⊎ Explains us (the_remark (word (said_by unit.now)) octets before ∷ later) member.taken member.standing) ↔ SomeExplains us next.new.items later)) }
+        (SomeExplains us next.old.items later ⊎
+        Explains us (the_remark (word (said_by unit.now)) octets before ∷ later) member.taken member.standing) ↔ SomeExplains us
+        next.new.items later)) }
     ensures value { OnOk result (next.new.items
         ≡ fold added next.old.items (senders heard.now (word (said_by unit.now)) octets (before - member.taken) None (Some member))) }
 {
@@ -208,7 +211,9 @@ pub(crate) fn walk(
 ) -> Result<(), AllocError>
     requires { before ≤ length heard.now }
     ensures explains { OnOk result (Ever heard.now before (λ us later.
-        (SomeExplains us next.old.items later ⊎ Explains us (the_remark (word (said_by unit.now)) octets before ∷ later) member.taken member.standing) ↔ SomeExplains us next.new.items later)) }
+        (SomeExplains us next.old.items later ⊎
+        Explains us (the_remark (word (said_by unit.now)) octets before ∷ later) member.taken member.standing) ↔ SomeExplains us
+        next.new.items later)) }
     ensures value { OnOk result (next.new.items
         ≡ fold added next.old.items (places_of heard.now (word (said_by unit.now)) octets before member)) }
 {

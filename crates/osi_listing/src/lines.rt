@@ -3,7 +3,8 @@
 ghost use Rattle.std.specs.Prelude.{◌≡◌, ◌++◌, ◌<◌, ◌≤◌, ◌^◌, ◌+◌, ◌∷◌, [], length, codes, option_copied, OnOk};
 ghost use Rattle.std.specs.Fmt.{decimal};
 ghost use Rattle.hex.specs.Hex.{encode_lower};
-ghost use Rattle.osi_listing.specs.Lines.{code_end, packet_line, fault_line, rest_line, unit_fault_line, tsdu_line, too_long_line, number_field, reference_field, octet_field, octets_field};
+ghost use Rattle.osi_listing.specs.Lines.{code_end, packet_line, fault_line, rest_line, unit_fault_line, tsdu_line, too_long_line};
+ghost use Rattle.osi_listing.specs.Lines.{number_field, reference_field, octet_field, octets_field};
 
 use osi_tpdu::TpduFault;
 use osi_tpkt::TpktFault;

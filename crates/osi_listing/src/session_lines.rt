@@ -6,7 +6,9 @@ ghost use Rattle.hex.specs.Hex.{encode_lower};
 ghost use Rattle.std.specs.List.{flat_map};
 ghost use Rattle.osi_spdu.specs.Octets.{octets_of};
 ghost use Rattle.osi_spdu.specs.Units.{said_by};
-ghost use Rattle.osi_listing.specs.SessionLines.{kind_name, value_field, member_fields, members_text, separator_of, fields_left, group_field, parameter_field, session_fields, information_field, session_line, session_fault_name, session_fault_offset, session_fault_code, session_fault_line};
+ghost use Rattle.osi_listing.specs.SessionLines.{kind_name, value_field, member_fields, members_text, separator_of, fields_left};
+ghost use Rattle.osi_listing.specs.SessionLines.{group_field, parameter_field, session_fields, information_field, session_line};
+ghost use Rattle.osi_listing.specs.SessionLines.{session_fault_name, session_fault_offset, session_fault_code, session_fault_line};
 
 use crate::lines::{push_decimal, push_hex, push_number_field, push_words};
 use crate::presence::is_there;

@@ -135,7 +135,8 @@ impl Trace {
     /// How many lines of each kind it has listed; once it has stopped, of the octets up to then.
     pub fn counts(&self) -> Counts
         ensures value { result ≡ counted self.now }
-        ensures listed { is_stopped self.now ≡ false → (octets fetched : List ℕ) → IsTraced self.now octets fetched → AreCounted octets result }
+        ensures listed { is_stopped self.now ≡ false → (octets fetched : List ℕ) → IsTraced self.now octets fetched →
+            AreCounted octets result }
     {
         self.lister.counts()
     }

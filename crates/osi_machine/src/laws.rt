@@ -2,16 +2,23 @@
 
 ghost use Rattle.std.specs.Prelude.{◌≡◌, ◌<◌, ◌≤◌, ℕ, suc, List, [], ◌∷◌, ◌++◌, length, Some, None, is_some, true, false};
 ghost use Rattle.std.specs.List.{AllByRecursion};
-ghost use Rattle.osi_machine.specs.AsTables.{cut_line, AreSoundLines, AtEachSide, IsNoFaultNext, IsOverWhenLeft, IsAsTables, IsTableRun, AreOffered, OfEachLine, HoldNoneTwice, AreNoFaults, AreAgreed, IsShownAsAsked, IsSeenInBoth, TellsNoFault, LosesAsItEnds};
+ghost use Rattle.osi_machine.specs.AsTables.{cut_line, AreSoundLines, AtEachSide, IsNoFaultNext, IsOverWhenLeft, IsAsTables, IsTableRun};
+ghost use Rattle.osi_machine.specs.AsTables.{AreOffered, OfEachLine, HoldNoneTwice, AreNoFaults, AreAgreed, IsShownAsAsked, IsSeenInBoth};
+ghost use Rattle.osi_machine.specs.AsTables.{TellsNoFault, LosesAsItEnds};
 ghost use Rattle.osi_machine.specs.Calm.{StaysCalm, IsNoFaultBehind};
 ghost use Rattle.osi_machine.specs.Core.{Core, CoreStep, Offer, CanBeOffered, Side, Left, Right, core_run, core_start};
-ghost use Rattle.osi_machine.specs.Examples.{all_tokens, lost_give_seen, after_lost_give, crossing_seen, after_crossing, two_points_seen, restart_below_seen, after_restart_below, last_point, last_point_seen, lost_release_seen, after_lost_release, both_send, both_send_seen, to_right, held_in, stands_at, next_at, lowest_at, history_of, up_to_first_point};
+ghost use Rattle.osi_machine.specs.Examples.{all_tokens, lost_give_seen, after_lost_give, crossing_seen, after_crossing, two_points_seen};
+ghost use Rattle.osi_machine.specs.Examples.{restart_below_seen, after_restart_below, last_point, last_point_seen, lost_release_seen};
+ghost use Rattle.osi_machine.specs.Examples.{after_lost_release, both_send, both_send_seen, to_right, held_in, stands_at, next_at};
+ghost use Rattle.osi_machine.specs.Examples.{lowest_at, history_of, up_to_first_point};
 ghost use Rattle.osi_machine.specs.Floor.{State, is_over, no_token, is_profile};
 ghost use Rattle.osi_machine.specs.Histories.{Agree};
 ghost use Rattle.osi_machine.specs.Machine.{IsLegal, Machine, Step, HasNumber, run, start, step, connection_at, with_connection};
 ghost use Rattle.osi_machine.specs.Parties.{AreConsistent, IsNumberedStep};
-ghost use Rattle.osi_machine.specs.Promises.{IsReached, OfBoth, OneHolder, HoldsItsOwn, TakesNoFault, SeesTheHistory, ViewsAgree, GotWhatWasSaid, TakesTheNextItem, ConfirmedIsSeen};
-ghost use Rattle.osi_machine.specs.Runs.{IsRun, OfEach, HasOneHolder, ShowNoFault, RecordsAgree, ShownAsAsked, ConfirmedInBoth, TakeTheirItems, AreApart, HasNoFault, LosesByItsEnd};
+ghost use Rattle.osi_machine.specs.Promises.{IsReached, OfBoth, OneHolder, HoldsItsOwn, TakesNoFault, SeesTheHistory, ViewsAgree};
+ghost use Rattle.osi_machine.specs.Promises.{GotWhatWasSaid, TakesTheNextItem, ConfirmedIsSeen};
+ghost use Rattle.osi_machine.specs.Runs.{IsRun, OfEach, HasOneHolder, ShowNoFault, RecordsAgree, ShownAsAsked, ConfirmedInBoth};
+ghost use Rattle.osi_machine.specs.Runs.{TakeTheirItems, AreApart, HasNoFault, LosesByItsEnd};
 ghost use Rattle.osi_machine.specs.Sayings.{IsHeardAsSaid};
 ghost use Rattle.osi_machine.specs.Tables.{Line, Tables};
 ghost use Rattle.osi_machine.specs.Tables as tables;
@@ -145,7 +152,8 @@ pub fn connections_are_apart()
 /// reads from one history and one owner for each token; and the same messages are in flight. So the journal is one of
 /// what two users may do and see.
 pub fn the_tables_are_the_machine()
-    ensures same { (terms : Terms) (steps : List Step) → AllByRecursion HasNumber steps → IsAsTables (run (start terms) steps) (tables.run (tables.start terms) steps) }
+    ensures same { (terms : Terms) (steps : List Step) → AllByRecursion HasNumber steps →
+        IsAsTables (run (start terms) steps) (tables.run (tables.start terms) steps) }
     ensures legal { (t : Tables) (h : IsTableRun t) → IsLegal h.agreed t.journal }
 {
     session::numbers_stay_in_order();
@@ -159,15 +167,19 @@ pub fn the_tables_are_the_machine()
 /// was there; after a connection is added, the new one at the next reference; after the end of a side and after a
 /// break, what these leave of each connection.
 pub fn what_stands_at_a_reference()
-    ensures same { (r : ℕ) (lines : List Line) (old new : Line) → connection_at r lines ≡ Some old → connection_at r (with_connection r new lines) ≡ Some new }
-    ensures other { (q r : ℕ) (lines : List Line) (new : Line) → (q ≡ r → ⊥) → connection_at q (with_connection r new lines) ≡ connection_at q lines }
+    ensures same { (r : ℕ) (lines : List Line) (old new : Line) → connection_at r lines ≡ Some old →
+        connection_at r (with_connection r new lines) ≡ Some new }
+    ensures other { (q r : ℕ) (lines : List Line) (new : Line) → (q ≡ r → ⊥) → connection_at q (with_connection r new lines)
+        ≡ connection_at q lines }
     ensures count { (r : ℕ) (lines : List Line) (new : Line) → length (with_connection r new lines) ≡ length lines }
-    ensures before { (q : ℕ) (lines : List Line) (old new : Line) → connection_at q lines ≡ Some old → connection_at q (lines ++ new ∷ []) ≡ Some old }
+    ensures before { (q : ℕ) (lines : List Line) (old new : Line) → connection_at q lines ≡ Some old →
+        connection_at q (lines ++ new ∷ []) ≡ Some old }
     ensures last { (lines : List Line) (new : Line) → connection_at (suc (length lines)) (lines ++ new ∷ []) ≡ Some new }
     ensures none { (q : ℕ) (lines : List Line) → length lines < q → connection_at q lines ≡ None }
     ensures some { (q : ℕ) (lines : List Line) → 0 < q → q ≤ length lines → is_some (connection_at q lines) ≡ true }
     ensures ended { (side : Side) (keep : ℕ → ℕ) (q : ℕ) (lines : List Line) (old : Line) → connection_at q lines ≡ Some old →
-        connection_at q (tables.ended_lines side keep 1 lines) ≡ Some (tables.seen_from side (tables.ends_there (keep q) (tables.seen_from side old))) }
+        connection_at q (tables.ended_lines side keep 1 lines)
+        ≡ Some (tables.seen_from side (tables.ends_there (keep q) (tables.seen_from side old))) }
     ensures broken { (left right : ℕ → ℕ) (q : ℕ) (lines : List Line) (old : Line) → connection_at q lines ≡ Some old →
         connection_at q (tables.cut_channels left right 1 lines) ≡ Some (cut_line (left q) (right q) old) }
     ensures ended_count { (side : Side) (keep : ℕ → ℕ) (lines : List Line) → length (tables.ended_lines side keep 1 lines) ≡ length lines }

@@ -55,7 +55,8 @@ pub fn what_is_sent_is_octets()
 /// has more than 1,048,576.
 pub fn what_leaves_in_parts()
     ensures whole { (limit : ℕ) (m : Meaning) → is_parted limit m ≡ false → tsdus_of limit m ≡ in_one m }
-    ensures parts { (limit : ℕ) (octets : List ℕ) → is_size limit ≡ true → is_parted limit (DT octets) ≡ true → AreParts (words_sent limit (DT octets)) }
+    ensures parts { (limit : ℕ) (octets : List ℕ) → is_size limit ≡ true → is_parted limit (DT octets) ≡ true →
+        AreParts (words_sent limit (DT octets)) }
     ensures joined { (limit : ℕ) (octets : List ℕ) → joined (words_sent limit (DT octets)) ≡ octets }
     ensures read { (limit : ℕ) (octets : List ℕ) →
         map said_at (tsdus_of limit (DT octets)) ≡ map (λ word. Ok (behind_no_token word)) (words_sent limit (DT octets)) }

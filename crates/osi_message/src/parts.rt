@@ -38,7 +38,8 @@ fn put_part(
     user_data: &[u8],
     tsdus: &mut Vec<Vec<u8>>,
 ) -> Result<(), AllocError>
-    ensures { OnOk result (map (λ v. v.items) tsdus.new.items ≡ map (λ v. v.items) tsdus.old.items ++ part_octets place user_data.now ∷ []) }
+    ensures { OnOk result (map (λ v. v.items) tsdus.new.items ≡ map (λ v. v.items) tsdus.old.items
+        ++ part_octets place user_data.now ∷ []) }
 {
     let octets = part(alloc, place, user_data)?;
     tsdus.push(octets)?;
@@ -55,7 +56,8 @@ pub(crate) fn parts(
 ) -> Result<Vec<Vec<u8>>, AllocError>
     requires some { 0 < size }
     requires long { size < length user_data.now }
-    ensures tsdus { IfOk result (λ v. map (λ t. t.items) v.items ≡ map word_octets (parts_of (pieces (length user_data.now) size user_data.now))) }
+    ensures tsdus { IfOk result (λ v. map (λ t. t.items) v.items
+        ≡ map word_octets (parts_of (pieces (length user_data.now) size user_data.now))) }
     ensures several { IfOk result (λ v. 1 < length v.items) }
 {
     let mut tsdus = Vec::new(alloc);

@@ -7,7 +7,8 @@ ghost use Rattle.osi_spdu.specs.declared.codes.Code.TheVariants as code;
 ghost use Rattle.osi_spdu.specs.Units.{said_by};
 ghost use Rattle.osi_spdu.specs.Params.{known_of};
 ghost use Rattle.osi_message.specs.Meanings.{meant_by};
-ghost use Rattle.osi_message.specs.Reading.{meaning, meaning_by, has_version_2, requirements_in, serial_in, setting_in, data_in, tokens_in, number_in, asks, octet_in, resync_named, sizes_in};
+ghost use Rattle.osi_message.specs.Reading.{meaning, meaning_by, has_version_2, requirements_in, serial_in, setting_in, data_in, tokens_in};
+ghost use Rattle.osi_message.specs.Reading.{number_in, asks, octet_in, resync_named, sizes_in};
 
 use crate::messages::Message;
 use crate::tokens::Tokens;

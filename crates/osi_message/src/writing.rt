@@ -65,7 +65,8 @@ fn accept<'a>(
     sizes: TsduMaximumSize,
     user_data: &'a [u8],
 ) -> Spdu<'a>
-    ensures units { said_by result ≡ unit_of (AC true (unit_bits requirements) (option_map (λ s. s.number) serial) sides sizes user_data.entry.now) }
+    ensures units { said_by result
+        ≡ unit_of (AC true (unit_bits requirements) (option_map (λ s. s.number) serial) sides sizes user_data.entry.now) }
     ensures place { is_joined (said_by result).kind None ≡ true }
     ensures fits { length user_data.entry.now < 65000 → UnitFits (said_by result) }
 {

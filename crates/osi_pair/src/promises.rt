@@ -3,7 +3,9 @@
 ghost use Rattle.std.specs.Prelude.{◌≡◌, ℕ, List};
 ghost use Rattle.osi_machine.specs.Machine.{Step};
 ghost use Rattle.osi_pair.specs.Ends.{TwoEnds};
-ghost use Rattle.osi_pair.specs.Promises.{AgreeUnlessDuplex, AllWereAskedFor, AreAtRest, AreTakenInOrder, ConfirmedIsSeen, EndsForFewReasons, HasNoFault, HaveOneHolder, IsAllTaken, IsLegalJournal, IsOpenAt, IsSafe, IsShownAsAsked, LoseAsTheyEnd, OfEachConnection, kept_at};
+ghost use Rattle.osi_pair.specs.Promises.{AgreeUnlessDuplex, AllWereAskedFor, AreAtRest, AreTakenInOrder, ConfirmedIsSeen};
+ghost use Rattle.osi_pair.specs.Promises.{EndsForFewReasons, HasNoFault, HaveOneHolder, IsAllTaken, IsLegalJournal, IsOpenAt, IsSafe};
+ghost use Rattle.osi_pair.specs.Promises.{IsShownAsAsked, LoseAsTheyEnd, OfEachConnection, kept_at};
 ghost use Rattle.osi_pair.specs.Reached.{HoldLess, IsReached};
 ghost use Rattle.osi_pair.specs.Standing.{StandsAt};
 ghost use Rattle.osi_pair.specs.declared.sides.Side.{Side};
@@ -46,9 +48,11 @@ pub fn what_two_ends_tell()
 /// need that an end holds less than a packet, as those of every pair do between two events.
 pub fn what_is_taken_was_sent()
     ensures prefix { (p : TwoEnds) (steps : List Step) → StandsAt p steps → AreTakenInOrder steps p }
-    ensures all_taken { (p : TwoEnds) (steps : List Step) (r : ℕ) → StandsAt p steps → HoldLess p → AreAtRest p → IsOpenAt r p.left.end → IsOpenAt r p.right.end →
+    ensures all_taken { (p : TwoEnds) (steps : List Step) (r : ℕ) → StandsAt p steps → HoldLess p → AreAtRest p → IsOpenAt r p.left.end →
+        IsOpenAt r p.right.end →
         IsAllTaken r p steps }
-    ensures nothing_kept { (p : TwoEnds) (steps : List Step) → StandsAt p steps → HoldLess p → AreAtRest p → (side : Side) → kept_at side p ≡ 0 }
+    ensures nothing_kept { (p : TwoEnds) (steps : List Step) → StandsAt p steps → HoldLess p → AreAtRest p → (side : Side) →
+        kept_at side p ≡ 0 }
 {
     whatever_becomes_of_two_carriers();
     what_is_heard_was_said();

@@ -45,8 +45,10 @@ use osi_stack::laws::{
 /// that list followed by the end of that side, or the same list if the side had ended.
 pub fn how_two_ends_stand()
     ensures begins { (caller called : Local) → StandsAt (fresh_ends caller called) [] }
-    ensures broken { (p : TwoEnds) (steps : List Step) (k l : ℕ) → StandsAt p steps → p.reach ≡ None → StandsAtBreak (after_break k l p) steps }
-    ensures tells { (side : Side) (old new : TwoEnds) (steps : List Step) → StandsAt old steps → is_some old.reach ≡ true → TellsBreak side old new →
+    ensures broken { (p : TwoEnds) (steps : List Step) (k l : ℕ) → StandsAt p steps → p.reach ≡ None →
+        StandsAtBreak (after_break k l p) steps }
+    ensures tells { (side : Side) (old new : TwoEnds) (steps : List Step) → StandsAt old steps → is_some old.reach ≡ true →
+        TellsBreak side old new →
         StandsAtTold (end_at side old).end.carrier.ended side new steps }
 {
     whatever_becomes_of_two_carriers();
@@ -60,7 +62,8 @@ pub fn how_two_ends_stand()
 pub fn how_two_ends_are_called()
     ensures connects { (p : TwoEnds) (steps : List Step) (c : Connect) → CanBeAsked c → StandsAt p steps →
         StandsAt (after_connect c p) (steps ++ connects (offer_in (asked_of c)) ∷ []) }
-    ensures calls { (p : TwoEnds) (steps : List Step) (side : Side) (r : ℕ) (call : Call) → HasSerial call → IsOctets (octets_of call) → StandsAt p steps →
+    ensures calls { (p : TwoEnds) (steps : List Step) (side : Side) (r : ℕ) (call : Call) → HasSerial call → IsOctets (octets_of call) →
+        StandsAt p steps →
         StandsAt (after_call side r call p) (steps ++ calls (side_in side) r call ∷ []) }
 {
     whatever_becomes_of_two_carriers();

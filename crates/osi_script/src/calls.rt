@@ -3,7 +3,8 @@
 ghost use Rattle.std.specs.Prelude.{◌≡◌, option_map, option_copied};
 ghost use Rattle.osi_spdu.specs.Fields.{bits_of};
 ghost use Rattle.osi_session.specs.Calls.{called_by};
-ghost use Rattle.osi_script.specs.Calls.{accepted, accept_of, plain_data, plain_call, plain_of, give_of, asking, please_of, minor_of, minor_confirm_of, restarting, restart_of, restart_confirm_of, call_of};
+ghost use Rattle.osi_script.specs.Calls.{accepted, accept_of, plain_data, plain_call, plain_of, give_of, asking, please_of, minor_of};
+ghost use Rattle.osi_script.specs.Calls.{minor_confirm_of, restarting, restart_of, restart_confirm_of, call_of};
 ghost use Rattle.osi_script.specs.Splitting.{words_in};
 
 use crate::splitting::Words;

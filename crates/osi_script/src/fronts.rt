@@ -135,7 +135,8 @@ fn minor(text: &[u8]) -> Option<(Frequent, &[u8])>
 #[inline(always)]
 #[tactic(auto, using(crate::proofs::a_frequent_call_is_read_by_its_last_word::minor_confirm_read))]
 fn minor_confirm(text: &[u8]) -> Option<(Frequent, &[u8])>
-    ensures { IfSome result (λ call. call_of Verb.MinorConfirm (words_of text.now) (spelled (data_behind Verb.MinorConfirm (words_of text.now)))
+    ensures { IfSome result (λ call.
+        call_of Verb.MinorConfirm (words_of text.now) (spelled (data_behind Verb.MinorConfirm (words_of text.now)))
         ≡ option_map (made call.0) (data_of call.1.now)) }
 {
     let (word, rest) = parted(text)?;

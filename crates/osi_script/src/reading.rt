@@ -1,7 +1,8 @@
 //! Reading the lines of a script that are not calls.
 
 ghost use Rattle.std.specs.Prelude.{◌≡◌, option_map, option_copied};
-ghost use Rattle.osi_script.specs.Commands.{command_by, two_ends, ends_of, connecting, connect_of, carry_of, break_of, told_of, named_call, user_call, command_in};
+ghost use Rattle.osi_script.specs.Commands.{command_by, two_ends, ends_of, connecting, connect_of, carry_of, break_of, told_of, named_call};
+ghost use Rattle.osi_script.specs.Commands.{user_call, command_in};
 ghost use Rattle.osi_script.specs.Splitting.{words_in};
 
 use crate::calls::request;

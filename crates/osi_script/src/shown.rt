@@ -5,7 +5,9 @@ ghost use Rattle.std.specs.Fmt.{decimal};
 ghost use Rattle.osi_spdu.specs.Fields.{unit_bits};
 ghost use Rattle.osi_session.specs.Shown.{shown_by, abort_shown};
 ghost use Rattle.osi_script.specs.Names.{side_name, unit_fault_name};
-ghost use Rattle.osi_script.specs.Shown.{shown_name, shown_fields, shown_octets, shown_line, number_field, octet_field, confirm_word, minor_fields, sides_field, restart_fields, units_field, serial_field, opening_fields, opened_fields, data_word, sizes_field, shown_sizes, shown_end, data_field};
+ghost use Rattle.osi_script.specs.Shown.{shown_name, shown_fields, shown_octets, shown_line, number_field, octet_field, confirm_word};
+ghost use Rattle.osi_script.specs.Shown.{minor_fields, sides_field, restart_fields, units_field, serial_field, opening_fields};
+ghost use Rattle.osi_script.specs.Shown.{opened_fields, data_word, sizes_field, shown_sizes, shown_end, data_field};
 ghost use Rattle.osi_script.specs.Texts.{data_text, digits_of};
 
 use crate::names::unit_fault;

@@ -5,7 +5,9 @@ ghost use Rattle.osi_spdu.specs.Fields.{bits_of, unit_bits};
 ghost use Rattle.osi_spdu.specs.Sizes.{named_by, size_of as octets_of_size};
 ghost use Rattle.osi_tpdu.specs.Limits.{size_code, window_units};
 ghost use Rattle.osi_script.specs.Splitting.{words_in};
-ghost use Rattle.osi_script.specs.Words.{is, number_behind, number_to, units_of, tokens_of, serial_of, sizes_of, tsdu_size_of, size_of, window_of, classes_of, side_of, verb_of, wish_of_letter, side_of_letter, wishes_of, sides_of, answer_of};
+ghost use Rattle.osi_script.specs.Words.{is, number_behind, number_to, units_of, tokens_of, serial_of, sizes_of, tsdu_size_of, size_of};
+ghost use Rattle.osi_script.specs.Words.{window_of, classes_of, side_of, verb_of, wish_of_letter, side_of_letter, wishes_of, sides_of};
+ghost use Rattle.osi_script.specs.Words.{answer_of};
 
 use crate::commands::Classes;
 use crate::sides::Side;

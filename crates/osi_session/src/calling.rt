@@ -2,9 +2,12 @@
 
 ghost use Rattle.osi_spdu.specs.Fields.{bits_of, unit_bits};
 ghost use Rattle.osi_spdu.specs.Sizes.{named_by};
-ghost use Rattle.std.specs.Prelude.{◌≡◌, ◌<◌, ◌≤◌, ◌&&◌, if◌then◌else◌, true, [], length, nat_le, nat_lt, None, Some, Ok, Err, IfOk, OnOk, IfErr};
-ghost use Rattle.osi_session.specs.Allowed.{after, allowed, met, needs, may_call, octets_of, most_of, has_right, point_needs, is_restartable};
-ghost use Rattle.osi_session.specs.Calls.{called_by, refusal_by, Accept, Refuse, Data, Give, Please, Minor, MinorConfirm, Major, MajorConfirm, Restart, RestartConfirm, Release, ReleaseAccept, ReleaseRefuse, Abort};
+ghost use Rattle.std.specs.Prelude.{◌≡◌, ◌<◌, ◌≤◌, ◌&&◌, if◌then◌else◌, true, [], length, nat_le, nat_lt, None, Some, Ok, Err, IfOk, OnOk};
+ghost use Rattle.std.specs.Prelude.{IfErr};
+ghost use Rattle.osi_session.specs.Allowed.{after, allowed, met, needs, may_call, octets_of, most_of, has_right, point_needs};
+ghost use Rattle.osi_session.specs.Allowed.{is_restartable};
+ghost use Rattle.osi_session.specs.Calls.{called_by, refusal_by, Accept, Refuse, Data, Give, Please, Minor, MinorConfirm, Major};
+ghost use Rattle.osi_session.specs.Calls.{MajorConfirm, Restart, RestartConfirm, Release, ReleaseAccept, ReleaseRefuse, Abort};
 ghost use Rattle.osi_message.specs.Meanings.{meant_by, DT, MIP, MIA};
 ghost use Rattle.osi_session.specs.Numbers.{minor_confirmed, point_sent};
 ghost use Rattle.osi_session.specs.Points.{call_for, may_advance};
@@ -254,7 +257,8 @@ fn next_point(state: &State, is_selected: bool, has_rights: bool) -> Result<Seri
 
 /// The number of the next minor point.
 fn next_minor(state: &State) -> Result<Serial, CallError>
-    ensures tests { Finds result (point_needs state.now state.now.units.minor (has_right state.now token.data_token && has_right state.now token.minor)) }
+    ensures tests { Finds result (point_needs state.now state.now.units.minor (has_right state.now token.data_token
+        && has_right state.now token.minor)) }
     ensures number { IfOk result (λ s. s.number ≡ state.now.numbers.next) }
 {
     let serial = next_point(state, state.units.minor, state.has_minor_rights())?;
@@ -621,7 +625,10 @@ pub(crate) fn allow_minor_confirm(
 ) -> Result<Serial, CallError>
     requires { IsSound state.now }
     ensures ok { IfOk result (λ n. allowed state.now (MinorConfirm number user_data.now)
-        ≡ Ok (record { next = record state.now { numbers = minor_confirmed number state.now.numbers }; sent = MIA n.number user_data.now })) }
+        ≡ Ok (record {
+          next = record state.now { numbers = minor_confirmed number state.now.numbers };
+          sent = MIA n.number user_data.now;
+        })) }
     ensures number { IfOk result (λ n. n.number ≡ number) }
     ensures err { IfErr result (λ e. allowed state.now (MinorConfirm number user_data.now) ≡ Err e) }
 {

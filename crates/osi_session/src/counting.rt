@@ -1,6 +1,7 @@
 //! The effect of the units of a TSDU, with the octets of an unfinished SSDU counted instead of kept.
 
-ghost use Rattle.std.specs.Prelude.{◌≡◌, ◌+◌, ◌++◌, ◌≤◌, ℕ, List, [], Option, Some, IfOk, OnOk, IfSome, OnSome, IfNone, option_map, option_copied, is_some, unwrap_or, length, None, ◌<◌, if◌then◌else◌};
+ghost use Rattle.std.specs.Prelude.{◌≡◌, ◌+◌, ◌++◌, ◌≤◌, ℕ, List, [], Option, Some, IfOk, OnOk, IfSome, OnSome, IfNone, option_map};
+ghost use Rattle.std.specs.Prelude.{option_copied, is_some, unwrap_or, length, None, ◌<◌, if◌then◌else◌};
 ghost use Rattle.osi_message.specs.Reading.{said_by_units, said_at};
 ghost use Rattle.osi_message.specs.Words.{says, part};
 ghost use Rattle.osi_session.specs.Allowed.{most_data};
@@ -160,8 +161,10 @@ impl Counting {
 
     /// The effect of one more word, and whether the word is bad.
     fn then(&mut self, alloc: Global, word: Word<'_>) -> Result<bool, AllocError>
-        ensures bad { IfOk result (λ b. (h : Hearing) → counted h ≡ count_of self.old → b ≡ is_faulty (word_verdict h.next (word_by word.entry))) }
-        ensures left { OnOk result ((h : Hearing) → counted h ≡ count_of self.old → counted (heard_then h (respond_word h.next (word_by word.entry))) ≡ count_of self.new) }
+        ensures bad { IfOk result (λ b. (h : Hearing) → counted h ≡ count_of self.old →
+            b ≡ is_faulty (word_verdict h.next (word_by word.entry))) }
+        ensures left { OnOk result ((h : Hearing) → counted h ≡ count_of self.old →
+            counted (heard_then h (respond_word h.next (word_by word.entry))) ≡ count_of self.new) }
     {
         let counting = count_word(alloc, &self.next, self.joined, word)?;
         let is_bad = counting.is_bad();

@@ -51,7 +51,8 @@ pub(crate) struct ExpectedPoint {
 /// The numbers after a minor point that asks for its confirmation, if it is expected.
 #[tactic(auto, using(crate::proofs::tables::points_that_are_expected::point_is_shown))]
 fn after_point(state: &State, number: Serial) -> Option<Numbers>
-    ensures { IfSome result (λ n. respond_unit state.now (MIP true number.number []) ≡ shows (record state.now { numbers = n }) (Minor number.number true [])) }
+    ensures { IfSome result (λ n. respond_unit state.now (MIP true number.number [])
+        ≡ shows (record state.now { numbers = n }) (Minor number.number true [])) }
 {
     if !state.phase.is_ready() || !state.units.minor {
         return None;
@@ -68,7 +69,8 @@ fn after_point(state: &State, number: Serial) -> Option<Numbers>
 /// The numbers after a confirmation, if it is expected and no major point is outstanding.
 #[tactic(auto, using(crate::proofs::tables::points_that_are_expected::ack_is_shown))]
 fn after_ack(state: &State, number: Serial) -> Option<Numbers>
-    ensures { IfSome result (λ n. respond_unit state.now (MIA number.number []) ≡ shows (record state.now { numbers = n }) (MinorConfirmed number.number [])) }
+    ensures { IfSome result (λ n. respond_unit state.now (MIA number.number [])
+        ≡ shows (record state.now { numbers = n }) (MinorConfirmed number.number [])) }
 {
     if !state.phase.is_ready() || !state.units.minor {
         return None;

@@ -10,7 +10,8 @@ ghost use Rattle.osi_spdu.specs.Units.{said_by};
 ghost use Rattle.osi_session.specs.Joining.{Taker, heard, heard_then, idle, kept_in, word_verdict, respond_word, respond_tsdu};
 ghost use Rattle.osi_session.specs.Respond.{is_nil, is_faulty, respond_unit, respond_fault, shows};
 ghost use Rattle.osi_session.specs.Shown.{Data};
-ghost use Rattle.osi_session.specs.Steps.{all_shown, hearing_of, hearing_of_all, joined_after, outcome_of, outcome_of_all, shown_list, takes_room, word_by};
+ghost use Rattle.osi_session.specs.Steps.{all_shown, hearing_of, hearing_of_all, joined_after, outcome_of, outcome_of_all, shown_list};
+ghost use Rattle.osi_session.specs.Steps.{takes_room, word_by};
 
 use crate::faults::UnitFault;
 use crate::hearing::{Heard, Joined, take_word};
@@ -72,9 +73,11 @@ impl Reactions {
     /// Adds an indication, if there is one.
     fn show(&mut self, shown: Option<Indication>) -> Result<(), AllocError>
         requires { self.old.first ≡ None → self.old.more.items ≡ [] }
-        ensures shown { OnOk result (all_shown self.new.first self.new.more.items ≡ all_shown self.old.first self.old.more.items ++ shown_list shown) }
+        ensures shown { OnOk result (all_shown self.new.first self.new.more.items ≡ all_shown self.old.first self.old.more.items
+            ++ shown_list shown) }
         ensures ordered { OnOk result (self.new.first ≡ None → self.new.more.items ≡ []) }
-        ensures others { OnOk result ((self.new.next ≡ self.old.next) × (self.new.joined ≡ self.old.joined) × (self.new.reply ≡ self.old.reply) × (self.new.closes ≡ self.old.closes)) }
+        ensures others { OnOk result ((self.new.next ≡ self.old.next) × (self.new.joined ≡ self.old.joined) × (self.new.reply
+            ≡ self.old.reply) × (self.new.closes ≡ self.old.closes)) }
         ensures err { OnErr result (is_nil (shown_list shown) ≡ false) }
     {
         let Some(indication) = shown else {
@@ -98,9 +101,11 @@ impl Reactions {
         word: Word<'_>,
     ) -> Result<bool, AllocError>
         requires { self.old.first ≡ None → self.old.more.items ≡ [] }
-        ensures bad { IfOk result (λ b. b ≡ is_faulty (word_verdict (hearing_of_all (option_copied joined.entry) self.old).next (word_by word.entry))) }
+        ensures bad { IfOk result (λ b.
+            b ≡ is_faulty (word_verdict (hearing_of_all (option_copied joined.entry) self.old).next (word_by word.entry))) }
         ensures heard { OnOk result (hearing_of_all (option_copied joined.entry) self.new
-            ≡ heard_then (hearing_of_all (option_copied joined.entry) self.old) (respond_word (hearing_of_all (option_copied joined.entry) self.old).next (word_by word.entry))) }
+            ≡ heard_then (hearing_of_all (option_copied joined.entry) self.old) (respond_word (hearing_of_all (option_copied joined.entry)
+            self.old).next (word_by word.entry))) }
         ensures ordered { OnOk result (self.new.first ≡ None → self.new.more.items ≡ []) }
         ensures err { OnErr result (takes_room (hearing_of_all (option_copied joined.entry) self.old).next.joined
             (respond_word (hearing_of_all (option_copied joined.entry) self.old).next (word_by word.entry)) ≡ true) }
@@ -171,7 +176,8 @@ fn is_empty_give(unit: &Spdu) -> bool
 /// The only unit after a GT that names no token.
 #[tactic(auto, using(crate::proofs::tsdu::a_unit_that_acts_alone::second_acts))]
 fn second_unit<'g, 'a>(group: &'g Group<'a>) -> Option<&'g Spdu<'a>>
-    ensures { IfSome result (λ unit. (t : Taker) → respond_tsdu t (said_by_units (units_of group.now)) ≡ respond_word t (word (said_by unit.now))) }
+    ensures { IfSome result (λ unit. (t : Taker) → respond_tsdu t (said_by_units (units_of group.now))
+        ≡ respond_word t (word (said_by unit.now))) }
 {
     if !is_empty_give(group.first()) {
         return None;
@@ -184,7 +190,8 @@ fn second_unit<'g, 'a>(group: &'g Group<'a>) -> Option<&'g Spdu<'a>>
 /// moved.
 #[tactic(auto, using(crate::proofs::tsdu::a_unit_that_acts_alone::first_acts))]
 pub(crate) fn lone_unit<'g, 'a>(group: &'g Group<'a>) -> Option<&'g Spdu<'a>>
-    ensures { IfSome result (λ unit. (t : Taker) → respond_tsdu t (said_by_units (units_of group.now)) ≡ respond_word t (word (said_by unit.now))) }
+    ensures { IfSome result (λ unit. (t : Taker) → respond_tsdu t (said_by_units (units_of group.now))
+        ≡ respond_word t (word (said_by unit.now))) }
 {
     match group.second() {
         None => Some(group.first()),

@@ -1,6 +1,7 @@
 //! The effect of a word, and of the joined octets after it.
 
-ghost use Rattle.std.specs.Prelude.{◌≡◌, ◌<◌, ◌++◌, ℕ, ◌||◌, true, not, is_none, length, List, Option, Some, None, IfOk, OnErr, if◌then◌else◌, option_copied};
+ghost use Rattle.std.specs.Prelude.{◌≡◌, ◌<◌, ◌++◌, ℕ, ◌||◌, true, not, is_none, length, List, Option, Some, None, IfOk, OnErr};
+ghost use Rattle.std.specs.Prelude.{if◌then◌else◌, option_copied};
 ghost use Rattle.osi_message.specs.Meanings.{meant_by};
 ghost use Rattle.osi_message.specs.Words.{says, part};
 ghost use Rattle.osi_session.specs.Joining.{heard, joined_octets, begins_anew, word_verdict, respond_word};
@@ -77,7 +78,8 @@ pub(crate) struct Heard {
 impl Heard {
     /// The phase afterwards decides whether an unfinished SSDU is kept or dropped.
     pub(crate) fn of(reaction: Reaction, joined: Joined) -> Heard
-        ensures { (before : Option (List ℕ)) → hearing_of before result.joined (outcome_of result.reaction) ≡ heard (joined_after joined before) (outcome_of reaction) }
+        ensures { (before : Option (List ℕ)) → hearing_of before result.joined (outcome_of result.reaction)
+            ≡ heard (joined_after joined before) (outcome_of reaction) }
     {
         let is_kept = reaction.next.phase.may_hold();
         Heard {
@@ -103,7 +105,8 @@ pub(crate) fn begins_anew(message: &Message) -> Option<Kind>
 
 /// The kind of a message that may not occur within an SSDU, if one is unfinished.
 fn misplaced(joined: Option<&Octets>, message: &Message) -> Option<Kind>
-    ensures { result ≡ (if is_none (option_copied joined.entry) || not (begins_anew (meant_by message.now)) then None else Some (kind_of (meant_by message.now))) }
+    ensures { result ≡ (if is_none (option_copied joined.entry) || not (begins_anew (meant_by message.now)) then None else
+        Some (kind_of (meant_by message.now))) }
 {
     match joined {
         None => None,
@@ -151,7 +154,8 @@ pub(crate) fn take_message(
 /// The joined octets after a part that is not the last. `Err` is possible only if the part has octets.
 #[tactic(auto, using(crate::proofs::tsdu::the_effect_of_a_word::grown_nothing, crate::proofs::tsdu::the_effect_of_a_word::grown_first))]
 fn grown(alloc: Global, joined: Option<&Octets>, user_data: &[u8]) -> Result<Joined, AllocError>
-    ensures ok { IfOk result (λ g. joined_after g (option_copied joined.entry) ≡ Some (joined_octets (option_copied joined.entry) ++ user_data.now)) }
+    ensures ok { IfOk result (λ g. joined_after g (option_copied joined.entry)
+        ≡ Some (joined_octets (option_copied joined.entry) ++ user_data.now)) }
     ensures memory { OnErr result (0 < length user_data.now) }
 {
     if user_data.is_empty() {

@@ -1,6 +1,7 @@
 //! Joining the parts of a Data.
 
-ghost use Rattle.std.specs.Prelude.{◌≡◌, ◌<◌, ◌++◌, ◌∷◌, [], if◌then◌else◌, ◌&&◌, is_some, None, Some, length, nat_le, option_copied, IfOk, OnOk, OnErr};
+ghost use Rattle.std.specs.Prelude.{◌≡◌, ◌<◌, ◌++◌, ◌∷◌, [], if◌then◌else◌, ◌&&◌, is_some, None, Some, length, nat_le, option_copied, IfOk};
+ghost use Rattle.std.specs.Prelude.{OnOk, OnErr};
 ghost use Rattle.osi_message.specs.Words.{part};
 ghost use Rattle.osi_session.specs.Allowed.{most_data};
 ghost use Rattle.osi_session.specs.Joining.{is_in_place, is_last, joined_octets, word_verdict};
@@ -62,7 +63,8 @@ pub(crate) fn judge_part(
     place: Place,
     user_data: &[u8],
 ) -> PartVerdict
-    ensures { result ≡ told_of (word_verdict (record { state = state.now; joined = option_copied joined.entry }) (part place user_data.now)) }
+    ensures { result ≡ told_of (word_verdict (record { state = state.now; joined = option_copied joined.entry }) (part place
+        user_data.now)) }
 {
     let si = Kind::DataTransfer.si();
     if state.phase.is_over() || state.phase.is_restarting() {

@@ -1,7 +1,8 @@
 //! Laws of the definitions that the contracts cite. Each function does nothing: its clauses are the
 //! laws.
 
-ghost use Rattle.std.specs.Prelude.{◌≡◌, ◌+◌, ◌<◌, ◌≤◌, ◌⊎◌, ℕ, Bool, true, false, nat_le, ◌||◌, if◌then◌else◌, length, map, List, [], ◌∷◌, ◌++◌, Option, Some, None, Ok, is_some, option_map};
+ghost use Rattle.std.specs.Prelude.{◌≡◌, ◌+◌, ◌<◌, ◌≤◌, ◌⊎◌, ℕ, Bool, true, false, nat_le, ◌||◌, if◌then◌else◌, length, map, List, [], ◌∷◌};
+ghost use Rattle.std.specs.Prelude.{◌++◌, Option, Some, None, Ok, is_some, option_map};
 ghost use Rattle.std.specs.List.{AllByRecursion, list_any};
 ghost use Rattle.std.specs.Int.RustNames.{bit_and};
 ghost use Rattle.osi_session.specs.declared.faults.UnitFault.{UnitFault};
@@ -20,16 +21,20 @@ ghost use Rattle.osi_session.specs.declared.state.State.{State};
 ghost use Rattle.osi_message.specs.declared.tokens.Tokens.{Tokens};
 ghost use Rattle.osi_session.specs.Allowed.{Step, allowed, most_data, most_user_data, sends, Passed};
 ghost use Rattle.osi_session.specs.Calls.{Call, Data, Give, MinorConfirm, HasSerial, called_by};
-ghost use Rattle.osi_session.specs.Causes.{asks_for_connection, is_taken, opens_connection, call_gives, unit_gives, call_holds, unit_holds, renews};
+ghost use Rattle.osi_session.specs.Causes.{asks_for_connection, is_taken, opens_connection, call_gives, unit_gives, call_holds, unit_holds};
+ghost use Rattle.osi_session.specs.Causes.{renews};
 ghost use Rattle.osi_message.specs.Meanings.{Meaning, AA, CN, DT, MIA, RF, RS};
 ghost use Rattle.osi_session.specs.Numbers.{lower};
 ghost use Rattle.osi_session.specs.Closing.{closes_alone, is_answer, awaits_close};
 ghost use Rattle.osi_session.specs.declared.phases.Phase.{Phase};
-ghost use Rattle.osi_session.specs.Phases.{is_wait_transport, is_wait_cn, is_aborting, is_over, is_ended, is_restarting, is_restart_due, may_abort, may_hold, shows_loss, takes_data};
+ghost use Rattle.osi_session.specs.Phases.{is_wait_transport, is_wait_cn, is_aborting, is_over, is_ended, is_restarting, is_restart_due};
+ghost use Rattle.osi_session.specs.Phases.{may_abort, may_hold, shows_loss, takes_data};
 ghost use Rattle.osi_message.specs.Reading.{Said, alone, behind, said_by_units, said_at};
 ghost use Rattle.osi_message.specs.Words.{Word, Words, says, part, part_octets};
 ghost use Rattle.osi_session.specs.Joining.{Taker, is_in_place, kept_in, heard, word_verdict, respond_word, respond_words, respond_tsdu};
-ghost use Rattle.osi_session.specs.Listening.{Input, is_opened, called, taken, unread, opened, refused, broken, came, rests, answered as call_move, moved, begun, denied, Listener, taker_of, in_state, react, after_input, after_inputs};
+ghost use Rattle.osi_session.specs.Listening.{Input, is_opened, called, taken, unread, opened, refused, broken, came, rests};
+ghost use Rattle.osi_session.specs.Listening.{answered as call_move, moved, begun, denied, Listener, taker_of, in_state, react};
+ghost use Rattle.osi_session.specs.Listening.{after_input, after_inputs};
 ghost use Rattle.osi_session.specs.Moves as whole;
 ghost use Rattle.osi_session.specs.Kept.{IsKeptIn, IsKept, IsJoinedAs, IsNoFault, IsJoined};
 ghost use Rattle.osi_session.specs.Parts.{Act, part_comes, act_in_words, act_in_octets, calls_in, AreParts, AreSilent, HasProfile};
@@ -39,7 +44,9 @@ ghost use Rattle.osi_session.specs.Whole.{listening, standing_of, in_words, is_a
 ghost use Rattle.osi_message.specs.Parting.{is_whole, tsdus_of, tsdus_sent, in_one, AreFull};
 ghost use Rattle.osi_message.specs.Written.{written};
 ghost use Rattle.osi_session.specs.Points.{advanced, call_for, has_next, may_advance};
-ghost use Rattle.osi_session.specs.Respond.{nothing, bad, becomes, respond_unit, respond_all, respond, respond_fault, lost, stands, drops, verdict, enacted, fine, IsGood, has_no_effect, is_token_item, is_resynchronize, and_then, faulty, si};
+ghost use Rattle.osi_session.specs.Respond.{nothing, bad, becomes, respond_unit, respond_all, respond, respond_fault, lost, stands, drops};
+ghost use Rattle.osi_session.specs.Respond.{verdict, enacted, fine, IsGood, has_no_effect, is_token_item, is_resynchronize, and_then};
+ghost use Rattle.osi_session.specs.Respond.{faulty, si};
 ghost use Rattle.osi_session.specs.Restarts.{HasAsked, AreCrossed, after_restart};
 ghost use Rattle.osi_session.specs.Runs.{HasNumbers, HasNumbersInWords, IsFresh};
 ghost use Rattle.osi_session.specs.Sessions.{awaiting, asking, Planned, IsPlanOf};
@@ -67,10 +74,13 @@ pub fn what_is_sent_can_be_sent()
 #[tactic(auto, using(crate::proofs::tables::messages_act_as_the_table_says::plain_word, crate::proofs::tables::messages_act_as_the_table_says::plain_words, crate::proofs::tables::messages_act_as_the_table_says::plain_tsdu, crate::proofs::tables::messages_act_as_the_table_says::moves_as_whole, crate::proofs::tables::messages_act_as_the_table_says::run_as_whole, crate::proofs::tables::messages_act_as_the_table_says::others))]
 pub fn messages_do_what_they_did()
     ensures word { (s : State) (u : Meaning) → respond_word (record { state = s; joined = None }) (says u) ≡ heard None (respond_unit s u) }
-    ensures words { (s : State) (us : List Meaning) → respond_words (record { state = s; joined = None }) (map says us) ≡ heard None (respond_all s us) }
-    ensures tsdu { (s : State) (said : Said) → respond_tsdu (record { state = s; joined = None }) (map says said) ≡ heard None (respond s said) }
+    ensures words { (s : State) (us : List Meaning) → respond_words (record { state = s; joined = None }) (map says us)
+        ≡ heard None (respond_all s us) }
+    ensures tsdu { (s : State) (said : Said) → respond_tsdu (record { state = s; joined = None }) (map says said)
+        ≡ heard None (respond s said) }
     ensures moves { (s : whole.Standing) (input : whole.Input) → react (listening s) (in_words input) ≡ joins None (whole.react s input) }
-    ensures run { (s : whole.Standing) (inputs : List whole.Input) → after_inputs (listening s) (map in_words inputs) ≡ listening (whole.after_inputs s inputs) }
+    ensures run { (s : whole.Standing) (inputs : List whole.Input) → after_inputs (listening s) (map in_words inputs)
+        ≡ listening (whole.after_inputs s inputs) }
     ensures others { (l : Listener) (input : whole.Input) → kept_in l.state.phase l.joined ≡ l.joined → is_apart input ≡ true →
         react l (in_words input) ≡ joins l.joined (whole.react (standing_of l) input) }
 {}
@@ -94,7 +104,8 @@ pub fn what_each_input_does()
 /// accepted call sends, of the answer to a TSDU, and of the CN that a caller asks for. The octets of a part are taken
 /// as that part.
 pub fn what_is_sent_is_taken()
-    ensures message { (l : Listener) (m : Meaning) → IsSendable m → react l (came (written m)) ≡ moved l (respond_word (taker_of l) (says m)) }
+    ensures message { (l : Listener) (m : Meaning) → IsSendable m →
+        react l (came (written m)) ≡ moved l (respond_word (taker_of l) (says m)) }
     ensures part { (l : Listener) (place : Place) (octets : List ℕ) →
         react l (came (part_octets place octets)) ≡ moved l (respond_word (taker_of l) (part place octets)) }
     ensures called { (sender : State) (c : Call) (x : Step) (l : Listener) → IsSound sender → HasSerial c → allowed sender c ≡ Ok x →
@@ -114,11 +125,13 @@ pub fn what_is_sent_is_taken()
 #[tactic(auto, using(crate::proofs::moves::what_closes_the_connection::unit_silent, crate::proofs::moves::what_closes_the_connection::words_silent, crate::proofs::moves::what_closes_the_connection::octets_alone, crate::proofs::moves::what_closes_the_connection::octets_silent, crate::proofs::moves::what_closes_the_connection::call_open, crate::proofs::moves::what_closes_the_connection::whole_ends, crate::proofs::moves::what_closes_the_connection::input_ends, crate::proofs::tsdu::the_answer_to_a_tsdu::octets_awaited))]
 pub fn what_closes_sends_nothing()
     ensures unit { (s : State) (u : Meaning) → (respond_unit s u).closes ≡ true → (respond_unit s u).reply ≡ None }
-    ensures said { (t : Taker) (words : Words) → closes_alone words ≡ true → (respond_tsdu t words).closes ≡ true → (respond_tsdu t words).reply ≡ None }
+    ensures said { (t : Taker) (words : Words) → closes_alone words ≡ true → (respond_tsdu t words).closes
+        ≡ true → (respond_tsdu t words).reply ≡ None }
     ensures alone { (octets : List ℕ) (words : Words) → said_at octets ≡ Ok words → closes_alone words ≡ true }
     ensures octets { (l : Listener) (octets : List ℕ) → (react l (came octets)).closes ≡ true → (react l (came octets)).reply ≡ None }
     ensures call { (l : Listener) (c : Call) → (react l (called c)).closes ≡ false }
-    ensures ended { (s : whole.Standing) (input : whole.Input) → (whole.react s input).closes ≡ true → is_ended (whole.after_input s input).state.phase ≡ true }
+    ensures ended { (s : whole.Standing) (input : whole.Input) → (whole.react s input).closes ≡ true →
+        is_ended (whole.after_input s input).state.phase ≡ true }
     ensures last { (l : Listener) (input : Input) → (react l input).closes ≡ true → is_ended (after_input l input).state.phase ≡ true }
     ensures awaited { (l : Listener) (octets : List ℕ) → (react l (came octets)).closes ≡ true → awaits_close l.state.phase ≡ true }
 {}
@@ -142,7 +155,8 @@ pub fn what_answers_is_over()
 pub fn where_a_call_is_accepted()
     ensures phase { (s : State) (c : Call) (x : Step) → allowed s c ≡ Ok x → may_abort s.phase ≡ true }
     ensures live { (p : Phase) → may_abort p ≡ true → (is_wait_transport p ≡ false) × (is_wait_cn p ≡ false) × (is_over p ≡ false) }
-    ensures begun { (l : Listener) (input : Input) → is_wait_transport (after_input l input).state.phase ≡ true → is_wait_transport l.state.phase ≡ true }
+    ensures begun { (l : Listener) (input : Input) → is_wait_transport (after_input l input).state.phase ≡ true →
+        is_wait_transport l.state.phase ≡ true }
     ensures waiting { (l : Listener) (input : Input) → is_opened input ≡ false → is_wait_transport l.state.phase ≡ true →
         (is_wait_transport (after_input l input).state.phase || is_over (after_input l input).state.phase) ≡ true }
 {}
@@ -152,10 +166,12 @@ pub fn where_a_call_is_accepted()
 /// alone in its TSDU (X.225 section 6.3.7).
 #[tactic(auto, using(crate::proofs::runs::the_first_indication_is_a_connect::shown_first, crate::proofs::runs::the_first_indication_is_a_connect::only_taken, crate::proofs::runs::the_first_indication_is_a_connect::octets_ask))]
 pub fn what_a_user_is_shown_first()
-    ensures first { (l : Listener) (input : Input) → shows_loss l.state.phase ≡ false → shows_loss (after_input l input).state.phase ≡ true →
+    ensures first { (l : Listener) (input : Input) → shows_loss l.state.phase ≡ false →
+        shows_loss (after_input l input).state.phase ≡ true →
         shows_connect (react l input).shown ≡ true }
     ensures taken { (l : Listener) (input : Input) → shows_connect (react l input).shown ≡ true → is_taken input ≡ true }
-    ensures asked { (l : Listener) (octets : List ℕ) → shows_connect (react l (came octets)).shown ≡ true → asks_for_connection (came octets) ≡ true }
+    ensures asked { (l : Listener) (octets : List ℕ) → shows_connect (react l (came octets)).shown ≡ true →
+        asks_for_connection (came octets) ≡ true }
 {}
 
 /// What happens to a unit: the table of units enacts its verdict. A unit that is not discarded, that the phase expects
@@ -258,8 +274,10 @@ pub fn numbers_stay_in_order()
 /// loses its transport connection has ended.
 #[tactic(auto, using(crate::proofs::runs::what_every_run_preserves::stays_over, crate::proofs::runs::what_every_run_preserves::stays_ended, crate::proofs::runs::what_every_run_preserves::lost_ended))]
 pub fn an_ended_session_stays_ended()
-    ensures over { (l : Listener) (inputs : List Input) → is_over l.state.phase ≡ true → is_over (after_inputs l inputs).state.phase ≡ true }
-    ensures ended { (l : Listener) (inputs : List Input) → is_ended l.state.phase ≡ true → is_ended (after_inputs l inputs).state.phase ≡ true }
+    ensures over { (l : Listener) (inputs : List Input) → is_over l.state.phase ≡ true →
+        is_over (after_inputs l inputs).state.phase ≡ true }
+    ensures ended { (l : Listener) (inputs : List Input) → is_ended l.state.phase ≡ true →
+        is_ended (after_inputs l inputs).state.phase ≡ true }
     ensures lost { (l : Listener) → is_ended (after_input l broken).state.phase ≡ true }
 {}
 
@@ -309,7 +327,8 @@ pub fn a_plan_is_its_call()
 /// exactly if the point has the right number and such a call would be accepted, apart from its lengths.
 #[tactic(auto, using(crate::proofs::tables::points_that_are_expected::point_steps, crate::proofs::tables::points_that_are_expected::point_may, crate::proofs::tables::points_that_are_expected::point_accepted))]
 pub fn a_point_is_its_call()
-    ensures step { (l : Listener) (p : SentPoint) (confirm : Bool) (octets : List ℕ) → (react l (called (call_for p confirm octets))).error ≡ None →
+    ensures step { (l : Listener) (p : SentPoint) (confirm : Bool) (octets : List ℕ) → (react
+        l (called (call_for p confirm octets))).error ≡ None →
         after_input l (called (call_for p confirm octets)) ≡ advanced l p }
     ensures may { (l : Listener) (p : SentPoint) (confirm : Bool) (octets : List ℕ) → has_next l.state p ≡ true →
         (react l (called (call_for p confirm octets))).error ≡ None → may_advance l.state p ≡ true }
@@ -362,13 +381,17 @@ pub fn what_is_joined()
     ensures held { (l : Listener) → IsKept l → is_some l.joined ≡ true → may_hold l.state.phase ≡ true }
     ensures called { (s : State) (joined begun : Option (List ℕ)) (c : Call) (x : Step) → allowed s c ≡ Ok x → IsJoinedAs s joined begun →
         IsJoinedAs x.next (kept_in x.next.phase joined) begun }
-    ensures begins { (s : State) (joined : Option (List ℕ)) (o all : List ℕ) → length o ≤ most_data → IsKeptIn s.phase joined → IsNoFault s all →
+    ensures begins { (s : State) (joined : Option (List ℕ)) (o all : List ℕ) → length o ≤ most_data → IsKeptIn s.phase joined →
+        IsNoFault s all →
         IsJoinedAs s joined None → IsJoined s joined (part First o) (Some o) }
-    ensures goes_on { (s : State) (joined : Option (List ℕ)) (b o all : List ℕ) → length (b ++ o) ≤ most_data → IsKeptIn s.phase joined → IsNoFault s all →
+    ensures goes_on { (s : State) (joined : Option (List ℕ)) (b o all : List ℕ) → length (b ++ o) ≤ most_data → IsKeptIn s.phase joined →
+        IsNoFault s all →
         IsJoinedAs s joined (Some b) → IsJoined s joined (part Middle o) (Some (b ++ o)) }
-    ensures ends { (s : State) (joined : Option (List ℕ)) (front last : List ℕ) → length (front ++ last) ≤ most_data → IsKeptIn s.phase joined →
+    ensures ends { (s : State) (joined : Option (List ℕ)) (front last : List ℕ) → length (front ++ last) ≤ most_data →
+        IsKeptIn s.phase joined →
         IsNoFault s (front ++ last) → IsJoinedAs s joined (Some front) →
-        respond_word (record { state = s; joined = joined }) (part Last last) ≡ respond_word (record { state = s; joined = None }) (says (DT (front ++ last))) }
+        respond_word (record { state = s; joined = joined }) (part Last last)
+        ≡ respond_word (record { state = s; joined = None }) (says (DT (front ++ last))) }
 {}
 
 /// Take a session that has joined nothing, and data that is no fault there. Over the parts of that Data, with any
@@ -376,15 +399,18 @@ pub fn what_is_joined()
 /// words, and in octets. The parts before it indicate and send nothing, and the calls indicate and send what they do
 /// without the parts.
 pub fn parts_are_the_whole()
-    ensures words { (l : Listener) (acts : List Act) (front last : List ℕ) → l.joined ≡ None → HasProfile l.state → IsNoFault l.state (front ++ last) →
+    ensures words { (l : Listener) (acts : List Act) (front last : List ℕ) → l.joined ≡ None → HasProfile l.state →
+        IsNoFault l.state (front ++ last) →
         length (front ++ last) ≤ most_data → AreParts None acts front →
         react (after_inputs l (map act_in_words acts)) (part_comes Last last)
         ≡ react (after_inputs l (calls_in acts)) (taken (words_of (DT (front ++ last)))) }
-    ensures octets { (l : Listener) (acts : List Act) (front last : List ℕ) → l.joined ≡ None → HasProfile l.state → IsNoFault l.state (front ++ last) →
+    ensures octets { (l : Listener) (acts : List Act) (front last : List ℕ) → l.joined ≡ None → HasProfile l.state →
+        IsNoFault l.state (front ++ last) →
         length (front ++ last) ≤ most_data → AreParts None acts front →
         react (after_inputs l (map act_in_octets acts)) (came (part_octets Last last))
         ≡ react (after_inputs l (calls_in acts)) (came (written (DT (front ++ last)))) }
-    ensures before { (l : Listener) (acts : List Act) (front last : List ℕ) → l.joined ≡ None → HasProfile l.state → IsNoFault l.state (front ++ last) →
+    ensures before { (l : Listener) (acts : List Act) (front last : List ℕ) → l.joined ≡ None → HasProfile l.state →
+        IsNoFault l.state (front ++ last) →
         length (front ++ last) ≤ most_data → AreParts None acts front → AreSilent l l acts }
 {
     osi_message::laws::what_is_sent_is_read();
@@ -405,9 +431,12 @@ pub fn units_are_a_profile()
 /// joined is a bad enclosure, even if it is also too long.
 #[tactic(auto, using(crate::proofs::tables::which_reason_comes_first::refused_version, crate::proofs::tables::which_reason_comes_first::refused_units, crate::proofs::tables::which_reason_comes_first::out_of_place))]
 pub fn what_is_refused_for_which_reason()
-    ensures version { (s : State) (requirements : ℕ) (serial : Option ℕ) (wishes : TokenSetting) (calling called : Option (List ℕ)) (sizes : TsduMaximumSize) (octets : List ℕ) →
-        is_wait_cn s.phase ≡ true → (respond_unit s (CN false requirements serial wishes calling called sizes octets)).reply ≡ Some (RF 132 []) }
-    ensures units { (s : State) (requirements : ℕ) (serial : Option ℕ) (wishes : TokenSetting) (calling called : Option (List ℕ)) (sizes : TsduMaximumSize) (octets : List ℕ) →
+    ensures version { (s : State) (requirements : ℕ) (serial : Option ℕ) (wishes : TokenSetting) (calling
+        called : Option (List ℕ)) (sizes : TsduMaximumSize) (octets : List ℕ) →
+        is_wait_cn s.phase ≡ true → (respond_unit s (CN false requirements serial wishes calling called sizes octets)).reply
+        ≡ Some (RF 132 []) }
+    ensures units { (s : State) (requirements : ℕ) (serial : Option ℕ) (wishes : TokenSetting) (calling
+        called : Option (List ℕ)) (sizes : TsduMaximumSize) (octets : List ℕ) →
         is_wait_cn s.phase ≡ true → has_data (functional_units requirements) ≡ false →
         (respond_unit s (CN true requirements serial wishes calling called sizes octets)).reply ≡ Some (RF 134 []) }
     ensures part { (t : Taker) (place : Place) (octets : List ℕ) → takes_data t.state.phase ≡ true → t.state.held.data_token ≡ false →

@@ -1,7 +1,10 @@
 //! The phases of a session connection.
 
 ghost use Rattle.std.specs.Prelude.{◌≡◌};
-ghost use Rattle.osi_session.specs.Phases.{is_over, is_wait_transport, is_wait_cn, is_connecting, is_answering, is_ready, is_major_asked, is_major_due, is_releasing, is_release_due, is_restarting, is_restart_due, is_aborting, is_ended, is_settled, in_major, may_give, may_ask, may_confirm_minor, may_restart, takes_data, takes_give, takes_please, takes_minor_ack, takes_restart, may_abort, may_hold, shows_loss};
+ghost use Rattle.osi_session.specs.Phases.{is_over, is_wait_transport, is_wait_cn, is_connecting, is_answering, is_ready, is_major_asked};
+ghost use Rattle.osi_session.specs.Phases.{is_major_due, is_releasing, is_release_due, is_restarting, is_restart_due, is_aborting};
+ghost use Rattle.osi_session.specs.Phases.{is_ended, is_settled, in_major, may_give, may_ask, may_confirm_minor, may_restart, takes_data};
+ghost use Rattle.osi_session.specs.Phases.{takes_give, takes_please, takes_minor_ack, takes_restart, may_abort, may_hold, shows_loss};
 
 /// The phase of a session connection (X.225 annex A, states).
 #[derive(Clone, Copy, PartialEq, Eq)]

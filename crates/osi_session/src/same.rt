@@ -1,7 +1,8 @@
 //! Comparing two states.
 
 ghost use Rattle.std.specs.Prelude.{◌≡◌, ◌≢◌, MatchBool};
-ghost use Rattle.osi_session.specs.Same.{same_bit, same_wish, place_of, same_setting, same_tokens, same_units, same_numbers, same_sizes, same_state};
+ghost use Rattle.osi_session.specs.Same.{same_bit, same_wish, place_of, same_setting, same_tokens, same_units, same_numbers, same_sizes};
+ghost use Rattle.osi_session.specs.Same.{same_state};
 
 use crate::numbers::Numbers;
 use crate::phases::Phase;

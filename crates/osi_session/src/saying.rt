@@ -11,7 +11,8 @@ ghost use Rattle.osi_session.specs.Breaches.{broken_in, data_breach, is_at_numbe
 ghost use Rattle.osi_session.specs.Calls.{called_by};
 ghost use Rattle.osi_session.specs.Respond.{agreed_base, has_terms};
 ghost use Rattle.osi_session.specs.Sound.{IsSound};
-ghost use Rattle.osi_session.specs.Standing.{Leaves, calling, connecting, accepting_in, finishing, where_is, said_message, may_send, is_in_size, stands_in_place};
+ghost use Rattle.osi_session.specs.Standing.{Leaves, calling, connecting, accepting_in, finishing, where_is, said_message, may_send};
+ghost use Rattle.osi_session.specs.Standing.{is_in_size, stands_in_place};
 
 use crate::breaches::Breach;
 use crate::calling::{MOST_DATA, MOST_USER_DATA, decide_row, fits, may_call};
@@ -72,7 +73,8 @@ fn connect(
     sizes: TsduMaximumSize,
     user_data: &[u8],
 ) -> Result<State, Breach>
-    ensures left { Leaves result (connecting state.now (unit_bits requirements) (option_map (λ s. s.number) serial) wishes sizes user_data.now) }
+    ensures left { Leaves result (connecting state.now (unit_bits requirements) (option_map (λ s. s.number) serial) wishes sizes
+        user_data.now) }
     ensures rule { broken_in result ≡ connect_breach state.now sizes user_data.now }
 {
     if !state.phase.is_wait_transport() {

@@ -104,7 +104,8 @@ fn written_connect(alloc: Global, opening: &Opening) -> Result<Sent, AllocError>
 }
 
 impl Session {
-    ghost use Rattle.std.specs.Prelude.{◌≡◌, ◌++◌, [], ◌∷◌, true, false, map, option_map, None, Some, Ok, IsSome, IfSome, OnSome, IfNone, ◌≢◌, IfOk, IsOk, OnOk, IfErr, OnErr, length, ◌≤◌};
+    ghost use Rattle.std.specs.Prelude.{◌≡◌, ◌++◌, [], ◌∷◌, true, false, map, option_map, None, Some, Ok, IsSome, IfSome, OnSome, IfNone};
+    ghost use Rattle.std.specs.Prelude.{◌≢◌, IfOk, IsOk, OnOk, IfErr, OnErr, length, ◌≤◌};
     ghost use Rattle.osi_spdu.specs.Groups.{units_of};
     ghost use Rattle.osi_message.specs.Reading.{said_by_units};
     ghost use Rattle.osi_message.specs.Tokens.{named, token_octet};
@@ -113,7 +114,8 @@ impl Session {
     ghost use Rattle.osi_session.specs.Allowed.{allowed};
     ghost use Rattle.osi_session.specs.Listening.{called, taken, unread, came, opened, refused, broken, in_state, moved, react};
     ghost use Rattle.osi_session.specs.Phases.{is_wait_transport};
-    ghost use Rattle.osi_session.specs.Sessions.{Refused, CanBeSent, IsPlanOf, is_memory, opens, refusal_of, awaits, shown_in, takes_memory, Takes};
+    ghost use Rattle.osi_session.specs.Sessions.{Refused, CanBeSent, IsPlanOf, is_memory, opens, refusal_of, awaits, shown_in};
+    ghost use Rattle.osi_session.specs.Sessions.{takes_memory, Takes};
     ghost use Rattle.osi_session.specs.Shown.{shown_by};
     ghost use Rattle.osi_session.specs.Sound.{IsSound};
     ghost use Rattle.osi_session.specs.Steps.{shown_list, joined_after, hearing_of_all};
@@ -210,7 +212,8 @@ impl Session {
     #[tactic(auto, using(crate::proofs::tables::what_the_table_of_calls_answers::refused, crate::proofs::tables::what_the_table_of_calls_answers::wanting, crate::proofs::moves::the_move_of_each_input::call_next, crate::proofs::moves::the_move_of_each_input::call_sends))]
     pub fn plan(&self, request: Request) -> Result<Plan, CallError>
         ensures state { IfOk result (λ p. (react self.now (called (called_by request.entry))).next ≡ in_state self.now p.next) }
-        ensures sent { IfOk result (λ p. p.sent ≡ tsdus_sent (limit_of self.now.state) (react self.now (called (called_by request.entry))).reply) }
+        ensures sent { IfOk result (λ p.
+            p.sent ≡ tsdus_sent (limit_of self.now.state) (react self.now (called (called_by request.entry))).reply) }
         ensures planned { IfOk result (λ p. IsPlanOf (called_by request.entry) p) }
         ensures was { IfOk result (λ p. p.was ≡ self.now.state) }
         ensures accepted { OnOk result ((react self.now (called (called_by request.entry))).error ≡ None) }
@@ -249,7 +252,8 @@ impl Session {
     /// that applies. A refused call changes nothing. `OutOfMemory` is possible only if no other error applies.
     pub fn call(&mut self, request: Request) -> Result<Sent, CallError>
         ensures state { OnOk result (self.new ≡ (react self.old (called (called_by request.entry))).next) }
-        ensures sent { IfOk result (λ s. s ≡ tsdus_sent (limit_of self.old.state) (react self.old (called (called_by request.entry))).reply) }
+        ensures sent { IfOk result (λ s.
+            s ≡ tsdus_sent (limit_of self.old.state) (react self.old (called (called_by request.entry))).reply) }
         ensures accepted { OnOk result ((react self.old (called (called_by request.entry))).error ≡ None) }
         ensures sendable { OnOk result (CanBeSent (react self.old (called (called_by request.entry))).reply) }
         ensures refused { IfErr result (λ e. Refused e (react self.old (called (called_by request.entry))).error) }
@@ -265,7 +269,8 @@ impl Session {
     /// Whether this data may be sent now, in one TSDU. The state is not looked at: what it allows is known.
     #[inline(always)]
     fn goes_whole(&self, user_data: &[u8]) -> bool
-        ensures allowed { result ≡ true → allowed self.now.state (Data user_data.now) ≡ Ok (record { next = self.now.state; sent = DT user_data.now }) }
+        ensures allowed { result ≡ true →
+            allowed self.now.state (Data user_data.now) ≡ Ok (record { next = self.now.state; sent = DT user_data.now }) }
         ensures whole { result ≡ true → is_whole (limit_of self.now.state) user_data.now ≡ true }
         ensures sound { IsSound self.now.state }
         ensures kept { kept_in self.now.state.phase self.now.joined ≡ self.now.joined }
@@ -305,7 +310,8 @@ impl Session {
     #[inline(always)]
     pub fn data_head(&self, user_data: &[u8]) -> Option<&'static [u8]>
         ensures state { OnSome result (self.now ≡ (react self.now (called (Data user_data.now))).next) }
-        ensures sent { IfSome result (λ h. (h.now ++ user_data.now) ∷ [] ≡ tsdus_sent (limit_of self.now.state) (react self.now (called (Data user_data.now))).reply) }
+        ensures sent { IfSome result (λ h. (h.now ++ user_data.now) ∷ []
+            ≡ tsdus_sent (limit_of self.now.state) (react self.now (called (Data user_data.now))).reply) }
         ensures accepted { OnSome result ((react self.now (called (Data user_data.now))).error ≡ None) }
         ensures sendable { OnSome result (CanBeSent (react self.now (called (Data user_data.now))).reply) }
     {
@@ -321,7 +327,8 @@ impl Session {
     #[tactic(auto, using(crate::proofs::tables::what_the_table_of_calls_answers::refused))]
     pub fn data_parts(&self, user_data: &[u8]) -> Result<DataParts, CallError>
         ensures state { OnOk result (self.now ≡ (react self.now (called (Data user_data.now))).next) }
-        ensures sent { IfOk result (λ p. tsdus_lent p user_data.now ≡ tsdus_sent (limit_of self.now.state) (react self.now (called (Data user_data.now))).reply) }
+        ensures sent { IfOk result (λ p. tsdus_lent p user_data.now
+            ≡ tsdus_sent (limit_of self.now.state) (react self.now (called (Data user_data.now))).reply) }
         ensures accepted { OnOk result ((react self.now (called (Data user_data.now))).error ≡ None) }
         ensures sendable { OnOk result (CanBeSent (react self.now (called (Data user_data.now))).reply) }
         ensures fit { IfOk result FitTsdus }
@@ -420,7 +427,8 @@ impl Session {
         requires sound { IsSound reactions.next }
         requires begun { is_wait_transport reactions.next.phase ≡ true → is_wait_transport self.old.state.phase ≡ true }
         requires ordered { reactions.first ≡ None → reactions.more.items ≡ [] }
-        requires kept { kept_in reactions.next.phase (joined_after reactions.joined self.old.joined) ≡ joined_after reactions.joined self.old.joined }
+        requires kept { kept_in reactions.next.phase (joined_after reactions.joined self.old.joined)
+            ≡ joined_after reactions.joined self.old.joined }
         requires few { length (joined_octets (joined_after reactions.joined self.old.joined)) ≤ 1048572 }
         ensures { Takes result (moved self.old (hearing_of_all self.old.joined reactions)) self.old self.new }
     {

@@ -1,7 +1,8 @@
 //! Which side holds each token at first.
 
 ghost use Rattle.std.specs.Prelude.{◌≡◌};
-ghost use Rattle.osi_session.specs.Sides.{settled, settle, stated, stated_side, allows, answers_wishes, offered, offered_wish, of_asker, of_answerer, is_asker, setting_of};
+ghost use Rattle.osi_session.specs.Sides.{settled, settle, stated, stated_side, allows, answers_wishes, offered, offered_wish, of_asker};
+ghost use Rattle.osi_session.specs.Sides.{of_answerer, is_asker, setting_of};
 ghost use Rattle.osi_session.specs.Units.{available};
 
 use crate::selected::FunctionalUnits;

@@ -173,7 +173,8 @@ fn is_ack_within(limit: u16, number: Serial, user_data: &[u8]) -> bool
 /// Whether the TSDU of a minor point is within the limit.
 pub(crate) fn fits_point(state: &State, confirm: bool, number: Serial, user_data: &[u8]) -> bool
     requires { length user_data.now < 65000 }
-    ensures { result ≡ (limit_of state.now == 0 || nat_le (length (written (MIP confirm number.number user_data.now))) (limit_of state.now)) }
+    ensures { result ≡ (limit_of state.now == 0
+        || nat_le (length (written (MIP confirm number.number user_data.now))) (limit_of state.now)) }
 {
     let limit = limit_of(state);
     limit == 0 || is_point_within(limit, confirm, number, user_data)

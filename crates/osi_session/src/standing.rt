@@ -2,7 +2,8 @@
 
 ghost use Rattle.std.specs.Prelude.{◌≡◌, ◌≢◌, [], MatchBool, ◌+◌, ◌||◌, true, false, not, is_none, unwrap_or, IfOk, IfSome, IfNone};
 ghost use Rattle.osi_message.specs.Reading.{word};
-ghost use Rattle.osi_session.specs.Standing.{Seen, seen_called, seen_calling, listens, Takes, after_count, answers, answers_word, goes, said, said_within, parting, SaysAs};
+ghost use Rattle.osi_session.specs.Standing.{Seen, seen_called, seen_calling, listens, Takes, after_count, answers, answers_word, goes};
+ghost use Rattle.osi_session.specs.Standing.{said, said_within, parting, SaysAs};
 ghost use Rattle.osi_session.specs.Breaches.{breach_of, broken_in, part_breach, word_breach};
 ghost use Rattle.osi_session.specs.Joining.{begins_anew};
 ghost use Rattle.osi_session.specs.Sound.{IsSound};

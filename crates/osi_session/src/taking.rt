@@ -2,7 +2,8 @@
 
 ghost use Rattle.std.specs.Prelude.{◌≡◌, false};
 ghost use Rattle.osi_message.specs.Meanings.{meant_by};
-ghost use Rattle.osi_session.specs.Respond.{drops, has_no_effect, passes_restarting, is_resynchronize, has_terms, in_phase, in_aborting, in_ended, respond_unit};
+ghost use Rattle.osi_session.specs.Respond.{drops, has_no_effect, passes_restarting, is_resynchronize, has_terms, in_phase, in_aborting};
+ghost use Rattle.osi_session.specs.Respond.{in_ended, respond_unit};
 ghost use Rattle.osi_session.specs.Steps.{Reacts, outcome_of};
 
 use crate::phases::Phase;

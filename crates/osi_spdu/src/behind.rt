@@ -1,6 +1,7 @@
 //! The units of category 2 that follow the first unit of a TSDU.
 
-ghost use Rattle.std.specs.Prelude.{◌≡◌, ◌≤◌, ◌<◌, ◌+◌, ◌^◌, true, length, Some, None, Err, [], ◌∷◌, drop, option_map, OnOk, IfErr, IfSome, MatchOption};
+ghost use Rattle.std.specs.Prelude.{◌≡◌, ◌≤◌, ◌<◌, ◌+◌, ◌^◌, true, length, Some, None, Err, [], ◌∷◌, drop, option_map, OnOk, IfErr, IfSome};
+ghost use Rattle.std.specs.Prelude.{MatchOption};
 ghost use Rattle.osi_spdu.specs.declared.kinds.Category.TheVariants.{Two};
 ghost use Rattle.osi_spdu.specs.Behind.{AreLeft, left_prop, left_at, is_behind};
 ghost use Rattle.osi_spdu.specs.Kinds.{category_of, kind_named};

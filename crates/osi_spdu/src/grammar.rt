@@ -63,7 +63,8 @@ impl<'a> Unit<'a> for Group<'a> {
     }
 
     fn laws()
-        ensures is_spelled { (units : Units) → IsFormedTsdu units × TsduFits units × IsOctets (tsdu_octets units) → SpellsTsdu units (tsdu_octets units) }
+        ensures is_spelled { (units : Units) → IsFormedTsdu units × TsduFits units × IsOctets (tsdu_octets units) →
+            SpellsTsdu units (tsdu_octets units) }
         ensures stands_alone { (units : Units) → IsAll units [] }
         ensures one_reading { (v w : Units) (m n : ℕ) (octets : List ℕ) → IsOctets octets →
             IsAtFront SpellsTsdu IsAll v m octets → IsAtFront SpellsTsdu IsAll w n octets →

@@ -1,7 +1,8 @@
 //! Parameters of one level: those of a unit, and those of a group within it.
 
 ghost use Rattle.std.specs.Prelude.{set, Some, ◌≡◌, ◌≤◌, ◌<◌, ◌+◌, ◌^◌, [], ◌∷◌, length, is_some, if◌then◌else◌, ℕ, Ok, IfOk, IfSome};
-ghost use Rattle.osi_spdu.specs.Reading.{Gives, Taking, counted_at, long_at, measured_at, parameter_at, stored, in_group, in_unit, params_of, all_there};
+ghost use Rattle.osi_spdu.specs.Reading.{Gives, Taking, counted_at, long_at, measured_at, parameter_at, stored, in_group, in_unit};
+ghost use Rattle.osi_spdu.specs.Reading.{params_of, all_there};
 ghost use Rattle.osi_spdu.specs.Kinds.{members_of, required_of};
 ghost use Rattle.osi_spdu.specs.Known.{nothing};
 ghost use Rattle.osi_spdu.specs.Codes.{number_of, slot_of};

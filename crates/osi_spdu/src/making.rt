@@ -3,7 +3,9 @@
 ghost use Rattle.std.specs.Prelude.{◌≡◌, ◌≤◌, ◌<◌, length, true, None};
 ghost use Rattle.osi_spdu.specs.Kinds.{category_of};
 ghost use Rattle.osi_spdu.specs.declared.kinds.Category.TheVariants.{Two};
-ghost use Rattle.osi_spdu.specs.Made.{made, connect_params, accept_params, refuse_params, data_params, abort_params, give_tokens_params, please_tokens_params, minor_point_params, ack_params, major_point_params, resynchronize_params, resynchronize_ack_params};
+ghost use Rattle.osi_spdu.specs.Made.{made, connect_params, accept_params, refuse_params, data_params, abort_params, give_tokens_params};
+ghost use Rattle.osi_spdu.specs.Made.{please_tokens_params, minor_point_params, ack_params, major_point_params, resynchronize_params};
+ghost use Rattle.osi_spdu.specs.Made.{resynchronize_ack_params};
 ghost use Rattle.osi_spdu.specs.Params.{known_of, no_params};
 ghost use Rattle.osi_spdu.specs.Writing.{is_joined, UnitFits};
 

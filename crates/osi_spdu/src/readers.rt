@@ -1,7 +1,8 @@
 //! Accessors of the parameters. Each gives the value by its meaning; the code is in brackets.
 
 ghost use Rattle.std.specs.Prelude.{◌≡◌, [], ◌∷◌, is_some, option_map};
-ghost use Rattle.osi_spdu.specs.Fields.{sync_octet, token_octets, octet_list, requirement_octets, size_octets, enclosure_octet, setting_octets, resync_octet, reason_octets};
+ghost use Rattle.osi_spdu.specs.Fields.{sync_octet, token_octets, octet_list, requirement_octets, size_octets, enclosure_octet};
+ghost use Rattle.osi_spdu.specs.Fields.{setting_octets, resync_octet, reason_octets};
 ghost use Rattle.osi_spdu.specs.Params.{known_of};
 ghost use Rattle.osi_spdu.specs.Values.{digits_of};
 

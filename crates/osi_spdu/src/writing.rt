@@ -1,6 +1,7 @@
 //! The written form of units: only known parameters, in rising order of code.
 
-ghost use Rattle.std.specs.Prelude.{◌≡◌, ◌≤◌, ◌<◌, ◌^◌, ◌+◌, ◌*◌, ◌++◌, [], ◌∷◌, true, length, get_or, set, nat_lt, is_some, Ok, OnOk, OnErr, if◌then◌else◌};
+ghost use Rattle.std.specs.Prelude.{◌≡◌, ◌≤◌, ◌<◌, ◌^◌, ◌+◌, ◌*◌, ◌++◌, [], ◌∷◌, true, length, get_or, set, nat_lt, is_some, Ok, OnOk};
+ghost use Rattle.std.specs.Prelude.{OnErr, if◌then◌else◌};
 ghost use Rattle.std.specs.List.{flat_map};
 ghost use Rattle.bytes.specs.Filled.{UsesSpare};
 ghost use Rattle.osi_spdu.specs.declared.kinds.Category.TheVariants.{Two};
@@ -11,7 +12,8 @@ ghost use Rattle.osi_spdu.specs.Octets.{octets_of};
 ghost use Rattle.osi_spdu.specs.Params.{known_of};
 ghost use Rattle.osi_spdu.specs.Reading.{tsdu_at};
 ghost use Rattle.osi_spdu.specs.Spelling.{length_octets, SpellsTsdu};
-ghost use Rattle.osi_spdu.specs.Writing.{among, written_code, written_item, member_octets, members_octets, group_octets, parameter_octets, body_octets, unit_octets, tsdu_octets, UnitFits, TsduFits};
+ghost use Rattle.osi_spdu.specs.Writing.{among, written_code, written_item, member_octets, members_octets, group_octets, parameter_octets};
+ghost use Rattle.osi_spdu.specs.Writing.{body_octets, unit_octets, tsdu_octets, UnitFits, TsduFits};
 ghost use Rattle.osi_spdu.specs.UnitLengths.{body_length, held, IsHeld, AreHeld, AreLengths};
 ghost use Rattle.osi_spdu.specs.Units.{said_by};
 ghost use Rattle.osi_spdu.specs.Groups.{first_of, behind_of, units_behind, units_of};

@@ -51,9 +51,17 @@ fn make_minor_call(
     user_data: &[u8],
 ) -> Result<(), CallError>
     ensures session { OnOk result (session.new ≡ (react session.old (called (Minor confirm user_data.now))).next) }
-    ensures carrier { OnOk result (carrier.new ≡ record carrier.old { state = answers reference (limit_of session.old.state) (react session.old (called (Minor confirm user_data.now))) carrier.old.state }) }
-    ensures allowed { OnOk result (move_refusal reference (limit_of session.old.state) (react session.old (called (Minor confirm user_data.now))) carrier.old.state ≡ None) }
-    ensures refused { IfErr result (λ e. Refuses e (react session.old (called (Minor confirm user_data.now))).error (move_refusal reference (limit_of session.old.state) (react session.old (called (Minor confirm user_data.now))) carrier.old.state)) }
+    ensures carrier { OnOk result (carrier.new
+        ≡ record carrier.old {
+          state = answers reference (limit_of session.old.state)
+              (react session.old (called (Minor confirm user_data.now))) carrier.old.state;
+        }) }
+    ensures allowed { OnOk
+        result (move_refusal reference (limit_of session.old.state) (react session.old (called (Minor confirm user_data.now)))
+        carrier.old.state ≡ None) }
+    ensures refused { IfErr result (λ e.
+        Refuses e (react session.old (called (Minor confirm user_data.now))).error (move_refusal
+        reference (limit_of session.old.state) (react session.old (called (Minor confirm user_data.now))) carrier.old.state)) }
     ensures err { OnErr result ((session.new ≡ session.old) × (carrier.new ≡ carrier.old)) }
 {
     let plan = session.plan_minor(confirm, user_data)?;
@@ -70,9 +78,17 @@ fn make_minor_confirm_call(
     user_data: &[u8],
 ) -> Result<(), CallError>
     ensures session { OnOk result (session.new ≡ (react session.old (called (MinorConfirm number user_data.now))).next) }
-    ensures carrier { OnOk result (carrier.new ≡ record carrier.old { state = answers reference (limit_of session.old.state) (react session.old (called (MinorConfirm number user_data.now))) carrier.old.state }) }
-    ensures allowed { OnOk result (move_refusal reference (limit_of session.old.state) (react session.old (called (MinorConfirm number user_data.now))) carrier.old.state ≡ None) }
-    ensures refused { IfErr result (λ e. Refuses e (react session.old (called (MinorConfirm number user_data.now))).error (move_refusal reference (limit_of session.old.state) (react session.old (called (MinorConfirm number user_data.now))) carrier.old.state)) }
+    ensures carrier { OnOk result (carrier.new
+        ≡ record carrier.old {
+          state = answers reference (limit_of session.old.state)
+              (react session.old (called (MinorConfirm number user_data.now))) carrier.old.state;
+        }) }
+    ensures allowed { OnOk
+        result (move_refusal reference (limit_of session.old.state) (react session.old (called (MinorConfirm number user_data.now)))
+        carrier.old.state ≡ None) }
+    ensures refused { IfErr result (λ e.
+        Refuses e (react session.old (called (MinorConfirm number user_data.now))).error (move_refusal
+        reference (limit_of session.old.state) (react session.old (called (MinorConfirm number user_data.now))) carrier.old.state)) }
     ensures err { OnErr result ((session.new ≡ session.old) × (carrier.new ≡ carrier.old)) }
 {
     let plan = session.plan_minor_confirm(number, user_data)?;
@@ -89,9 +105,17 @@ fn make_planned_call(
     request: Request,
 ) -> Result<(), CallError>
     ensures session { OnOk result (session.new ≡ (react session.old (called (called_by request.entry))).next) }
-    ensures carrier { OnOk result (carrier.new ≡ record carrier.old { state = answers reference (limit_of session.old.state) (react session.old (called (called_by request.entry))) carrier.old.state }) }
-    ensures allowed { OnOk result (move_refusal reference (limit_of session.old.state) (react session.old (called (called_by request.entry))) carrier.old.state ≡ None) }
-    ensures refused { IfErr result (λ e. Refuses e (react session.old (called (called_by request.entry))).error (move_refusal reference (limit_of session.old.state) (react session.old (called (called_by request.entry))) carrier.old.state)) }
+    ensures carrier { OnOk result (carrier.new
+        ≡ record carrier.old {
+          state = answers reference (limit_of session.old.state) (react session.old (called (called_by request.entry)))
+              carrier.old.state;
+        }) }
+    ensures allowed { OnOk
+        result (move_refusal reference (limit_of session.old.state) (react session.old (called (called_by request.entry)))
+        carrier.old.state ≡ None) }
+    ensures refused { IfErr result (λ e.
+        Refuses e (react session.old (called (called_by request.entry))).error (move_refusal
+        reference (limit_of session.old.state) (react session.old (called (called_by request.entry))) carrier.old.state)) }
     ensures err { OnErr result ((session.new ≡ session.old) × (carrier.new ≡ carrier.old)) }
 {
     let plan = session.plan(request)?;
@@ -115,9 +139,16 @@ fn make_parted_call(
     user_data: &[u8],
 ) -> Result<(), CallError>
     ensures session { OnOk result (session.now ≡ (react session.now (called (Data user_data.now))).next) }
-    ensures carrier { OnOk result (carrier.new ≡ record carrier.old { state = answers reference (limit_of session.now.state) (react session.now (called (Data user_data.now))) carrier.old.state }) }
-    ensures allowed { OnOk result (move_refusal reference (limit_of session.now.state) (react session.now (called (Data user_data.now))) carrier.old.state ≡ None) }
-    ensures refused { IfErr result (λ e. Refuses e (react session.now (called (Data user_data.now))).error (move_refusal reference (limit_of session.now.state) (react session.now (called (Data user_data.now))) carrier.old.state)) }
+    ensures carrier { OnOk result (carrier.new
+        ≡ record carrier.old {
+          state = answers reference (limit_of session.now.state) (react session.now (called (Data user_data.now)))
+              carrier.old.state;
+        }) }
+    ensures allowed { OnOk result (move_refusal reference (limit_of session.now.state) (react session.now (called (Data user_data.now)))
+        carrier.old.state ≡ None) }
+    ensures refused { IfErr result (λ e.
+        Refuses e (react session.now (called (Data user_data.now))).error (move_refusal
+        reference (limit_of session.now.state) (react session.now (called (Data user_data.now))) carrier.old.state)) }
     ensures err { OnErr result (carrier.new ≡ carrier.old) }
 {
     let parts = session.data_parts(user_data)?;
@@ -140,9 +171,17 @@ pub fn make_call(
     request: Request,
 ) -> Result<(), CallError>
     ensures session { OnOk result (session.new ≡ (react session.old (called (called_by request.entry))).next) }
-    ensures carrier { OnOk result (carrier.new ≡ record carrier.old { state = answers reference (limit_of session.old.state) (react session.old (called (called_by request.entry))) carrier.old.state }) }
-    ensures allowed { OnOk result (move_refusal reference (limit_of session.old.state) (react session.old (called (called_by request.entry))) carrier.old.state ≡ None) }
-    ensures refused { IfErr result (λ e. Refuses e (react session.old (called (called_by request.entry))).error (move_refusal reference (limit_of session.old.state) (react session.old (called (called_by request.entry))) carrier.old.state)) }
+    ensures carrier { OnOk result (carrier.new
+        ≡ record carrier.old {
+          state = answers reference (limit_of session.old.state) (react session.old (called (called_by request.entry)))
+              carrier.old.state;
+        }) }
+    ensures allowed { OnOk
+        result (move_refusal reference (limit_of session.old.state) (react session.old (called (called_by request.entry)))
+        carrier.old.state ≡ None) }
+    ensures refused { IfErr result (λ e.
+        Refuses e (react session.old (called (called_by request.entry))).error (move_refusal
+        reference (limit_of session.old.state) (react session.old (called (called_by request.entry))) carrier.old.state)) }
     ensures err { OnErr result ((session.new ≡ session.old) × (carrier.new ≡ carrier.old)) }
 {
     match request {

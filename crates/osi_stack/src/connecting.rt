@@ -112,7 +112,8 @@ pub fn request_connection(
     lines: &mut Lines,
     connect: &Connect,
 ) -> Result<Ref, ConnectError>
-    ensures ok { OnOk result (holding carrier.new lines.new ≡ record (holding carrier.old lines.old) { end = connects connect.now (holding carrier.old lines.old).end }) }
+    ensures ok { OnOk result (holding carrier.new lines.new
+        ≡ record (holding carrier.old lines.old) { end = connects connect.now (holding carrier.old lines.old).end }) }
     ensures reference { IfOk result (λ r. r.0 ≡ carrier.old.state.given + 1) }
     ensures allowed { OnOk result (connect_error connect.now (holding carrier.old lines.old).end ≡ None) }
     ensures refused { IfErr result (λ e. refusal e ≡ connect_error connect.now (holding carrier.old lines.old).end) }

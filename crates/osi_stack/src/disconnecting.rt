@@ -14,7 +14,8 @@ use osi_session::CallError;
 /// Closes the transport connection of a reference if it is open, and gives up its session. Memory is needed only for a
 /// DR; an allocation failure changes nothing.
 pub fn give_up(carrier: &mut Carrier, lines: &mut Lines, reference: u16) -> Result<(), CallError>
-    ensures ok { OnOk result (holding carrier.new lines.new ≡ record (holding carrier.old lines.old) { end = disconnects reference (holding carrier.old lines.old).end }) }
+    ensures ok { OnOk result (holding carrier.new lines.new
+        ≡ record (holding carrier.old lines.old) { end = disconnects reference (holding carrier.old lines.old).end }) }
     ensures err { OnErr result (holding carrier.new lines.new ≡ holding carrier.old lines.old) }
     ensures refused { IfErr result (λ e. e ≡ CallError.OutOfMemory) }
     ensures needed { OnErr result (grows carrier.old.state (closed_with reference 128 carrier.old.state) ≡ true) }

@@ -42,7 +42,8 @@ fn tell_session(
     reference: Ref,
     session_event: SessionEvent,
 ) -> Result<(), AllocError>
-    ensures ok { OnOk result ((holding carrier.new lines.new).end ≡ to_session reference.0 (event_input session_event) (holding carrier.old lines.old).end) }
+    ensures ok { OnOk result ((holding carrier.new lines.new).end
+        ≡ to_session reference.0 (event_input session_event) (holding carrier.old lines.old).end) }
     ensures held { carrier.new.held ≡ carrier.old.held }
     ensures err { OnErr result (Interrupted (holding carrier.old lines.old).end (holding carrier.new lines.new).end) }
     ensures needed { OnErr result (input_needs reference.0 (event_input session_event) (holding carrier.old lines.old).end ≡ true) }
@@ -57,7 +58,8 @@ fn open_session(
     lines: &mut Lines,
     reference: Ref,
 ) -> Result<(), AllocError>
-    ensures ok { OnOk result ((holding carrier.new lines.new).end ≡ opens reference.0 (value_at reference.0 lines.old) (holding carrier.old lines.old).end) }
+    ensures ok { OnOk result ((holding carrier.new lines.new).end
+        ≡ opens reference.0 (value_at reference.0 lines.old) (holding carrier.old lines.old).end) }
     ensures held { carrier.new.held ≡ carrier.old.held }
     ensures err { OnErr result (Interrupted (holding carrier.old lines.old).end (holding carrier.new lines.new).end) }
     ensures needed { OnErr result (opening_needs reference.0 (holding carrier.old lines.old).end ≡ true) }

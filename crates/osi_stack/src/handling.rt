@@ -103,9 +103,14 @@ fn handle_unexpected(
     requires { deque_len waiting.old < deque_capacity waiting.old }
     ensures connects { IfOk result (λ b. b ≡ shows_connect (react session.old (event_input event.now)).shown) }
     ensures session { OnOk result (session.new ≡ (react session.old (event_input event.now)).next) }
-    ensures shown { OnOk result (map shown_by waiting.new.items ≡ map shown_by waiting.old.items ++ (react session.old (event_input event.now)).shown) }
+    ensures shown { OnOk result (map shown_by waiting.new.items ≡ map shown_by waiting.old.items
+        ++ (react session.old (event_input event.now)).shown) }
     ensures room { OnOk result (deque_len waiting.new < deque_capacity waiting.new) }
-    ensures carrier { OnOk result (carrier.new ≡ record carrier.old { state = answers reference (limit_for session.old (event_input event.now)) (react session.old (event_input event.now)) carrier.old.state }) }
+    ensures carrier { OnOk result (carrier.new
+        ≡ record carrier.old {
+          state = answers reference (limit_for session.old (event_input event.now))
+              (react session.old (event_input event.now)) carrier.old.state;
+        }) }
     ensures kept { OnErr result (waiting.new.items ≡ waiting.old.items) }
     ensures len { OnErr result (deque_len waiting.new ≡ deque_len waiting.old) }
     ensures capacity { OnErr result (deque_capacity waiting.old ≤ deque_capacity waiting.new) }
@@ -144,9 +149,14 @@ pub fn handle_event(
     requires { deque_len waiting.old < deque_capacity waiting.old }
     ensures connects { IfOk result (λ b. b ≡ shows_connect (react session.old (event_input event.now)).shown) }
     ensures session { OnOk result (session.new ≡ (react session.old (event_input event.now)).next) }
-    ensures shown { OnOk result (map shown_by waiting.new.items ≡ map shown_by waiting.old.items ++ (react session.old (event_input event.now)).shown) }
+    ensures shown { OnOk result (map shown_by waiting.new.items ≡ map shown_by waiting.old.items
+        ++ (react session.old (event_input event.now)).shown) }
     ensures room { OnOk result (deque_len waiting.new < deque_capacity waiting.new) }
-    ensures carrier { OnOk result (carrier.new ≡ record carrier.old { state = answers reference (limit_for session.old (event_input event.now)) (react session.old (event_input event.now)) carrier.old.state }) }
+    ensures carrier { OnOk result (carrier.new
+        ≡ record carrier.old {
+          state = answers reference (limit_for session.old (event_input event.now))
+              (react session.old (event_input event.now)) carrier.old.state;
+        }) }
     ensures kept { OnErr result (waiting.new.items ≡ waiting.old.items) }
     ensures len { OnErr result (deque_len waiting.new ≡ deque_len waiting.old) }
     ensures capacity { OnErr result (deque_capacity waiting.old ≤ deque_capacity waiting.new) }

@@ -1,6 +1,7 @@
 //! Laws of one end. Each function does nothing: its clauses are the laws.
 
-ghost use Rattle.std.specs.Prelude.{◌≡◌, ◌≢◌, ◌<◌, ◌≤◌, ◌^◌, ◌+◌, ◌⊎◌, ℕ, Bool, List, [], ◌∷◌, ◌++◌, None, Some, IsSome, IfSome, is_some, false, true, length, map, take};
+ghost use Rattle.std.specs.Prelude.{◌≡◌, ◌≢◌, ◌<◌, ◌≤◌, ◌^◌, ◌+◌, ◌⊎◌, ℕ, Bool, List, [], ◌∷◌, ◌++◌, None, Some, IsSome, IfSome, is_some};
+ghost use Rattle.std.specs.Prelude.{false, true, length, map, take};
 ghost use Rattle.std.specs.List.{flat_map};
 ghost use Rattle.osi_tpkt.specs.Held.{fresh};
 ghost use Rattle.osi_tpkt.specs.Packet.{IsPartial};
@@ -30,7 +31,8 @@ ghost use Rattle.osi_session.specs.Parts.{Act, AreParts, HasProfile, act_in_octe
 ghost use Rattle.osi_session.specs.Phases.{is_ended, shows_loss};
 ghost use Rattle.osi_stack.specs.Addresses.{addresses_at, asked_addresses, selectors_in};
 ghost use Rattle.osi_stack.specs.Selectors.{selectors_told, shows_connect};
-ghost use Rattle.osi_stack.specs.Calls.{call_error, table_error, connect_error, connects, carried, breaks, phase_at, first_shown, without_first};
+ghost use Rattle.osi_stack.specs.Calls.{call_error, table_error, connect_error, connects, carried, breaks, phase_at, first_shown};
+ghost use Rattle.osi_stack.specs.Calls.{without_first};
 ghost use Rattle.osi_stack.specs.Disconnecting.{LeavesOthers, disconnects};
 ghost use Rattle.osi_stack.specs.Folds.{AllCameAbout};
 ghost use Rattle.osi_stack.specs.Inputs.{AreMadeBy, Past, Step, StepsAlong, no_past};
@@ -42,12 +44,14 @@ ghost use Rattle.osi_class.specs.declared.terms.Local.{Local};
 ghost use Rattle.osi_stack.specs.Coming.{after_unit, TakesSome};
 ghost use Rattle.osi_stack.specs.Feeding.{Feeds};
 ghost use Rattle.osi_stack.specs.Hearing.{after_packet, all_lost};
-ghost use Rattle.osi_stack.specs.Messages.{Message, Effect, begins, IsWhole, Acts, effect_at, told_at, CanHear, Arrives, kept_at, Becomes, Says, AreLost, all_waiting, waiting_at, IsFirstOf};
+ghost use Rattle.osi_stack.specs.Messages.{Message, Effect, begins, IsWhole, Acts, effect_at, told_at, CanHear, Arrives, kept_at, Becomes};
+ghost use Rattle.osi_stack.specs.Messages.{Says, AreLost, all_waiting, waiting_at, IsFirstOf};
 ghost use Rattle.osi_stack.specs.Moving.{to_session};
 ghost use Rattle.osi_stack.specs.Ordered.{IsOrdered, TellsLowest};
 ghost use Rattle.osi_stack.specs.Parted.{to_session_along};
 ghost use Rattle.osi_stack.specs.Rounds.{Round, RoundsAlong, RoundsAsking, AreInStep, calls_of};
-ghost use Rattle.osi_stack.specs.Runs.{Call as EndCall, CallsAlong, CallsInRoom, Reads, AreAlike, AreAlikeByReference, AreAlikeInLive, LookAlike, used_in};
+ghost use Rattle.osi_stack.specs.Runs.{Call as EndCall, CallsAlong, CallsInRoom, Reads, AreAlike, AreAlikeByReference, AreAlikeInLive};
+ghost use Rattle.osi_stack.specs.Runs.{LookAlike, used_in};
 ghost use Rattle.osi_stack.specs.Settled.{IsSettled};
 ghost use Rattle.osi_stack.specs.State.{Line, End, Holding, IsAttended, fresh_end, session_at, waits, used_lines};
 
@@ -114,12 +118,14 @@ pub fn a_session_that_is_called_has_a_connection()
     ensures begins { (is_caller : Bool) (local : Local) → IsSound (fresh_end is_caller local) }
     ensures connects { (c : Connect) (e : End) → connect_error c e ≡ None → IsSound e → IsSound (connects c e) }
     ensures called { (r : ℕ) (call : Call) (e : End) → IsSound e → IsSound (to_session r (called call) e) }
-    ensures fed { (old new : Holding) (piece : List ℕ) (fed : Fed) → Feeds old piece fed new → IsAttended old.end → IsSound old.end → IsSound new.end }
+    ensures fed { (old new : Holding) (piece : List ℕ) (fed : Fed) → Feeds old piece fed new → IsAttended old.end → IsSound old.end →
+        IsSound new.end }
     ensures shown { (e : End) → IsSound e → IsSound (record e { lines = without_first e.lines }) }
     ensures carried { (octets : ℕ) (e : End) → IsSound e → IsSound (carried octets e) }
     ensures disconnected { (r : ℕ) (e : End) → IsSound e → IsSound (disconnects r e) }
     ensures broken { (e : End) → IsSound (breaks e) }
-    ensures heard { (e : End) (unit : Value) → IsSendable unit → e.carrier.ended ≡ None → IsAttended e → IsSound e → IsSound (after_unit e unit) }
+    ensures heard { (e : End) (unit : Value) → IsSendable unit → e.carrier.ended ≡ None → IsAttended e → IsSound e →
+        IsSound (after_unit e unit) }
 {
     an_ended_session_stays_ended();
     what_closes_sends_nothing();
@@ -131,8 +137,10 @@ pub fn a_session_that_is_called_has_a_connection()
 /// whatever is called and in whatever pieces octets arrive. So the laws of `osi_session` over lists of inputs apply.
 pub fn a_session_is_what_its_inputs_made_it()
     ensures connects { (c : Connect) (e : End) → AllCameAbout e.lines → AllCameAbout (connects c e).lines }
-    ensures called { (r : ℕ) (call : Call) (e : End) → HasSerial call → AllCameAbout e.lines → AllCameAbout (to_session r (called call) e).lines }
-    ensures fed { (old new : Holding) (piece : List ℕ) (fed : Fed) → Feeds old piece fed new → AllCameAbout old.end.lines → AllCameAbout new.end.lines }
+    ensures called { (r : ℕ) (call : Call) (e : End) → HasSerial call → AllCameAbout e.lines →
+        AllCameAbout (to_session r (called call) e).lines }
+    ensures fed { (old new : Holding) (piece : List ℕ) (fed : Fed) → Feeds old piece fed new → AllCameAbout old.end.lines →
+        AllCameAbout new.end.lines }
     ensures shown { (lines : Rows Line) → AllCameAbout lines → AllCameAbout (without_first lines) }
     ensures disconnected { (r : ℕ) (e : End) → AllCameAbout e.lines → AllCameAbout (disconnects r e).lines }
     ensures broken { (e : End) → AllCameAbout e.lines → AllCameAbout (breaks e).lines }
@@ -260,12 +268,16 @@ pub fn what_is_joined_has_a_connection()
 /// user has received a `Connect`. Nothing else that happens to a session changes its selectors, nor does anything that
 /// happens to another session. (For the transport selectors `osi_carrier` says the same; each carrier is `AreNamed`.)
 pub fn what_addresses_a_connection_has()
-    ensures asked { (c : Connect) (e : End) → Soundness e → AreNamed e.carrier → addresses_at (e.carrier.given + 1) (connects c e) ≡ Some (asked_addresses c) }
-    ensures came { (r : ℕ) (input : Input) (session : Listener) (e : End) → kept_at r e.lines ≡ Some session → shows_connect (react session input).shown ≡ true →
+    ensures asked { (c : Connect) (e : End) → Soundness e → AreNamed e.carrier → addresses_at (e.carrier.given + 1) (connects c e)
+        ≡ Some (asked_addresses c) }
+    ensures came { (r : ℕ) (input : Input) (session : Listener) (e : End) → kept_at r e.lines ≡ Some session →
+        shows_connect (react session input).shown ≡ true →
         selectors_in (value_at r (to_session r input e).lines) ≡ selectors_told input }
-    ensures kept { (r : ℕ) (input : Input) (session : Listener) (e : End) → kept_at r e.lines ≡ Some session → shows_connect (react session input).shown ≡ false →
+    ensures kept { (r : ℕ) (input : Input) (session : Listener) (e : End) → kept_at r e.lines ≡ Some session →
+        shows_connect (react session input).shown ≡ false →
         selectors_in (value_at r (to_session r input e).lines) ≡ selectors_in (value_at r e.lines) }
-    ensures others { (q r : ℕ) (input : Input) (e : End) → q ≢ r → selectors_in (value_at q (to_session r input e).lines) ≡ selectors_in (value_at q e.lines) }
+    ensures others { (q r : ℕ) (input : Input) (e : End) → q ≢ r → selectors_in (value_at q (to_session r input e).lines)
+        ≡ selectors_in (value_at q e.lines) }
 {}
 
 /// Data in parts has the effect of the same data in one TSDU. Take the parts in order, with any calls of the session's
@@ -324,14 +336,16 @@ pub fn all_that_is_told_is_heard()
 /// end in one list of pieces, they don't in any other, unless memory runs out. If they end it and memory suffices, they
 /// end it for the same reason, in the same state and with the same indications, whatever the pieces.
 pub fn the_pieces_do_not_matter()
-    ensures calls { (old new : Holding) (calls : List EndCall) → CallsAlong old calls new → new.end.carrier.ended ≡ None → Reads old calls new }
+    ensures calls { (old new : Holding) (calls : List EndCall) → CallsAlong old calls new → new.end.carrier.ended ≡ None →
+        Reads old calls new }
     ensures pieces { (old a b : Holding) (xs ys : List EndCall) → IsPartial old.held.octets → old.held.offset < 2 ^ 64 →
         CallsAlong old xs a → CallsAlong old ys b → flat_map used_in xs ≡ flat_map used_in ys →
         a.end.carrier.ended ≡ None → b.end.carrier.ended ≡ None → AreAlike a xs b ys × (a.held.offset ≡ b.held.offset) }
     ensures lasts { (old a b : Holding) (xs ys : List EndCall) → IsPartial old.held.octets → old.end.carrier.ended ≡ None →
         CallsAlong old xs a → CallsAlong old ys b → flat_map used_in xs ≡ flat_map used_in ys → a.end.carrier.ended ≡ None →
         (b.end.carrier.ended ≡ None) ⊎ (b.end.carrier.ended ≡ Some NoMemory) }
-    ensures ends { (old a b : Holding) (xs ys : List EndCall) → IsPartial old.held.octets → old.held.offset < 2 ^ 64 → old.end.carrier.ended ≡ None →
+    ensures ends { (old a b : Holding) (xs ys : List EndCall) → IsPartial old.held.octets → old.held.offset < 2 ^ 64 →
+        old.end.carrier.ended ≡ None →
         CallsInRoom old xs a → CallsInRoom old ys b → flat_map used_in xs ≡ flat_map used_in ys → a.end.carrier.ended ≢ None →
         AreAlike a xs b ys × (a.held.octets ≡ []) }
     ensures seen { (a b : Holding) (xs ys : List EndCall) → AreAlike a xs b ys → LookAlike a xs b ys }
@@ -361,7 +375,8 @@ pub fn the_pieces_do_not_matter()
 pub fn whole_runs_do_not_hang_on_pieces()
     ensures rounds { (old a b : Holding) (xs ys : List Round) → IsPartial old.held.octets → old.held.offset < 2 ^ 64 →
         RoundsAlong old xs a → RoundsAlong old ys b → AreInStep xs ys → AreAlike a (calls_of xs) b (calls_of ys) }
-    ensures last { (old c d a b : Holding) (xs ys : List Round) (zs ws : List EndCall) → IsPartial old.held.octets → old.held.offset < 2 ^ 64 →
+    ensures last { (old c d a b : Holding) (xs ys : List Round) (zs ws : List EndCall) → IsPartial old.held.octets →
+        old.held.offset < 2 ^ 64 →
         RoundsAlong old xs c → RoundsAlong old ys d → AreInStep xs ys →
         CallsInRoom c zs a → CallsInRoom d ws b → flat_map used_in zs ≡ flat_map used_in ws →
         AreAlike a (calls_of xs ++ zs) b (calls_of ys ++ ws) }
@@ -374,7 +389,8 @@ pub fn whole_runs_do_not_hang_on_pieces()
         AreAlikeInLive (record a { end = connects c a.end }) xs (record b { end = connects c b.end }) ys }
     ensures asking { (old a b : Holding) (xs ys : List Round) → IsSettled old.end → IsPartial old.held.octets → old.held.offset < 2 ^ 64 →
         RoundsAsking old xs a → RoundsAsking old ys b → AreInStep xs ys → AreAlikeInLive a (calls_of xs) b (calls_of ys) }
-    ensures asking_last { (old c d a b : Holding) (xs ys : List Round) (zs ws : List EndCall) → IsSettled old.end → IsPartial old.held.octets →
+    ensures asking_last { (old c d a b : Holding) (xs ys : List Round) (zs ws : List EndCall) → IsSettled old.end →
+        IsPartial old.held.octets →
         old.held.offset < 2 ^ 64 → RoundsAsking old xs c → RoundsAsking old ys d → AreInStep xs ys →
         CallsInRoom c zs a → CallsInRoom d ws b → flat_map used_in zs ≡ flat_map used_in ws →
         AreAlikeInLive a (calls_of xs ++ zs) b (calls_of ys ++ ws) }

@@ -1,6 +1,7 @@
 //! The sessions of one end, each with the pending indications of its user.
 
-ghost use Rattle.std.specs.Prelude.{◌≡◌, ◌+◌, ◌*◌, ◌<◌, ◌≤◌, ◌++◌, ◌∷◌, ◌==◌, [], true, false, cond, length, take, position, is_some, map, Some, None, IfOk, IfErr, IfSome, OnOk, OnErr, option_map, if◌then◌else◌};
+ghost use Rattle.std.specs.Prelude.{◌≡◌, ◌+◌, ◌*◌, ◌<◌, ◌≤◌, ◌++◌, ◌∷◌, ◌==◌, [], true, false, cond, length, take, position, is_some, map};
+ghost use Rattle.std.specs.Prelude.{Some, None, IfOk, IfErr, IfSome, OnOk, OnErr, option_map, if◌then◌else◌};
 ghost use Rattle.std.specs.VecDeque.{deque_len, deque_capacity};
 ghost use Rattle.osi_carrier.specs.Orderly.{RiseFrom};
 ghost use Rattle.osi_carrier.specs.Rows.{value_at};
@@ -14,7 +15,8 @@ ghost use Rattle.osi_stack.specs.Events.{event_input};
 ghost use Rattle.osi_stack.specs.Hearing.{loses, all_lost};
 ghost use Rattle.osi_stack.specs.Moving.{answers, line_by, carrier_by, to_session};
 ghost use Rattle.osi_stack.specs.Needs.{session_needs};
-ghost use Rattle.osi_stack.specs.State.{line_waits, waits, how_many_wait, is_used, used_lines, fresh_line, session_in, joined_live, joined_in};
+ghost use Rattle.osi_stack.specs.State.{line_waits, waits, how_many_wait, is_used, used_lines, fresh_line, session_in, joined_live};
+ghost use Rattle.osi_stack.specs.State.{joined_in};
 ghost use Rattle.osi_stack.specs.Addresses.{selectors_in};
 ghost use Rattle.osi_stack.specs.Selectors.{selectors_sent, selectors_told, session_selectors};
 
@@ -52,7 +54,14 @@ impl Model for Line {
 
     ghost Value = { ℕ × Line };
 
-    ghost view = { λ l. (l.reference, record { session = l.session; waiting = map shown_by l.waiting.items; selectors = option_map session_selectors l.selectors }) };
+    ghost view = { λ l. (
+      l.reference,
+      record {
+        session = l.session;
+        waiting = map shown_by l.waiting.items;
+        selectors = option_map session_selectors l.selectors;
+      },
+    ) };
 
     ghost invariant = { λ l. is_some l.session ≡ true → deque_len l.waiting < deque_capacity l.waiting };
 }
@@ -178,7 +187,8 @@ impl Line {
     ) -> Result<(), AllocError>
         ensures reference { self.new.0 ≡ self.old.0 }
         ensures ok { OnOk result (self.new ≡ (self.old.0, line_by self.old.1 self.old.1.session (event_input event))) }
-        ensures carrier { OnOk result (carrier.new ≡ record carrier.old { state = carrier_by self.old.0 self.old.1.session (event_input event) carrier.old.state }) }
+        ensures carrier { OnOk result (carrier.new
+            ≡ record carrier.old { state = carrier_by self.old.0 self.old.1.session (event_input event) carrier.old.state }) }
         ensures lost { OnErr result (self.new ≡ (self.old.0, loses self.old.1)) }
         ensures err { OnErr result (carrier.new ≡ carrier.old) }
         ensures needed { OnErr result (session_needs self.old.0 self.old.1.session (event_input event) carrier.old.state ≡ true) }
@@ -212,7 +222,8 @@ impl Line {
     ) -> Result<(), AllocError>
         ensures reference { self.new.0 ≡ self.old.0 }
         ensures ok { OnOk result (self.new ≡ (self.old.0, line_by self.old.1 self.old.1.session (event_input event.now))) }
-        ensures carrier { OnOk result (carrier.new ≡ record carrier.old { state = carrier_by self.old.0 self.old.1.session (event_input event.now) carrier.old.state }) }
+        ensures carrier { OnOk result (carrier.new
+            ≡ record carrier.old { state = carrier_by self.old.0 self.old.1.session (event_input event.now) carrier.old.state }) }
         ensures lost { OnErr result (self.new ≡ (self.old.0, loses self.old.1)) }
         ensures err { OnErr result (carrier.new ≡ carrier.old) }
         ensures needed { OnErr result (session_needs self.old.0 self.old.1.session (event_input event.now) carrier.old.state ≡ true) }
@@ -440,11 +451,13 @@ impl Lines {
         event: SessionEvent,
         carrier: &mut Carrier,
     ) -> Result<(), AllocError>
-        ensures ok { OnOk result (record { carrier = carrier.new.state; lines = self.new } ≡ to_session reference (event_input event) (record { carrier = carrier.old.state; lines = self.old })) }
+        ensures ok { OnOk result (record { carrier = carrier.new.state; lines = self.new }
+            ≡ to_session reference (event_input event) (record { carrier = carrier.old.state; lines = self.old })) }
         ensures held { carrier.new.held ≡ carrier.old.held }
         ensures lost { OnErr result (all_lost self.new ≡ all_lost self.old) }
         ensures err { OnErr result (carrier.new ≡ carrier.old) }
-        ensures needed { OnErr result (session_needs reference (session_in (value_at reference self.old)) (event_input event) carrier.old.state ≡ true) }
+        ensures needed { OnErr result (session_needs reference (session_in (value_at reference self.old)) (event_input event)
+            carrier.old.state ≡ true) }
     {
         let Some(place) = place_in(self.rows.as_slice(), self.rises, reference) else {
             return Ok(());
@@ -466,10 +479,14 @@ impl Lines {
         request: Request,
         carrier: &mut Carrier,
     ) -> Result<(), CallError>
-        ensures ok { OnOk result (record { carrier = carrier.new.state; lines = self.new } ≡ to_session reference (called (called_by request.entry)) (record { carrier = carrier.old.state; lines = self.old })) }
+        ensures ok { OnOk result (record { carrier = carrier.new.state; lines = self.new }
+            ≡ to_session reference (called (called_by request.entry)) (record { carrier = carrier.old.state; lines = self.old })) }
         ensures held { carrier.new.held ≡ carrier.old.held }
-        ensures allowed { OnOk result (session_refusal reference (session_in (value_at reference self.old)) (called_by request.entry) carrier.old.state ≡ None) }
-        ensures refused { IfErr result (λ e. Refuses e (session_error (session_in (value_at reference self.old)) (called_by request.entry)) (session_refusal reference (session_in (value_at reference self.old)) (called_by request.entry) carrier.old.state)) }
+        ensures allowed { OnOk result (session_refusal reference (session_in (value_at reference self.old)) (called_by request.entry)
+            carrier.old.state ≡ None) }
+        ensures refused { IfErr result (λ e.
+            Refuses e (session_error (session_in (value_at reference self.old)) (called_by request.entry)) (session_refusal
+            reference (session_in (value_at reference self.old)) (called_by request.entry) carrier.old.state)) }
         ensures err { OnErr result ((self.new ≡ self.old) × (carrier.new ≡ carrier.old)) }
     {
         let Some(place) = place_in(self.rows.as_slice(), self.rises, reference) else {

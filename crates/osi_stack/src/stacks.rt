@@ -51,7 +51,8 @@ impl Model for Stack {
 }
 
 impl Stack {
-    ghost use Rattle.std.specs.Prelude.{◌≡◌, ◌+◌, ◌-◌, ◌*◌, ◌^◌, ◌≤◌, true, false, None, [], Err, IsSome, IfSome, OnOk, OnErr, IfOk, IfErr, option_map, length, min};
+    ghost use Rattle.std.specs.Prelude.{◌≡◌, ◌+◌, ◌-◌, ◌*◌, ◌^◌, ◌≤◌, true, false, None, [], Err, IsSome, IfSome, OnOk, OnErr, IfOk, IfErr};
+    ghost use Rattle.std.specs.Prelude.{option_map, length, min};
     ghost use Rattle.osi_tpkt.specs.Held.{fresh};
     ghost use Rattle.osi_carrier.specs.Calls.{closed_with, unsent_at, backlog_of};
     ghost use Rattle.osi_carrier.specs.Growth.{grows};
@@ -63,7 +64,8 @@ impl Stack {
     ghost use Rattle.osi_session.specs.Phases.{shows_loss};
     ghost use Rattle.osi_session.specs.Shown.{shown_by};
     ghost use Rattle.osi_stack.specs.Addresses.{addresses, addresses_at};
-    ghost use Rattle.osi_stack.specs.Calls.{connect_error, refusal, connects, call_error, table_error, Refuses, by_rule, has_given, held_by, phase_at, numbers_of, first_shown, without_first, carried, is_over, breaks};
+    ghost use Rattle.osi_stack.specs.Calls.{connect_error, refusal, connects, call_error, table_error, Refuses, by_rule, has_given};
+    ghost use Rattle.osi_stack.specs.Calls.{held_by, phase_at, numbers_of, first_shown, without_first, carried, is_over, breaks};
     ghost use Rattle.osi_stack.specs.Disconnecting.{awaits_transport, disconnect_error, disconnects};
     ghost use Rattle.osi_stack.specs.Feeding.{Feeds};
     ghost use Rattle.osi_stack.specs.Moving.{to_session};
@@ -129,9 +131,12 @@ impl Stack {
     /// nothing, and `OutOfMemory` is returned only if no other error applies. Once the end has ended it accepts no
     /// call.
     pub fn call(&mut self, reference: Ref, request: Request) -> Result<(), CallError>
-        ensures ok { OnOk result (self.new ≡ record self.old { end = to_session reference.0 (called (called_by request.entry)) self.old.end }) }
+        ensures ok { OnOk result (self.new
+            ≡ record self.old { end = to_session reference.0 (called (called_by request.entry)) self.old.end }) }
         ensures allowed { OnOk result (call_error reference.0 (called_by request.entry) self.old.end ≡ None) }
-        ensures refused { IfErr result (λ e. Refuses e (table_error reference.0 (called_by request.entry) self.old.end) (call_error reference.0 (called_by request.entry) self.old.end)) }
+        ensures refused { IfErr result (λ e.
+            Refuses e (table_error reference.0 (called_by request.entry) self.old.end) (call_error reference.0 (called_by request.entry)
+            self.old.end)) }
         ensures table { OnOk result (table_error reference.0 (called_by request.entry) self.old.end ≡ None) }
         ensures answered { IfErr result (λ e. by_rule e ≡ table_error reference.0 (called_by request.entry) self.old.end) }
         ensures over { OnOk result (self.old.end.carrier.ended ≡ None) }
@@ -172,7 +177,8 @@ impl Stack {
         ensures ok { OnOk result (self.new ≡ record self.old { end = disconnects reference.0 self.old.end }) }
         ensures allowed { OnOk result (disconnect_error reference.0 self.old.end ≡ None) }
         ensures refused { IfErr result (λ e. by_rule e ≡ disconnect_error reference.0 self.old.end) }
-        ensures needed { result ≡ Err CallError.OutOfMemory → grows self.old.end.carrier (closed_with reference.0 128 self.old.end.carrier) ≡ true }
+        ensures needed { result ≡ Err CallError.OutOfMemory →
+            grows self.old.end.carrier (closed_with reference.0 128 self.old.end.carrier) ≡ true }
         ensures err { OnErr result (self.new ≡ self.old) }
     {
         an_end_is_settled_between_calls();

@@ -22,7 +22,8 @@ const NORMAL: u8 = 128;
 fn send(carrier: &mut Carrier, reference: u16, tsdus: LentTsdus<'_>) -> Result<(), SendError>
     ensures ok { OnOk result (carrier.new ≡ record carrier.old { state = sent_all reference (octets_lent tsdus.entry) carrier.old.state }) }
     ensures allowed { OnOk result (send_all_error (octets_lent tsdus.entry) (open_link reference carrier.old.state) ≡ None) }
-    ensures refused { IfErr result (λ e. sending_error e ≡ send_all_error (octets_lent tsdus.entry) (open_link reference carrier.old.state)) }
+    ensures refused { IfErr result (λ e.
+        sending_error e ≡ send_all_error (octets_lent tsdus.entry) (open_link reference carrier.old.state)) }
     ensures err { OnErr result (carrier.new ≡ carrier.old) }
 {
     match tsdus {
@@ -81,9 +82,11 @@ pub fn answer(
     sent: Option<Sent>,
     closes: bool,
 ) -> Result<(), AllocError>
-    ensures ok { OnOk result (carrier.new ≡ record carrier.old { state = answers_by closes reference (unwrap_or sent []) carrier.old.state }) }
+    ensures ok { OnOk result (carrier.new
+        ≡ record carrier.old { state = answers_by closes reference (unwrap_or sent []) carrier.old.state }) }
     ensures err { OnErr result (carrier.new ≡ carrier.old) }
-    ensures needed { OnErr result ((is_some sent || grows carrier.old.state (answers_by closes reference (unwrap_or sent []) carrier.old.state)) ≡ true) }
+    ensures needed { OnErr
+        result ((is_some sent || grows carrier.old.state (answers_by closes reference (unwrap_or sent []) carrier.old.state)) ≡ true) }
 {
     if closes {
         return close(carrier, reference);
@@ -119,9 +122,12 @@ pub fn send_call(carrier: &mut Carrier, reference: u16, sent: &Sent) -> Result<(
 /// would be on the path of whole data, too.
 #[inline(never)]
 fn send_parts(carrier: &mut Carrier, reference: u16, tsdus: Vec<Vec<u8>>) -> Result<(), CallError>
-    ensures ok { OnOk result (carrier.new ≡ record carrier.old { state = hands reference (map (λ v. v.items) tsdus.items) carrier.old.state }) }
-    ensures allowed { OnOk result (send_refusal (send_all_error (map (λ v. v.items) tsdus.items) (open_link reference carrier.old.state)) ≡ None) }
-    ensures refused { IfErr result (λ e. Refuses e None (send_refusal (send_all_error (map (λ v. v.items) tsdus.items) (open_link reference carrier.old.state)))) }
+    ensures ok { OnOk result (carrier.new
+        ≡ record carrier.old { state = hands reference (map (λ v. v.items) tsdus.items) carrier.old.state }) }
+    ensures allowed { OnOk
+        result (send_refusal (send_all_error (map (λ v. v.items) tsdus.items) (open_link reference carrier.old.state)) ≡ None) }
+    ensures refused { IfErr result (λ e.
+        Refuses e None (send_refusal (send_all_error (map (λ v. v.items) tsdus.items) (open_link reference carrier.old.state)))) }
     ensures err { OnErr result (carrier.new ≡ carrier.old) }
 {
     match carrier.send_all_owned(Ref(reference), tsdus) {
@@ -160,7 +166,8 @@ pub fn send_pieces_call(
     requires { FitTsdus pieces.now }
     ensures ok { OnOk result (carrier.new ≡ record carrier.old { state = hands reference (tsdus_in pieces.now) carrier.old.state }) }
     ensures allowed { OnOk result (send_refusal (send_all_error (tsdus_in pieces.now) (open_link reference carrier.old.state)) ≡ None) }
-    ensures refused { IfErr result (λ e. Refuses e None (send_refusal (send_all_error (tsdus_in pieces.now) (open_link reference carrier.old.state)))) }
+    ensures refused { IfErr result (λ e.
+        Refuses e None (send_refusal (send_all_error (tsdus_in pieces.now) (open_link reference carrier.old.state)))) }
     ensures err { OnErr result (carrier.new ≡ carrier.old) }
 {
     match carrier.send_all_headed(Ref(reference), pieces) {

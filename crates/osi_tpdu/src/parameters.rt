@@ -1,7 +1,8 @@
 //! Reading the parameters of a header (X.224 section 13.2.3).
 
 ghost use Rattle.std.specs.Prelude.{◌≡◌, ◌+◌, ◌<◌, ◌≤◌, ◌^◌, length, IfOk};
-ghost use Rattle.osi_tpdu.specs.Reading.{ReadsAs, parameter_at, with_size, with_calling, with_called, with_additional, with_alternative, with_parameter, known_at, all_skipped_at};
+ghost use Rattle.osi_tpdu.specs.Reading.{ReadsAs, parameter_at, with_size, with_calling, with_called, with_additional, with_alternative};
+ghost use Rattle.osi_tpdu.specs.Reading.{with_parameter, known_at, all_skipped_at};
 ghost use Rattle.osi_tpdu.specs.View.{parameter_values};
 
 use crate::connect::ConnectParameters;

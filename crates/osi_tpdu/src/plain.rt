@@ -137,7 +137,8 @@ impl<'a> DataClass2<'a> {
     pub fn put_packet_behind(&self, head: &[u8], out: &mut BytesMut)
         requires short { length head.now + length self.now.user.now ≤ 65526 }
         requires room { 9 + length head.now + length self.now.user.now ≤ out.old.spare }
-        ensures items { out.new.items ≡ out.old.items ++ packet_of (written (data2 self.now.destination self.now.number self.now.end (head.now ++ self.now.user.now))) }
+        ensures items { out.new.items ≡ out.old.items
+            ++ packet_of (written (data2 self.now.destination self.now.number self.now.end (head.now ++ self.now.user.now))) }
         ensures spare { out.new.spare + (9 + length head.now + length self.now.user.now) ≡ out.old.spare }
     {
         let size = 9 + head.len() + self.user.len();

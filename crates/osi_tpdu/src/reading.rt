@@ -1,7 +1,8 @@
 //! Reading one unit (X.224 section 13).
 
 ghost use Rattle.std.specs.Prelude.{◌≡◌, ◌+◌, ◌<◌, ◌≤◌, ◌^◌, length, IfOk};
-ghost use Rattle.osi_tpdu.specs.Reading.{ReadsAs, header_at, connect_of, request_of, confirm_of, disconnect_of, disconnected_of, transfer_of, acknowledge_of, error_of, value_of, unit_at};
+ghost use Rattle.osi_tpdu.specs.Reading.{ReadsAs, header_at, connect_of, request_of, confirm_of, disconnect_of, disconnected_of};
+ghost use Rattle.osi_tpdu.specs.Reading.{transfer_of, acknowledge_of, error_of, value_of, unit_at};
 ghost use Rattle.osi_tpdu.specs.View.{connect_content, value};
 ghost use Rattle.osi_tpdu.specs.Writing.{Fits};
 

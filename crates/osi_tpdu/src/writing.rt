@@ -1,13 +1,15 @@
 //! Writing one unit, in the one form that this library writes (X.224 section 13).
 
-ghost use Rattle.std.specs.Prelude.{ℕ, ◌≡◌, ◌+◌, ◌*◌, ◌<◌, ◌≤◌, ◌^◌, ◌++◌, ◌∷◌, [], length, Ok, IsOk, IfSome, OnOk, OnErr, option_copied, option_map};
+ghost use Rattle.std.specs.Prelude.{ℕ, ◌≡◌, ◌+◌, ◌*◌, ◌<◌, ◌≤◌, ◌^◌, ◌++◌, ◌∷◌, [], length, Ok, IsOk, IfSome, OnOk, OnErr, option_copied};
+ghost use Rattle.std.specs.Prelude.{option_map};
 ghost use Rattle.std.specs.List.{flat_map};
 ghost use Rattle.bytes.specs.Filled.{UsesSpare};
 ghost use Rattle.osi_tpkt.specs.Octets.{IsOctets};
 ghost use Rattle.osi_tpdu.specs.Limits.{size_code, selector_octets};
 ghost use Rattle.osi_tpdu.specs.Packet.{units_of};
 ghost use Rattle.osi_tpdu.specs.Spelling.{item_octets, single, Spells};
-ghost use Rattle.osi_tpdu.specs.Value.{request, confirm, disconnect, disconnected, data0, data2, acknowledge, error, AreParameters, IsConnect, HasFieldsInRange};
+ghost use Rattle.osi_tpdu.specs.Value.{request, confirm, disconnect, disconnected, data0, data2, acknowledge, error, AreParameters};
+ghost use Rattle.osi_tpdu.specs.Value.{IsConnect, HasFieldsInRange};
 ghost use Rattle.osi_tpdu.specs.View.{parameter_values, connect_content, request_content, confirm_content, value};
 ghost use Rattle.osi_tpdu.specs.Writing.{items_of, written_items, connect_header, written_header, written, HasRoom};
 
@@ -117,7 +119,8 @@ fn put_size(out: &mut BytesMut, size: Option<SizeCode>)
 fn put_selector(out: &mut BytesMut, code: u8, selector: Option<Selector<'_>>)
     requires { length (flat_map item_octets (items_of code (option_map selector_octets selector))) ≤ out.old.spare }
     ensures items { out.new.items ≡ out.old.items ++ flat_map item_octets (items_of code (option_map selector_octets selector.entry)) }
-    ensures spare { out.new.spare + length (flat_map item_octets (items_of code (option_map selector_octets selector.entry))) ≡ out.old.spare }
+    ensures spare { out.new.spare + length (flat_map item_octets (items_of code (option_map selector_octets selector.entry)))
+        ≡ out.old.spare }
     ensures in_range { IfSome (option_map selector_octets selector.entry) (λ s. (length s ≤ 32) × IsOctets s) }
 {
     if let Some(selector) = selector {
@@ -140,7 +143,8 @@ fn put_classes(out: &mut BytesMut, classes: Option<&[u8]>)
     requires counted { length (flat_map item_octets (items_of ALTERNATIVE_CLASSES (option_copied classes))) ≤ 254 }
     requires room { length (flat_map item_octets (items_of ALTERNATIVE_CLASSES (option_copied classes))) ≤ out.old.spare }
     ensures items { out.new.items ≡ out.old.items ++ flat_map item_octets (items_of ALTERNATIVE_CLASSES (option_copied classes.entry)) }
-    ensures spare { out.new.spare + length (flat_map item_octets (items_of ALTERNATIVE_CLASSES (option_copied classes.entry))) ≡ out.old.spare }
+    ensures spare { out.new.spare + length (flat_map item_octets (items_of ALTERNATIVE_CLASSES (option_copied classes.entry)))
+        ≡ out.old.spare }
     ensures in_range { IfSome (option_copied classes.entry) IsOctets }
 {
     if let Some(classes) = classes {
@@ -170,8 +174,10 @@ fn put_connect(out: &mut BytesMut, code: u8, destination: u16, c: &ConnectFields
     requires counted { length (connect_header code destination (connect_content c.now)) ≤ 254 }
     requires room { 1 + length (connect_header code destination (connect_content c.now)) + length c.now.user.now ≤ out.old.spare }
     ensures items { out.new.items ≡ out.old.items
-        ++ length (connect_header code destination (connect_content c.now)) ∷ connect_header code destination (connect_content c.now) ++ c.now.user.now }
-    ensures spare { out.new.spare + (1 + length (connect_header code destination (connect_content c.now)) + length c.now.user.now) ≡ out.old.spare }
+        ++ length (connect_header code destination (connect_content c.now)) ∷ connect_header code destination (connect_content c.now)
+        ++ c.now.user.now }
+    ensures spare { out.new.spare + (1 + length (connect_header code destination (connect_content c.now)) + length c.now.user.now)
+        ≡ out.old.spare }
     ensures in_range { IsConnect (connect_content c.now) }
 {
     let li = (6 + parameters_len(&c.parameters)) as u8;
@@ -206,7 +212,8 @@ fn put_confirm(out: &mut BytesMut, c: &ConnectConfirm<'_>)
 fn put_disconnect(out: &mut BytesMut, d: &DisconnectRequest<'_>)
     requires { length (written (disconnect d.now.destination d.now.source d.now.reason d.now.user.now)) ≤ out.old.spare }
     ensures items { out.new.items ≡ out.old.items ++ written (disconnect d.now.destination d.now.source d.now.reason d.now.user.now) }
-    ensures spare { out.new.spare + length (written (disconnect d.now.destination d.now.source d.now.reason d.now.user.now)) ≡ out.old.spare }
+    ensures spare { out.new.spare + length (written (disconnect d.now.destination d.now.source d.now.reason d.now.user.now))
+        ≡ out.old.spare }
     ensures in_range { HasFieldsInRange (disconnect d.now.destination d.now.source d.now.reason d.now.user.now) }
 {
     let (to_high, to_low) = (high_octet(d.destination), low_octet(d.destination));

@@ -1,6 +1,7 @@
 //! Headers of packets, in one piece or in several.
 
-ghost use Rattle.std.specs.Prelude.{◌≡◌, ◌≢◌, ◌<◌, ◌≤◌, ◌+◌, ◌*◌, ◌++◌, ◌↔◌, ℕ, List, length, take, Err, IfOk, IfSome, IfNone, OnOk, false, MatchBool, MatchOption, slice_index};
+ghost use Rattle.std.specs.Prelude.{◌≡◌, ◌≢◌, ◌<◌, ◌≤◌, ◌+◌, ◌*◌, ◌++◌, ◌↔◌, ℕ, List, length, take, Err, IfOk, IfSome, IfNone, OnOk, false};
+ghost use Rattle.std.specs.Prelude.{MatchBool, MatchOption, slice_index};
 ghost use Rattle.osi_tpkt.specs.Packet.{IsPacket, IsBadVersion, IsBadLength};
 ghost use Rattle.osi_tpkt.specs.Header.{IsFront, IsFull, IsUnfinished};
 

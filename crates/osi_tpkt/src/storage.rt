@@ -1,6 +1,7 @@
 //! The buffer of a packet. All its octets are initialised; the first ones are those of the packet.
 
-ghost use Rattle.std.specs.Prelude.{◌≡◌, ◌+◌, ◌<◌, ◌≤◌, ◌++◌, length, take, max, false, IsTrue, IfSome, IfNone, OnOk, OnErr, vec_len, vec_capacity};
+ghost use Rattle.std.specs.Prelude.{◌≡◌, ◌+◌, ◌<◌, ◌≤◌, ◌++◌, length, take, max, false, IsTrue, IfSome, IfNone, OnOk, OnErr, vec_len};
+ghost use Rattle.std.specs.Prelude.{vec_capacity};
 ghost use Rattle.osi_tpkt.specs.Header.{IsFront, IsFull};
 
 use crate::headers::whole_length;
