@@ -8,5 +8,8 @@ pub mod tsdus_that_are_sent_together
 pub mod tsdus_are_written_straight
 pub mod octets_are_cut_into_tsdus
 pub mod whether_all_tsdus_may_go_now
+pub mod what_is_left_after_some_units
+pub mod some_units_may_go_now
+pub mod what_is_copied_of_pieces
 pub mod pieces_are_written_straight
 pub mod what_needs_memory_does_something

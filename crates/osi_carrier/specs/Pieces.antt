@@ -1,5 +1,9 @@
 -- Octets that are sent as TSDUs together: in pieces of one size, each after its head.
-use Rattle.std.specs.Prelude.{ℕ, zero, suc, ◌+◌, ◌<◌, ◌≤◌, nat_le, if◌then◌else◌, List, [], ◌∷◌, ◌++◌, length, take, drop}
+use Rattle.std.specs.Prelude.{◌≡◌, ℕ, zero, suc, ◌+◌, ◌^◌, ◌<◌, ◌≤◌, nat_le, if◌then◌else◌, List, [], ◌∷◌, ◌++◌, length, take, drop}
+use Rattle.std.specs.Prelude.{Option, Some, None}
+use Rattle.osi_class.specs.Giving.{one_by_one}
+use Rattle.osi_class.specs.Link.{Standing}
+use Rattle.osi_class.specs.Tsdus.{Part, give, octets_of_tsdus}
 use Rattle.osi_carrier.specs.declared.pieces.Pieces.{Pieces}
 
 -- TSDUs with `size` octets each, after their heads; the last has the rest
@@ -26,3 +30,22 @@ pub record FitTsdus (p : Pieces) : Type 0 where
   pub first : FitsTsdu p.size p.first.now
   pub middle : FitsTsdu p.size p.middle.now
   pub last : FitsTsdu p.size p.last.now
+
+-- ---- what waits
+
+-- without the next part, what is left after more of them; all of it if there is no part
+abbrev pub left_by : List (List ℕ) → Option (Part × List (List ℕ)) → (List (List ℕ) → List (List ℕ)) → List (List ℕ)
+left_by tsdus None more = tsdus
+left_by tsdus (Some (part, rest)) more = more rest
+
+-- what is left of TSDUs after so many units, each with at most `limit` octets of one
+abbrev pub left_after : (units limit : ℕ) → List (List ℕ) → List (List ℕ)
+left_after zero limit tsdus = tsdus
+left_after (suc n) limit tsdus = left_by tsdus (give limit tsdus) (left_after n limit)
+
+-- Nothing is to be sent before TSDUs that are handed in together, and this many of their units may be sent now. Then the
+-- link keeps what is left of them. Their octets can be counted.
+pub record SomeGo (link : Standing) (units : ℕ) (tsdus : List (List ℕ)) : Type 0 where
+  pub alone : link.ends.unsent ≡ []
+  pub left : (one_by_one link tsdus).ends.unsent ≡ left_after units link.ends.limit tsdus
+  pub counted : octets_of_tsdus tsdus < 2 ^ 64

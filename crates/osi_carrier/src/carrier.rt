@@ -172,10 +172,10 @@ impl Carrier {
     }
 
     /// Sends TSDUs together as [`Carrier::send_all`] does. They are cut from octets in pieces of one size, and each piece
-    /// goes after its head, such as a header. If all their units may be sent now, they are written straight from the
-    /// heads and the pieces, and no memory is needed but for their room in [`Carrier::outgoing`]. Otherwise copies of the
-    /// TSDUs are kept, and what may be sent now is written from them. The errors are those of [`Carrier::send_all`], and
-    /// `TooLong` also if a piece has no octet or a head more than 123. An error changes nothing.
+    /// goes after its head, such as a header. What may be sent now is written straight from the heads and the pieces. If
+    /// that is all, no memory is needed but for its room in [`Carrier::outgoing`]. Otherwise a copy of the rest is kept.
+    /// The errors are those of [`Carrier::send_all`], and `TooLong` also if a piece has no octet or a head more than 123.
+    /// An error changes nothing.
     pub fn send_all_headed(&mut self, reference: Ref, pieces: &Pieces<'_>) -> Result<(), SendError>
         ensures ok { OnOk result (self.new ≡ record self.old { state = sent_all reference.0 (tsdus_in pieces.now) self.old.state }) }
         ensures allowed { OnOk result (send_all_error (tsdus_in pieces.now) (open_link reference.0 self.old.state) ≡ None) }

@@ -3,12 +3,12 @@
 ghost use Rattle.std.specs.Prelude.{ℕ, List, ◌≡◌, ◌<◌, ◌≤◌, ◌+◌, ◌*◌, ◌^◌, ◌++◌, [], None, true, false, nat_lt, length, drop, map, IfOk, IfSome, IsOk, IsSome, OnOk, OnErr};
 ghost use Rattle.std.specs.Cow.{cow_slice_items, IsOwnedSlice};
 ghost use Rattle.osi_class.specs.AnyLink.{any_standing};
-ghost use Rattle.osi_class.specs.Giving.{all_given, most_given, octets_in, octets_in_parts, one_by_one, units_needed, AllGoAtOnce};
+ghost use Rattle.osi_class.specs.Giving.{most_given, octets_in_parts, one_by_one, units_needed, AllGoAtOnce};
 ghost use Rattle.osi_class.specs.Link.{next, with_tsdu, with_tsdus};
 ghost use Rattle.osi_class.specs.Tsdus.{octets_of_tsdus};
 ghost use Rattle.osi_carrier.specs.Calls.{WaitsAlone, WaitTogether};
-ghost use Rattle.osi_carrier.specs.Pieces.{tsdus_in, FitTsdus};
-ghost use Rattle.osi_carrier.specs.Pump.{pumped, written_by, written_for};
+ghost use Rattle.osi_carrier.specs.Pieces.{tsdus_in, FitTsdus, SomeGo};
+ghost use Rattle.osi_carrier.specs.Pump.{left_of, pumped, written_by, written_for, LeavesRest};
 ghost use Rattle.osi_carrier.specs.State.{packets};
 
 use crate::pieces::Pieces;
@@ -17,7 +17,7 @@ use bytes::BytesMut;
 use osi_class::laws::{
     all_go_at_once, all_is_given, giving_ends, many_go_as_one_by_one, what_units_take,
 };
-use osi_class::{AnyLink, Link, LinkFault};
+use osi_class::{AnyLink, Link, LinkFault, Room};
 use std::alloc::{AllocError, Global};
 use std::borrow::CowSlice;
 
@@ -117,7 +117,6 @@ fn keep(link: &mut AnyLink, tsdu: CowSlice<'_, u8, Global>) -> Result<(), AllocE
 /// writes all units that the link then gives. It is kept only if not all of it may be sent, and copied only if it was
 /// borrowed. An allocation failure changes nothing: the room for the units is reserved first.
 pub fn send_parts(
-    alloc: Global,
     link: &mut AnyLink,
     peer: u16,
     tsdu: CowSlice<'_, u8, Global>,
@@ -131,11 +130,13 @@ pub fn send_parts(
     ensures kept { IsOwnedSlice tsdu.entry → WaitsAlone (any_standing link.old) (cow_slice_items tsdu.entry) → IsOk result }
 {
     all_is_given();
+    // Named for the proof: each unit has room for some octets.
+    let _limit = link.limit();
     let octets = tsdu.as_slice();
     let room = link.room_for(octets.len());
     out.reserve(room.octets + MOST_HEADERS * room.units)?;
     if room.octets == octets.len() && room.units > 0 {
-        write_parts(link, peer, octets, Vec::new(alloc), out);
+        write_parts(link, peer, octets, out);
         return Ok(());
     }
     keep(link, tsdu)?;
@@ -160,7 +161,7 @@ fn keep_all(link: &mut AnyLink, tsdus: CowSlice<'_, Vec<u8>, Global>) -> Result<
 
 /// Writes all units of TSDUs straight from their octets, one TSDU after the other. They may all go now, and there is
 /// room for them in `out`.
-fn write_all(alloc: Global, link: &mut AnyLink, peer: u16, tsdus: &[Vec<u8>], out: &mut BytesMut)
+fn write_all(link: &mut AnyLink, peer: u16, tsdus: &[Vec<u8>], out: &mut BytesMut)
     requires go { AllGoAtOnce (any_standing link.old) (map (λ v. v.items) tsdus.now) }
     requires quiet { next (any_standing link.old) ≡ None }
     requires limit { 0 < (any_standing link.old).ends.limit }
@@ -171,7 +172,7 @@ fn write_all(alloc: Global, link: &mut AnyLink, peer: u16, tsdus: &[Vec<u8>], ou
 {
     all_go_at_once();
     'tsdus: for tsdu in tsdus {
-        write_parts(link, peer, tsdu, Vec::new(alloc), out);
+        write_parts(link, peer, tsdu, out);
     }
 }
 
@@ -181,7 +182,6 @@ fn write_all(alloc: Global, link: &mut AnyLink, peer: u16, tsdus: &[Vec<u8>], ou
 /// that only wait need no memory.
 #[tactic(auto, using(crate::proofs::written::nothing_takes_no_room::nothing_takes_no_room))]
 pub fn send_all_on(
-    alloc: Global,
     link: &mut AnyLink,
     peer: u16,
     tsdus: CowSlice<'_, Vec<u8>, Global>,
@@ -206,7 +206,7 @@ pub fn send_all_on(
     };
     out.reserve(room)?;
     if link.gives_all(lent) {
-        write_all(alloc, link, peer, lent, out);
+        write_all(link, peer, lent, out);
         return Ok(());
     }
     keep_all(link, tsdus)?;
@@ -216,39 +216,61 @@ pub fn send_all_on(
     Ok(())
 }
 
-/// Writes the units of a TSDU that may be sent now, part after part, straight from its octets, and lets the link keep
-/// `kept`: the octets that may not be sent yet. There is room for the units in `out`.
-fn write_parts(link: &mut AnyLink, peer: u16, tsdu: &[u8], kept: Vec<u8>, out: &mut BytesMut)
+/// Writes the units of a TSDU that may be sent now, part after part, straight from its octets. Whether these are all: if
+/// not, what is left of it is still to be handed in. There is room for the units in `out`.
+fn write_parts(link: &mut AnyLink, peer: u16, tsdu: &[u8], out: &mut BytesMut) -> bool
     requires quiet { next (any_standing link.old) ≡ None }
     requires alone { (any_standing link.old).ends.unsent ≡ [] }
-    requires kept { kept.items ≡ drop (octets_in (all_given (with_tsdu (any_standing link.old) tsdu.now))) tsdu.now }
     requires room { length (packets (written_by peer (with_tsdu (any_standing link.old) tsdu.now))) ≤ out.old.spare }
-    ensures link { any_standing link.new ≡ pumped (with_tsdu (any_standing link.old) tsdu.now) }
+    ensures link { LeavesRest result (any_standing link.old) tsdu.now (any_standing link.new) }
     ensures written { out.new.items ≡ out.old.items ++ packets (written_by peer (with_tsdu (any_standing link.old) tsdu.now)) }
     ensures pumped { next (any_standing link.new) ≡ None }
+    ensures alone { (any_standing link.new).ends.unsent ≡ [] }
     ensures spare { length out.old.items + out.old.spare ≤ length out.new.items + out.new.spare }
 {
     let mut rest = tsdu;
     'parts: loop {
         let carried = link.limit().min(rest.len());
         let Some(slot) = link.give_slot() else {
-            let Ok(()) = link.send_owned(kept) else {
-                unreachable!()
-            };
-            return;
+            return false;
         };
         let (part, behind) = rest.split_at(carried);
         let end = behind.is_empty();
         put_part(out, peer, slot, end, &[], part);
         if end {
-            return;
+            return true;
         }
         rest = behind;
     }
 }
 
-/// The same for a TSDU whose first octets are given apart, and of which a part is sent now.
-fn write_headed(
+/// The same for a TSDU whose first octets are given apart.
+fn write_headed(link: &mut AnyLink, peer: u16, head: &[u8], body: &[u8], out: &mut BytesMut) -> bool
+    requires short { length head.now ≤ 123 }
+    requires quiet { next (any_standing link.old) ≡ None }
+    requires alone { (any_standing link.old).ends.unsent ≡ [] }
+    requires room { length (packets (written_by peer (with_tsdu (any_standing link.old) (head.now ++ body.now)))) ≤ out.old.spare }
+    ensures link { LeavesRest result (any_standing link.old) (head.now ++ body.now) (any_standing link.new) }
+    ensures written { out.new.items ≡ out.old.items ++ packets (written_by peer (with_tsdu (any_standing link.old) (head.now ++ body.now))) }
+    ensures pumped { next (any_standing link.new) ≡ None }
+    ensures alone { (any_standing link.new).ends.unsent ≡ [] }
+    ensures spare { length out.old.items + out.old.spare ≤ length out.new.items + out.new.spare }
+{
+    let carried = (link.limit() - head.len()).min(body.len());
+    let Some(slot) = link.give_slot() else {
+        return false;
+    };
+    let (part, rest) = body.split_at(carried);
+    let end = rest.is_empty();
+    put_part(out, peer, slot, end, head, part);
+    if end {
+        return true;
+    }
+    write_parts(link, peer, rest, out)
+}
+
+/// The same, and lets the link keep `kept`: the octets that may not be sent yet.
+fn write_keeping(
     link: &mut AnyLink,
     peer: u16,
     head: &[u8],
@@ -258,25 +280,21 @@ fn write_headed(
 )
     requires short { length head.now ≤ 123 }
     requires quiet { next (any_standing link.old) ≡ None }
-    requires some { 0 < length (all_given (with_tsdu (any_standing link.old) (head.now ++ body.now))) }
-    requires kept { kept.items ≡ drop (octets_in (all_given (with_tsdu (any_standing link.old) (head.now ++ body.now)))) (head.now ++ body.now) }
+    requires alone { (any_standing link.old).ends.unsent ≡ [] }
+    requires kept { kept.items ≡ left_of (any_standing link.old) (head.now ++ body.now) }
     requires room { length (packets (written_by peer (with_tsdu (any_standing link.old) (head.now ++ body.now)))) ≤ out.old.spare }
     ensures link { any_standing link.new ≡ pumped (with_tsdu (any_standing link.old) (head.now ++ body.now)) }
     ensures written { out.new.items ≡ out.old.items ++ packets (written_by peer (with_tsdu (any_standing link.old) (head.now ++ body.now))) }
     ensures pumped { next (any_standing link.new) ≡ None }
-    ensures spare { length out.old.items + out.old.spare ≤ length out.new.items + out.new.spare }
 {
-    let carried = (link.limit() - head.len()).min(body.len());
-    let Some(slot) = link.give_slot() else {
-        unreachable!()
-    };
-    let (part, rest) = body.split_at(carried);
-    let end = rest.is_empty();
-    put_part(out, peer, slot, end, head, part);
-    if end {
+    // Named for the proof: each unit has room for some octets.
+    let _limit = link.limit();
+    if write_headed(link, peer, head, body, out) {
         return;
     }
-    write_parts(link, peer, rest, kept, out);
+    let Ok(()) = link.send_owned(kept) else {
+        unreachable!()
+    };
 }
 
 /// A copy of what is left of a TSDU, given as its first octets and the others, after this many octets. No memory is
@@ -335,14 +353,14 @@ pub fn send_headed_parts(
     out.reserve(room.octets + MOST_HEADERS * room.units)?;
     if room.units > 0 && head.len() <= LEAST_LIMIT {
         let kept = rest_behind(alloc, head, body, room.octets)?;
-        write_headed(link, peer, head, body, kept, out);
+        write_keeping(link, peer, head, body, kept, out);
         return Ok(());
     }
     if head.is_empty() {
-        return send_parts(alloc, link, peer, CowSlice::Borrowed(body), out);
+        return send_parts(link, peer, CowSlice::Borrowed(body), out);
     }
     let tsdu = joined(alloc, head, body)?;
-    send_parts(alloc, link, peer, CowSlice::Owned(tsdu), out)
+    send_parts(link, peer, CowSlice::Owned(tsdu), out)
 }
 
 /// Whether so many units of data may be sent now: as many octets as they carry at most would go at once. `false` also if
@@ -381,15 +399,60 @@ fn room_at_once(link: &AnyLink, pieces: &Pieces<'_>) -> Option<usize>
     room.octets.checked_add(headers)
 }
 
-/// Writes all units of the TSDUs that are cut, straight from their heads and pieces, one TSDU after the other. They may
-/// all go now, and there is room for them in `out`.
-fn write_pieces(
-    alloc: Global,
-    link: &mut AnyLink,
-    peer: u16,
-    pieces: &Pieces<'_>,
-    out: &mut BytesMut,
-)
+/// How many units of the TSDUs that are cut may be sent now, and the room for them, if these are some and not all. `None`
+/// in all other cases, and if so much room, or the octets of so many full units, don't fit a `usize`.
+fn some_at_once(link: &AnyLink, pieces: &Pieces<'_>) -> Option<Room>
+    requires quiet { next (any_standing link.now) ≡ None }
+    requires fit { FitTsdus pieces.now }
+    ensures go { IfSome result (λ some. SomeGo (any_standing link.now) some.units (tsdus_in pieces.now)) }
+    ensures enough { IfSome result (λ some. (peer : ℕ) → length (packets (written_for peer (any_standing link.now) (tsdus_in pieces.now))) ≤ some.octets) }
+{
+    let limit = link.limit();
+    let all = pieces.room(limit)?;
+    let full = all.units.checked_mul(limit)?;
+    let units = link.room_for(full).units;
+    if units == 0 {
+        return None;
+    }
+    if units == all.units {
+        return None;
+    }
+    let headers = all.units.checked_mul(MOST_HEADERS)?;
+    let octets = all.octets.checked_add(headers)?;
+    let most = units.checked_mul(limit + MOST_HEADERS)?;
+    Some(Room {
+        units,
+        octets: octets.min(most),
+    })
+}
+
+/// Writes the units of the TSDUs that are cut that may be sent now, straight from their heads and pieces, one TSDU after
+/// the other. What is left of them is still to be handed in. There is room for the units in `out`.
+fn write_some(link: &mut AnyLink, peer: u16, pieces: &Pieces<'_>, out: &mut BytesMut)
+    requires quiet { next (any_standing link.old) ≡ None }
+    requires alone { (any_standing link.old).ends.unsent ≡ [] }
+    requires limit { 0 < (any_standing link.old).ends.limit }
+    requires fit { FitTsdus pieces.now }
+    requires room { length (packets (written_for peer (any_standing link.old) (tsdus_in pieces.now))) ≤ out.old.spare }
+    ensures link { with_tsdus (any_standing link.new) (one_by_one (any_standing link.old) (tsdus_in pieces.now)).ends.unsent ≡ one_by_one (any_standing link.old) (tsdus_in pieces.now) }
+    ensures alone { (any_standing link.new).ends.unsent ≡ [] }
+    ensures written { out.new.items ≡ out.old.items ++ packets (written_for peer (any_standing link.old) (tsdus_in pieces.now)) }
+{
+    let mut head = pieces.first;
+    let mut rest = pieces.octets;
+    'pieces: while rest.len() > pieces.size {
+        let (piece, behind) = rest.split_at(pieces.size);
+        if !write_headed(link, peer, head, piece, out) {
+            return;
+        }
+        head = pieces.middle;
+        rest = behind;
+    }
+    write_headed(link, peer, pieces.last, rest, out);
+}
+
+/// Writes all units of the TSDUs that are cut, as [`write_some`] does. They may all go now.
+fn write_pieces(link: &mut AnyLink, peer: u16, pieces: &Pieces<'_>, out: &mut BytesMut)
     requires go { AllGoAtOnce (any_standing link.old) (tsdus_in pieces.now) }
     requires quiet { next (any_standing link.old) ≡ None }
     requires limit { 0 < (any_standing link.old).ends.limit }
@@ -399,21 +462,67 @@ fn write_pieces(
     ensures written { out.new.items ≡ out.old.items ++ packets (written_for peer (any_standing link.old) (tsdus_in pieces.now)) }
     ensures pumped { next (any_standing link.new) ≡ None }
 {
-    let mut head = pieces.first;
-    let mut rest = pieces.octets;
-    'pieces: while rest.len() > pieces.size {
-        let (piece, behind) = rest.split_at(pieces.size);
-        write_headed(link, peer, head, piece, Vec::new(alloc), out);
-        head = pieces.middle;
-        rest = behind;
+    write_some(link, peer, pieces, out);
+}
+
+/// Hands in the TSDUs that are cut, of which this many units may be sent now, and writes these. They are written straight
+/// from the pieces, and the link keeps a copy of what is left. An allocation failure changes nothing: all that is kept is
+/// copied, and the room for the units is reserved, before the first is written.
+fn send_some(
+    alloc: Global,
+    link: &mut AnyLink,
+    peer: u16,
+    pieces: &Pieces<'_>,
+    some: Room,
+    out: &mut BytesMut,
+) -> Result<(), AllocError>
+    requires quiet { next (any_standing link.old) ≡ None }
+    requires fit { FitTsdus pieces.now }
+    requires go { SomeGo (any_standing link.old) some.units (tsdus_in pieces.now) }
+    requires enough { length (packets (written_for peer (any_standing link.old) (tsdus_in pieces.now))) ≤ some.octets }
+    ensures link { OnOk result (any_standing link.new ≡ one_by_one (any_standing link.old) (tsdus_in pieces.now)) }
+    ensures ok { OnOk result (out.new.items ≡ out.old.items ++ packets (written_for peer (any_standing link.old) (tsdus_in pieces.now))) }
+    ensures pumped { OnOk result (next (any_standing link.new) ≡ None) }
+    ensures err { OnErr result ((any_standing link.new ≡ any_standing link.old) × (out.new.items ≡ out.old.items)) }
+{
+    let kept = pieces.copies(alloc, link.limit(), some.units)?;
+    out.reserve(some.octets)?;
+    write_some(link, peer, pieces, out);
+    let Ok(()) = link.send_owned_tsdus(kept) else {
+        unreachable!()
+    };
+    Ok(())
+}
+
+/// The same for TSDUs of which not all units may be sent now. If none may, the link keeps copies of all. The function is
+/// kept out of line: mostly all may be sent.
+#[inline(never)]
+fn send_waiting(
+    alloc: Global,
+    link: &mut AnyLink,
+    peer: u16,
+    pieces: &Pieces<'_>,
+    out: &mut BytesMut,
+) -> Result<(), AllocError>
+    requires quiet { next (any_standing link.old) ≡ None }
+    requires fit { FitTsdus pieces.now }
+    ensures link { OnOk result (any_standing link.new ≡ one_by_one (any_standing link.old) (tsdus_in pieces.now)) }
+    ensures ok { OnOk result (out.new.items ≡ out.old.items ++ packets (written_for peer (any_standing link.old) (tsdus_in pieces.now))) }
+    ensures pumped { OnOk result (next (any_standing link.new) ≡ None) }
+    ensures err { OnErr result ((any_standing link.new ≡ any_standing link.old) × (out.new.items ≡ out.old.items)) }
+{
+    if let Some(some) = some_at_once(link, pieces) {
+        return send_some(alloc, link, peer, pieces, some, out);
     }
-    write_headed(link, peer, pieces.last, rest, Vec::new(alloc), out);
+    let tsdus = pieces.copies(alloc, link.limit(), 0)?;
+    send_all_on(link, peer, CowSlice::Owned(tsdus), out)
 }
 
 /// Hands in the TSDUs that are cut together at a link that gives nothing now, and writes all units that it then gives.
-/// If all of them may be sent now, they are written straight from the pieces, and no memory is needed but for their
-/// room: none if `out` has it, and the octets of so many full units fit a `usize`. Otherwise the link keeps copies of
-/// the TSDUs. An allocation failure changes nothing: the room for the units is reserved first.
+/// They are written straight from the pieces. If all of them may be sent now, no memory is needed but for their room:
+/// none if `out` has it, and the octets of so many full units fit a `usize`. Otherwise the link keeps a copy of what may
+/// not be sent yet. An allocation failure changes nothing: what is kept is copied, and the room for the units is
+/// reserved, before the first is written.
 pub fn send_pieces_on(
     alloc: Global,
     link: &mut AnyLink,
@@ -436,9 +545,8 @@ pub fn send_pieces_on(
     let _capacity = out.capacity();
     if let Some(room) = room_at_once(link, pieces) {
         out.reserve(room)?;
-        write_pieces(alloc, link, peer, pieces, out);
+        write_pieces(link, peer, pieces, out);
         return Ok(());
     }
-    let tsdus = pieces.copies(alloc)?;
-    send_all_on(alloc, link, peer, CowSlice::Owned(tsdus), out)
+    send_waiting(alloc, link, peer, pieces, out)
 }

@@ -1,9 +1,9 @@
 //! Octets that are sent as TSDUs together, each piece of them after a head.
 
-ghost use Rattle.std.specs.Prelude.{◌≡◌, false, true, ◌+◌, ◌^◌, ◌<◌, ◌≤◌, ◌++◌, ◌∷◌, [], length, map, IfOk, IfSome, IsSome, OnOk};
+ghost use Rattle.std.specs.Prelude.{ℕ, List, ◌≡◌, false, true, ◌+◌, ◌^◌, ◌<◌, ◌≤◌, ◌++◌, ◌∷◌, [], length, map, IfOk, IfSome, IsSome, OnOk};
 ghost use Rattle.osi_class.specs.Giving.{parts_needed, units_needed};
 ghost use Rattle.osi_class.specs.Tsdus.{octets_of_tsdus};
-ghost use Rattle.osi_carrier.specs.Pieces.{tsdus_in, FitsTsdu, FitTsdus};
+ghost use Rattle.osi_carrier.specs.Pieces.{tsdus_in, left_after, FitsTsdu, FitTsdus};
 
 use crate::links::joined;
 use osi_class::{LONGEST_TSDU, Room};
@@ -75,6 +75,35 @@ fn put_copy(
     Ok(())
 }
 
+/// Adds a copy of what is left of a TSDU, if this many units of it and of those after it are sent. Returns how many of
+/// the units are those of others.
+fn put_rest(
+    alloc: Global,
+    limit: usize,
+    units: usize,
+    head: &[u8],
+    piece: &[u8],
+    tsdus: &mut Vec<Vec<u8>>,
+) -> Result<usize, AllocError>
+    requires limit { 123 ≤ limit }
+    requires short { length head.now ≤ 123 }
+    requires long { length head.now + length piece.now ≤ 1048576 }
+    ensures { IfOk result (λ left. (others : List (List ℕ)) →
+        map (λ v. v.items) tsdus.new.items ++ left_after left limit others ≡ map (λ v. v.items) tsdus.old.items ++ left_after units limit ((head.now ++ piece.now) ∷ others)) }
+{
+    if units == 0 {
+        put_copy(alloc, head, piece, tsdus)?;
+        return Ok(0);
+    }
+    let parts = count_units(limit, head.len() + piece.len());
+    if parts <= units {
+        return Ok(units - parts);
+    }
+    let (_, rest) = piece.split_at(units * limit - head.len());
+    put_copy(alloc, &[], rest, tsdus)?;
+    Ok(0)
+}
+
 impl Pieces<'_> {
     /// Whether each piece has an octet, and fits a TSDU with its head of at most 123 octets.
     pub(crate) fn fit(&self) -> bool
@@ -118,21 +147,28 @@ impl Pieces<'_> {
         with_one(room, limit, self.last.len() + rest.len())
     }
 
-    /// Copies of the TSDUs, in order.
-    pub(crate) fn copies(&self, alloc: Global) -> Result<Vec<Vec<u8>>, AllocError>
-        requires { FitTsdus self.now }
-        ensures { IfOk result (λ tsdus. map (λ v. v.items) tsdus.items ≡ tsdus_in self.now) }
+    /// Copies of what is left of the TSDUs after so many of their units, each with at most `limit` octets of a TSDU.
+    pub(crate) fn copies(
+        &self,
+        alloc: Global,
+        limit: usize,
+        units: usize,
+    ) -> Result<Vec<Vec<u8>>, AllocError>
+        requires limit { 123 ≤ limit }
+        requires fit { FitTsdus self.now }
+        ensures { IfOk result (λ tsdus. map (λ v. v.items) tsdus.items ≡ left_after units limit (tsdus_in self.now)) }
     {
         let mut tsdus = Vec::new(alloc);
+        let mut left = units;
         let mut head = self.first;
         let mut rest = self.octets;
         'pieces: while rest.len() > self.size {
             let (piece, behind) = rest.split_at(self.size);
-            put_copy(alloc, head, piece, &mut tsdus)?;
+            left = put_rest(alloc, limit, left, head, piece, &mut tsdus)?;
             head = self.middle;
             rest = behind;
         }
-        put_copy(alloc, self.last, rest, &mut tsdus)?;
+        put_rest(alloc, limit, left, self.last, rest, &mut tsdus)?;
         Ok(tsdus)
     }
 }

@@ -117,7 +117,6 @@ impl Row {
     /// memory.
     fn send_all(
         &mut self,
-        alloc: Global,
         peer: u16,
         tsdus: CowSlice<'_, Vec<u8>, Global>,
         out: &mut BytesMut,
@@ -131,7 +130,7 @@ impl Row {
     {
         match &mut self.phase {
             Phase::Asked | Phase::Closing(_) => unreachable!(),
-            Phase::Linked(_, link) => send_all_on(alloc, link, peer, tsdus, out),
+            Phase::Linked(_, link) => send_all_on(link, peer, tsdus, out),
         }
     }
 
@@ -400,7 +399,6 @@ impl Connections {
     /// changes nothing; an owned TSDU that only waits needs no memory.
     pub fn send(
         &mut self,
-        alloc: Global,
         place: usize,
         reference: u16,
         peer: u16,
@@ -420,7 +418,7 @@ impl Connections {
         if send_whole(link, peer, &[], tsdu.as_slice(), out) {
             return Ok(());
         }
-        send_parts(alloc, link, peer, tsdu, out)
+        send_parts(link, peer, tsdu, out)
     }
 
     /// Hands in a TSDU, given as its first octets and the others, at the link of the open connection with this
@@ -464,7 +462,6 @@ impl Connections {
     /// peer. An allocation failure changes nothing.
     pub fn send_all(
         &mut self,
-        alloc: Global,
         place: usize,
         reference: u16,
         peer: u16,
@@ -478,7 +475,7 @@ impl Connections {
         ensures err { OnErr result ((self.new ≡ self.old) × (out.new.items ≡ out.old.items)) }
         ensures kept { IsOwnedSlice tsdus.entry → WaitTogether (link_in (value_at reference self.old)) (map (λ v. v.items) (cow_slice_items tsdus.entry)) → IsOk result }
     {
-        self.rows[place].send_all(alloc, peer, tsdus, out)
+        self.rows[place].send_all(peer, tsdus, out)
     }
 
     /// Hands in the TSDUs that are cut together at the link of the connection at this place, which is open with this

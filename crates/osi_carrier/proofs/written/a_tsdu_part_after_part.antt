@@ -1,5 +1,6 @@
 -- Writing a TSDU straight from its octets, part after part, and keeping what may not be sent yet.
-use Rattle.std.proofs.Common.{◌≡◌, ℕ, ◌+◌, ◌<◌, ◌≤◌, List, [], ◌∷◌, ◌++◌, length, drop, Option, Some, None, refl, sym, ap, ◌∙◌, subst}
+use Rattle.std.proofs.Common.{◌≡◌, ℕ, ◌+◌, ◌<◌, ◌≤◌, Bool, true, false, List, [], ◌∷◌, ◌++◌, length, drop, Option, Some, None, refl, sym}
+use Rattle.std.proofs.Common.{ap, ◌∙◌, subst}
 use Rattle.std.proofs.Common.{append_assoc, length-append, arith}
 use Rattle.std.proofs.Math.Seq.{drop-append-add}
 use Rattle.std.proofs.lemmas.List.{drop-drop}
@@ -8,6 +9,7 @@ use Rattle.osi_carrier.proofs.Vocabulary.{Drained, drained, all_given, octets_of
 use Rattle.osi_carrier.proofs.Vocabulary.{Given, next, unit_of, with_tsdu, drained_none, drained_some, pumped, written_by, packets}
 use Rattle.osi_carrier.proofs.written.all_that_a_link_gives.{IsPumping, pumping_first, pumping_next, pumping_octets, pumping_link}
 use Rattle.osi_carrier.proofs.written.all_that_a_link_gives.{pumping_room}
+use Rattle.osi_carrier.specs.Pump.{left_of, LeavesRest}
 
 -- what is left of a TSDU is sent now, except for what is kept
 pub record Goes (link : Standing) (rest kept : List ℕ) : Type 0 where
@@ -176,3 +178,21 @@ parting_all peer first link last before rest kept octets after spare h e put =
       written = put ∙ ap (λ (l : List ℕ). l ++ others) h.pumping.is ∙ append_assoc before h.pumping.more others ∙
           ap (λ (l : List ℕ). before ++ l) h.pumping.all;
     }
+
+-- what is left after the others is left after all
+pub leaves_behind : (b : Bool) (old then new : Standing) (tsdu rest : List ℕ) →
+    pumped (with_tsdu then rest) ≡ pumped (with_tsdu old tsdu) →
+    left_of old tsdu ≡ left_of then rest → LeavesRest b then rest new → LeavesRest b old tsdu new
+leaves_behind true old then new tsdu rest link left h = h ∙ link
+leaves_behind false old then new tsdu rest link left h = ap (with_tsdu new) left ∙ h ∙ link
+
+not_empty : (xs : List (List ℕ)) (x : List ℕ) → xs ++ x ∷ [] ≡ [] → ⊥
+not_empty [] x e = cc
+not_empty (y ∷ ys) x e = cc
+
+-- nothing is left to be handed in if the link keeps nothing
+pub leaves_nothing : (b : Bool) (old new : Standing) (tsdu : List ℕ) → LeavesRest b old tsdu new →
+    (pumped (with_tsdu old tsdu)).ends.unsent ≡ [] → new ≡ pumped (with_tsdu old tsdu)
+leaves_nothing true old new tsdu h none = h
+leaves_nothing false old new tsdu h none =
+    absurd (not_empty new.ends.unsent (left_of old tsdu) (ap (λ (s : Standing). s.ends.unsent) h ∙ none))

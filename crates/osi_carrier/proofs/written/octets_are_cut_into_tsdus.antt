@@ -1,8 +1,8 @@
 -- Octets that are cut into pieces, each behind its head: the TSDUs one after the other.
--- For `room` and `copies` of pieces, `write_pieces` of links, and `send_pieces_open` of the switch.
-use Rattle.std.proofs.Common.{◌≡◌, ◌∙◌, refl, sym, ap, subst, ℕ, zero, suc, ◌+◌, ◌^◌, ◌<◌, ◌≤◌, Bool, true, false, nat_le}
+-- For `room` and `copies` of pieces, `write_some` of links, and `send_pieces_open` of the switch.
+use Rattle.std.proofs.Common.{◌≡◌, ◌∙◌, refl, sym, ap, ℕ, zero, suc, ◌+◌, ◌^◌, ◌<◌, ◌≤◌, Bool, true, false, nat_le}
 use Rattle.std.proofs.Common.{List, [], ◌∷◌, ◌++◌}
-use Rattle.std.proofs.Common.{length, take, drop, map, arith, append_assoc, length-append, length-drop, if◌then◌else◌, nat_lt, ◌||◌}
+use Rattle.std.proofs.Common.{length, take, drop, arith, length-append, length-drop, if◌then◌else◌, nat_lt, ◌||◌}
 use Rattle.std.proofs.Common.{Option, Some, None, IfSome, IsSome}
 use Rattle.std.proofs.lemmas.Bool.{lt-leb, le-ltb}
 use Rattle.std.proofs.lemmas.List.{length-take}
@@ -63,7 +63,7 @@ cut_last p head rest short = end_of (length rest) head p.middle.now p.last.now p
 
 -- ---- their units and octets
 
-more_octets : (t : List ℕ) (ts : List (List ℕ)) → octets_of_tsdus (t ∷ ts) ≡ length t + octets_of_tsdus ts
+pub more_octets : (t : List ℕ) (ts : List (List ℕ)) → octets_of_tsdus (t ∷ ts) ≡ length t + octets_of_tsdus ts
 more_octets t ts = sum_by-cons length t ts
 
 -- Those before this head are counted.
@@ -161,32 +161,6 @@ fits_last p limit u o head rest r h short fits units octets =
     let all_units = all.units_are in
     let all_octets = all.octets_are in
     fits (omega (arith, all_units, units)) (omega (arith, all_octets, octets))
-
--- ---- their copies
-
--- The TSDUs before this head are copied.
-pub record IsCopied (p : Pieces) (done : List (List ℕ)) (head rest : List ℕ) : Type 0 where
-  pub fits : FitsTsdu p.size head
-  pub all : done ++ tsdus_from p head rest ≡ tsdus_in p
-
-pub copying_first : (p : Pieces) → FitTsdus p → IsCopied p [] p.first.now p.octets.now
-copying_first p fit = record { fits = fit.first; all = refl }
-
-pub copying_next : (p : Pieces) (done after : List (List ℕ)) (head rest piece behind : List ℕ) → FitTsdus p → IsCopied p done head rest →
-    p.size < length rest → piece ≡ take p.size rest → behind ≡ drop p.size rest → after ≡ done ++ (head ++ piece) ∷ [] →
-    IsCopied p after p.middle.now behind
-copying_next p done after head rest piece behind fit h long first next put =
-    let others = tsdus_from p p.middle.now behind in
-    record {
-      fits = fit.middle;
-      all = ap (λ (ts : List (List ℕ)). ts ++ others) put ∙ append_assoc done ((head ++ piece) ∷ []) others
-          ∙ ap (λ (ts : List (List ℕ)). done ++ ts) (sym (cut_next p head rest piece behind fit.some long first next)) ∙ h.all;
-    }
-
-pub copying_last : (p : Pieces) (done after : List (List ℕ)) (head rest : List ℕ) → IsCopied p done head rest → length rest ≤ p.size →
-    after ≡ done ++ (p.last.now ++ rest) ∷ [] → after ≡ tsdus_in p
-copying_last p done after head rest h short put =
-    put ∙ ap (λ (ts : List (List ℕ)). done ++ ts) (sym (cut_last p head rest short)) ∙ h.all
 
 -- ---- their lengths
 

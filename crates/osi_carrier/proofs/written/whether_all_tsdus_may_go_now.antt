@@ -1,12 +1,12 @@
 -- Whether all units of TSDUs may go now, by the units that a link gives for one TSDU that fills as many.
--- For `may_send`, `room_at_once` and `write_pieces` of links.
+-- For `may_send`, `room_at_once` and `some_at_once` of links.
 use Rattle.std.proofs.Common.{◌≡◌, ◌∙◌, refl, sym, ap, ℕ, zero, suc, ◌+◌, ◌-◌, ◌*◌, ◌^◌, ◌<◌, ◌≤◌, List, [], ◌∷◌, ◌++◌}
 use Rattle.std.proofs.Common.{length, Option, Some, None}
 use Rattle.std.proofs.Common.{arith, inl, inr, subst, map, IfSome, IsSome, SomeIff}
 use Rattle.std.proofs.Math.Nat.{suc-mul}
 use Rattle.std.proofs.lemmas.Nat.{mul-le}
 use Rattle.osi_class.proofs.giving.all_that_may_go_is_given.{goes_whole, more_units}
-use Rattle.osi_class.proofs.giving.the_units_of_one_tsdu.{one_part, parts_cut, parts_some, room_of_class_0, room_of_class_2}
+use Rattle.osi_class.proofs.giving.the_units_of_one_tsdu.{one_part, parts_cut, room_of_class_2}
 use Rattle.osi_class.proofs.giving.tsdus_that_are_added_together.{many_at_once}
 use Rattle.osi_class.proofs.giving.units_have_at_most_so_many_octets.{all_take}
 use Rattle.osi_class.proofs.giving.when_nothing_is_given.{class_0, class_2}
@@ -55,7 +55,7 @@ all_may_go s t units tsdus room quiet some size all is =
 -- ---- such a TSDU is given whole if they may go
 
 -- a TSDU that fills so many units goes in so many
-fills : (limit units : ℕ) → 0 < limit → 0 < units → parts_needed limit (units * limit) ≡ units
+pub fills : (limit units : ℕ) → 0 < limit → 0 < units → parts_needed limit (units * limit) ≡ units
 fills limit zero room some = absurd (omega arith)
 fills limit (suc zero) room some = one_part limit (1 * limit) room (omega arith)
 fills limit (suc (suc n)) room some =
@@ -76,26 +76,6 @@ given_whole s t units tsdus room some size is go =
     let same : units_needed s.ends.limit tsdus ≡ units_needed s.ends.limit (t ∷ []) = omega (arith, is, none, parts, one) in
     (goes_whole s t [] room (record { alone = go.alone; may = subst (λ (n : ℕ). MayGoAll n s.flow) same go.may })).octets
 
--- ---- something is given of each
-
-some_by : (e : Ends) (flow : Option Flow) (t : List ℕ) (others : List (List ℕ)) → 0 < e.limit →
-    next (record { ends = e; flow = flow }) ≡ None → MayGoAll (units_needed e.limit (t ∷ others)) flow →
-    0 < length (all_given (with_tsdu (record { ends = e; flow = flow }) t))
-some_by e None t others room quiet may =
-    let units = (room_of_class_0 e t room quiet).0 in
-    let some = parts_some e.limit (length t) in
-    omega (arith, units, some)
-some_by e (Some f) t others room quiet may =
-    let units = (room_of_class_2 e f t room quiet).0 in
-    let some = parts_some e.limit (length t) in
-    let all = more_units e.limit t others in
-    let enough = may.1 in
-    omega (arith, units, some, all, enough)
-
-pub some_is_given : (s : Standing) (t : List ℕ) (others : List (List ℕ)) → 0 < s.ends.limit → next s ≡ None → AllGoAtOnce s (t ∷ others) →
-    0 < length (all_given (with_tsdu s t))
-some_is_given s t others room quiet go = some_by s.ends s.flow t others room quiet go.may
-
 -- ---- their room
 
 pub in_parts : (headers limit : ℕ) (tsdus : List (List ℕ)) →
@@ -108,7 +88,7 @@ in_parts headers limit (t ∷ ts) =
     let units = ap (λ (n : ℕ). n * headers) (more_units limit t ts) in
     omega (arith, more, parts, octets, units)
 
-none_waits : (waiting headers : ℕ) → waiting ≡ 0 → waiting * headers ≡ 0
+pub none_waits : (waiting headers : ℕ) → waiting ≡ 0 → waiting * headers ≡ 0
 none_waits waiting headers e = ap (λ (n : ℕ). n * headers) e ∙ (let z : 0 * headers ≡ 0 = omega arith in z)
 
 most_if : (headers : ℕ) (e : Ends) (flow : Option Flow) (tsdus : List (List ℕ)) → e.unsent ≡ [] →

@@ -160,7 +160,9 @@ impl Switch {
         if tsdu.len() > LONGEST_TSDU {
             return Err(SendError::TooLong);
         }
-        let Ok(()) = self.live.send(self.alloc, place, reference, peer, tsdu, &mut self.outgoing)
+        let Ok(()) = self
+            .live
+            .send(place, reference, peer, tsdu, &mut self.outgoing)
         else {
             return Err(SendError::OutOfMemory);
         };

@@ -68,14 +68,9 @@ impl Switch {
         if any_too_long(lent) {
             return Err(SendError::TooLong);
         }
-        let Ok(()) = self.live.send_all(
-            self.alloc,
-            place,
-            reference,
-            peer,
-            tsdus,
-            &mut self.outgoing,
-        )
+        let Ok(()) = self
+            .live
+            .send_all(place, reference, peer, tsdus, &mut self.outgoing)
         else {
             return Err(SendError::OutOfMemory);
         };

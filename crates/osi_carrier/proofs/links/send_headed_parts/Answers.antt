@@ -1,10 +1,11 @@
-use Rattle.std.proofs.Common.{◌++◌, arith, length-append}
+use Rattle.std.proofs.Common.{◌<◌, ◌++◌, arith, length, length-append}
 use Rattle.osi_carrier.proofs.Vocabulary.{any_standing, all_given, with_tsdu}
+use Rattle.osi_carrier.proofs.written.a_tsdu_part_after_part.{part_goes}
 use Rattle.osi_carrier.proofs.written.all_that_a_link_gives.{packets_most}
 use Rattle.osi_carrier.proofs.links.send_headed_parts.Goals as goal
 
-pub write_headed-requires-clause-room : goal.write_headed-requires-clause-room
-write_headed-requires-clause-room c =
+pub write_keeping-requires-clause-room : goal.write_keeping-requires-clause-room
+write_keeping-requires-clause-room c =
     let tsdu = c.args.head.now ++ c.args.body.now in
     let long = length-append c.args.head.now c.args.body.now in
     let then = with_tsdu (any_standing c.args.link.now) tsdu in
@@ -13,3 +14,12 @@ write_headed-requires-clause-room c =
     let room = c.in_ok-reserve.ensures.spare.1 in
     let most = packets_most c.args.peer (all_given then) in
     omega arith
+
+pub write_keeping-requires-clause-alone : goal.write_keeping-requires-clause-alone
+write_keeping-requires-clause-alone c =
+    let tsdu = c.args.head.now ++ c.args.body.now in
+    let long = length-append c.args.head.now c.args.body.now in
+    let then = with_tsdu (any_standing c.args.link.now) tsdu in
+    let units = c.room_for-room.ensures.units tsdu long c.requires.quiet in
+    let some : 0 < length (all_given then) = omega arith in
+    (part_goes (any_standing c.args.link.now) tsdu c.requires.quiet some).alone

@@ -1,8 +1,9 @@
-use Rattle.std.proofs.Common.{◌≡◌, ◌<◌, ◌≤◌, ◌∙◌, ℕ, length, drop, refl, ap, sym, subst, arith}
-use Rattle.std.proofs.Math.Seq.{drop-length}
-use Rattle.osi_carrier.proofs.Vocabulary.{any_standing, all_given, octets_in, Standing, with_tsdu, written_by, packets}
-use Rattle.osi_carrier.proofs.written.a_tsdu_part_after_part.{part_goes}
+use Rattle.std.proofs.Common.{◌≡◌, ◌<◌, ◌≤◌, ◌∙◌, ℕ, List, length, refl, ap, sym, subst, arith}
+use Rattle.osi_carrier.proofs.Vocabulary.{any_standing, all_given, octets_in, pumped, Standing, with_tsdu, written_by}
+use Rattle.osi_carrier.proofs.Vocabulary.{packets}
+use Rattle.osi_carrier.proofs.written.a_tsdu_part_after_part.{leaves_nothing, part_goes}
 use Rattle.osi_carrier.proofs.written.all_that_a_link_gives.{packets_most}
+use Rattle.osi_carrier.proofs.written.some_units_may_go_now.{whole_goes}
 use Rattle.osi_carrier.proofs.links.send_parts.Goals as goal
 
 pub write_parts-requires-clause-room : goal.write_parts-requires-clause-room
@@ -21,12 +22,21 @@ write_parts-requires-clause-alone c =
     let some : 0 < length (all_given then) = omega arith in
     (part_goes (any_standing c.args.link.now) c.as_slice-octets.result.now c.requires some).alone
 
-pub write_parts-requires-clause-kept : goal.write_parts-requires-clause-kept
-write_parts-requires-clause-kept c =
-    let then = with_tsdu (any_standing c.args.link.now) c.as_slice-octets.result.now in
-    let octets = c.room_for-room.ensures.octets c.as_slice-octets.result.now refl c.requires in
-    let all : octets_in (all_given then) ≡ length c.as_slice-octets.result.now = omega arith in
-    c.new.ensures.items ∙ sym (ap (λ (n : ℕ). drop n c.as_slice-octets.result.now) all ∙ drop-length c.as_slice-octets.result.now)
+pub returns-then-room-gt0-clause-link : goal.returns-then-room-gt0-clause-link
+returns-then-room-gt0-clause-link c =
+    let old = any_standing c.args.link.now in
+    let tsdu = c.as_slice-octets.result.now in
+    let then = with_tsdu old tsdu in
+    let units = c.room_for-room.ensures.units tsdu refl c.requires in
+    let octets = c.room_for-room.ensures.octets tsdu refl c.requires in
+    let value = c.limit-limit.ensures.value in
+    let least = c.limit-limit.ensures.at_least in
+    let limit : 0 < old.ends.limit = omega (arith, value, least) in
+    let some : 0 < length (all_given then) = omega arith in
+    let all : octets_in (all_given then) ≡ length tsdu = omega arith in
+    let none = whole_goes old tsdu limit c.requires (part_goes old tsdu c.requires some).alone some all in
+    leaves_nothing c.write_parts.result old (any_standing c.write_parts.new.link) tsdu c.write_parts.ensures.link none
+    ∙ ap (λ (t : List ℕ). pumped (with_tsdu old t)) c.as_slice-octets.ensures.value
 
 pub unreachable-requires : goal.unreachable-requires
 unreachable-requires c =

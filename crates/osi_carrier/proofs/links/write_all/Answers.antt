@@ -1,6 +1,6 @@
-use Rattle.std.proofs.Common.{◌∙◌, ◌+◌, List, ℕ, drop, map, ap, sym, subst, arith}
-use Rattle.std.proofs.Math.Seq.{drop-length}
+use Rattle.std.proofs.Common.{◌+◌, List, ℕ, drop, map, ap, subst, arith}
 use Rattle.osi_carrier.proofs.Vocabulary.{any_standing, one_by_one, drop_all, written_for, packets}
+use Rattle.osi_carrier.proofs.written.a_tsdu_part_after_part.{leaves_nothing}
 use Rattle.osi_carrier.proofs.written.tsdus_are_written_straight.{IsWriting, writing_first, writing_next, writing_last, rest_from}
 use Rattle.osi_carrier.proofs.written.tsdus_are_written_straight.{first_room}
 use Rattle.osi_carrier.proofs.links.write_all.Goals as goal
@@ -12,20 +12,6 @@ tsdus-init c =
 
 pub write_parts-requires-clause-alone : goal.write_parts-requires-clause-alone
 write_parts-requires-clause-alone c = c.tsdus.invariant.go.alone
-
-pub write_parts-requires-clause-kept : goal.write_parts-requires-clause-kept
-write_parts-requires-clause-kept c =
-    let all = map (λ v. v.items) c.args.tsdus.now in
-    let first = any_standing c.args.link.now in
-    let tsdu = c.deref.result.now in
-    let others = map (λ v. v.items) (drop (c.tsdus.tsdu-index + 1) c.args.tsdus.now) in
-    let rest = rest_from (λ v. v.items) c.args.tsdus.now c.tsdus.tsdu-index c.tsdu-item.result tsdu c.tsdus-test.true c.tsdu-item.is
-    c.deref.ensures.value in
-    let writing = subst (λ (r : List (List ℕ)). IsWriting c.args.peer (one_by_one first all)
-    (packets (written_for c.args.peer first all)) c.args.out.now.items
-    (any_standing c.tsdus.link) r c.tsdus.out.items c.tsdus.out.spare) rest c.tsdus.invariant in
-    let goes = c.all_go_at_once.ensures (any_standing c.tsdus.link) tsdu others writing.limit writing.go in
-    c.new.ensures.items ∙ sym (ap (λ (n : ℕ). drop n tsdu) goes.octets ∙ drop-length tsdu)
 
 pub write_parts-requires-clause-room : goal.write_parts-requires-clause-room
 write_parts-requires-clause-room c =
@@ -57,7 +43,9 @@ tsdus-preserved c =
     writing_next c.args.peer (one_by_one first all) (packets (written_for c.args.peer first all)) c.args.out.now.items
     (any_standing c.tsdus.link) (any_standing c.write_parts.new.link)
     tsdu others c.tsdus.out.items c.write_parts.new.out.items c.tsdus.out.spare c.write_parts.new.out.spare writing goes
-    c.write_parts.ensures.link c.write_parts.ensures.pumped c.write_parts.ensures.written c.write_parts.ensures.spare
+    (leaves_nothing c.write_parts.result (any_standing c.tsdus.link) (any_standing c.write_parts.new.link) tsdu c.write_parts.ensures.link
+    goes.others.alone)
+    c.write_parts.ensures.pumped c.write_parts.ensures.written c.write_parts.ensures.spare
 
 pub returns : goal.returns
 returns c =

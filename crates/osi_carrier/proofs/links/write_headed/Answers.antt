@@ -1,16 +1,31 @@
-use Rattle.std.proofs.Common.{◌≡◌, ◌≤◌, ◌+◌, [], ◌∷◌, ◌++◌, length, drop, sym, ap, subst, ◌∙◌, arith}
+use Rattle.std.proofs.Common.{◌≡◌, ◌≤◌, ◌+◌, [], ◌∷◌, ◌++◌, length, drop, refl, sym, ap, subst, ◌∙◌, arith}
+use Rattle.osi_class.specs.declared.either.AnyLink.{AnyLink}
 use Rattle.osi_carrier.proofs.Vocabulary.{eqb-true, eqb-false, any_standing, first_in, number_in, octets_of, part_under, Given, unit_of}
-use Rattle.osi_carrier.proofs.Vocabulary.{packets, with_tsdu}
-use Rattle.osi_carrier.proofs.written.a_tsdu_part_after_part.{Goes, parting_first, parting_then, parting_last, parting_all, part_goes}
-use Rattle.osi_carrier.proofs.written.a_tsdu_part_after_part.{part_room, empty_list, put_length}
+use Rattle.osi_carrier.proofs.Vocabulary.{packets, with_tsdu, next, pumped, GoesAtOnce}
+use Rattle.osi_carrier.proofs.written.a_tsdu_part_after_part.{Goes, parting_first, parting_then, parting_last, parting_kept, parting_all}
+use Rattle.osi_carrier.proofs.written.a_tsdu_part_after_part.{leaves_behind, part_room, empty_list, put_length}
 use Rattle.osi_carrier.proofs.written.a_part_in_its_data_unit.{first_cut}
+use Rattle.osi_carrier.specs.Pump.{left_of}
 use Rattle.osi_carrier.proofs.links.write_headed.Goals as goal
 
-pub unreachable-requires : goal.unreachable-requires
-unreachable-requires c =
+pub returns-in_default : goal.returns-in_default
+returns-in_default c =
+    let old = any_standing c.args.link.now in
     let tsdu = c.args.head.now ++ c.args.body.now in
-    let given = c.in_default.ensures.at_once (part_goes (any_standing c.args.link.now) tsdu c.requires.quiet c.requires.some) in
-    cc
+    let kept = left_of old tsdu in
+    let never : GoesAtOnce old → ⊥ = λ goes. (let given = c.in_default.ensures.at_once goes in cc) in
+    let goes : Goes old tsdu kept = record { quiet = c.requires.quiet; alone = c.requires.alone; left = refl } in
+    let start = parting_first c.args.peer old tsdu kept c.args.out.now.items c.args.out.now.spare goes c.requires.room in
+    let all = parting_kept c.args.peer (with_tsdu old tsdu) old (with_tsdu old kept) c.args.out.now.items tsdu kept c.args.out.now.items
+    c.args.out.now.spare start never refl in
+    let same = c.in_default.ensures.none in
+    record {
+      link = ap (λ (l : AnyLink). with_tsdu (any_standing l) kept) same ∙ all.whole.link;
+      written = all.whole.written;
+      pumped = ap (λ (l : AnyLink). next (any_standing l)) same ∙ c.requires.quiet;
+      alone = ap (λ (l : AnyLink). (any_standing l).ends.unsent) same ∙ c.requires.alone;
+      spare = omega arith;
+    }
 
 pub put_part-requires-clause-room : goal.put_part-requires-clause-room
 put_part-requires-clause-room c =
@@ -31,10 +46,12 @@ put_part-requires-clause-room c =
 
 pub returns-then-end : goal.returns-then-end
 returns-then-end c =
+    let old = any_standing c.args.link.now in
     let tsdu = c.args.head.now ++ c.args.body.now in
-    let first = with_tsdu (any_standing c.args.link.now) tsdu in
+    let kept = left_of old tsdu in
+    let first = with_tsdu old tsdu in
     let then = any_standing c.give_slot.new.self in
-    let limit = (any_standing c.args.link.now).ends.limit in
+    let limit = old.ends.limit in
     let value = c.limit.ensures.value in
     let least = c.in-Some.ensures.at_least in
     let short = c.requires.short in
@@ -43,18 +60,12 @@ returns-then-end c =
     c.split_at.ensures.front c.split_at.ensures.back c.is_empty-end.ensures in
     let unit = first_in c.in-Some.slot limit tsdu in
     let put = c.put_part.ensures.items ∙ ap (λ (u : Given). c.args.out.now.items ++ packets (unit_of c.args.peer u ∷ [])) cut.unit in
-    let goes : Goes (any_standing c.args.link.now) tsdu c.args.kept.items =
-    record {
-      quiet = c.requires.quiet;
-      alone = (part_goes (any_standing c.args.link.now) tsdu c.requires.quiet c.requires.some).alone;
-      left = c.requires.kept;
-    } in
+    let goes : Goes old tsdu kept = record { quiet = c.requires.quiet; alone = c.requires.alone; left = refl } in
     let nothing = eqb-true (length c.split_at.result.1.now) 0 (sym c.is_empty-end.ensures ∙ c.if-end.true) in
     let none : drop (octets_of unit) tsdu ≡ [] = cut.left ∙ empty_list c.split_at.result.1.now nothing in
-    let start = parting_first c.args.peer (any_standing c.args.link.now) tsdu c.args.kept.items c.args.out.now.items c.args.out.now.spare
-    goes c.requires.room in
-    let all = parting_last c.args.peer first (any_standing c.args.link.now) then
-    c.args.out.now.items tsdu c.args.kept.items c.args.out.now.items c.put_part.new.out.items unit c.args.out.now.spare
+    let start = parting_first c.args.peer old tsdu kept c.args.out.now.items c.args.out.now.spare goes c.requires.room in
+    let all = parting_last c.args.peer first old then
+    c.args.out.now.items tsdu kept c.args.out.now.items c.put_part.new.out.items unit c.args.out.now.spare
     start (omega arith) (c.in-Some.ensures.given tsdu) put none in
     let longer = put_length c.args.out.now.items c.put_part.new.out.items
     (packets (unit_of c.args.peer
@@ -65,15 +76,17 @@ returns-then-end c =
       link = all.link;
       written = all.written;
       pumped = (c.in-Some.ensures.given tsdu).last;
+      alone = c.in-Some.ensures.alone;
       spare = omega (arith, longer, took_room);
     }
 
 pub write_parts-requires-clause-quiet : goal.write_parts-requires-clause-quiet
 write_parts-requires-clause-quiet c =
+    let old = any_standing c.args.link.now in
     let tsdu = c.args.head.now ++ c.args.body.now in
-    let first = with_tsdu (any_standing c.args.link.now) tsdu in
+    let kept = left_of old tsdu in
     let then = any_standing c.give_slot.new.self in
-    let limit = (any_standing c.args.link.now).ends.limit in
+    let limit = old.ends.limit in
     let value = c.limit.ensures.value in
     let least = c.in-Some.ensures.at_least in
     let short = c.requires.short in
@@ -82,91 +95,25 @@ write_parts-requires-clause-quiet c =
     c.split_at.ensures.front c.split_at.ensures.back c.is_empty-end.ensures in
     let unit = first_in c.in-Some.slot limit tsdu in
     let put = c.put_part.ensures.items ∙ ap (λ (u : Given). c.args.out.now.items ++ packets (unit_of c.args.peer u ∷ [])) cut.unit in
-    let goes : Goes (any_standing c.args.link.now) tsdu c.args.kept.items =
-    record {
-      quiet = c.requires.quiet;
-      alone = (part_goes (any_standing c.args.link.now) tsdu c.requires.quiet c.requires.some).alone;
-      left = c.requires.kept;
-    } in
+    let goes : Goes old tsdu kept = record { quiet = c.requires.quiet; alone = c.requires.alone; left = refl } in
     let took : c.args.out.now.spare ≤ c.put_part.new.out.spare + length (packets (unit_of c.args.peer unit ∷ [])) =
     subst (λ (u : Given). c.args.out.now.spare ≤ c.put_part.new.out.spare + length (packets (unit_of c.args.peer u ∷ []))) cut.unit
     c.put_part.ensures.spare in
     let something : length c.split_at.result.1.now ≡ 0 →
     ⊥ = eqb-false (length c.split_at.result.1.now) 0 (sym c.is_empty-end.ensures ∙ c.if-end.false) in
-    let parting = parting_then c.args.peer (any_standing c.args.link.now) then
-    tsdu c.split_at.result.1.now c.args.kept.items c.args.out.now.items c.put_part.new.out.items unit c.args.out.now.spare
+    let parting = parting_then c.args.peer old then
+    tsdu c.split_at.result.1.now kept c.args.out.now.items c.put_part.new.out.items unit c.args.out.now.spare
     c.put_part.new.out.spare
     goes c.requires.room (omega arith) (c.in-Some.ensures.given tsdu) c.in-Some.ensures.alone cut.left put took (omega arith) in
     parting.goes.quiet
 
-pub write_parts-requires-clause-alone : goal.write_parts-requires-clause-alone
-write_parts-requires-clause-alone c =
-    let tsdu = c.args.head.now ++ c.args.body.now in
-    let first = with_tsdu (any_standing c.args.link.now) tsdu in
-    let then = any_standing c.give_slot.new.self in
-    let limit = (any_standing c.args.link.now).ends.limit in
-    let value = c.limit.ensures.value in
-    let least = c.in-Some.ensures.at_least in
-    let short = c.requires.short in
-    let cut = first_cut c.in-Some.slot limit c.min-carried.result c.args.head.now c.args.body.now c.split_at.result.0.now
-    c.split_at.result.1.now c.is_empty-end.result (omega arith) (omega (arith, c.min-carried.ensures))
-    c.split_at.ensures.front c.split_at.ensures.back c.is_empty-end.ensures in
-    let unit = first_in c.in-Some.slot limit tsdu in
-    let put = c.put_part.ensures.items ∙ ap (λ (u : Given). c.args.out.now.items ++ packets (unit_of c.args.peer u ∷ [])) cut.unit in
-    let goes : Goes (any_standing c.args.link.now) tsdu c.args.kept.items =
-    record {
-      quiet = c.requires.quiet;
-      alone = (part_goes (any_standing c.args.link.now) tsdu c.requires.quiet c.requires.some).alone;
-      left = c.requires.kept;
-    } in
-    let took : c.args.out.now.spare ≤ c.put_part.new.out.spare + length (packets (unit_of c.args.peer unit ∷ [])) =
-    subst (λ (u : Given). c.args.out.now.spare ≤ c.put_part.new.out.spare + length (packets (unit_of c.args.peer u ∷ []))) cut.unit
-    c.put_part.ensures.spare in
-    let something : length c.split_at.result.1.now ≡ 0 →
-    ⊥ = eqb-false (length c.split_at.result.1.now) 0 (sym c.is_empty-end.ensures ∙ c.if-end.false) in
-    let parting = parting_then c.args.peer (any_standing c.args.link.now) then
-    tsdu c.split_at.result.1.now c.args.kept.items c.args.out.now.items c.put_part.new.out.items unit c.args.out.now.spare
-    c.put_part.new.out.spare
-    goes c.requires.room (omega arith) (c.in-Some.ensures.given tsdu) c.in-Some.ensures.alone cut.left put took (omega arith) in
-    parting.goes.alone
-
-pub write_parts-requires-clause-kept : goal.write_parts-requires-clause-kept
-write_parts-requires-clause-kept c =
-    let tsdu = c.args.head.now ++ c.args.body.now in
-    let first = with_tsdu (any_standing c.args.link.now) tsdu in
-    let then = any_standing c.give_slot.new.self in
-    let limit = (any_standing c.args.link.now).ends.limit in
-    let value = c.limit.ensures.value in
-    let least = c.in-Some.ensures.at_least in
-    let short = c.requires.short in
-    let cut = first_cut c.in-Some.slot limit c.min-carried.result c.args.head.now c.args.body.now c.split_at.result.0.now
-    c.split_at.result.1.now c.is_empty-end.result (omega arith) (omega (arith, c.min-carried.ensures))
-    c.split_at.ensures.front c.split_at.ensures.back c.is_empty-end.ensures in
-    let unit = first_in c.in-Some.slot limit tsdu in
-    let put = c.put_part.ensures.items ∙ ap (λ (u : Given). c.args.out.now.items ++ packets (unit_of c.args.peer u ∷ [])) cut.unit in
-    let goes : Goes (any_standing c.args.link.now) tsdu c.args.kept.items =
-    record {
-      quiet = c.requires.quiet;
-      alone = (part_goes (any_standing c.args.link.now) tsdu c.requires.quiet c.requires.some).alone;
-      left = c.requires.kept;
-    } in
-    let took : c.args.out.now.spare ≤ c.put_part.new.out.spare + length (packets (unit_of c.args.peer unit ∷ [])) =
-    subst (λ (u : Given). c.args.out.now.spare ≤ c.put_part.new.out.spare + length (packets (unit_of c.args.peer u ∷ []))) cut.unit
-    c.put_part.ensures.spare in
-    let something : length c.split_at.result.1.now ≡ 0 →
-    ⊥ = eqb-false (length c.split_at.result.1.now) 0 (sym c.is_empty-end.ensures ∙ c.if-end.false) in
-    let parting = parting_then c.args.peer (any_standing c.args.link.now) then
-    tsdu c.split_at.result.1.now c.args.kept.items c.args.out.now.items c.put_part.new.out.items unit c.args.out.now.spare
-    c.put_part.new.out.spare
-    goes c.requires.room (omega arith) (c.in-Some.ensures.given tsdu) c.in-Some.ensures.alone cut.left put took (omega arith) in
-    parting.goes.left
-
 pub write_parts-requires-clause-room : goal.write_parts-requires-clause-room
 write_parts-requires-clause-room c =
+    let old = any_standing c.args.link.now in
     let tsdu = c.args.head.now ++ c.args.body.now in
-    let first = with_tsdu (any_standing c.args.link.now) tsdu in
+    let kept = left_of old tsdu in
     let then = any_standing c.give_slot.new.self in
-    let limit = (any_standing c.args.link.now).ends.limit in
+    let limit = old.ends.limit in
     let value = c.limit.ensures.value in
     let least = c.in-Some.ensures.at_least in
     let short = c.requires.short in
@@ -175,29 +122,25 @@ write_parts-requires-clause-room c =
     c.split_at.ensures.front c.split_at.ensures.back c.is_empty-end.ensures in
     let unit = first_in c.in-Some.slot limit tsdu in
     let put = c.put_part.ensures.items ∙ ap (λ (u : Given). c.args.out.now.items ++ packets (unit_of c.args.peer u ∷ [])) cut.unit in
-    let goes : Goes (any_standing c.args.link.now) tsdu c.args.kept.items =
-    record {
-      quiet = c.requires.quiet;
-      alone = (part_goes (any_standing c.args.link.now) tsdu c.requires.quiet c.requires.some).alone;
-      left = c.requires.kept;
-    } in
+    let goes : Goes old tsdu kept = record { quiet = c.requires.quiet; alone = c.requires.alone; left = refl } in
     let took : c.args.out.now.spare ≤ c.put_part.new.out.spare + length (packets (unit_of c.args.peer unit ∷ [])) =
     subst (λ (u : Given). c.args.out.now.spare ≤ c.put_part.new.out.spare + length (packets (unit_of c.args.peer u ∷ []))) cut.unit
     c.put_part.ensures.spare in
     let something : length c.split_at.result.1.now ≡ 0 →
     ⊥ = eqb-false (length c.split_at.result.1.now) 0 (sym c.is_empty-end.ensures ∙ c.if-end.false) in
-    let parting = parting_then c.args.peer (any_standing c.args.link.now) then
-    tsdu c.split_at.result.1.now c.args.kept.items c.args.out.now.items c.put_part.new.out.items unit c.args.out.now.spare
+    let parting = parting_then c.args.peer old then
+    tsdu c.split_at.result.1.now kept c.args.out.now.items c.put_part.new.out.items unit c.args.out.now.spare
     c.put_part.new.out.spare
     goes c.requires.room (omega arith) (c.in-Some.ensures.given tsdu) c.in-Some.ensures.alone cut.left put took (omega arith) in
     parting.room
 
 pub returns : goal.returns
 returns c =
+    let old = any_standing c.args.link.now in
     let tsdu = c.args.head.now ++ c.args.body.now in
-    let first = with_tsdu (any_standing c.args.link.now) tsdu in
+    let kept = left_of old tsdu in
     let then = any_standing c.give_slot.new.self in
-    let limit = (any_standing c.args.link.now).ends.limit in
+    let limit = old.ends.limit in
     let value = c.limit.ensures.value in
     let least = c.in-Some.ensures.at_least in
     let short = c.requires.short in
@@ -206,24 +149,19 @@ returns c =
     c.split_at.ensures.front c.split_at.ensures.back c.is_empty-end.ensures in
     let unit = first_in c.in-Some.slot limit tsdu in
     let put = c.put_part.ensures.items ∙ ap (λ (u : Given). c.args.out.now.items ++ packets (unit_of c.args.peer u ∷ [])) cut.unit in
-    let goes : Goes (any_standing c.args.link.now) tsdu c.args.kept.items =
-    record {
-      quiet = c.requires.quiet;
-      alone = (part_goes (any_standing c.args.link.now) tsdu c.requires.quiet c.requires.some).alone;
-      left = c.requires.kept;
-    } in
+    let goes : Goes old tsdu kept = record { quiet = c.requires.quiet; alone = c.requires.alone; left = refl } in
     let took : c.args.out.now.spare ≤ c.put_part.new.out.spare + length (packets (unit_of c.args.peer unit ∷ [])) =
     subst (λ (u : Given). c.args.out.now.spare ≤ c.put_part.new.out.spare + length (packets (unit_of c.args.peer u ∷ []))) cut.unit
     c.put_part.ensures.spare in
     let something : length c.split_at.result.1.now ≡ 0 →
     ⊥ = eqb-false (length c.split_at.result.1.now) 0 (sym c.is_empty-end.ensures ∙ c.if-end.false) in
-    let parting = parting_then c.args.peer (any_standing c.args.link.now) then
-    tsdu c.split_at.result.1.now c.args.kept.items c.args.out.now.items c.put_part.new.out.items unit c.args.out.now.spare
+    let parting = parting_then c.args.peer old then
+    tsdu c.split_at.result.1.now kept c.args.out.now.items c.put_part.new.out.items unit c.args.out.now.spare
     c.put_part.new.out.spare
     goes c.requires.room (omega arith) (c.in-Some.ensures.given tsdu) c.in-Some.ensures.alone cut.left put took (omega arith) in
-    let all = parting_all c.args.peer first then (any_standing c.write_parts.new.link) c.args.out.now.items c.split_at.result.1.now
-    c.args.kept.items c.put_part.new.out.items c.write_parts.new.out.items c.put_part.new.out.spare
-    parting c.write_parts.ensures.link c.write_parts.ensures.written in
+    let rest = c.split_at.result.1.now in
+    let all = parting_all c.args.peer (with_tsdu old tsdu) then (pumped (with_tsdu then rest)) c.args.out.now.items rest kept
+    c.put_part.new.out.items c.write_parts.new.out.items c.put_part.new.out.spare parting refl c.write_parts.ensures.written in
     let longer = put_length c.args.out.now.items c.put_part.new.out.items
     (packets (unit_of c.args.peer
     (part_under (number_in c.in-Some.slot) c.is_empty-end.result (c.args.head.now ++ c.split_at.result.0.now)) ∷ []))
@@ -231,8 +169,10 @@ returns c =
     let took_room = c.put_part.ensures.spare in
     let more = c.write_parts.ensures.spare in
     record {
-      link = all.link;
+      link = leaves_behind c.write_parts.result old then (any_standing c.write_parts.new.link) tsdu rest all.link parting.goes.left
+          c.write_parts.ensures.link;
       written = all.written;
       pumped = c.write_parts.ensures.pumped;
+      alone = c.write_parts.ensures.alone;
       spare = omega (arith, longer, took_room, more);
     }

@@ -1,36 +1,36 @@
-use Rattle.std.proofs.Common.{◌≡◌, ◌<◌, ◌≤◌, ◌+◌, ℕ, List, [], ◌∷◌, ◌++◌, length, drop, sym, ap, subst, ◌∙◌, arith}
+use Rattle.std.proofs.Common.{◌≡◌, ◌<◌, ◌≤◌, ◌+◌, ℕ, List, [], ◌∷◌, ◌++◌, length, drop, refl, sym, ap, subst, ◌∙◌, arith}
 use Rattle.osi_class.specs.declared.either.AnyLink.{AnyLink}
 use Rattle.osi_carrier.proofs.Vocabulary.{eqb-true, eqb-false, any_standing, first_in, number_in, octets_of, Given, GoesAtOnce, part_under}
-use Rattle.osi_carrier.proofs.Vocabulary.{unit_of, packets, with_tsdu}
+use Rattle.osi_carrier.proofs.Vocabulary.{next, unit_of, packets, with_tsdu}
 use Rattle.osi_carrier.proofs.written.a_tsdu_part_after_part.{IsParting, parting_first, parting_kept, part_room, empty_list, put_length}
 use Rattle.osi_carrier.proofs.written.a_tsdu_part_after_part.{parting_next, parting_last}
 use Rattle.osi_carrier.proofs.written.a_part_in_its_data_unit.{first_cut}
+use Rattle.osi_carrier.specs.Pump.{left_of}
 use Rattle.osi_carrier.proofs.links.write_parts.Goals as goal
 
 pub parts-init : goal.parts-init
 parts-init c = (
-  parting_first c.args.peer (any_standing c.args.link.now) c.args.tsdu.now c.args.kept.items c.args.out.now.items c.args.out.now.spare
-      (record { quiet = c.requires.quiet; alone = c.requires.alone; left = c.requires.kept }) c.requires.room,
+  parting_first c.args.peer (any_standing c.args.link.now) c.args.tsdu.now (left_of (any_standing c.args.link.now) c.args.tsdu.now)
+      c.args.out.now.items c.args.out.now.spare
+      (record { quiet = c.requires.quiet; alone = c.requires.alone; left = refl }) c.requires.room,
   omega arith,
 )
 
-pub returns-in_default-clause-link : goal.returns-in_default-clause-link
-returns-in_default-clause-link c =
+pub returns-in_default : goal.returns-in_default
+returns-in_default c =
     let never : GoesAtOnce (any_standing c.parts.link) → ⊥ = λ goes. (let given = c.in_default.ensures.at_once goes in cc) in
-    let is = c.in-Ok.ensures.ok ∙ ap (λ (l : AnyLink). with_tsdu (any_standing l) c.args.kept.items) c.in_default.ensures.none in
+    let kept = left_of (any_standing c.args.link.now) c.args.tsdu.now in
     let all = parting_kept c.args.peer (with_tsdu (any_standing c.args.link.now) c.args.tsdu.now) (any_standing c.parts.link)
-    (any_standing c.send_owned.new.self)
-    c.args.out.now.items c.parts.rest.now c.args.kept.items c.parts.out.items c.parts.out.spare c.parts.invariant.0 never is in
-    all.whole.link
-
-pub returns-in_default-clause-written : goal.returns-in_default-clause-written
-returns-in_default-clause-written c =
-    let never : GoesAtOnce (any_standing c.parts.link) → ⊥ = λ goes. (let given = c.in_default.ensures.at_once goes in cc) in
-    let is = c.in-Ok.ensures.ok ∙ ap (λ (l : AnyLink). with_tsdu (any_standing l) c.args.kept.items) c.in_default.ensures.none in
-    let all = parting_kept c.args.peer (with_tsdu (any_standing c.args.link.now) c.args.tsdu.now) (any_standing c.parts.link)
-    (any_standing c.send_owned.new.self)
-    c.args.out.now.items c.parts.rest.now c.args.kept.items c.parts.out.items c.parts.out.spare c.parts.invariant.0 never is in
-    all.whole.written
+    (with_tsdu (any_standing c.parts.link) kept)
+    c.args.out.now.items c.parts.rest.now kept c.parts.out.items c.parts.out.spare c.parts.invariant.0 never refl in
+    let same = c.in_default.ensures.none in
+    record {
+      link = ap (λ (l : AnyLink). with_tsdu (any_standing l) kept) same ∙ all.whole.link;
+      written = all.whole.written;
+      pumped = ap (λ (l : AnyLink). next (any_standing l)) same ∙ c.parts.invariant.0.goes.quiet;
+      alone = ap (λ (l : AnyLink). (any_standing l).ends.unsent) same ∙ c.parts.invariant.0.goes.alone;
+      spare = c.parts.invariant.1;
+    }
 
 pub put_part-requires-clause-room : goal.put_part-requires-clause-room
 put_part-requires-clause-room c =
@@ -50,6 +50,7 @@ put_part-requires-clause-room c =
 
 pub returns-then-end : goal.returns-then-end
 returns-then-end c =
+    let waiting = left_of (any_standing c.args.link.now) c.args.tsdu.now in
     let rest = c.parts.rest.now in
     let limit = (any_standing c.parts.link).ends.limit in
     let value = c.limit.ensures.value in
@@ -64,17 +65,24 @@ returns-then-end c =
     let none : drop (octets_of unit) rest ≡ [] = cut.left ∙ empty_list c.split_at.result.1.now nothing in
     let all = parting_last c.args.peer (with_tsdu (any_standing c.args.link.now) c.args.tsdu.now) (any_standing c.parts.link)
     (any_standing c.give_slot.new.self)
-    c.args.out.now.items rest c.args.kept.items c.parts.out.items c.put_part.new.out.items unit c.parts.out.spare c.parts.invariant.0
+    c.args.out.now.items rest waiting c.parts.out.items c.put_part.new.out.items unit c.parts.out.spare c.parts.invariant.0
     (omega arith) part put none in
     let longer = put_length c.parts.out.items c.put_part.new.out.items
     (packets (unit_of c.args.peer (part_under (number_in c.in-Some.slot) c.is_empty-end.result ([] ++ c.split_at.result.0.now)) ∷ []))
     c.put_part.ensures.items in
     let room = c.put_part.ensures.spare in
     let kept = c.parts.invariant.1 in
-    record { link = all.link; written = all.written; pumped = part.last; spare = omega (arith, longer, room, kept) }
+    record {
+      link = all.link;
+      written = all.written;
+      pumped = part.last;
+      alone = c.in-Some.ensures.alone;
+      spare = omega (arith, longer, room, kept);
+    }
 
 pub parts-preserved : goal.parts-preserved
 parts-preserved c =
+    let waiting = left_of (any_standing c.args.link.now) c.args.tsdu.now in
     let first = with_tsdu (any_standing c.args.link.now) c.args.tsdu.now in
     let then = any_standing c.give_slot.new.self in
     let rest = c.parts.rest.now in
@@ -98,10 +106,10 @@ parts-preserved c =
     c.put_part.ensures.items in
     let room = c.put_part.ensures.spare in
     let kept = c.parts.invariant.1 in
-    let parting = subst (λ (r : List ℕ). IsParting c.args.peer first c.args.out.now.items then r c.args.kept.items
+    let parting = subst (λ (r : List ℕ). IsParting c.args.peer first c.args.out.now.items then r waiting
     c.put_part.new.out.items c.put_part.new.out.spare) cut.left
-    (parting_next c.args.peer first (any_standing c.parts.link) then c.args.out.now.items rest c.args.kept.items c.parts.out.items
-    c.put_part.new.out.items unit
-    c.parts.out.spare c.put_part.new.out.spare c.parts.invariant.0 (omega arith) (c.in-Some.ensures.given rest) c.in-Some.ensures.alone put
+    (parting_next c.args.peer first (any_standing c.parts.link) then c.args.out.now.items rest waiting c.parts.out.items
+    c.put_part.new.out.items unit c.parts.out.spare c.put_part.new.out.spare c.parts.invariant.0 (omega arith)
+    (c.in-Some.ensures.given rest) c.in-Some.ensures.alone put
     took some) in
     (parting, omega (arith, longer, room, kept))

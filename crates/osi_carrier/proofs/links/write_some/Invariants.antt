@@ -1,12 +1,12 @@
 use Rattle.std.proofs.Common.{length}
 use Rattle.osi_carrier.proofs.Vocabulary.{any_standing, one_by_one, packets, written_for}
-use Rattle.osi_carrier.proofs.written.tsdus_are_written_straight.{IsWriting}
+use Rattle.osi_carrier.proofs.written.pieces_are_written_straight.{IsSending}
 use Rattle.osi_carrier.specs.Pieces.{tsdus_from, tsdus_in, FitsTsdu}
-use Rattle.osi_carrier.proofs.links.write_pieces.Given as goal
+use Rattle.osi_carrier.proofs.links.write_some.Given as goal
 
 abbrev pub invariant-pieces : goal.invariant-pieces
 invariant-pieces l =
-    IsWriting l.fn.peer (one_by_one (any_standing l.fn.link) (tsdus_in l.fn.pieces))
+    IsSending l.fn.peer (one_by_one (any_standing l.fn.link) (tsdus_in l.fn.pieces))
     (packets (written_for l.fn.peer (any_standing l.fn.link) (tsdus_in l.fn.pieces)))
     l.fn.out.items (any_standing l.link) (tsdus_from l.fn.pieces l.head l.rest) l.out.items l.out.spare
     × FitsTsdu l.fn.pieces.size l.head
