@@ -39,10 +39,13 @@ impl Model for Carrier {
 }
 
 impl Carrier {
-    ghost use Rattle.std.specs.Prelude.{◌≡◌, ◌≢◌, ◌+◌, ◌-◌, ◌*◌, ◌^◌, ◌≤◌, ◌++◌, true, false, None, Some, Err, [], length, map, min, drop, IfOk, IfErr, OnOk, OnErr, MatchResult, option_map, is_some};
+    ghost use Rattle.std.specs.Prelude.{◌≡◌, ◌≢◌, ◌+◌, ◌-◌, ◌*◌, ◌^◌, ◌≤◌, ◌++◌, true, false, None, Some, Err, [], length, map, min, drop};
+    ghost use Rattle.std.specs.Prelude.{IfOk, IfErr, OnOk, OnErr, MatchResult, option_map, is_some};
     ghost use Rattle.osi_tpkt.specs.Held.{fresh};
     ghost use Rattle.osi_tpdu.specs.Limits.{tsap_octets};
-    ghost use Rattle.osi_carrier.specs.Calls.{fresh_state, may_connect, open_error, asks, open_link, close_error, send_error, send_all_error, call_error, closed_with, sent, sent_all, ended_by, kept_in, unsent_at, backlog_of, tsaps_at, Tells, WaitsOn, AllWaitOn};
+    ghost use Rattle.osi_carrier.specs.Calls.{fresh_state, may_connect, open_error, asks, open_link, close_error, send_error};
+    ghost use Rattle.osi_carrier.specs.Calls.{send_all_error, call_error, closed_with, sent, sent_all, ended_by, kept_in, unsent_at};
+    ghost use Rattle.osi_carrier.specs.Calls.{backlog_of, tsaps_at, Tells, WaitsOn, AllWaitOn};
     ghost use Rattle.osi_carrier.specs.Rows.{value_at};
     ghost use Rattle.osi_carrier.specs.Happenings.{happening};
     ghost use Rattle.osi_carrier.specs.Packets.{Feeds, waits};
@@ -83,7 +86,8 @@ impl Carrier {
     /// Requests a connection with these transport selectors: the connection gets the next reference, and a CR is
     /// written. The errors are those of [`Carrier::may_connect`], and then out of memory. An error changes nothing.
     pub fn connect(&mut self, calling: Option<Tsap>, called: Option<Tsap>) -> Result<Ref, OpenError>
-        ensures ok { OnOk result (self.new ≡ record self.old { state = asks (option_map tsap_octets calling) (option_map tsap_octets called) self.old.state }) }
+        ensures ok { OnOk result (self.new
+            ≡ record self.old { state = asks (option_map tsap_octets calling) (option_map tsap_octets called) self.old.state }) }
         ensures reference { IfOk result (λ r. r.0 ≡ self.old.state.given + 1) }
         ensures allowed { OnOk result (may_connect self.old.state ≡ None) }
         ensures refused { IfErr result (λ e. open_error e ≡ may_connect self.old.state) }
@@ -148,9 +152,11 @@ impl Carrier {
     /// [`Carrier::send`]; one TSDU that is too long makes the whole call fail. An error changes nothing. An empty list
     /// sends nothing, and allocates nothing.
     pub fn send_all(&mut self, reference: Ref, tsdus: &[Vec<u8>]) -> Result<(), SendError>
-        ensures ok { OnOk result (self.new ≡ record self.old { state = sent_all reference.0 (map (λ v. v.items) tsdus.now) self.old.state }) }
+        ensures ok { OnOk result (self.new
+            ≡ record self.old { state = sent_all reference.0 (map (λ v. v.items) tsdus.now) self.old.state }) }
         ensures allowed { OnOk result (send_all_error (map (λ v. v.items) tsdus.now) (open_link reference.0 self.old.state) ≡ None) }
-        ensures refused { IfErr result (λ e. call_error e ≡ send_all_error (map (λ v. v.items) tsdus.now) (open_link reference.0 self.old.state)) }
+        ensures refused { IfErr result (λ e.
+            call_error e ≡ send_all_error (map (λ v. v.items) tsdus.now) (open_link reference.0 self.old.state)) }
         ensures err { OnErr result (self.new ≡ self.old) }
         ensures nothing { tsdus.now ≡ [] → result ≢ Err SendError.OutOfMemory }
     {
@@ -161,12 +167,15 @@ impl Carrier {
     /// written. If none may be sent now, nothing else is queued at the connection, and they have fewer than 2^64
     /// octets together, no memory is needed.
     pub fn send_all_owned(&mut self, reference: Ref, tsdus: Vec<Vec<u8>>) -> Result<(), SendError>
-        ensures ok { OnOk result (self.new ≡ record self.old { state = sent_all reference.0 (map (λ v. v.items) tsdus.items) self.old.state }) }
+        ensures ok { OnOk result (self.new
+            ≡ record self.old { state = sent_all reference.0 (map (λ v. v.items) tsdus.items) self.old.state }) }
         ensures allowed { OnOk result (send_all_error (map (λ v. v.items) tsdus.items) (open_link reference.0 self.old.state) ≡ None) }
-        ensures refused { IfErr result (λ e. call_error e ≡ send_all_error (map (λ v. v.items) tsdus.items) (open_link reference.0 self.old.state)) }
+        ensures refused { IfErr result (λ e.
+            call_error e ≡ send_all_error (map (λ v. v.items) tsdus.items) (open_link reference.0 self.old.state)) }
         ensures err { OnErr result (self.new ≡ self.old) }
         ensures nothing { tsdus.items ≡ [] → result ≢ Err SendError.OutOfMemory }
-        ensures kept { AllWaitOn (open_link reference.0 self.old.state) (map (λ v. v.items) tsdus.items) → result ≢ Err SendError.OutOfMemory }
+        ensures kept { AllWaitOn (open_link reference.0 self.old.state) (map (λ v. v.items) tsdus.items) →
+            result ≢ Err SendError.OutOfMemory }
     {
         self.switch.send_all(reference.0, CowSlice::Owned(tsdus))
     }
@@ -179,7 +188,8 @@ impl Carrier {
     pub fn send_all_headed(&mut self, reference: Ref, pieces: &Pieces<'_>) -> Result<(), SendError>
         ensures ok { OnOk result (self.new ≡ record self.old { state = sent_all reference.0 (tsdus_in pieces.now) self.old.state }) }
         ensures allowed { OnOk result (send_all_error (tsdus_in pieces.now) (open_link reference.0 self.old.state) ≡ None) }
-        ensures refused { FitTsdus pieces.now → IfErr result (λ e. call_error e ≡ send_all_error (tsdus_in pieces.now) (open_link reference.0 self.old.state)) }
+        ensures refused { FitTsdus pieces.now →
+            IfErr result (λ e. call_error e ≡ send_all_error (tsdus_in pieces.now) (open_link reference.0 self.old.state)) }
         ensures unfit { (FitTsdus pieces.now → ⊥) → result ≡ Err SendError.TooLong }
         ensures err { OnErr result (self.new ≡ self.old) }
     {

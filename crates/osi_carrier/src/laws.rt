@@ -50,7 +50,8 @@ pub fn no_reference_is_given_twice()
     ensures asks { (calling called : Option (List ℕ)) (s : State) (r : ℕ) → r ≤ s.given → value_at r s.live ≡ None →
         value_at r (asks calling called s).live ≡ None }
     ensures sent { (q r : ℕ) (tsdu : List ℕ) (s : State) → value_at r s.live ≡ None → value_at r (sent q tsdu s).live ≡ None }
-    ensures sent_all { (q r : ℕ) (tsdus : List (List ℕ)) (s : State) → value_at r s.live ≡ None → value_at r (sent_all q tsdus s).live ≡ None }
+    ensures sent_all { (q r : ℕ) (tsdus : List (List ℕ)) (s : State) → value_at r s.live ≡ None →
+        value_at r (sent_all q tsdus s).live ≡ None }
     ensures closed { (q r reason : ℕ) (s : State) → value_at r s.live ≡ None → value_at r (closed_with q reason s).live ≡ None }
 {}
 
@@ -86,7 +87,8 @@ pub fn the_pieces_do_not_matter()
     ensures lasts { (old a b : Carrying) (xs ys : List Call) → IsPartial old.held.octets → old.state.ended ≡ None →
         CallsAlong old xs a → CallsAlong old ys b → flat_map called_in xs ≡ [] → flat_map called_in ys ≡ [] →
         flat_map used_in xs ≡ flat_map used_in ys → a.state.ended ≡ None → (b.state.ended ≡ None) ⊎ (b.state.ended ≡ Some NoMemory) }
-    ensures ends { (old a b : Carrying) (xs ys : List Call) → IsPartial old.held.octets → old.held.offset < 2 ^ 64 → old.state.ended ≡ None →
+    ensures ends { (old a b : Carrying) (xs ys : List Call) → IsPartial old.held.octets → old.held.offset < 2 ^ 64 →
+        old.state.ended ≡ None →
         CallsAlong old xs a → CallsAlong old ys b → flat_map called_in xs ≡ [] → flat_map called_in ys ≡ [] →
         flat_map used_in xs ≡ flat_map used_in ys → a.state.ended ≢ None → a.state.ended ≢ Some NoMemory → b.state.ended ≢ Some NoMemory →
         EndAlike a xs b ys }
@@ -101,7 +103,8 @@ pub fn the_pieces_do_not_matter()
 /// only a close changes that.
 pub fn what_is_open_is_told()
     ensures unit { (unit : Value) (s : State) (r : ℕ) → IsOrderly s → (react unit s).ended ≡ None → TellsOpen r s (react unit s) }
-    ensures packet { (packet : List ℕ) (s : State) (r : ℕ) → IsOrderly s → (after_packet s packet).ended ≡ None → TellsOpen r s (after_packet s packet) }
+    ensures packet { (packet : List ℕ) (s : State) (r : ℕ) → IsOrderly s → (after_packet s packet).ended ≡ None →
+        TellsOpen r s (after_packet s packet) }
     ensures asks { (calling called : Option (List ℕ)) (s : State) (r : ℕ) → IsOrderly s → is_open r (asks calling called s) ≡ is_open r s }
     ensures sent { (q r : ℕ) (tsdu : List ℕ) (s : State) → is_open r (sent q tsdu s) ≡ is_open r s }
     ensures sent_all { (q r : ℕ) (tsdus : List (List ℕ)) (s : State) → is_open r (sent_all q tsdus s) ≡ is_open r s }

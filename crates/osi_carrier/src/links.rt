@@ -1,6 +1,7 @@
 //! The links of open connections: units that are received for them, and units that they give.
 
-ghost use Rattle.std.specs.Prelude.{ℕ, List, ◌≡◌, ◌<◌, ◌≤◌, ◌+◌, ◌*◌, ◌^◌, ◌++◌, [], None, true, false, nat_lt, length, drop, map, IfOk, IfSome, IsOk, IsSome, OnOk, OnErr};
+ghost use Rattle.std.specs.Prelude.{ℕ, List, ◌≡◌, ◌<◌, ◌≤◌, ◌+◌, ◌*◌, ◌^◌, ◌++◌, [], None, true, false, nat_lt, length, drop, map, IfOk};
+ghost use Rattle.std.specs.Prelude.{IfSome, IsOk, IsSome, OnOk, OnErr};
 ghost use Rattle.std.specs.Cow.{cow_slice_items, IsOwnedSlice};
 ghost use Rattle.osi_class.specs.AnyLink.{any_standing};
 ghost use Rattle.osi_class.specs.Giving.{most_given, octets_in_parts, one_by_one, units_needed, AllGoAtOnce};
@@ -75,7 +76,8 @@ pub fn send_whole(
     out: &mut BytesMut,
 ) -> bool
     ensures link { result ≡ true → any_standing link.new ≡ pumped (with_tsdu (any_standing link.old) (head.now ++ body.now)) }
-    ensures written { result ≡ true → out.new.items ≡ out.old.items ++ packets (written_by peer (with_tsdu (any_standing link.old) (head.now ++ body.now))) }
+    ensures written { result ≡ true →
+        out.new.items ≡ out.old.items ++ packets (written_by peer (with_tsdu (any_standing link.old) (head.now ++ body.now))) }
     ensures pumped { result ≡ true → next (any_standing link.new) ≡ None }
     ensures none { result ≡ false → (any_standing link.new ≡ any_standing link.old) × (out.new.items ≡ out.old.items) }
 {
@@ -124,7 +126,8 @@ pub fn send_parts(
 ) -> Result<(), AllocError>
     requires { next (any_standing link.old) ≡ None }
     ensures link { OnOk result (any_standing link.new ≡ pumped (with_tsdu (any_standing link.old) (cow_slice_items tsdu.entry))) }
-    ensures ok { OnOk result (out.new.items ≡ out.old.items ++ packets (written_by peer (with_tsdu (any_standing link.old) (cow_slice_items tsdu.entry)))) }
+    ensures ok { OnOk result (out.new.items ≡ out.old.items
+        ++ packets (written_by peer (with_tsdu (any_standing link.old) (cow_slice_items tsdu.entry)))) }
     ensures pumped { OnOk result (next (any_standing link.new) ≡ None) }
     ensures err { OnErr result ((any_standing link.new ≡ any_standing link.old) × (out.new.items ≡ out.old.items)) }
     ensures kept { IsOwnedSlice tsdu.entry → WaitsAlone (any_standing link.old) (cow_slice_items tsdu.entry) → IsOk result }
@@ -149,9 +152,11 @@ pub fn send_parts(
 /// Hands in TSDUs together that the link keeps: owned ones themselves, and copies of borrowed ones. An allocation
 /// failure changes nothing.
 fn keep_all(link: &mut AnyLink, tsdus: CowSlice<'_, Vec<u8>, Global>) -> Result<(), AllocError>
-    ensures ok { OnOk result (any_standing link.new ≡ with_tsdus (any_standing link.old) (map (λ v. v.items) (cow_slice_items tsdus.entry))) }
+    ensures ok { OnOk result (any_standing link.new
+        ≡ with_tsdus (any_standing link.old) (map (λ v. v.items) (cow_slice_items tsdus.entry))) }
     ensures err { OnErr result (link.new ≡ link.old) }
-    ensures alone { IsOwnedSlice tsdus.entry → (any_standing link.old).ends.unsent ≡ [] → octets_of_tsdus (map (λ v. v.items) (cow_slice_items tsdus.entry)) < 2 ^ 64 → IsOk result }
+    ensures alone { IsOwnedSlice tsdus.entry → (any_standing link.old).ends.unsent ≡ [] →
+        octets_of_tsdus (map (λ v. v.items) (cow_slice_items tsdus.entry)) < 2 ^ 64 → IsOk result }
 {
     match tsdus {
         CowSlice::Borrowed(tsdus) => link.send_tsdus(tsdus),
@@ -188,11 +193,14 @@ pub fn send_all_on(
     out: &mut BytesMut,
 ) -> Result<(), AllocError>
     requires { next (any_standing link.old) ≡ None }
-    ensures link { OnOk result (any_standing link.new ≡ one_by_one (any_standing link.old) (map (λ v. v.items) (cow_slice_items tsdus.entry))) }
-    ensures ok { OnOk result (out.new.items ≡ out.old.items ++ packets (written_for peer (any_standing link.old) (map (λ v. v.items) (cow_slice_items tsdus.entry)))) }
+    ensures link { OnOk result (any_standing link.new
+        ≡ one_by_one (any_standing link.old) (map (λ v. v.items) (cow_slice_items tsdus.entry))) }
+    ensures ok { OnOk result (out.new.items ≡ out.old.items
+        ++ packets (written_for peer (any_standing link.old) (map (λ v. v.items) (cow_slice_items tsdus.entry)))) }
     ensures pumped { OnOk result (next (any_standing link.new) ≡ None) }
     ensures err { OnErr result ((any_standing link.new ≡ any_standing link.old) × (out.new.items ≡ out.old.items)) }
-    ensures kept { IsOwnedSlice tsdus.entry → WaitTogether (any_standing link.old) (map (λ v. v.items) (cow_slice_items tsdus.entry)) → IsOk result }
+    ensures kept { IsOwnedSlice tsdus.entry →
+        WaitTogether (any_standing link.old) (map (λ v. v.items) (cow_slice_items tsdus.entry)) → IsOk result }
     ensures straight { AllGoAtOnce (any_standing link.old) (map (λ v. v.items) (cow_slice_items tsdus.entry)) →
         most_given 9 (with_tsdus (any_standing link.old) (map (λ v. v.items) (cow_slice_items tsdus.entry))) ≤ out.old.spare → IsOk result }
 {
@@ -251,7 +259,8 @@ fn write_headed(link: &mut AnyLink, peer: u16, head: &[u8], body: &[u8], out: &m
     requires alone { (any_standing link.old).ends.unsent ≡ [] }
     requires room { length (packets (written_by peer (with_tsdu (any_standing link.old) (head.now ++ body.now)))) ≤ out.old.spare }
     ensures link { LeavesRest result (any_standing link.old) (head.now ++ body.now) (any_standing link.new) }
-    ensures written { out.new.items ≡ out.old.items ++ packets (written_by peer (with_tsdu (any_standing link.old) (head.now ++ body.now))) }
+    ensures written { out.new.items ≡ out.old.items
+        ++ packets (written_by peer (with_tsdu (any_standing link.old) (head.now ++ body.now))) }
     ensures pumped { next (any_standing link.new) ≡ None }
     ensures alone { (any_standing link.new).ends.unsent ≡ [] }
     ensures spare { length out.old.items + out.old.spare ≤ length out.new.items + out.new.spare }
@@ -284,7 +293,8 @@ fn write_keeping(
     requires kept { kept.items ≡ left_of (any_standing link.old) (head.now ++ body.now) }
     requires room { length (packets (written_by peer (with_tsdu (any_standing link.old) (head.now ++ body.now)))) ≤ out.old.spare }
     ensures link { any_standing link.new ≡ pumped (with_tsdu (any_standing link.old) (head.now ++ body.now)) }
-    ensures written { out.new.items ≡ out.old.items ++ packets (written_by peer (with_tsdu (any_standing link.old) (head.now ++ body.now))) }
+    ensures written { out.new.items ≡ out.old.items
+        ++ packets (written_by peer (with_tsdu (any_standing link.old) (head.now ++ body.now))) }
     ensures pumped { next (any_standing link.new) ≡ None }
 {
     // Named for the proof: each unit has room for some octets.
@@ -344,7 +354,8 @@ pub fn send_headed_parts(
     requires long { length head.now + length body.now ≤ 1048576 }
     requires quiet { next (any_standing link.old) ≡ None }
     ensures link { OnOk result (any_standing link.new ≡ pumped (with_tsdu (any_standing link.old) (head.now ++ body.now))) }
-    ensures ok { OnOk result (out.new.items ≡ out.old.items ++ packets (written_by peer (with_tsdu (any_standing link.old) (head.now ++ body.now)))) }
+    ensures ok { OnOk result (out.new.items ≡ out.old.items
+        ++ packets (written_by peer (with_tsdu (any_standing link.old) (head.now ++ body.now)))) }
     ensures pumped { OnOk result (next (any_standing link.new) ≡ None) }
     ensures err { OnErr result ((any_standing link.new ≡ any_standing link.old) × (out.new.items ≡ out.old.items)) }
 {
@@ -368,8 +379,10 @@ pub fn send_headed_parts(
 fn may_send(link: &AnyLink, units: usize) -> bool
     requires quiet { next (any_standing link.now) ≡ None }
     requires some { 0 < units }
-    ensures go { result ≡ true → (tsdus : List (List ℕ)) → units ≡ units_needed (any_standing link.now).ends.limit tsdus → AllGoAtOnce (any_standing link.now) tsdus }
-    ensures all { (tsdus : List (List ℕ)) → units ≡ units_needed (any_standing link.now).ends.limit tsdus → AllGoAtOnce (any_standing link.now) tsdus →
+    ensures go { result ≡ true → (tsdus : List (List ℕ)) → units ≡ units_needed (any_standing link.now).ends.limit tsdus →
+        AllGoAtOnce (any_standing link.now) tsdus }
+    ensures all { (tsdus : List (List ℕ)) → units ≡ units_needed (any_standing link.now).ends.limit tsdus →
+        AllGoAtOnce (any_standing link.now) tsdus →
         units * (any_standing link.now).ends.limit < 2 ^ 64 → result ≡ true }
 {
     let Some(octets) = units.checked_mul(link.limit()) else {
@@ -385,7 +398,8 @@ fn room_at_once(link: &AnyLink, pieces: &Pieces<'_>) -> Option<usize>
     requires quiet { next (any_standing link.now) ≡ None }
     requires fit { FitTsdus pieces.now }
     ensures go { IfSome result (λ _. AllGoAtOnce (any_standing link.now) (tsdus_in pieces.now)) }
-    ensures enough { IfSome result (λ room. (peer : ℕ) → length (packets (written_for peer (any_standing link.now) (tsdus_in pieces.now))) ≤ room) }
+    ensures enough { IfSome result (λ room. (peer : ℕ) →
+        length (packets (written_for peer (any_standing link.now) (tsdus_in pieces.now))) ≤ room) }
     ensures exact { IfSome result (λ room. room ≡ octets_in_parts 9 (any_standing link.now).ends.limit (tsdus_in pieces.now)) }
     ensures some { AllGoAtOnce (any_standing link.now) (tsdus_in pieces.now) →
         units_needed (any_standing link.now).ends.limit (tsdus_in pieces.now) * (any_standing link.now).ends.limit < 2 ^ 64 →
@@ -405,7 +419,8 @@ fn some_at_once(link: &AnyLink, pieces: &Pieces<'_>) -> Option<Room>
     requires quiet { next (any_standing link.now) ≡ None }
     requires fit { FitTsdus pieces.now }
     ensures go { IfSome result (λ some. SomeGo (any_standing link.now) some.units (tsdus_in pieces.now)) }
-    ensures enough { IfSome result (λ some. (peer : ℕ) → length (packets (written_for peer (any_standing link.now) (tsdus_in pieces.now))) ≤ some.octets) }
+    ensures enough { IfSome result (λ some. (peer : ℕ) → length (packets (written_for peer (any_standing link.now) (tsdus_in pieces.now)))
+        ≤ some.octets) }
 {
     let limit = link.limit();
     let all = pieces.room(limit)?;
@@ -434,7 +449,8 @@ fn write_some(link: &mut AnyLink, peer: u16, pieces: &Pieces<'_>, out: &mut Byte
     requires limit { 0 < (any_standing link.old).ends.limit }
     requires fit { FitTsdus pieces.now }
     requires room { length (packets (written_for peer (any_standing link.old) (tsdus_in pieces.now))) ≤ out.old.spare }
-    ensures link { with_tsdus (any_standing link.new) (one_by_one (any_standing link.old) (tsdus_in pieces.now)).ends.unsent ≡ one_by_one (any_standing link.old) (tsdus_in pieces.now) }
+    ensures link { with_tsdus (any_standing link.new) (one_by_one (any_standing link.old) (tsdus_in pieces.now)).ends.unsent
+        ≡ one_by_one (any_standing link.old) (tsdus_in pieces.now) }
     ensures alone { (any_standing link.new).ends.unsent ≡ [] }
     ensures written { out.new.items ≡ out.old.items ++ packets (written_for peer (any_standing link.old) (tsdus_in pieces.now)) }
 {

@@ -34,7 +34,8 @@ fn halve<R: Referred>(rows: &[R], reference: u16) -> Option<usize>
 /// Whether a reference is above that of the last row, or above 0 if there is none: then a row with it may be added at
 /// the end.
 pub fn is_above<R: Referred>(rows: &[R], reference: u16) -> bool
-    ensures { (row : R) → R.reference_of row ≡ reference → result ≡ true → RiseBy R.reference_of 0 rows.now → RiseBy R.reference_of 0 (rows.now ++ row ∷ []) }
+    ensures { (row : R) → R.reference_of row ≡ reference → result ≡ true → RiseBy R.reference_of 0 rows.now →
+        RiseBy R.reference_of 0 (rows.now ++ row ∷ []) }
 {
     if rows.is_empty() {
         return reference > 0;

@@ -3,7 +3,8 @@
 ghost use Rattle.std.specs.Prelude.{◌≡◌, ◌≤◌, None, option_map, option_copied};
 ghost use Rattle.osi_tpdu.specs.Limits.{selector_octets, tsap_octets, size_code};
 ghost use Rattle.osi_tpdu.specs.View.{request_content, confirm_content};
-ghost use Rattle.osi_carrier.specs.Negotiation.{proposes_zero, alternatives, proposal, confirmed, agreed_size, selects_expedited, opened_link, acceptance};
+ghost use Rattle.osi_carrier.specs.Negotiation.{proposes_zero, alternatives, proposal, confirmed, agreed_size, selects_expedited};
+ghost use Rattle.osi_carrier.specs.Negotiation.{opened_link, acceptance};
 ghost use Rattle.osi_class.specs.AnyLink.{any_standing};
 ghost use Rattle.osi_class.specs.Link.{next};
 
@@ -38,7 +39,8 @@ pub fn proposal<'x>(
     called: &'x Option<Tsap>,
     reference: u16,
 ) -> ConnectRequest<'x>
-    ensures { request_content result ≡ proposal local.now held (option_map tsap_octets calling.now) (option_map tsap_octets called.now) reference }
+    ensures { request_content result
+        ≡ proposal local.now held (option_map tsap_octets calling.now) (option_map tsap_octets called.now) reference }
 {
     if !local.class2 {
         let fields = ConnectFields {
@@ -145,7 +147,8 @@ pub fn acceptance<'x>(
     local: &Local,
     reference: u16,
 ) -> ConnectConfirm<'x>
-    ensures content { confirm_content result ≡ acceptance class (option_map size_code size) (request_content request.now) local.now reference }
+    ensures content { confirm_content result ≡ acceptance class (option_map size_code size) (request_content request.now)
+        local.now reference }
     ensures destination { result.destination ≡ request.now.fields.source }
 {
     match class {

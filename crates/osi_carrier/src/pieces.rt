@@ -89,7 +89,8 @@ fn put_rest(
     requires short { length head.now ≤ 123 }
     requires long { length head.now + length piece.now ≤ 1048576 }
     ensures { IfOk result (λ left. (others : List (List ℕ)) →
-        map (λ v. v.items) tsdus.new.items ++ left_after left limit others ≡ map (λ v. v.items) tsdus.old.items ++ left_after units limit ((head.now ++ piece.now) ∷ others)) }
+        map (λ v. v.items) tsdus.new.items ++ left_after left limit others ≡ map (λ v. v.items) tsdus.old.items
+        ++ left_after units limit ((head.now ++ piece.now) ∷ others)) }
 {
     if units == 0 {
         put_copy(alloc, head, piece, tsdus)?;

@@ -1,8 +1,10 @@
 //! The live connections, in the order of their references.
 
-ghost use Rattle.std.specs.Prelude.{◌≡◌, ℕ, ◌+◌, ◌*◌, ◌^◌, ◌-◌, ◌<◌, ◌≤◌, ◌∷◌, ◌++◌, ◌==◌, [], None, Some, Ok, true, length, map, min, nat_lt, is_some, IsOk, IfOk, IfErr, IfSome, OnOk, OnErr};
+ghost use Rattle.std.specs.Prelude.{◌≡◌, ℕ, ◌+◌, ◌*◌, ◌^◌, ◌-◌, ◌<◌, ◌≤◌, ◌∷◌, ◌++◌, ◌==◌, [], None, Some, Ok, true, length, map, min};
+ghost use Rattle.std.specs.Prelude.{nat_lt, is_some, IsOk, IfOk, IfErr, IfSome, OnOk, OnErr};
 ghost use Rattle.std.specs.Cow.{cow_slice_items, IsOwnedSlice};
-ghost use Rattle.osi_carrier.specs.Calls.{backlog_of, begun_by, call_error, kept_in, length_error, link_of, send_error, unsent_at, unsent_by, WaitsAlone, WaitTogether};
+ghost use Rattle.osi_carrier.specs.Calls.{backlog_of, begun_by, call_error, kept_in, length_error, link_of, send_error, unsent_at};
+ghost use Rattle.osi_carrier.specs.Calls.{unsent_by, WaitsAlone, WaitTogether};
 ghost use Rattle.osi_carrier.specs.Live.{connection, IsPumped};
 ghost use Rattle.osi_carrier.specs.Opened.{link_in, peer_in};
 ghost use Rattle.osi_carrier.specs.Orderly.{RiseFrom};
@@ -123,10 +125,13 @@ impl Row {
     ) -> Result<(), AllocError>
         requires { peer_in (Some self.old.1) ≡ Some peer }
         ensures reference { self.new.0 ≡ self.old.0 }
-        ensures row { OnOk result (self.new ≡ (self.old.0, linked peer (one_by_one (link_in (Some self.old.1)) (map (λ v. v.items) (cow_slice_items tsdus.entry))))) }
-        ensures ok { OnOk result (out.new.items ≡ out.old.items ++ packets (written_for peer (link_in (Some self.old.1)) (map (λ v. v.items) (cow_slice_items tsdus.entry)))) }
+        ensures row { OnOk result (self.new
+            ≡ (self.old.0, linked peer (one_by_one (link_in (Some self.old.1)) (map (λ v. v.items) (cow_slice_items tsdus.entry))))) }
+        ensures ok { OnOk result (out.new.items ≡ out.old.items
+            ++ packets (written_for peer (link_in (Some self.old.1)) (map (λ v. v.items) (cow_slice_items tsdus.entry)))) }
         ensures err { OnErr result ((self.new ≡ self.old) × (out.new.items ≡ out.old.items)) }
-        ensures kept { IsOwnedSlice tsdus.entry → WaitTogether (link_in (Some self.old.1)) (map (λ v. v.items) (cow_slice_items tsdus.entry)) → IsOk result }
+        ensures kept { IsOwnedSlice tsdus.entry →
+            WaitTogether (link_in (Some self.old.1)) (map (λ v. v.items) (cow_slice_items tsdus.entry)) → IsOk result }
     {
         match &mut self.phase {
             Phase::Asked | Phase::Closing(_) => unreachable!(),
@@ -147,7 +152,8 @@ impl Row {
         requires fit { FitTsdus pieces.now }
         ensures reference { self.new.0 ≡ self.old.0 }
         ensures row { OnOk result (self.new ≡ (self.old.0, linked peer (one_by_one (link_in (Some self.old.1)) (tsdus_in pieces.now)))) }
-        ensures ok { OnOk result (out.new.items ≡ out.old.items ++ packets (written_for peer (link_in (Some self.old.1)) (tsdus_in pieces.now))) }
+        ensures ok { OnOk result (out.new.items ≡ out.old.items
+            ++ packets (written_for peer (link_in (Some self.old.1)) (tsdus_in pieces.now))) }
         ensures err { OnErr result ((self.new ≡ self.old) × (out.new.items ≡ out.old.items)) }
     {
         match &mut self.phase {
@@ -367,12 +373,20 @@ impl Connections {
         out: &mut BytesMut,
     ) -> Result<Step, AllocError>
         ensures step { IfOk result (λ s. StepsTo s reference self.old (taken (link_in (value_at reference self.old)) (value unit.now))) }
-        ensures rows { (peer : ℕ) → peer_in (value_at reference self.old) ≡ Some peer → OnOk result (self.new ≡ put reference (linked peer (link_after (link_in (value_at reference self.old)) (taken (link_in (value_at reference self.old)) (value unit.now)))) self.old) }
-        ensures ok { (peer : ℕ) → peer_in (value_at reference self.old) ≡ Some peer → OnOk result (out.new.items ≡ out.old.items ++ packets (units_after peer (taken (link_in (value_at reference self.old)) (value unit.now)))) }
+        ensures rows { (peer : ℕ) → peer_in (value_at reference self.old) ≡ Some peer →
+            OnOk result (self.new
+            ≡ put reference (linked
+            peer (link_after (link_in (value_at reference self.old)) (taken (link_in (value_at reference self.old)) (value
+            unit.now)))) self.old) }
+        ensures ok { (peer : ℕ) → peer_in (value_at reference self.old) ≡ Some peer →
+            OnOk result (out.new.items ≡ out.old.items
+            ++ packets (units_after peer (taken (link_in (value_at reference self.old)) (value unit.now)))) }
         ensures none { result ≡ Ok Step.NotOpen → (self.new ≡ self.old) × (out.new.items ≡ out.old.items) }
         ensures err { OnErr result (out.new.items ≡ out.old.items) }
         ensures known { OnErr result (is_some (peer_in (value_at reference self.old)) ≡ true) }
-        ensures needs { (peer : ℕ) → peer_in (value_at reference self.old) ≡ Some peer → OnErr result (link_grows peer (link_in (value_at reference self.old)) (taken (link_in (value_at reference self.old)) (value unit.now)) ≡ true) }
+        ensures needs { (peer : ℕ) → peer_in (value_at reference self.old) ≡ Some peer →
+            OnErr result (link_grows
+            peer (link_in (value_at reference self.old)) (taken (link_in (value_at reference self.old)) (value unit.now)) ≡ true) }
     {
         let Some(place) = place_in(self.rows.as_slice(), self.rises, reference) else {
             return Ok(Step::NotOpen);
@@ -407,10 +421,14 @@ impl Connections {
     ) -> Result<(), AllocError>
         requires place { place_of reference self.old ≡ Some place }
         requires open { peer_in (value_at reference self.old) ≡ Some peer }
-        ensures rows { OnOk result (self.new ≡ put reference (linked peer (pumped (with_tsdu (link_in (value_at reference self.old)) (cow_slice_items tsdu.entry)))) self.old) }
-        ensures ok { OnOk result (out.new.items ≡ out.old.items ++ packets (written_by peer (with_tsdu (link_in (value_at reference self.old)) (cow_slice_items tsdu.entry)))) }
+        ensures rows { OnOk result (self.new
+            ≡ put reference (linked
+            peer (pumped (with_tsdu (link_in (value_at reference self.old)) (cow_slice_items tsdu.entry)))) self.old) }
+        ensures ok { OnOk result (out.new.items ≡ out.old.items
+            ++ packets (written_by peer (with_tsdu (link_in (value_at reference self.old)) (cow_slice_items tsdu.entry)))) }
         ensures err { OnErr result ((self.new ≡ self.old) × (out.new.items ≡ out.old.items)) }
-        ensures kept { IsOwnedSlice tsdu.entry → WaitsAlone (link_in (value_at reference self.old)) (cow_slice_items tsdu.entry) → IsOk result }
+        ensures kept { IsOwnedSlice tsdu.entry →
+            WaitsAlone (link_in (value_at reference self.old)) (cow_slice_items tsdu.entry) → IsOk result }
     {
         let Phase::Linked(_, link) = &mut self.rows[place].phase else {
             unreachable!()
@@ -433,8 +451,11 @@ impl Connections {
         out: &mut BytesMut,
     ) -> Result<u16, SendError>
         ensures open { IfOk result (λ peer. peer_in (value_at reference self.old) ≡ Some peer) }
-        ensures rows { IfOk result (λ peer. self.new ≡ put reference (linked peer (pumped (with_tsdu (link_in (value_at reference self.old)) (head.now ++ body.now)))) self.old) }
-        ensures ok { IfOk result (λ peer. out.new.items ≡ out.old.items ++ packets (written_by peer (with_tsdu (link_in (value_at reference self.old)) (head.now ++ body.now)))) }
+        ensures rows { IfOk result (λ peer.
+            self.new ≡ put reference (linked
+            peer (pumped (with_tsdu (link_in (value_at reference self.old)) (head.now ++ body.now)))) self.old) }
+        ensures ok { IfOk result (λ peer. out.new.items ≡ out.old.items
+            ++ packets (written_by peer (with_tsdu (link_in (value_at reference self.old)) (head.now ++ body.now)))) }
         ensures fits { OnOk result (length_error (head.now ++ body.now) ≡ None) }
         ensures refused { IfErr result (λ e. call_error e ≡ send_error (head.now ++ body.now) (link_of (value_at reference self.old))) }
         ensures err { OnErr result ((self.new ≡ self.old) × (out.new.items ≡ out.old.items)) }
@@ -470,10 +491,14 @@ impl Connections {
     ) -> Result<(), AllocError>
         requires place { place_of reference self.old ≡ Some place }
         requires open { peer_in (value_at reference self.old) ≡ Some peer }
-        ensures rows { OnOk result (self.new ≡ put reference (linked peer (one_by_one (link_in (value_at reference self.old)) (map (λ v. v.items) (cow_slice_items tsdus.entry)))) self.old) }
-        ensures ok { OnOk result (out.new.items ≡ out.old.items ++ packets (written_for peer (link_in (value_at reference self.old)) (map (λ v. v.items) (cow_slice_items tsdus.entry)))) }
+        ensures rows { OnOk result (self.new
+            ≡ put reference (linked
+            peer (one_by_one (link_in (value_at reference self.old)) (map (λ v. v.items) (cow_slice_items tsdus.entry)))) self.old) }
+        ensures ok { OnOk result (out.new.items ≡ out.old.items
+            ++ packets (written_for peer (link_in (value_at reference self.old)) (map (λ v. v.items) (cow_slice_items tsdus.entry)))) }
         ensures err { OnErr result ((self.new ≡ self.old) × (out.new.items ≡ out.old.items)) }
-        ensures kept { IsOwnedSlice tsdus.entry → WaitTogether (link_in (value_at reference self.old)) (map (λ v. v.items) (cow_slice_items tsdus.entry)) → IsOk result }
+        ensures kept { IsOwnedSlice tsdus.entry →
+            WaitTogether (link_in (value_at reference self.old)) (map (λ v. v.items) (cow_slice_items tsdus.entry)) → IsOk result }
     {
         self.rows[place].send_all(peer, tsdus, out)
     }
@@ -492,8 +517,10 @@ impl Connections {
         requires place { place_of reference self.old ≡ Some place }
         requires open { peer_in (value_at reference self.old) ≡ Some peer }
         requires fit { FitTsdus pieces.now }
-        ensures rows { OnOk result (self.new ≡ put reference (linked peer (one_by_one (link_in (value_at reference self.old)) (tsdus_in pieces.now))) self.old) }
-        ensures ok { OnOk result (out.new.items ≡ out.old.items ++ packets (written_for peer (link_in (value_at reference self.old)) (tsdus_in pieces.now))) }
+        ensures rows { OnOk result (self.new
+            ≡ put reference (linked peer (one_by_one (link_in (value_at reference self.old)) (tsdus_in pieces.now))) self.old) }
+        ensures ok { OnOk result (out.new.items ≡ out.old.items
+            ++ packets (written_for peer (link_in (value_at reference self.old)) (tsdus_in pieces.now))) }
         ensures err { OnErr result ((self.new ≡ self.old) × (out.new.items ≡ out.old.items)) }
     {
         self.rows[place].send_pieces(alloc, peer, pieces, out)

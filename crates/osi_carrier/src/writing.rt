@@ -204,7 +204,8 @@ pub fn put_part(out: &mut BytesMut, peer: u16, slot: Slot, end: bool, head: &[u8
     requires fits { length head.now + length body.now ≤ 8189 }
     requires room { length (packets (unit_of peer (part_under (number_in slot) end (head.now ++ body.now)) ∷ [])) ≤ out.old.spare }
     ensures items { out.new.items ≡ out.old.items ++ packets (unit_of peer (part_under (number_in slot) end (head.now ++ body.now)) ∷ []) }
-    ensures spare { out.old.spare ≤ out.new.spare + length (packets (unit_of peer (part_under (number_in slot) end (head.now ++ body.now)) ∷ [])) }
+    ensures spare { out.old.spare ≤ out.new.spare
+        + length (packets (unit_of peer (part_under (number_in slot) end (head.now ++ body.now)) ∷ [])) }
 {
     match slot {
         Slot::Data0 => DataClass0 { end, user: body }.put_packet_behind(head, out),

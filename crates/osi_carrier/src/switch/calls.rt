@@ -1,8 +1,10 @@
 //! Closing connections, the end, and pending events.
 
-ghost use Rattle.std.specs.Prelude.{◌≡◌, ◌≢◌, ◌<◌, ◌≤◌, ◌*◌, ◌-◌, ◌++◌, ◌∷◌, [], length, Err, IfErr, None, Some, IsOk, OnOk, OnErr, is_some};
+ghost use Rattle.std.specs.Prelude.{◌≡◌, ◌≢◌, ◌<◌, ◌≤◌, ◌*◌, ◌-◌, ◌++◌, ◌∷◌, [], length, Err, IfErr, None, Some, IsOk, OnOk, OnErr};
+ghost use Rattle.std.specs.Prelude.{is_some};
 ghost use Rattle.std.specs.Cow.{cow_slice_items, IsOwnedSlice};
-ghost use Rattle.osi_carrier.specs.Calls.{open_link, close_error, send_error, call_error, closed_with, closes, sent, ended_by, kept_in, WaitsOn};
+ghost use Rattle.osi_carrier.specs.Calls.{open_link, close_error, send_error, call_error, closed_with, closes, sent, ended_by, kept_in};
+ghost use Rattle.osi_carrier.specs.Calls.{WaitsOn};
 ghost use Rattle.osi_carrier.specs.Packets.{stops, waits, is_spoilt};
 ghost use Rattle.osi_carrier.specs.Rows.{place_of, put};
 ghost use Rattle.osi_carrier.specs.State.{closing, packets};
@@ -149,7 +151,8 @@ impl Switch {
         ensures allowed { OnOk result (send_error (cow_slice_items tsdu.entry) (open_link reference self.old) ≡ None) }
         ensures refused { IfErr result (λ e. call_error e ≡ send_error (cow_slice_items tsdu.entry) (open_link reference self.old)) }
         ensures err { OnErr result (self.new ≡ self.old) }
-        ensures kept { IsOwnedSlice tsdu.entry → WaitsOn (open_link reference self.old) (cow_slice_items tsdu.entry) → result ≢ Err SendError.OutOfMemory }
+        ensures kept { IsOwnedSlice tsdu.entry → WaitsOn (open_link reference self.old) (cow_slice_items tsdu.entry) →
+            result ≢ Err SendError.OutOfMemory }
     {
         if self.ended.is_some() {
             return Err(SendError::NotOpen);

@@ -40,7 +40,8 @@ impl Switch {
         requires place { place_of reference self.old.live ≡ Some place }
         requires open { peer_in (value_at reference self.old.live) ≡ Some peer }
         requires fit { FitTsdus pieces.now }
-        ensures ok { OnOk result (self.new ≡ pumps_all reference peer (link_in (value_at reference self.old.live)) (tsdus_in pieces.now) self.old) }
+        ensures ok { OnOk result (self.new
+            ≡ pumps_all reference peer (link_in (value_at reference self.old.live)) (tsdus_in pieces.now) self.old) }
         ensures allowed { OnOk result (lengths_error (tsdus_in pieces.now) ≡ None) }
         ensures refused { IfErr result (λ e. call_error e ≡ lengths_error (tsdus_in pieces.now)) }
         ensures err { OnErr result (self.new ≡ self.old) }

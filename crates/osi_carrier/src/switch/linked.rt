@@ -34,9 +34,12 @@ impl Switch {
     ) -> Result<(), AllocError>
         requires place { place_of reference self.old.live ≡ Some place }
         requires open { peer_in (value_at reference self.old.live) ≡ Some peer }
-        ensures ok { OnOk result (self.new ≡ to_linked reference peer (link_in (value_at reference self.old.live)) (value unit.now) self.old) }
+        ensures ok { OnOk result (self.new
+            ≡ to_linked reference peer (link_in (value_at reference self.old.live)) (value unit.now) self.old) }
         ensures err { OnErr result (ends NoMemory self.new ≡ ends NoMemory self.old) }
-        ensures needs { OnErr result (grows self.old (to_linked reference peer (link_in (value_at reference self.old.live)) (value unit.now) self.old) ≡ true) }
+        ensures needs { OnErr
+            result (grows self.old (to_linked reference peer (link_in (value_at reference self.old.live)) (value unit.now)
+            self.old) ≡ true) }
     {
         match unit {
             Tpdu::Dr(request) => self.leave(place, reference, peer, request.reason),
@@ -58,11 +61,14 @@ impl Switch {
     #[inline(always)]
     pub fn hand_to_link(&mut self, reference: u16, unit: &Tpdu<'_>) -> Result<bool, AllocError>
         ensures known { IfOk result (λ b. b ≡ is_some (peer_in (value_at reference self.old.live))) }
-        ensures ok { (peer : ℕ) → peer_in (value_at reference self.old.live) ≡ Some peer → OnOk result (self.new ≡ taking reference peer (taken (link_in (value_at reference self.old.live)) (value unit.now)) self.old) }
+        ensures ok { (peer : ℕ) → peer_in (value_at reference self.old.live) ≡ Some peer →
+            OnOk result (self.new ≡ taking reference peer (taken (link_in (value_at reference self.old.live)) (value unit.now)) self.old) }
         ensures none { result ≡ Ok false → self.new ≡ self.old }
         ensures err { OnErr result (ends NoMemory self.new ≡ ends NoMemory self.old) }
         ensures refused { OnErr result (is_some (peer_in (value_at reference self.old.live)) ≡ true) }
-        ensures needs { (peer : ℕ) → peer_in (value_at reference self.old.live) ≡ Some peer → OnErr result (grows self.old (taking reference peer (taken (link_in (value_at reference self.old.live)) (value unit.now)) self.old) ≡ true) }
+        ensures needs { (peer : ℕ) → peer_in (value_at reference self.old.live) ≡ Some peer →
+            OnErr result (grows self.old (taking reference peer (taken (link_in (value_at reference self.old.live)) (value unit.now))
+            self.old) ≡ true) }
     {
         let before = self.outgoing.len();
         match self.live.step(reference, unit, &mut self.outgoing)? {

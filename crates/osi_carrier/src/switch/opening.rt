@@ -137,7 +137,8 @@ impl Switch {
         requires given { self.old.given < 65535 }
         ensures ok { OnOk result (self.new ≡ answers (request_content request.now) (selection selected) self.old.class self.old) }
         ensures err { OnErr result (ends NoMemory self.new ≡ ends NoMemory self.old) }
-        ensures needs { OnErr result (grows self.old (answers (request_content request.now) (selection selected) self.old.class self.old) ≡ true) }
+        ensures needs { OnErr
+            result (grows self.old (answers (request_content request.now) (selection selected) self.old.class self.old) ≡ true) }
     {
         match selected {
             Answer::Disconnect(reason) => self.deny(request.fields.source, reason),
@@ -175,7 +176,8 @@ impl Switch {
         requires given { self.old.given < 65535 }
         ensures ok { OnOk result (self.new ≡ accepts class (option_map size_code size) (request_content request.now) self.old) }
         ensures err { OnErr result (ends NoMemory self.new ≡ ends NoMemory self.old) }
-        ensures needs { OnErr result (grows self.old (accepts class (option_map size_code size) (request_content request.now) self.old) ≡ true) }
+        ensures needs { OnErr
+            result (grows self.old (accepts class (option_map size_code size) (request_content request.now) self.old) ≡ true) }
     {
         make_first_room(&mut self.outgoing)?;
         let reference = self.given + 1;

@@ -80,7 +80,9 @@ impl Switch {
     #[inline(always)]
     fn take_open(&mut self, reference: u16, unit: &Tpdu<'_>) -> bool
         requires lasts { self.old.ended ≡ None }
-        requires acts { (peer : ℕ) → peer_in (value_at reference self.old.live) ≡ Some peer → in_class self.old.class (value unit.now) self.old ≡ taking reference peer (taken (link_in (value_at reference self.old.live)) (value unit.now)) self.old }
+        requires acts { (peer : ℕ) → peer_in (value_at reference self.old.live) ≡ Some peer →
+            in_class self.old.class (value unit.now) self.old
+            ≡ taking reference peer (taken (link_in (value_at reference self.old.live)) (value unit.now)) self.old }
         ensures acts { result ≡ true → Act self.old (value unit.now ∷ []) self.new }
         ensures none { result ≡ false → self.new ≡ self.old }
     {

@@ -45,9 +45,13 @@ impl Switch {
         answer: &ConnectConfirm<'_>,
     ) -> Result<(), AllocError>
         requires { place_of reference self.old.live ≡ Some place }
-        ensures ok { OnOk result (self.new ≡ opens reference (confirm_content answer.now) (confirmed (confirm_content answer.now) self.old.local self.old.class) self.old) }
+        ensures ok { OnOk result (self.new
+            ≡ opens reference (confirm_content answer.now) (confirmed (confirm_content answer.now) self.old.local
+            self.old.class) self.old) }
         ensures err { OnErr result (ends NoMemory self.new ≡ ends NoMemory self.old) }
-        ensures needs { OnErr result (grows self.old (opens reference (confirm_content answer.now) (confirmed (confirm_content answer.now) self.old.local self.old.class) self.old) ≡ true) }
+        ensures needs { OnErr
+            result (grows self.old (opens reference (confirm_content answer.now) (confirmed (confirm_content answer.now) self.old.local
+            self.old.class) self.old) ≡ true) }
     {
         match confirmed(answer, &self.local, self.class) {
             None => {

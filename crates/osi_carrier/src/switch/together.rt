@@ -3,7 +3,8 @@
 ghost use Rattle.std.specs.Prelude.{◌≡◌, ◌≢◌, [], length, map, nat_lt, Err, IfErr, None, Some, OnOk, OnErr};
 ghost use Rattle.std.specs.Cow.{cow_slice_items, IsOwnedSlice};
 ghost use Rattle.std.specs.List.{list_any};
-ghost use Rattle.osi_carrier.specs.Calls.{open_link, send_all_error, lengths_error, call_error, sent_all, pumps_all, AllWaitOn, WaitTogether};
+ghost use Rattle.osi_carrier.specs.Calls.{open_link, send_all_error, lengths_error, call_error, sent_all, pumps_all, AllWaitOn};
+ghost use Rattle.osi_carrier.specs.Calls.{WaitTogether};
 ghost use Rattle.osi_carrier.specs.Opened.{link_in, peer_in};
 ghost use Rattle.osi_carrier.specs.Rows.{place_of, value_at};
 
@@ -30,11 +31,15 @@ impl Switch {
         tsdus: CowSlice<'_, Vec<u8>, Global>,
     ) -> Result<(), SendError>
         ensures ok { OnOk result (self.new ≡ sent_all reference (map (λ v. v.items) (cow_slice_items tsdus.entry)) self.old) }
-        ensures allowed { OnOk result (send_all_error (map (λ v. v.items) (cow_slice_items tsdus.entry)) (open_link reference self.old) ≡ None) }
-        ensures refused { IfErr result (λ e. call_error e ≡ send_all_error (map (λ v. v.items) (cow_slice_items tsdus.entry)) (open_link reference self.old)) }
+        ensures allowed { OnOk
+            result (send_all_error (map (λ v. v.items) (cow_slice_items tsdus.entry)) (open_link reference self.old) ≡ None) }
+        ensures refused { IfErr result (λ e.
+            call_error e ≡ send_all_error (map (λ v. v.items) (cow_slice_items tsdus.entry)) (open_link reference self.old)) }
         ensures err { OnErr result (self.new ≡ self.old) }
         ensures nothing { cow_slice_items tsdus.entry ≡ [] → result ≢ Err SendError.OutOfMemory }
-        ensures kept { IsOwnedSlice tsdus.entry → AllWaitOn (open_link reference self.old) (map (λ v. v.items) (cow_slice_items tsdus.entry)) → result ≢ Err SendError.OutOfMemory }
+        ensures kept { IsOwnedSlice tsdus.entry →
+            AllWaitOn (open_link reference self.old) (map (λ v. v.items) (cow_slice_items tsdus.entry)) →
+            result ≢ Err SendError.OutOfMemory }
     {
         if self.ended.is_some() {
             return Err(SendError::NotOpen);
@@ -54,12 +59,16 @@ impl Switch {
     ) -> Result<(), SendError>
         requires place { place_of reference self.old.live ≡ Some place }
         requires open { peer_in (value_at reference self.old.live) ≡ Some peer }
-        ensures ok { OnOk result (self.new ≡ pumps_all reference peer (link_in (value_at reference self.old.live)) (map (λ v. v.items) (cow_slice_items tsdus.entry)) self.old) }
+        ensures ok { OnOk result (self.new
+            ≡ pumps_all reference peer (link_in (value_at reference self.old.live)) (map (λ v.
+            v.items) (cow_slice_items tsdus.entry)) self.old) }
         ensures allowed { OnOk result (lengths_error (map (λ v. v.items) (cow_slice_items tsdus.entry)) ≡ None) }
         ensures refused { IfErr result (λ e. call_error e ≡ lengths_error (map (λ v. v.items) (cow_slice_items tsdus.entry))) }
         ensures err { OnErr result (self.new ≡ self.old) }
         ensures nothing { cow_slice_items tsdus.entry ≡ [] → result ≢ Err SendError.OutOfMemory }
-        ensures kept { IsOwnedSlice tsdus.entry → WaitTogether (link_in (value_at reference self.old.live)) (map (λ v. v.items) (cow_slice_items tsdus.entry)) → result ≢ Err SendError.OutOfMemory }
+        ensures kept { IsOwnedSlice tsdus.entry →
+            WaitTogether (link_in (value_at reference self.old.live)) (map (λ v. v.items) (cow_slice_items tsdus.entry)) →
+            result ≢ Err SendError.OutOfMemory }
     {
         let lent = tsdus.as_slice();
         if lent.is_empty() {
