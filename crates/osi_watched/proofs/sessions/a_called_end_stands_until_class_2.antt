@@ -114,12 +114,12 @@ taken_of at (v ∷ vs) c h =
 fine_of : (at : ℕ) (vs : List Value) (c : Passed) → c.traffic.course.class ≡ None → ArePassed Two Right at vs c → AreFine at vs c
 fine_of at [] c none h = tt
 fine_of at (v ∷ vs) c none h = (
-  record {
+  inl (record {
     firm = h.0.right.firm;
     goes = h.0.right.goes;
     two = λ seen. none_some c.traffic.course.class Zero none (h.0.sure.agrees seen);
     none = mild_of v (takes way.Left v c.traffic).told.finding h.0.right.none;
-  },
+  }),
   record { sure = h.0.firm; two = λ zero_is. none_some c.traffic.course.class Zero none zero_is },
   fine_of at vs (unit_passes Left at v c)
       (ap (λ (s : State). s.course.class) (unit_knows Left at v c) ∙ left_class v c.traffic ∙ none) h.1,

@@ -2,7 +2,6 @@
 -- For the law that no session of an end is blamed after such a break.
 use Rattle.std.specs.Prelude.{slice_get}
 use Rattle.std.proofs.Common.{◌⊎◌, ℕ, inl, inr, ◌≡◌, refl, ◌^◌, ◌<◌, Bool, false, true, List, length, Some}
-use Rattle.std.specs.List.{AllByRecursion}
 use Rattle.osi_class.specs.declared.terms.Class.TheVariants.{Zero}
 use Rattle.osi_class.specs.declared.terms.Local.{Local}
 use Rattle.osi_judge.specs.Captures.{Capture}
@@ -17,9 +16,9 @@ use Rattle.osi_honest.specs.Turns.{Run, Turn}
 use Rattle.osi_honest.proofs.courses.what_sessions_hear_of_it.{Known}
 use Rattle.osi_tap.specs.Blaming.{IsToBlame}
 use Rattle.osi_tap.specs.Connections.{Joined}
-use Rattle.osi_tap.specs.Courses.{Course, Moment}
+use Rattle.osi_tap.specs.Courses.{Course}
 use Rattle.osi_tap.specs.Tapping.{comes_to}
-use Rattle.osi_watched.specs.Judging.{ClosesLast, IsJudgedWhole}
+use Rattle.osi_watched.specs.Judging.{IsJudgedWhole}
 use Rattle.osi_watched.specs.Passing.{AreOctets}
 use Rattle.osi_watched.proofs.a_capture_is_steps.{capture_steps}
 use Rattle.osi_watched.proofs.no_unit_of_a_whole_end_is_a_break.{called_is_fair, calling_is_fair}
@@ -36,12 +35,11 @@ module _ (known : Known) (known_of : AsSent) (parts : AsParts) (caller : CallerL
   abbrev course : Course
   course = (comes_to capture).course
 
-  -- class 0 is not selected, all is judged or nothing any more, and nobody sends a DT or an AK on what it has closed
+  -- class 0 is not selected, and all is judged or nothing any more
   pub record IsAssumed (d : Direction) : Type 0 where
     pub few : length course.past < 2 ^ 64
     pub two : course.traffic.course.class ≡ Some Zero → ⊥
     pub whole : IsJudgedWhole d course
-    pub last : AllByRecursion (λ (m : Moment). ClosesLast m.mark) course.past
 
   without : (d : Direction) → IsAssumed d → IsWithout Zero course
   without d h = record { not = h.two; few = h.few }
@@ -59,7 +57,7 @@ module _ (known : Known) (known_of : AsSent) (parts : AsParts) (caller : CallerL
       (nobody_of_well Right course
       (ends_well known.proper Right local (called_is_fair local) (StandsOrSelected local known.proper)
       (called_keeps local known.proper known_of parts caller called) begin capture fresh
-      (capture_steps known Right false local begin end turns capture fresh run octets seen) (without Right h)) h.whole h.last) there
+      (capture_steps known Right false local begin end turns capture fresh run octets seen) (without Right h)) h.whole) there
 
   pub calling_later : (begin end : Holding) (turns : List Turn) (i : ℕ) (j : Joined) → IsFresh true local begin → Run begin turns end →
       AreOctets capture → IsSeen Left turns capture → IsAssumed Left →
@@ -72,10 +70,10 @@ module _ (known : Known) (known_of : AsSent) (parts : AsParts) (caller : CallerL
           (nobody_of_well Left course
           (ends_well known.proper Left local (calling_is_fair local) (StandsQuiet local two known.proper)
           (calling_keeps local two known.proper known_of parts caller called) begin capture fresh
-          (capture_steps known Left true local begin end turns capture fresh run octets seen) (without Left h)) h.whole h.last) there
+          (capture_steps known Left true local begin end turns capture fresh run octets seen) (without Left h)) h.whole) there
       by false none =
           among Left i j
           (nobody_of_well Left course
           (ends_well known.proper Left local (calling_is_fair local) (HasSaidNothing Left local)
           (mute_keeps known.proper Left local (calling_puts_none local none)) begin capture fresh
-          (capture_steps known Left true local begin end turns capture fresh run octets seen) (without Left h)) h.whole h.last) there
+          (capture_steps known Left true local begin end turns capture fresh run octets seen) (without Left h)) h.whole) there

@@ -45,6 +45,7 @@ use Rattle.osi_watched.proofs.the_first_break_is_not_of_an_end.{IsFairFrom, IsNo
 use Rattle.osi_watched.proofs.what_a_unit_leaves_at_a_tap.{IsCalm, IsJudged, IsOver, Leaves, unit_leaves}
 use Rattle.osi_watched.proofs.what_passes_keeps_a_claim.{IsClaim, after_join, after_kept, step_kept, units_kept}
 use Rattle.osi_watched.proofs.what_the_turns_among_steps_do.{ComesByDoing, IsOfTap, StepsDo, TurnDoes}
+use Rattle.osi_watched.proofs.sessions.a_unit_after_a_dr_changes_nothing.{IsAfterDr}
 use Rattle.osi_watched.proofs.sessions.after_too_many_nobody_is_to_blame.{NoneIsToBlame, too_many_silenced}
 use Rattle.osi_watched.proofs.sessions.connections_have_the_same_places.{marked_traffic, unit_knows}
 use Rattle.osi_watched.proofs.sessions.each_step_leaves_class_0_one_connection.{Sure, fresh_sure, sure_claim}
@@ -58,9 +59,9 @@ use Rattle.osi_watched.proofs.sessions.what_passes_is_no_break_while_none_is_tol
 
 -- ---- what is asked of what holds at each step
 
--- a unit of the other side breaks no rule, or its taker passes over that, and it is not one connection too many
+-- a unit of the other side breaks no rule, or its taker passes over that, or it comes after a DR; and it is not one connection too many
 pub record IsTaken (d : Direction) (v : Value) (c : Passed) : Type 0 where
-  pub fine : IsTakeable (other d) v c
+  pub fine : IsTakeable (other d) v c ⊎ IsAfterDr (other d) v c
   pub clear : IsClear c.traffic.course
   pub few : (takes (way_of (other d)) v c.traffic).told.finding ≢ TooMany
 
@@ -634,7 +635,7 @@ without_zero c h = record { not = h.two; few = h.few }
 taken_one : (d : Direction) (v : Value) (c : Passed) → IsPassed Zero d v c → IsTaken d v c
 taken_one d v c h =
     let clear : IsClear c.traffic.course = record { sure = h.firm; two = h.not } in
-    record { fine = takeable_of (other d) v c (fine_so (other d) v c h.sure.agrees clear h.right.none); clear = clear; few = h.few }
+    record { fine = inl (takeable_of (other d) v c (fine_so (other d) v c h.sure.agrees clear h.right.none)); clear = clear; few = h.few }
 
 taken_all : (d : Direction) (at : ℕ) (vs : List Value) (c : Passed) → ArePassed Zero d at vs c → AreTaken d at vs c
 taken_all d at [] c h = tt

@@ -1,12 +1,11 @@
 -- No session of an end is to blame, also after breaks of the other side that a taker passes over, if something holds at each step by which
 -- nobody of the end is to blame, as long as all is judged and class 0 is not selected.
 -- For the law that no session of an end is blamed after such a break.
-use Rattle.std.proofs.Common.{◌≡◌, ◌∙◌, ◌⊎◌, inl, inr, refl, sym, ap, subst, ℕ, ◌^◌, ◌<◌, Bool, true, false, if◌then◌else◌}
-use Rattle.std.proofs.Common.{List, [], ◌∷◌, ◌++◌, length, Some, is_some, append_assoc, arith}
+use Rattle.std.proofs.Common.{◌≡◌, ◌∙◌, ◌⊎◌, inl, inr, refl, sym, ap, subst, ℕ, ◌^◌, ◌<◌, Bool, true, false}
+use Rattle.std.proofs.Common.{List, [], ◌∷◌, ◌++◌, length, Some, append_assoc, arith}
 use Rattle.std.specs.Prelude.{slice_get}
-use Rattle.std.specs.List.{AllByRecursion}
 use Rattle.std.proofs.lemmas.List.{append-nil}
-use Rattle.osi_tpdu.specs.Value.{Value, acknowledge, confirm, data0, data2, disconnect, disconnected, error, request}
+use Rattle.osi_tpdu.specs.Value.{Value}
 use Rattle.osi_class.specs.declared.terms.Class.TheVariants.{Zero}
 use Rattle.osi_class.specs.declared.terms.Local.{Local}
 use Rattle.osi_judge.specs.Captures.{Capture, other}
@@ -14,9 +13,8 @@ use Rattle.osi_judge.specs.declared.directions.Direction.{Direction}
 use Rattle.osi_rules.specs.declared.findings.Finding.{Finding}
 use Rattle.osi_rules.specs.declared.findings.Finding.TheVariants.{Broke, Kept, NotJudged, Outside, TooMany}
 use Rattle.osi_rules.specs.declared.findings.Rule.TheVariants as rule
-use Rattle.osi_rules.specs.Reaches.{is_applied}
+use Rattle.osi_rules.specs.Reaches.{is_applied, reach_of}
 use Rattle.osi_rules.specs.Traffic.{class_for, is_stopped, takes}
-use Rattle.osi_rules.specs.Traffic as traffic
 use Rattle.osi_fair.specs.Wholes as wholes
 use Rattle.osi_fair.proofs.what_the_other_side_closes.{IsClear}
 use Rattle.osi_stack.specs.State.{End, Holding}
@@ -26,19 +24,15 @@ use Rattle.osi_honest.specs.Turns.{Turn}
 use Rattle.osi_honest.proofs.class_0.what_a_packet_does_in_class_0.{AllProper}
 use Rattle.osi_honest.proofs.courses.what_a_run_does_to_it.{fresh_course}
 use Rattle.osi_tap.specs.declared.marks.Cause.{Cause}
-use Rattle.osi_tap.specs.declared.marks.Cause.TheVariants as cause
-use Rattle.osi_tap.specs.declared.marks.Mark.{Mark}
-use Rattle.osi_tap.specs.declared.marks.UnitKind.TheVariants.{Dr}
 use Rattle.osi_tap.specs.Connections.{Joined, spoken}
-use Rattle.osi_tap.specs.Courses.{Course as Passed, Moment, cause_of, kind_of, marked, marks_of, mark_by, moved, number_at}
-use Rattle.osi_tap.specs.Courses.{packet_begins, unit_passes, units_pass, unread, unread_mark, unread_moment, way_of}
+use Rattle.osi_tap.specs.Courses.{Course as Passed}
+use Rattle.osi_tap.specs.Courses.{unit_passes, units_pass, unread, way_of}
 use Rattle.osi_tap.specs.Lines.{heard}
 use Rattle.osi_tap.specs.Tapping as tapping
 use Rattle.osi_tap.specs.Tapping.{after, comes_to}
-use Rattle.osi_tap.proofs.no_break_was_before_the_first.{marked_past}
 use Rattle.osi_watched.specs.Joint.{Joint, Step, Steps, StepsAlong, TakesTurn, begin, begins_other, begins_own, passes_other, passes_own}
 use Rattle.osi_watched.specs.Joint.{turns}
-use Rattle.osi_watched.specs.Judging.{ClosesLast, IsJudgedWhole}
+use Rattle.osi_watched.specs.Judging.{IsJudgedWhole}
 use Rattle.osi_watched.specs.Passing.{TurnsBad}
 use Rattle.osi_watched.specs.Shown.{calls_from}
 use Rattle.osi_watched.proofs.a_break_ends_no_judging_or_all.{IsPartly, all_ends, begins_judged, hard_ends, none_ends, nothing_ends}
@@ -46,10 +40,11 @@ use Rattle.osi_watched.proofs.a_break_ends_no_judging_or_all.{partly_claim, reac
 use Rattle.osi_watched.proofs.a_break_ends_no_judging_or_all.{unread_sessions}
 use Rattle.osi_watched.proofs.steps_are_events.{IsFollowed, begin_followed, step_followed}
 use Rattle.osi_watched.proofs.the_first_break_is_not_of_an_end.{IsFairFrom}
-use Rattle.osi_watched.proofs.what_a_taker_passes_over.{IsDr, IsMild, Sort, is_hard, is_mild, is_shut, mild_reach, sort_of}
+use Rattle.osi_watched.proofs.what_a_taker_passes_over.{IsMild, Sort, is_hard, is_mild, is_shut, mild_reach, sort_of}
 use Rattle.osi_watched.proofs.what_a_unit_leaves_at_a_tap.{IsJudged, IsOver, begins_over, unread_over}
 use Rattle.osi_watched.proofs.what_passes_keeps_a_claim.{IsClaim, after_join, after_kept, step_kept, units_kept}
 use Rattle.osi_watched.proofs.what_the_turns_among_steps_do.{ComesByDoing, IsOfTap, StepsDo, TurnDoes}
+use Rattle.osi_watched.proofs.sessions.a_unit_after_a_dr_changes_nothing.{IsAfterDr, after_dr}
 use Rattle.osi_watched.proofs.sessions.after_too_many_nobody_is_to_blame.{NoneIsToBlame, none_begins, over_joins}
 use Rattle.osi_watched.proofs.sessions.each_step_leaves_class_0_one_connection.{Sure, fresh_sure, sure_claim}
 use Rattle.osi_watched.proofs.sessions.no_more_tsdus_than_moments_have_passed.{AreFew, few_claim}
@@ -57,103 +52,10 @@ use Rattle.osi_watched.proofs.sessions.no_session_of_an_end_breaks_first.{AreTak
 use Rattle.osi_watched.proofs.sessions.no_session_of_an_end_breaks_first.{after_without, firm_so, own_right, step_without, units_join}
 use Rattle.osi_watched.proofs.sessions.no_session_of_an_end_breaks_first.{units_not, unread_without}
 use Rattle.osi_watched.proofs.sessions.steps_of_either_class_leave_all_standing.{IsRight}
-use Rattle.osi_watched.proofs.sessions.the_first_break_of_all_is_of_the_other_side.{moment, then_joined, unit_past}
 use Rattle.osi_watched.proofs.sessions.what_has_no_effect_joins_nothing.{joins_none, too_many_ends}
 use Rattle.osi_watched.proofs.sessions.what_passes_is_no_break_while_none_is_told.{fine_so, takeable_so}
 
--- ---- a DT or an AK on a connection that its side had closed
-
-pub record IsShut (m : Moment) : Type 0 where
-  pub mark : Mark
-  pub is : m.mark ≡ Some mark
-  pub closed : mark.cause ≡ cause.Broke rule.Closed
-  pub unlike : mark.unit ≡ Some Dr → ⊥
-
-abbrev pub HasShut : List Moment → Type 0
-HasShut [] = ⊥
-HasShut (m ∷ past) = IsShut m ⊎ HasShut past
-
-shut_then : (past : List Moment) (m : Moment) → IsShut m → HasShut (past ++ m ∷ [])
-shut_then [] m h = inl h
-shut_then (x ∷ past) m h = inr (shut_then past m h)
-
-shut_more : (past more : List Moment) → HasShut past → HasShut (past ++ more)
-shut_more [] more h = absurd h
-shut_more (x ∷ past) more (inl h) = inl h
-shut_more (x ∷ past) more (inr h) = inr (shut_more past more h)
-
-shut_not : (past : List Moment) → AllByRecursion (λ (m : Moment). ClosesLast m.mark) past → HasShut past → ⊥
-shut_not [] all h = h
-shut_not (m ∷ past) all (inl h) =
-    let last : ClosesLast (Some h.mark) = subst ClosesLast h.is all.0 in h.unlike (last h.closed)
-shut_not (m ∷ past) all (inr h) = shut_not past all.1 h
-
-no_dr : (v : Value) → (IsDr v → ⊥) → Some (kind_of v) ≡ Some Dr → ⊥
-no_dr (disconnect n source reason user) not e = not tt
-no_dr (request x) not e = cc
-no_dr (confirm n x) not e = cc
-no_dr (disconnected n source) not e = cc
-no_dr (data0 end user) not e = cc
-no_dr (data2 n number end user) not e = cc
-no_dr (acknowledge credit n number) not e = cc
-no_dr (error n cause) not e = cc
-
-shut_now : (e : Direction) (at : ℕ) (v : Value) (c : Passed) → (takes (way_of e) v c.traffic).told.finding ≡ Broke rule.Closed →
-    (IsDr v → ⊥) → HasShut (unit_passes e at v c).past
-shut_now e at v c is not =
-    let told = (takes (way_of e) v c.traffic).told in
-    subst HasShut (sym (unit_past e at v c)) (shut_then c.past (moment e at v c) (record {
-      mark = record {
-        direction = e;
-        offset = at;
-        unit = Some (kind_of v);
-        connection = number_at told.place (then_joined e at v c);
-        cause = cause.Broke rule.Closed;
-      };
-      is = ap (λ (f : Finding). mark_by e at v (number_at told.place (then_joined e at v c)) (cause_of f)) is;
-      closed = refl;
-      unlike = no_dr v not;
-    }))
-
-shut_bad : (b : Bool) (e : Direction) (at : ℕ) (k : Cause) (c : Passed) → HasShut c.past →
-    HasShut (if b then c else marked (unread_mark e at k) (traffic.refused_reach (way_of e) c.traffic)
-    (moved (unread_moment e at k c.sessions) (record c { traffic = traffic.refused (way_of e) c.traffic }))).past
-shut_bad true e at k c h = h
-shut_bad false e at k c h =
-    subst HasShut (sym (marked_past (unread_mark e at k) (traffic.refused_reach (way_of e) c.traffic) _))
-    (shut_more c.past (unread_moment e at k c.sessions ∷ []) h)
-
-shut_claim : IsClaim (λ c. HasShut c.past)
-shut_claim = record {
-  begins = λ e c h. h;
-  passes = λ e at v c h. subst HasShut (sym (unit_past e at v c)) (shut_more c.past (moment e at v c ∷ []) h);
-  bad = λ e at k c h. shut_bad (is_some (marks_of e c).halted) e at k c h;
-}
-
 -- ---- what stays, whatever passes
-
--- of a part nothing is judged any more, or such a unit has passed
-abbrev pub IsLost : Direction → Passed → Type 0
-IsLost d c = IsPartly (other d) c ⊎ HasShut c.past
-
-lost_claim : (d : Direction) → IsClaim (IsLost d)
-lost_claim d = record {
-  begins = λ e c h. by_begins e c h;
-  passes = λ e at v c h. by_passes e at v c h;
-  bad = λ e at k c h. by_bad e at k c h;
-}
-  where
-    by_begins : (e : Direction) (c : Passed) → IsLost d c → IsLost d (packet_begins e c)
-    by_begins e c (inl p) = inl ((partly_claim (other d)).begins e c p)
-    by_begins e c (inr h) = inr (shut_claim.begins e c h)
-
-    by_passes : (e : Direction) (at : ℕ) (v : Value) (c : Passed) → IsLost d c → IsLost d (unit_passes e at v c)
-    by_passes e at v c (inl p) = inl ((partly_claim (other d)).passes e at v c p)
-    by_passes e at v c (inr h) = inr (shut_claim.passes e at v c h)
-
-    by_bad : (e : Direction) (at : ℕ) (k : Cause) (c : Passed) → IsLost d c → IsLost d (unread e at k c)
-    by_bad e at k c (inl p) = inl ((partly_claim (other d)).bad e at k c p)
-    by_bad e at k c (inr h) = inr (shut_claim.bad e at k c h)
 
 -- nothing is judged any more, and nobody of this side is to blame
 pub record IsDone (d : Direction) (c : Passed) : Type 0 where
@@ -179,6 +81,9 @@ many_or NotJudged = inr (λ e. cc e)
 many_or Outside = inr (λ e. cc e)
 many_or (Broke r) = inr (λ e. cc e)
 
+not_many : {f : Finding} → f ≡ Broke rule.Closed → f ≡ TooMany → ⊥
+not_many closed many = let no : Broke rule.Closed ≡ TooMany = sym closed ∙ many in cc
+
 taken_then : (d : Direction) (at : ℕ) (xs : List Value) (v : Value) (c : Passed) → AreTaken d at xs c →
     IsTaken d v (units_pass (other d) at xs c) → AreTaken d at (xs ++ v ∷ []) c
 taken_then d at [] v c h k = (k, tt)
@@ -200,14 +105,14 @@ module _ (proper : AllProper) (d : Direction) (local : Local) (fair : IsFairFrom
   data Stays (deeds : ℕ → Deeds) (j : Joint) : Type 0 where
     goes : Goes deeds j → Stays deeds j
     ended : IsDone d j.course → Stays deeds j
-    lost : IsLost d j.course → Stays deeds j
+    lost : IsPartly (other d) j.course → Stays deeds j
 
   -- ---- a packet of the other side
 
   data Passing (at : ℕ) (vs : List Value) (c : Passed) : Type 0 where
     all_taken : AreTaken d at vs c → IsJudged (units_pass (other d) at vs c) → Passing at vs c
     then_done : IsDone d (units_pass (other d) at vs c) → Passing at vs c
-    then_lost : IsLost d (units_pass (other d) at vs c) → Passing at vs c
+    then_lost : IsPartly (other d) (units_pass (other d) at vs c) → Passing at vs c
 
   module _ (deeds : ℕ → Deeds) (at : ℕ) (octets : List ℕ) (units : List Value) (old new : Joint)
       (step : Steps d (passes_other at octets units) old new) (g : Goes deeds old)
@@ -250,7 +155,7 @@ module _ (proper : AllProper) (d : Direction) (local : Local) (fair : IsFairFrom
       data One : Type 0 where
         goes_on : AllSoFar (front ++ v ∷ []) → One
         is_done : IsDone d next → One
-        is_lost : IsLost d next → One
+        is_lost : IsPartly (other d) next → One
 
       nobody : NoneIsToBlame d c.sessions
       nobody = blameless front (v ∷ back) is so.taken
@@ -269,7 +174,7 @@ module _ (proper : AllProper) (d : Direction) (local : Local) (fair : IsFairFrom
           let clear : IsClear c.traffic.course = record { sure = firm_so c so.judged; two = not_yet } in
           goes_on (record {
             taken = taken_then d at front v old.course so.taken (record {
-              fine = takeable_so (other d) v c is_sure.agrees clear m;
+              fine = inl (takeable_so (other d) v c is_sure.agrees clear m);
               clear = clear;
               few = few;
             });
@@ -278,13 +183,27 @@ module _ (proper : AllProper) (d : Direction) (local : Local) (fair : IsFairFrom
                 ((reach_so (other d) at v c).far ∙ mild_reach v (class_for (way_of (other d)) c.traffic.course) found m few) so.judged);
           })
 
+      -- it comes after a DR of its sender
+      by_after : IsAfterDr (other d) v c → One
+      by_after after =
+          goes_on (record {
+            taken = taken_then d at front v old.course so.taken (record {
+              fine = inr after;
+              clear = record { sure = firm_so c so.judged; two = not_yet };
+              few = λ many. not_many after.closed many;
+            });
+            judged = subst IsJudged (sym joined)
+                (nothing_ends (other d) at v c
+                ((reach_so (other d) at v c).far ∙ ap (reach_of (class_for (way_of (other d)) c.traffic.course)) after.closed) so.judged);
+          })
+
       by_hard : is_applied found ≡ false → IsOver next ⊎ IsPartly (other d) next → One
       by_hard unapplied (inl o) = is_done (record { over = o; none = none_joined unapplied })
-      by_hard unapplied (inr p) = is_lost (inl p)
+      by_hard unapplied (inr p) = is_lost p
 
       one_by : Sort v found → One
       one_by (is_mild m) = by_mild m (many_or found)
-      one_by (is_shut closed other_unit) = is_lost (inr (shut_now (other d) at v c closed other_unit))
+      one_by (is_shut closed other_unit) = by_after (after_dr (other d) v c closed other_unit)
       one_by (is_hard unapplied less) =
           by_hard unapplied (hard_ends (other d) at v c
           (λ none. less (class_for (way_of (other d)) c.traffic.course) (sym (reach_so (other d) at v c).far ∙ none)) is_sure.agrees)
@@ -297,7 +216,8 @@ module _ (proper : AllProper) (d : Direction) (local : Local) (fair : IsFairFrom
       then_rest (is_done s) rest =
           then_done (subst (IsDone d) (sym all_join) (units_kept (IsDone d) (done_claim d) (other d) at back next s))
       then_rest (is_lost b) rest =
-          then_lost (subst (IsLost d) (sym all_join) (units_kept (IsLost d) (lost_claim d) (other d) at back next b))
+          then_lost (subst (IsPartly (other d)) (sym all_join)
+          (units_kept (IsPartly (other d)) (partly_claim (other d)) (other d) at back next b))
 
     pass_on : (back front : List Value) → units ≡ front ++ back → AllSoFar front → Passing at units old.course
     pass_on [] front is so =
@@ -322,7 +242,7 @@ module _ (proper : AllProper) (d : Direction) (local : Local) (fair : IsFairFrom
       sure = step_kept Sure sure_claim d (passes_other at octets units) old new step g.sure;
     })
     other_by (then_done s) = ended (subst (IsDone d) (sym same) s)
-    other_by (then_lost b) = lost (subst (IsLost d) (sym same) b)
+    other_by (then_lost b) = lost (subst (IsPartly (other d)) (sym same) b)
 
   -- ---- a unit of the end
 
@@ -417,7 +337,8 @@ module _ (proper : AllProper) (d : Direction) (local : Local) (fair : IsFairFrom
       (Goes deeds old → Stays then_deeds new) → Stays deeds old → Stays then_deeds new
   step_stays step deeds then_deeds old new does on (goes g) = on g
   step_stays step deeds then_deeds old new does on (ended s) = ended (step_kept (IsDone d) (done_claim d) d step old new does s)
-  step_stays step deeds then_deeds old new does on (lost b) = lost (step_kept (IsLost d) (lost_claim d) d step old new does b)
+  step_stays step deeds then_deeds old new does on (lost b) =
+      lost (step_kept (IsPartly (other d)) (partly_claim (other d)) d step old new does b)
 
   tap_stays : (step : Step) → IsOfTap step → (deeds : ℕ → Deeds) (old new : Joint) → Steps d step old new → IsWithout Zero new.course →
       Stays deeds old → Stays deeds new
@@ -465,7 +386,7 @@ module _ (proper : AllProper) (d : Direction) (local : Local) (fair : IsFairFrom
 
   -- nobody is to blame, or not all is judged
   abbrev pub EndsWell : Passed → Type 0
-  EndsWell c = NoneIsToBlame d c.sessions ⊎ IsLost d c
+  EndsWell c = NoneIsToBlame d c.sessions ⊎ IsPartly (other d) c
 
   ends_so : (j : Joint) → Stood j → EndsWell j.course
   ends_so j (deeds, goes g) = inl (k.none deeds j g.courses g.holds)
@@ -477,27 +398,27 @@ module _ (proper : AllProper) (d : Direction) (local : Local) (fair : IsFairFrom
     abbrev bad : Passed
     bad = unread (other d) at cause_is j.course
 
-    unread_by : NoneIsToBlame d j.course.sessions → IsOver bad ⊎ IsPartly (other d) bad → IsDone d bad ⊎ IsLost d bad
+    unread_by : NoneIsToBlame d j.course.sessions → IsOver bad ⊎ IsPartly (other d) bad → IsDone d bad ⊎ IsPartly (other d) bad
     unread_by none (inl o) =
         inl (record { over = o; none = subst (NoneIsToBlame d) (sym (unread_sessions (other d) at cause_is j.course)) none })
-    unread_by none (inr p) = inr (inl p)
+    unread_by none (inr p) = inr p
 
-    unread_so : Stood j → IsDone d bad ⊎ IsLost d bad
+    unread_so : Stood j → IsDone d bad ⊎ IsPartly (other d) bad
     unread_so (deeds, goes g) =
         unread_by (k.none deeds j g.courses g.holds) (unread_ends (other d) at cause_is j.course g.judged g.sure.agrees)
     unread_so (deeds, ended s) = inl ((done_claim d).bad (other d) at cause_is j.course s)
-    unread_so (deeds, lost b) = inr ((lost_claim d).bad (other d) at cause_is j.course b)
+    unread_so (deeds, lost b) = inr ((partly_claim (other d)).bad (other d) at cause_is j.course b)
 
-  after_bad : (capture : Capture) (s : tapping.State) → IsDone d s.course ⊎ IsLost d s.course → EndsWell (after capture s).course
+  after_bad : (capture : Capture) (s : tapping.State) → IsDone d s.course ⊎ IsPartly (other d) s.course → EndsWell (after capture s).course
   after_bad capture s (inl h) = let last = after_kept (IsDone d) (done_claim d) capture s h in inl last.none
-  after_bad capture s (inr b) = inr (after_kept (IsLost d) (lost_claim d) capture s b)
+  after_bad capture s (inr b) = inr (after_kept (IsPartly (other d)) (partly_claim (other d)) capture s b)
 
   bad_so : (capture : Capture) (j : Joint) → TurnsBad d capture j.course → Stood j → EndsWell (comes_to capture).course
   bad_so capture j t stays =
       let join = ap (λ (x : Capture). comes_to x) t.parts ∙ after_join t.front t.back tapping.begin in
       subst (λ (s : tapping.State). EndsWell s.course) (sym join)
       (after_bad t.back (comes_to t.front)
-      (subst (λ (c : Passed). IsDone d c ⊎ IsLost d c) (sym t.unreadable) (unread_so t.at t.cause j stays)))
+      (subst (λ (c : Passed). IsDone d c ⊎ IsPartly (other d) c) (sym t.unreadable) (unread_so t.at t.cause j stays)))
 
   bad_within : (capture : Capture) (c : Passed) → TurnsBad d capture c → IsWithout Zero (comes_to capture).course → IsWithout Zero c
   bad_within capture c t h =
@@ -521,11 +442,10 @@ module _ (proper : AllProper) (d : Direction) (local : Local) (fair : IsFairFrom
 differ : {A : Type 0} (b : Bool) → b ≡ true → b ≡ false → A
 differ b h k = absurd (cc)
 
--- all is judged, or nothing any more; and nobody sends a DT or an AK on what it has closed
-pub nobody_of_well : (d : Direction) (c : Passed) → NoneIsToBlame d c.sessions ⊎ IsLost d c → IsJudgedWhole d c →
-    AllByRecursion (λ (m : Moment). ClosesLast m.mark) c.past → NoneIsToBlame d c.sessions
-nobody_of_well d c (inl none) whole last = none
-nobody_of_well d c (inr (inl (inl loose))) whole last = differ c.traffic.course.loose loose whole.firm
-nobody_of_well d c (inr (inl (inr (zero, stop)))) whole last =
+-- all is judged, or nothing any more
+pub nobody_of_well : (d : Direction) (c : Passed) → NoneIsToBlame d c.sessions ⊎ IsPartly (other d) c → IsJudgedWhole d c →
+    NoneIsToBlame d c.sessions
+nobody_of_well d c (inl none) whole = none
+nobody_of_well d c (inr (inl loose)) whole = differ c.traffic.course.loose loose whole.firm
+nobody_of_well d c (inr (inr (zero, stop))) whole =
     differ (is_stopped (way_of (other d)) c.traffic.course) stop (whole.both zero)
-nobody_of_well d c (inr (inr h)) whole last = absurd (shut_not c.past last h)
