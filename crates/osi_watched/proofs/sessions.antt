@@ -94,7 +94,7 @@ pub mod a_called_end_stands_until_class_2
 pub mod no_called_end_is_blamed_first_in_class_0
 pub mod no_called_end_is_blamed_first
 pub mod no_session_of_an_end_is_to_blame
-pub mod no_end_is_to_blame_in_class_2
+pub mod no_end_is_to_blame_after_a_break
 pub mod what_is_judged_within_a_bound
 pub mod nobody_else_is_to_blame_within_a_bound
 pub mod a_bound_changes_no_first_break

@@ -1,5 +1,5 @@
 -- Until class 2 is selected all connections of a calling end stand at a tap, whatever classes it offers: at the beginning, and after what
--- passes and breaks no rule. For the session of the connection of an end in class 0.
+-- passes and is no break, or is passed over. For the session of the connection of an end in class 0.
 use Rattle.std.proofs.Common.{◌≡◌, ◌≢◌, ◌∙◌, refl, sym, ap, subst, ℕ, ◌^◌, ◌<◌, ◌≤◌, Bool, true, false, List, [], ◌∷◌, ◌++◌, length}
 use Rattle.std.proofs.Common.{Some, None, arith, is_some}
 use Rattle.std.specs.Prelude.{slice_get}

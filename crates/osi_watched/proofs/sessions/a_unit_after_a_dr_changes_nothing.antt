@@ -206,6 +206,42 @@ link_not : (v : Value) (n : ℕ) → IsLink v n → IsDr v → ⊥
 link_not v n (dt number end user is) h = subst IsDr is h
 link_not v n (ak credit number is) h = subst IsDr is h
 
+-- outside class 2 such a unit is for no connection
+abbrev IsFoundSo : Way → Bool → Option Class → State → Value → Type 0
+IsFoundSo d b k s v = IsFound (routed d v s (route_in k d b v)).told.finding
+
+dt_two : (d : Way) (b : Bool) (k : Option Class) (s : State) (n number : ℕ) (end : Bool) (user : List ℕ) →
+    IsFoundSo d b k s (data2 n number end user) → k ≡ Some Two
+dt_two way.Left b None s n number end user h = absurd (cc)
+dt_two way.Right b None s n number end user h = absurd (cc)
+dt_two way.Left b (Some Zero) s n number end user h = absurd (cc)
+dt_two way.Right b (Some Zero) s n number end user h = absurd (cc)
+dt_two d b (Some Two) s n number end user h = refl
+
+ak_two : (d : Way) (b : Bool) (k : Option Class) (s : State) (credit n number : ℕ) →
+    IsFoundSo d b k s (acknowledge credit n number) → k ≡ Some Two
+ak_two way.Left b None s credit n number h = absurd (cc)
+ak_two way.Right b None s credit n number h = absurd (cc)
+ak_two way.Left b (Some Zero) s credit n number h = absurd (cc)
+ak_two way.Right b (Some Zero) s credit n number h = absurd (cc)
+ak_two d b (Some Two) s credit n number h = refl
+
+link_two : (d : Way) (b : Bool) (k : Option Class) (s : State) (v : Value) (n : ℕ) → IsLink v n → IsFoundSo d b k s v → k ≡ Some Two
+link_two d b k s v n (dt number end user is) h = dt_two d b k s n number end user (subst (IsFoundSo d b k s) is h)
+link_two d b k s v n (ak credit number is) h = ak_two d b k s credit n number (subst (IsFoundSo d b k s) is h)
+
+judged_so : (stopped : Bool) (d : Way) (v : Value) (s : State) (r : Route) →
+    IsFound (if stopped then none_told d NotJudged s else routed d v s r).told.finding → IsFound (routed d v s r).told.finding
+judged_so true d v s r h = absurd (cc)
+judged_so false d v s r h = h
+
+pub after_two : (e : Direction) (v : Value) (c : Course) → IsAfterDr e v c → class_for (way_of e) c.traffic.course ≡ Some Two
+after_two e v c a =
+    let d = way_of e in
+    let s = c.traffic in
+    link_two d (is_stopped (sides.other d) s.course) (class_for d s.course) s v a.n a.link
+    (judged_so (is_stopped d s.course) d v s (route d s.course v) a.closed)
+
 -- it changes nothing
 pub same_traffic : (e : Direction) (at : ℕ) (v : Value) (c : Course) → IsAfterDr e v c → (unit_passes e at v c).traffic ≡ c.traffic
 same_traffic e at v c a = unit_knows e at v c ∙ (goes (way_of e) v c.traffic a.closed).same (link_not v a.n a.link)

@@ -1,11 +1,12 @@
 -- No session of an end is to blame, also after breaks of the other side that a taker passes over, if something holds at each step by which
--- nobody of the end is to blame, as long as all is judged and class 0 is not selected.
+-- nobody of the end is to blame, as long as all is judged and one class is not selected.
 -- For the law that no session of an end is blamed after such a break.
 use Rattle.std.proofs.Common.{◌≡◌, ◌∙◌, ◌⊎◌, inl, inr, refl, sym, ap, subst, ℕ, ◌^◌, ◌<◌, Bool, true, false}
 use Rattle.std.proofs.Common.{List, [], ◌∷◌, ◌++◌, length, Some, append_assoc, arith}
 use Rattle.std.specs.Prelude.{slice_get}
 use Rattle.std.proofs.lemmas.List.{append-nil}
 use Rattle.osi_tpdu.specs.Value.{Value}
+use Rattle.osi_class.specs.declared.terms.Class.{Class}
 use Rattle.osi_class.specs.declared.terms.Class.TheVariants.{Zero}
 use Rattle.osi_class.specs.declared.terms.Local.{Local}
 use Rattle.osi_judge.specs.Captures.{Capture, other}
@@ -16,7 +17,6 @@ use Rattle.osi_rules.specs.declared.findings.Rule.TheVariants as rule
 use Rattle.osi_rules.specs.Reaches.{is_applied, reach_of}
 use Rattle.osi_rules.specs.Traffic.{class_for, is_stopped, takes}
 use Rattle.osi_fair.specs.Wholes as wholes
-use Rattle.osi_fair.proofs.what_the_other_side_closes.{IsClear}
 use Rattle.osi_stack.specs.State.{End, Holding}
 use Rattle.osi_honest.specs.Courses.{Course, Deeds, all_did, no_deeds}
 use Rattle.osi_honest.specs.Seeing.{IsFresh}
@@ -48,12 +48,11 @@ use Rattle.osi_watched.proofs.sessions.a_unit_after_a_dr_changes_nothing.{IsAfte
 use Rattle.osi_watched.proofs.sessions.after_too_many_nobody_is_to_blame.{NoneIsToBlame, none_begins, over_joins}
 use Rattle.osi_watched.proofs.sessions.each_step_leaves_class_0_one_connection.{Sure, fresh_sure, sure_claim}
 use Rattle.osi_watched.proofs.sessions.no_more_tsdus_than_moments_have_passed.{AreFew, few_claim}
-use Rattle.osi_watched.proofs.sessions.no_session_of_an_end_breaks_first.{AreTaken, HaveCourses, IsTaken, IsWithout, KeepsNoneToBlame}
-use Rattle.osi_watched.proofs.sessions.no_session_of_an_end_breaks_first.{after_without, firm_so, own_right, step_without, units_join}
-use Rattle.osi_watched.proofs.sessions.no_session_of_an_end_breaks_first.{units_not, unread_without}
+use Rattle.osi_watched.proofs.sessions.no_session_of_an_end_breaks_first.{ArePassed, HaveCourses, IsWithout, KeepsUnless}
+use Rattle.osi_watched.proofs.sessions.no_session_of_an_end_breaks_first.{after_without, firm_so, goes_so, own_right, passed_then}
+use Rattle.osi_watched.proofs.sessions.no_session_of_an_end_breaks_first.{step_without, units_join, units_not, unread_without}
 use Rattle.osi_watched.proofs.sessions.steps_of_either_class_leave_all_standing.{IsRight}
 use Rattle.osi_watched.proofs.sessions.what_has_no_effect_joins_nothing.{joins_none, too_many_ends}
-use Rattle.osi_watched.proofs.sessions.what_passes_is_no_break_while_none_is_told.{fine_so, takeable_so}
 
 -- ---- what stays, whatever passes
 
@@ -84,15 +83,11 @@ many_or (Broke r) = inr (λ e. cc e)
 not_many : {f : Finding} → f ≡ Broke rule.Closed → f ≡ TooMany → ⊥
 not_many closed many = let no : Broke rule.Closed ≡ TooMany = sym closed ∙ many in cc
 
-taken_then : (d : Direction) (at : ℕ) (xs : List Value) (v : Value) (c : Passed) → AreTaken d at xs c →
-    IsTaken d v (units_pass (other d) at xs c) → AreTaken d at (xs ++ v ∷ []) c
-taken_then d at [] v c h k = (k, tt)
-taken_then d at (x ∷ xs) v c h k = (h.0, taken_then d at xs v (unit_passes (other d) at x c) h.1 k)
-
 -- ---- the steps
 
-module _ (proper : AllProper) (d : Direction) (local : Local) (fair : IsFairFrom (way_of d) (wholes.begin (calls_from d) local))
-    (Inv : (ℕ → Deeds) → Joint → Type 0) (k : KeepsNoneToBlame d local Inv) where
+module _ (proper : AllProper) (barred : Class) (d : Direction) (local : Local)
+    (fair : IsFairFrom (way_of d) (wholes.begin (calls_from d) local)) (Inv : (ℕ → Deeds) → Joint → Type 0)
+    (k : KeepsUnless barred d local Inv) where
   -- all that passes is judged
   record Goes (deeds : ℕ → Deeds) (j : Joint) : Type 0 where
     judged : IsJudged j.course
@@ -110,23 +105,24 @@ module _ (proper : AllProper) (d : Direction) (local : Local) (fair : IsFairFrom
   -- ---- a packet of the other side
 
   data Passing (at : ℕ) (vs : List Value) (c : Passed) : Type 0 where
-    all_taken : AreTaken d at vs c → IsJudged (units_pass (other d) at vs c) → Passing at vs c
+    all_taken : ArePassed barred d at vs c → IsJudged (units_pass (other d) at vs c) → Passing at vs c
     then_done : IsDone d (units_pass (other d) at vs c) → Passing at vs c
     then_lost : IsPartly (other d) (units_pass (other d) at vs c) → Passing at vs c
 
   module _ (deeds : ℕ → Deeds) (at : ℕ) (octets : List ℕ) (units : List Value) (old new : Joint)
       (step : Steps d (passes_other at octets units) old new) (g : Goes deeds old)
-      (not : (units_pass (other d) at units old.course).traffic.course.class ≡ Some Zero → ⊥) where
+      (not : (units_pass (other d) at units old.course).traffic.course.class ≡ Some barred → ⊥) where
     abbrev After : List Value → Passed
     After front = units_pass (other d) at front old.course
 
-    blameless : (front back : List Value) → units ≡ front ++ back → AreTaken d at front old.course → NoneIsToBlame d (After front).sessions
+    blameless : (front back : List Value) → units ≡ front ++ back → ArePassed barred d at front old.course →
+        NoneIsToBlame d (After front).sessions
     blameless front back is taken =
         k.none_amid deeds at octets front back old new (subst (λ (l : List Value). Steps d (passes_other at octets l) old new) is step)
         g.courses taken g.holds
 
     record AllSoFar (front : List Value) : Type 0 where
-      taken : AreTaken d at front old.course
+      taken : ArePassed barred d at front old.course
       judged : IsJudged (After front)
 
     module _ (front back : List Value) (v : Value) (is : units ≡ front ++ v ∷ back) (so : AllSoFar front) where
@@ -142,10 +138,10 @@ module _ (proper : AllProper) (d : Direction) (local : Local) (fair : IsFairFrom
       joined : After (front ++ v ∷ []) ≡ next
       joined = units_join (other d) at front (v ∷ []) old.course
 
-      not_yet : c.traffic.course.class ≡ Some Zero → ⊥
+      not_yet : c.traffic.course.class ≡ Some barred → ⊥
       not_yet =
-          units_not Zero (other d) at (v ∷ back) c
-          (λ is_so. not (subst (λ (l : List Value). (After l).traffic.course.class ≡ Some Zero) (sym is)
+          units_not barred (other d) at (v ∷ back) c
+          (λ is_so. not (subst (λ (l : List Value). (After l).traffic.course.class ≡ Some barred) (sym is)
           (ap (λ (x : Passed). x.traffic.course.class) (units_join (other d) at front (v ∷ back) old.course) ∙ is_so)))
 
       is_sure : Sure c
@@ -171,11 +167,12 @@ module _ (proper : AllProper) (d : Direction) (local : Local) (fair : IsFairFrom
             none = none_joined (ap is_applied many);
           })
       by_mild m (inr few) =
-          let clear : IsClear c.traffic.course = record { sure = firm_so c so.judged; two = not_yet } in
           goes_on (record {
-            taken = taken_then d at front v old.course so.taken (record {
-              fine = inl (takeable_so (other d) v c is_sure.agrees clear m);
-              clear = clear;
+            taken = passed_then barred d at front v old.course so.taken (record {
+              taken = inl (record { firm = so.judged.firm; goes = goes_so (other d) c so.judged; mild = m });
+              firm = firm_so c so.judged;
+              not = not_yet;
+              sure = is_sure;
               few = few;
             });
             judged = subst IsJudged (sym joined)
@@ -187,9 +184,11 @@ module _ (proper : AllProper) (d : Direction) (local : Local) (fair : IsFairFrom
       by_after : IsAfterDr (other d) v c → One
       by_after after =
           goes_on (record {
-            taken = taken_then d at front v old.course so.taken (record {
-              fine = inr after;
-              clear = record { sure = firm_so c so.judged; two = not_yet };
+            taken = passed_then barred d at front v old.course so.taken (record {
+              taken = inr after;
+              firm = firm_so c so.judged;
+              not = not_yet;
+              sure = is_sure;
               few = λ many. not_many after.closed many;
             });
             judged = subst IsJudged (sym joined)
@@ -206,7 +205,7 @@ module _ (proper : AllProper) (d : Direction) (local : Local) (fair : IsFairFrom
       one_by (is_shut closed other_unit) = by_after (after_dr (other d) v c closed other_unit)
       one_by (is_hard unapplied less) =
           by_hard unapplied (hard_ends (other d) at v c
-          (λ none. less (class_for (way_of (other d)) c.traffic.course) (sym (reach_so (other d) at v c).far ∙ none)) is_sure.agrees)
+          (λ none. less (class_for (way_of (other d)) c.traffic.course) (sym (reach_so (other d) at v c).far ∙ none)) (is_sure.agrees Zero))
 
       all_join : After units ≡ units_pass (other d) at back next
       all_join = ap After is ∙ units_join (other d) at front (v ∷ back) old.course
@@ -247,17 +246,14 @@ module _ (proper : AllProper) (d : Direction) (local : Local) (fair : IsFairFrom
   -- ---- a unit of the end
 
   own_so : (deeds : ℕ → Deeds) (at : ℕ) (v : Value) (old new : Joint) → Steps d (passes_own at v) old new → Goes deeds old →
-      (old.course.traffic.course.class ≡ Some Zero → ⊥) → (new.course.traffic.course.class ≡ Some Zero → ⊥) → Stays deeds new
+      (old.course.traffic.course.class ≡ Some barred → ⊥) → (new.course.traffic.course.class ≡ Some barred → ⊥) → Stays deeds new
   own_so deeds at v old new step g was_not not = by (none_ends d at v old.course right.none g.judged)
     where
       right : IsRight d v old.course
       right = own_right d local fair at v old new step g.followed g.judged
 
-      clear : IsClear old.course.traffic.course
-      clear = record { sure = firm_so old.course g.judged; two = was_not }
-
       holds : Inv deeds new
-      holds = k.own_passes deeds at v old new step (fine_so d v old.course g.sure.agrees clear right.none) clear not g.holds
+      holds = k.own_passes deeds at v old new step right (firm_so old.course g.judged) g.sure was_not not g.holds
 
       courses : HaveCourses d deeds new
       courses = subst (HaveCourses d deeds) (sym step.4) g.courses
@@ -278,7 +274,7 @@ module _ (proper : AllProper) (d : Direction) (local : Local) (fair : IsFairFrom
 
   -- ---- each step
 
-  few_so : (deeds : ℕ → Deeds) (old : Joint) → Goes deeds old → IsWithout Zero old.course → (i : ℕ) (j : Joined) →
+  few_so : (deeds : ℕ → Deeds) (old : Joint) → Goes deeds old → IsWithout barred old.course → (i : ℕ) (j : Joined) →
       slice_get old.course.sessions.live i ≡ Some j → length (heard (spoken (other d) j)) < 2 ^ 64
   few_so deeds old g within i j here = let most = g.few i j here in let few = within.few in omega (arith, most, few)
 
@@ -295,16 +291,16 @@ module _ (proper : AllProper) (d : Direction) (local : Local) (fair : IsFairFrom
   })
 
   turn_so : (turn : Turn) (old new : Joint) (t : TakesTurn turn old new) (deeds : ℕ → Deeds)
-      (does : TurnDoes (calls_from d) deeds turn old new t) → Goes deeds old → IsWithout Zero old.course →
+      (does : TurnDoes (calls_from d) deeds turn old new t) → Goes deeds old → IsWithout barred old.course →
       Stays (all_did deeds does.of.on.more) new
   turn_so turn old new t deeds does g within =
       still_goes deeds (all_did deeds does.of.on.more) (turns turn) old new t g (subst IsJudged (sym t.course) g.judged)
       (k.turn turn old new t deeds does g.followed
       (step_followed d (wholes.begin (calls_from d) local) proper (turns turn) old new t g.followed)
-      (record { sure = firm_so old.course g.judged; two = within.not }) g.holds)
+      (firm_so old.course g.judged) within.not g.holds)
       does.of.on.course
 
-  own_begins_so : (old new : Joint) → Steps d begins_own old new → IsWithout Zero old.course → (deeds : ℕ → Deeds) → Goes deeds old →
+  own_begins_so : (old new : Joint) → Steps d begins_own old new → IsWithout barred old.course → (deeds : ℕ → Deeds) → Goes deeds old →
       Stays deeds new
   own_begins_so old new step within deeds g =
       still_goes deeds deeds begins_own old new step g
@@ -319,16 +315,16 @@ module _ (proper : AllProper) (d : Direction) (local : Local) (fair : IsFairFrom
       (k.other_begins deeds old new step g.holds) (subst (HaveCourses d deeds) (sym step) g.courses)
 
   -- what passes
-  tap_so : (step : Step) → IsOfTap step → (old new : Joint) → Steps d step old new → IsWithout Zero new.course → (deeds : ℕ → Deeds) →
+  tap_so : (step : Step) → IsOfTap step → (old new : Joint) → Steps d step old new → IsWithout barred new.course → (deeds : ℕ → Deeds) →
       Goes deeds old → Stays deeds new
   tap_so (turns turn) tap old new t within deeds g = absurd tap
   tap_so begins_own tap old new step within deeds g =
-      own_begins_so old new step (step_without Zero d begins_own old new step within) deeds g
+      own_begins_so old new step (step_without barred d begins_own old new step within) deeds g
   tap_so begins_other tap old new step within deeds g = other_begins_so old new step deeds g
   tap_so (passes_own at v) tap old new step within deeds g =
-      own_so deeds at v old new step g (step_without Zero d (passes_own at v) old new step within).not within.not
+      own_so deeds at v old new step g (step_without barred d (passes_own at v) old new step within).not within.not
   tap_so (passes_other at octets units) tap old new step within deeds g =
-      let not : (units_pass (other d) at units old.course).traffic.course.class ≡ Some Zero → ⊥ =
+      let not : (units_pass (other d) at units old.course).traffic.course.class ≡ Some barred → ⊥ =
       λ is_so. within.not (ap (λ (j : Joint). j.course.traffic.course.class) step.2 ∙ is_so) in
       other_by deeds at octets units old new step g not (passed deeds at octets units old new step g not)
 
@@ -340,27 +336,27 @@ module _ (proper : AllProper) (d : Direction) (local : Local) (fair : IsFairFrom
   step_stays step deeds then_deeds old new does on (lost b) =
       lost (step_kept (IsPartly (other d)) (partly_claim (other d)) d step old new does b)
 
-  tap_stays : (step : Step) → IsOfTap step → (deeds : ℕ → Deeds) (old new : Joint) → Steps d step old new → IsWithout Zero new.course →
+  tap_stays : (step : Step) → IsOfTap step → (deeds : ℕ → Deeds) (old new : Joint) → Steps d step old new → IsWithout barred new.course →
       Stays deeds old → Stays deeds new
   tap_stays step tap deeds old new does within s =
       step_stays step deeds deeds old new does (λ g. tap_so step tap old new does within deeds g) s
 
-  along_within : (steps : List Step) (old new : Joint) → StepsAlong d old steps new → IsWithout Zero new.course →
-      IsWithout Zero old.course
-  along_within [] old new is h = subst (λ (j : Joint). IsWithout Zero j.course) is h
-  along_within (step ∷ steps) old new (mid, one, more) h = step_without Zero d step old mid one (along_within steps mid new more h)
+  along_within : (steps : List Step) (old new : Joint) → StepsAlong d old steps new → IsWithout barred new.course →
+      IsWithout barred old.course
+  along_within [] old new is h = subst (λ (j : Joint). IsWithout barred j.course) is h
+  along_within (step ∷ steps) old new (mid, one, more) h = step_without barred d step old mid one (along_within steps mid new more h)
 
   abbrev Stood : Joint → Type 0
   Stood j = (deeds : ℕ → Deeds) × Stays deeds j
 
   along_so : (steps : List Step) (deeds : ℕ → Deeds) (old new : Joint) (along : StepsAlong d old steps new) →
-      StepsDo d (calls_from d) deeds old steps new along → IsWithout Zero new.course → Stays deeds old → Stood new
+      StepsDo d (calls_from d) deeds old steps new along → IsWithout barred new.course → Stays deeds old → Stood new
   along_so [] deeds old new is does within s = (deeds, subst (Stays deeds) (sym is) s)
   along_so (turns turn ∷ steps) deeds old new (mid, t, more) (does, rest) within s =
       let now = along_within steps mid new more within in
       along_so steps (all_did deeds does.of.on.more) mid new more rest within
       (step_stays (turns turn) deeds (all_did deeds does.of.on.more) old mid t
-      (λ g. turn_so turn old mid t deeds does g (subst (IsWithout Zero) t.course now)) s)
+      (λ g. turn_so turn old mid t deeds does g (subst (IsWithout barred) t.course now)) s)
   along_so (begins_own ∷ steps) deeds old new (mid, one, more) does within s =
       along_so steps deeds mid new more does within (tap_stays begins_own tt deeds old mid one (along_within steps mid new more within) s)
   along_so (passes_own at v ∷ steps) deeds old new (mid, one, more) does within s =
@@ -405,7 +401,7 @@ module _ (proper : AllProper) (d : Direction) (local : Local) (fair : IsFairFrom
 
     unread_so : Stood j → IsDone d bad ⊎ IsPartly (other d) bad
     unread_so (deeds, goes g) =
-        unread_by (k.none deeds j g.courses g.holds) (unread_ends (other d) at cause_is j.course g.judged g.sure.agrees)
+        unread_by (k.none deeds j g.courses g.holds) (unread_ends (other d) at cause_is j.course g.judged (g.sure.agrees Zero))
     unread_so (deeds, ended s) = inl ((done_claim d).bad (other d) at cause_is j.course s)
     unread_so (deeds, lost b) = inr ((partly_claim (other d)).bad (other d) at cause_is j.course b)
 
@@ -420,21 +416,21 @@ module _ (proper : AllProper) (d : Direction) (local : Local) (fair : IsFairFrom
       (after_bad t.back (comes_to t.front)
       (subst (λ (c : Passed). IsDone d c ⊎ IsPartly (other d) c) (sym t.unreadable) (unread_so t.at t.cause j stays)))
 
-  bad_within : (capture : Capture) (c : Passed) → TurnsBad d capture c → IsWithout Zero (comes_to capture).course → IsWithout Zero c
+  bad_within : (capture : Capture) (c : Passed) → TurnsBad d capture c → IsWithout barred (comes_to capture).course → IsWithout barred c
   bad_within capture c t h =
       let join = ap (λ (x : Capture). comes_to x) t.parts ∙ after_join t.front t.back tapping.begin in
-      unread_without Zero (other d) t.at t.cause c (subst (IsWithout Zero) t.unreadable
-      (after_without Zero t.back (comes_to t.front) (subst (λ (s : tapping.State). IsWithout Zero s.course) join h)))
+      unread_without barred (other d) t.at t.cause c (subst (IsWithout barred) t.unreadable
+      (after_without barred t.back (comes_to t.front) (subst (λ (s : tapping.State). IsWithout barred s.course) join h)))
 
   pub ends_well : (h : Holding) (capture : Capture) → IsFresh (calls_from d) local h → ComesByDoing d (calls_from d) capture h →
-      IsWithout Zero (comes_to capture).course → EndsWell (comes_to capture).course
+      IsWithout barred (comes_to capture).course → EndsWell (comes_to capture).course
   ends_well h capture fresh comes within = by comes.all
     where
-      at_last : IsWithout Zero comes.last.course → Stood comes.last
+      at_last : IsWithout barred comes.last.course → Stood comes.last
       at_last w = along_so comes.steps (λ r. no_deeds) (begin h) comes.last comes.along comes.does w (stays_first h fresh)
 
       by : ((comes_to capture).course ≡ comes.last.course) ⊎ TurnsBad d capture comes.last.course → EndsWell (comes_to capture).course
-      by (inl is) = subst EndsWell (sym is) (ends_so comes.last (at_last (subst (IsWithout Zero) is within)))
+      by (inl is) = subst EndsWell (sym is) (ends_so comes.last (at_last (subst (IsWithout barred) is within)))
       by (inr bad) = bad_so capture comes.last bad (at_last (bad_within capture comes.last.course bad within))
 
 -- ---- in the end
