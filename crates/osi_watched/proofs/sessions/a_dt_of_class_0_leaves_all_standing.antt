@@ -20,7 +20,7 @@ use Rattle.osi_rules.specs.Sides as sides
 use Rattle.osi_rules.specs.Traffic.{Outcome, State, class_for, connection_after, is_stopped, meaning_if, meant, route_zero, routed, takes}
 use Rattle.osi_honest.specs.Courses.{Deeds}
 use Rattle.osi_tap.specs.declared.rooms.Room.TheVariants.{All}
-use Rattle.osi_tap.specs.Connections.{Joined, Sessions, adds, reference_of}
+use Rattle.osi_tap.specs.Connections.{Joined, Sessions, reference_of}
 use Rattle.osi_tap.specs.Connections as joined
 use Rattle.osi_tap.specs.Courses.{Course, unit_passes, way_of}
 use Rattle.osi_watched.specs.ShownPlaces.{IsOneOf}

@@ -1,4 +1,5 @@
--- At each step of an end and of a tap it holds that in class 0 one connection was opened, and each other one was refused.
+-- At each step of an end and of a tap it holds that in class 0 one connection was opened, and each other one was refused; and that left
+-- knows a class only if it is selected.
 -- For the session of the connection of an end in class 0.
 use Rattle.osi_watched.proofs.Vocabulary.{Bool, false, if◌then◌else◌, is_some, None, Option, refl, Some, subst, sym, true, ℕ, ◌∙◌, ◌≡◌}
 use Rattle.osi_watched.proofs.Vocabulary.{position, slice_get, Connect, request, Value, Class, Two, Zero, is_applied, reach_of}
