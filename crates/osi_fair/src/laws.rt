@@ -1,6 +1,7 @@
 //! Laws of the rules of transport and of the ends that keep them. Each function does nothing: its clauses are the laws.
 
-ghost use Rattle.std.specs.Prelude.{◌≡◌, ◌≢◌, ◌≤◌, ◌⊎◌, ◌||◌, ℕ, Bool, true, false, List, [], ◌∷◌, ◌++◌, Option, Some, None, Ok, Err, length, option_map, position, slice_get, slice_set};
+ghost use Rattle.std.specs.Prelude.{◌≡◌, ◌≢◌, ◌≤◌, ◌⊎◌, ◌||◌, ℕ, Bool, true, false, List, [], ◌∷◌, ◌++◌, Option, Some, None, Ok, Err};
+ghost use Rattle.std.specs.Prelude.{length, option_map, position, slice_get, slice_set};
 ghost use Rattle.std.specs.List.{AllByRecursion, list_all, list_any};
 ghost use Rattle.osi_carrier.specs.Calls.{closed_with, fresh_state, open_link, sent, sent_all};
 ghost use Rattle.osi_carrier.specs.Negotiation.{acceptance, agreed_size, opened_link, proposal};
@@ -25,15 +26,18 @@ ghost use Rattle.osi_tpdu.specs.Limits.{window_units};
 ghost use Rattle.osi_tpdu.specs.Packet.{units_of};
 ghost use Rattle.osi_tpdu.specs.declared.faults.TpduFault.{TpduFault};
 ghost use Rattle.osi_tpdu.specs.Value.{Connect, IsConnect, Value, confirm, destination_of, disconnect, disconnected, request};
-ghost use Rattle.osi_rules.specs.Sides.{begins, is_live, is_named, is_open, is_over, is_refused, is_silent, other, own, theirs, seen, sends, uses};
-ghost use Rattle.osi_rules.specs.Traffic.{State as Traffic, asked_by, class_for, found, fresh, is_not_judged, is_stopped, offer_of, packet_begins, sent_on, silent_half, takes, uses_source};
+ghost use Rattle.osi_rules.specs.Sides.{begins, is_live, is_named, is_open, is_over, is_refused, is_silent, other, own, theirs, seen};
+ghost use Rattle.osi_rules.specs.Sides.{sends, uses};
+ghost use Rattle.osi_rules.specs.Traffic.{State as Traffic, asked_by, class_for, found, fresh, is_not_judged, is_stopped, offer_of};
+ghost use Rattle.osi_rules.specs.Traffic.{packet_begins, sent_on, silent_half, takes, uses_source};
 ghost use Rattle.osi_rules.specs.declared.connections.Connection.{Connection};
 ghost use Rattle.osi_rules.specs.declared.courses.Course.{Course};
 ghost use Rattle.osi_rules.specs.declared.directions.Direction.{Direction};
 ghost use Rattle.osi_rules.specs.declared.findings.Finding.{Finding};
 ghost use Rattle.osi_rules.specs.declared.halves.Half.{Half};
 ghost use Rattle.osi_fair.specs.Later.{IsLater, knows};
-ghost use Rattle.osi_fair.specs.Lines.{Act, Acts, ActsAlong, IsFair, IsOpened, IsRight, Line, PassesNone, after_finding, answering_line, finding_of};
+ghost use Rattle.osi_fair.specs.Lines.{Act, Acts, ActsAlong, IsFair, IsOpened, IsRight, Line, PassesNone, after_finding, answering_line};
+ghost use Rattle.osi_fair.specs.Lines.{finding_of};
 ghost use Rattle.osi_fair.specs.Lines.{opened_half, opened_line, passes_own};
 ghost use Rattle.osi_fair.specs.Pieces.{IsFed};
 ghost use Rattle.osi_fair.specs.Putting.{put_by, put_closing, put_for, put_sent, put_together};

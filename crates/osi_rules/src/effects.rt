@@ -5,7 +5,8 @@ ghost use Rattle.osi_tpdu.specs.Limits.{size_code};
 ghost use Rattle.osi_tpdu.specs.View.{value, confirm_content};
 ghost use Rattle.osi_rules.specs.Rows.{fits_tsdu};
 ghost use Rattle.osi_rules.specs.Sides.{own};
-ghost use Rattle.osi_rules.specs.Traffic.{connection_after, found, meant, meaning_if, begun_after, half_after, sent_on, judged_on, is_stray, class_of, course_after, course_after_none};
+ghost use Rattle.osi_rules.specs.Traffic.{connection_after, found, meant, meaning_if, begun_after, half_after, sent_on, judged_on};
+ghost use Rattle.osi_rules.specs.Traffic.{is_stray, class_of, course_after, course_after_none};
 
 use crate::connections::Connection;
 use crate::courses::Course;

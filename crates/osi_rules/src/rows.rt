@@ -4,7 +4,9 @@ ghost use Rattle.std.specs.Prelude.{◌≡◌, ◌==◌, ◌+◌, ◌%◌, optio
 ghost use Rattle.osi_tpdu.specs.Limits.{size_code};
 ghost use Rattle.osi_class.specs.Flow.{steps_before};
 ghost use Rattle.osi_tpdu.specs.View.{confirm_content};
-ghost use Rattle.osi_rules.specs.Rows.{first_failed, steps_from, has_credit, is_tellable, has_passed, keeps_credit, fits_size, fits_tsdu, code_named, selects_expedited, is_offered, is_inside, given_again, confirm_tests, data2_tests, data0_tests, acknowledge_tests, disconnect_tests, is_due, disconnected_tests, error_tests};
+ghost use Rattle.osi_rules.specs.Rows.{first_failed, steps_from, has_credit, is_tellable, has_passed, keeps_credit, fits_size, fits_tsdu};
+ghost use Rattle.osi_rules.specs.Rows.{code_named, selects_expedited, is_offered, is_inside, given_again, confirm_tests, data2_tests};
+ghost use Rattle.osi_rules.specs.Rows.{data0_tests, acknowledge_tests, disconnect_tests, is_due, disconnected_tests, error_tests};
 
 use crate::connections::{Connection, Offer};
 use crate::directions::Direction;

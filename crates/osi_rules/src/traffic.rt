@@ -1,11 +1,14 @@
 //! What passes on one byte connection.
 
-ghost use Rattle.std.specs.Prelude.{◌≡◌, ◌<◌, ◌++◌, ◌∷◌, [], ◌||◌, map, position, length, is_some, nat_lt, slice_set, OnOk, OnErr, IfOk, None, not, true};
+ghost use Rattle.std.specs.Prelude.{◌≡◌, ◌<◌, ◌++◌, ◌∷◌, [], ◌||◌, map, position, length, is_some, nat_lt, slice_set, OnOk, OnErr, IfOk};
+ghost use Rattle.std.specs.Prelude.{None, not, true};
 ghost use Rattle.std.specs.List.{list_any, list_all};
 ghost use Rattle.osi_tpdu.specs.View.{value, request_content};
 ghost use Rattle.osi_rules.specs.Rows.{first_failed};
 ghost use Rattle.osi_rules.specs.Sides.{begins, is_over, is_live, is_free, is_named, uses};
-ghost use Rattle.osi_rules.specs.Traffic.{fresh, none_told, one_told, at_place, at_found, asks_by, asks_kept, found_on, has_place, is_not_judged, needs_place, most_connections, outcome, packet_begins, placed, request_tests, routed, takes, refused, refused_reach, unnamed_told, uses_source, asks_of};
+ghost use Rattle.osi_rules.specs.Traffic.{fresh, none_told, one_told, at_place, at_found, asks_by, asks_kept, found_on, has_place};
+ghost use Rattle.osi_rules.specs.Traffic.{is_not_judged, needs_place, most_connections, outcome, packet_begins, placed, request_tests};
+ghost use Rattle.osi_rules.specs.Traffic.{routed, takes, refused, refused_reach, unnamed_told, uses_source, asks_of};
 
 use crate::connections::Connection;
 use crate::courses::Course;

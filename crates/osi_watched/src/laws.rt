@@ -1,6 +1,7 @@
 //! Laws of an end and of a tap on its byte connection. Each function does nothing: its clauses are the laws.
 
-ghost use Rattle.std.specs.Prelude.{◌≡◌, ◌⊎◌, Bool, false, true, List, None, Option, Some, ◌≢◌, ◌<◌, ◌^◌, ◌++◌, ◌∷◌, [], ℕ, length, slice_get};
+ghost use Rattle.std.specs.Prelude.{◌≡◌, ◌⊎◌, Bool, false, true, List, None, Option, Some, ◌≢◌, ◌<◌, ◌^◌, ◌++◌, ◌∷◌, [], ℕ, length};
+ghost use Rattle.std.specs.Prelude.{slice_get};
 ghost use Rattle.std.specs.List.{AllByRecursion};
 ghost use Rattle.osi_class.specs.declared.terms.Local.{Local};
 ghost use Rattle.osi_judge.specs.Captures.{Capture, other};
@@ -134,7 +135,8 @@ pub fn what_a_tap_shows_goes_on()
     ensures none_passes { (d : Direction) (r : ℕ) (deeds : Deeds) (waiting : List Value) (later : List Part) (v : Value) (is_next : Bool)
         (j : Joined) → unit_parts v ≡ [] → IsShownNow d r deeds (v ∷ waiting) later is_next j →
         IsShownNow d r deeds waiting later false j }
-    ensures other_begins { (d : Direction) (r : ℕ) (deeds : Deeds) (waiting : List Value) (later : List Part) (is_next : Bool) (j : Joined) →
+    ensures other_begins { (d : Direction) (r : ℕ) (deeds : Deeds) (waiting : List Value) (later : List Part)
+        (is_next : Bool) (j : Joined) →
         IsShownNow d r deeds waiting later is_next j → IsShownNow d r deeds waiting later is_next (packet_begins (other d) j) }
     ensures other_passes { (d : Direction) (r : ℕ) (deeds : Deeds) (waiting : List Value) (later : List Part) (at : ℕ) (end : Bool)
         (octets : List ℕ) (is_next : Bool) (j : Joined) → IsShownNow d r deeds waiting later is_next j →
