@@ -276,7 +276,8 @@ pub fn what_is_heard_was_said()
 /// is lost, no side holds a token in the end. With duplex both sides send.
 pub fn examples()
     ensures lost_give { after_lost_give.journal ≡ lost_give_seen }
-    ensures lost_give_before { (held_in (stands_at Left after_lost_give) ≡ no_token) × (held_in (stands_at Right after_lost_give) ≡ no_token) }
+    ensures lost_give_before { (held_in (stands_at Left after_lost_give) ≡ no_token)
+        × (held_in (stands_at Right after_lost_give) ≡ no_token) }
     ensures lost_give_after { held_in (stands_at Right (step after_lost_give to_right)) ≡ all_tokens }
     ensures crossing { (after_crossing 3).journal ≡ crossing_seen 3 }
     ensures crossing_numbers { (next_at Left (after_crossing 3) ≡ 2) × (next_at Right (after_crossing 3) ≡ 2) }
@@ -287,6 +288,7 @@ pub fn examples()
     ensures restart_below_history { history_of after_restart_below ≡ [] }
     ensures last_point { (run (start (accepts class_2)) last_point).journal ≡ last_point_seen }
     ensures lost_release { after_lost_release.journal ≡ lost_release_seen }
-    ensures lost_release_tokens { (held_in (stands_at Left after_lost_release) ≡ no_token) × (held_in (stands_at Right after_lost_release) ≡ no_token) }
+    ensures lost_release_tokens { (held_in (stands_at Left after_lost_release) ≡ no_token)
+        × (held_in (stands_at Right after_lost_release) ≡ no_token) }
     ensures both_send { (run (start (accepts class_2)) both_send).journal ≡ both_send_seen }
 {}
