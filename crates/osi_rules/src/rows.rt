@@ -248,7 +248,8 @@ impl Connection {
         if strays {
             return Finding::NotJudged;
         }
-        if self.own(direction).phase.is_silent() {
+        let answered = !self.own(direction).phase.is_silent();
+        if !answered {
             return Finding::Broke(Rule::UnknownReference);
         }
         Finding::Broke(Rule::NothingToAnswer)
