@@ -126,7 +126,7 @@ const REDUCED: [Step; 4] = [
     ),
 ];
 
-/// A reference may be given again once its connection is closed.
+/// A reference may be given again once its connection is closed. A CR is not answered by a DC.
 const CLOSING: [Step; 7] = [
     Step::Sends(LEFT, REQUEST, KEPT),
     Step::Sends(RIGHT, CONFIRM, KEPT),
@@ -134,7 +134,7 @@ const CLOSING: [Step; 7] = [
     Step::Sends(LEFT, DATA_0, Finding::Broke(Rule::Closed)),
     Step::Sends(RIGHT, CLOSED, KEPT),
     Step::Sends(LEFT, REQUEST, KEPT),
-    Step::Sends(RIGHT, CLOSED, Finding::Broke(Rule::NothingToAnswer)),
+    Step::Sends(RIGHT, CLOSED, Finding::Broke(Rule::UnknownReference)),
 ];
 
 /// The DC of another connection: it answers a DR only if one has closed nothing.
