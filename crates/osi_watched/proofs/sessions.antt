@@ -15,9 +15,11 @@ pub mod what_passes_leaves_all_standing
 pub mod a_turn_leaves_all_standing
 pub mod what_a_turn_puts_waits
 pub mod what_is_in_flight_to_an_end
+pub mod what_is_left_for_an_end
 pub mod what_an_end_takes_at_a_connection
 pub mod references_of_an_end_are_distinct
 pub mod each_unit_of_a_turn_has_one_connection
+pub mod the_dr_of_the_other_side_is_in_flight
 pub mod steps_leave_all_standing
 pub mod a_dt_of_class_0_has_one_place
 pub mod class_0_has_one_connection
@@ -25,6 +27,7 @@ pub mod a_dt_of_class_0_leaves_all_standing
 pub mod steps_of_class_0_leave_all_standing
 pub mod each_step_leaves_class_0_one_connection
 pub mod what_has_no_effect_joins_nothing
+pub mod a_unit_after_a_dr_changes_nothing
 pub mod after_too_many_nobody_is_to_blame
 pub mod steps_of_either_class_leave_all_standing
 pub mod a_turn_does_what_its_deeds_say
@@ -33,9 +36,11 @@ pub mod a_cc_comes_before_what_is_put_for_it
 pub mod crs_that_wait_are_above_those_that_passed
 pub mod each_cr_that_passes_gives_a_new_reference
 pub mod nothing_is_done_before_a_cr_passes
+pub mod a_unit_after_a_dr_leaves_all_standing
 pub mod what_an_end_takes_at_each_stage
 pub mod a_calling_end_is_ready
 pub mod a_calling_end_takes_nothing_before_its_cc
+pub mod an_end_takes_what_is_left_for_it
 pub mod a_calling_end_takes_what_is_in_flight
 pub mod a_calling_end_hears_what_breaks_no_rule
 pub mod what_has_come_before_a_cc
@@ -89,7 +94,7 @@ pub mod a_called_end_stands_until_class_2
 pub mod no_called_end_is_blamed_first_in_class_0
 pub mod no_called_end_is_blamed_first
 pub mod no_session_of_an_end_is_to_blame
-pub mod no_end_is_to_blame_in_class_2
+pub mod no_end_is_to_blame_after_a_break
 pub mod what_is_judged_within_a_bound
 pub mod nobody_else_is_to_blame_within_a_bound
 pub mod a_bound_changes_no_first_break

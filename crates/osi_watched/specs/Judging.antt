@@ -1,13 +1,9 @@
 -- What is judged of a capture, after breaks of the other side.
-use Rattle.std.specs.Prelude.{◌≡◌, false, Option, Some, None}
+use Rattle.std.specs.Prelude.{◌≡◌, false, Some}
 use Rattle.osi_class.specs.declared.terms.Class.TheVariants.{Zero}
 use Rattle.osi_judge.specs.Captures.{other}
 use Rattle.osi_judge.specs.declared.directions.Direction.{Direction}
-use Rattle.osi_rules.specs.declared.findings.Rule.TheVariants.{Closed}
 use Rattle.osi_rules.specs.Traffic.{is_stopped}
-use Rattle.osi_tap.specs.declared.marks.Cause.TheVariants.{Broke}
-use Rattle.osi_tap.specs.declared.marks.Mark.{Mark}
-use Rattle.osi_tap.specs.declared.marks.UnitKind.TheVariants.{Dr}
 use Rattle.osi_tap.specs.Courses.{Course, way_of}
 
 -- No break has ended the judging of a part: of one connection in class 2, or of the other side in class 0. So a taker has passed over each
@@ -15,8 +11,3 @@ use Rattle.osi_tap.specs.Courses.{Course, way_of}
 pub record IsJudgedWhole (d : Direction) (c : Course) : Type 0 where
   pub firm : c.traffic.course.loose ≡ false
   pub both : c.traffic.course.class ≡ Some Zero → is_stopped (way_of (other d)) c.traffic.course ≡ false
-
--- no DT and no AK on a connection that its side had closed
-abbrev pub ClosesLast : Option Mark → Type 0
-ClosesLast None = Unit {0}
-ClosesLast (Some m) = m.cause ≡ Broke Closed → m.unit ≡ Some Dr

@@ -10,8 +10,7 @@ ghost use Rattle.osi_honest.specs.Seeing.{IsFresh, IsSeen};
 ghost use Rattle.osi_honest.specs.Turns.{Run, Turn};
 ghost use Rattle.osi_tap.specs.declared.marks.First.{First};
 ghost use Rattle.osi_tap.specs.Tapping.{comes_to};
-ghost use Rattle.osi_class.specs.declared.terms.Class.{Class};
-ghost use Rattle.osi_watched.specs.Judging.{ClosesLast, IsJudgedWhole};
+ghost use Rattle.osi_watched.specs.Judging.{IsJudgedWhole};
 ghost use Rattle.osi_watched.specs.Passing.{AreOctets, ComesBySteps};
 ghost use Rattle.osi_class.specs.Runs.{parts_in, unit_parts};
 ghost use Rattle.osi_class.specs.Tsdus.{Part};
@@ -245,30 +244,28 @@ pub fn no_session_of_an_end_is_blamed_first()
 }
 
 /// No session of an end is to blame after breaks of the other side that a taker passes over. Take any run of an end of this library from
-/// its beginning, and any capture of it, as in [`no_session_of_an_end_is_blamed_first`]; class 0 is not selected. As long as no break of
-/// the other side has ended the judging of one connection alone ([`IsJudgedWhole`]), no session of the end is to blame for what has
-/// passed, on any of its connections, open or over, be the end the called one (`called`) or the calling one (`calling`). So it is after
-/// DTs beyond the credit or longer than the size, after a CC with a larger size, and after a second DR; and so it is after a break with
-/// which all judging ends.
+/// its beginning, and any capture of it, as in [`no_session_of_an_end_is_blamed_first`]. As long as no break of the other side has ended
+/// the judging of a part ([`IsJudgedWhole`]), no session of the end is to blame for what has passed, in either class, on any of its
+/// connections, open or over, be the end the called one (`called`) or the calling one (`calling`). So it is after DTs beyond the credit or
+/// longer than the size, after a CC with a larger size, and after a DT, an AK or a second DR on a connection that its sender had closed;
+/// and unless class 0 is selected, so it is after a break with which all judging ends.
 ///
-/// It is assumed that no DT and no AK has passed on a connection that its sender had closed ([`ClosesLast`]), and that fewer than 2^64
-/// units have passed.
+/// It is assumed that fewer than 2^64 units have passed.
 ///
 /// [`IsJudgedWhole`]: ../specs/Judging.antt
-/// [`ClosesLast`]: ../specs/Judging.antt
 pub fn no_session_of_an_end_is_to_blame_after_a_break()
     ensures called { (local : Local) (begin end : Holding) (turns : List Turn) (capture : Capture) (i : ℕ) (j : Joined) →
         IsFresh false local begin → Run begin turns end → AreOctets capture → IsSeen Direction.Right turns capture →
-        length (comes_to capture).course.past < 2 ^ 64 → (comes_to capture).course.traffic.course.class ≢ Some Class.Zero →
+        length (comes_to capture).course.past < 2 ^ 64 →
         (slice_get (comes_to capture).course.sessions.live i ≡ Some j)
-        ⊎ (slice_get (comes_to capture).course.sessions.done i ≡ Some j) → IsJudgedWhole Direction.Right (comes_to capture).course →
-        AllByRecursion (λ (m : Moment). ClosesLast m.mark) (comes_to capture).course.past → ¬ (IsToBlame Direction.Right j) }
+        ⊎ (slice_get (comes_to capture).course.sessions.done i ≡ Some j) →
+        IsJudgedWhole Direction.Right (comes_to capture).course → ¬ (IsToBlame Direction.Right j) }
     ensures calling { (local : Local) (begin end : Holding) (turns : List Turn) (capture : Capture) (i : ℕ) (j : Joined) →
         IsFresh true local begin → Run begin turns end → AreOctets capture → IsSeen Direction.Left turns capture →
-        length (comes_to capture).course.past < 2 ^ 64 → (comes_to capture).course.traffic.course.class ≢ Some Class.Zero →
+        length (comes_to capture).course.past < 2 ^ 64 →
         (slice_get (comes_to capture).course.sessions.live i ≡ Some j)
-        ⊎ (slice_get (comes_to capture).course.sessions.done i ≡ Some j) → IsJudgedWhole Direction.Left (comes_to capture).course →
-        AllByRecursion (λ (m : Moment). ClosesLast m.mark) (comes_to capture).course.past → ¬ (IsToBlame Direction.Left j) }
+        ⊎ (slice_get (comes_to capture).course.sessions.done i ≡ Some j) →
+        IsJudgedWhole Direction.Left (comes_to capture).course → ¬ (IsToBlame Direction.Left j) }
 {
     few_octets_fit();
     serial_digits();

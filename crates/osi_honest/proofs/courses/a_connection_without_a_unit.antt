@@ -136,7 +136,7 @@ module _ (is_caller : Bool) (q r : ℕ) (some : 0 < r) where
 
   sends_by : (s : Stage) (tsdus : List (List ℕ)) (o : Option SendError) (c : Carrier) → stage_at r c ≡ s →
       Life is_caller r s [] (marked r (put_unless o r tsdus c)) s
-  sends_by (amid peer) tsdus o c is = life_open is_caller r peer [] _ tt (unless_gives o r peer tsdus c is)
+  sends_by (amid peer) tsdus o c is = life_open is_caller r peer [] _ tt tt (unless_gives o r peer tsdus c is)
   sends_by v tsdus o c is =
       let none = unlinked_unless o r tsdus c (unlinked_stage (is_some c.ended) (has_given r c) (value_at r c.live)
       (λ peer now. absurd (let both : v ≡ amid peer = sym is ∙ now in cc))) in

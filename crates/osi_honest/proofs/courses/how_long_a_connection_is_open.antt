@@ -2,7 +2,8 @@
 -- those that are for it and gives units for the peer, and then it takes and gives no more.
 -- For the course of a connection.
 use Rattle.osi_honest.proofs.Vocabulary.{[], ap, append_assoc, Bool, false, if◌then◌else◌, inl, inr, is_some, IsSome, List, None, Option}
-use Rattle.osi_honest.proofs.Vocabulary.{refl, Some, subst, sym, true, ℕ, ◌++◌, ◌<◌, ◌==◌, ◌∙◌, ◌∷◌, ◌≡◌, ◌⊎◌, append-nil, Value, Standing}
+use Rattle.osi_honest.proofs.Vocabulary.{refl, Some, subst, sym, true, ℕ, ◌++◌, ◌<◌, ◌==◌, ◌∙◌, ◌∷◌, ◌≡◌, ◌⊎◌, append-nil, Standing}
+use Rattle.osi_honest.proofs.Vocabulary.{AllByRecursion, disconnect, Value}
 use Rattle.osi_honest.proofs.Vocabulary.{link_of, open_link, value_at, asked, closing, Connection, linked, State as Carrier, EndReason}
 use Rattle.osi_honest.proofs.Vocabulary.{has_given, Answers, AreApart, GivesTo, is_for, Lives, Opens, TakesAll, is_shut, Marked}
 use Rattle.osi_honest.specs.Arriving.Begins.{is_open, opens}
@@ -51,7 +52,16 @@ rests_over r s c ended = inr (stage_over r c ended)
 
 -- ---- steps
 
--- while it is open with this peer, and then after
+-- a DR for the connection with this reference
+abbrev pub is_dr : ℕ → Value → Bool
+is_dr r (disconnect destination source reason user) = destination == r
+is_dr r _ = false
+
+-- none of these units is one
+abbrev pub HasNoDr : ℕ → List Marked → Type 0
+HasNoDr r units = AllByRecursion (λ m. is_dr r m.1 ≡ false) units
+
+-- While it is open with this peer, and then after: a DR ends it.
 pub record WhileOpen (r peer : ℕ) (took put : List Marked) (t : Stage) : Type 0 where
   pub during : List Marked
   pub after : List Marked
@@ -60,6 +70,7 @@ pub record WhileOpen (r peer : ℕ) (took put : List Marked) (t : Stage) : Type 
   pub took_is : took ≡ during ++ after
   pub put_is : put ≡ put_during ++ put_after
   pub takes : TakesAll r during
+  pub no_dr : HasNoDr r during
   pub gives : GivesTo r peer put_during
   pub none_after : AreApart r after
   pub none_put : AreApart r put_after
@@ -98,8 +109,8 @@ module _ (is_caller : Bool) (r : ℕ) where
   -- ---- one step
 
   -- it stays as it is
-  pub life_as : (s : Stage) (took put : List Marked) → AreApart r took → AreApart r put → ((peer : ℕ) → s ≡ amid peer → TakesAll r took) →
-      L s took put s
+  pub life_as : (s : Stage) (took put : List Marked) → AreApart r took → AreApart r put →
+      ((peer : ℕ) → s ≡ amid peer → TakesAll r took × HasNoDr r took) → L s took put s
   life_as early took put a b all = stays a b (inl refl)
   life_as past took put a b all = record { none_took = a; none_put = b; is = refl }
   life_as (amid peer) took put a b all = record {
@@ -109,7 +120,8 @@ module _ (is_caller : Bool) (r : ℕ) where
     put_after = [];
     took_is = sym (append-nil took);
     put_is = sym (append-nil put);
-    takes = all peer refl;
+    takes = (all peer refl).0;
+    no_dr = (all peer refl).1;
     gives = apart_gives peer put b;
     none_after = tt;
     none_put = tt;
@@ -128,6 +140,7 @@ module _ (is_caller : Bool) (r : ℕ) where
     took_is = refl;
     put_is = refl;
     takes = tt;
+    no_dr = tt;
     gives = tt;
     none_after = a;
     none_put = b;
@@ -136,12 +149,13 @@ module _ (is_caller : Bool) (r : ℕ) where
 
   -- no unit arrives
   pub life_rests : (s t : Stage) (put : List Marked) → AreApart r put → Rests s t → L s [] put t
-  life_rests s t put none (inl is) = subst (L s [] put) (sym is) (life_as s [] put tt none (λ peer now. tt))
+  life_rests s t put none (inl is) = subst (L s [] put) (sym is) (life_as s [] put tt none (λ peer now. (tt, tt)))
   life_rests s t put none (inr is) = subst (L s [] put) (sym is) (life_to_past s [] put tt none)
 
   -- its link takes and gives these
-  pub life_open : (peer : ℕ) (took put : List Marked) → TakesAll r took → GivesTo r peer put → L (amid peer) took put (amid peer)
-  life_open peer took put takes gives = record {
+  pub life_open : (peer : ℕ) (took put : List Marked) → TakesAll r took → HasNoDr r took → GivesTo r peer put →
+      L (amid peer) took put (amid peer)
+  life_open peer took put takes no_dr gives = record {
     during = took;
     after = [];
     put_during = put;
@@ -149,6 +163,7 @@ module _ (is_caller : Bool) (r : ℕ) where
     took_is = sym (append-nil took);
     put_is = sym (append-nil put);
     takes = takes;
+    no_dr = no_dr;
     gives = gives;
     none_after = tt;
     none_put = tt;
@@ -160,7 +175,7 @@ module _ (is_caller : Bool) (r : ℕ) where
       AreApart r answer → Answers r peer unit answer → L early ((0, unit) ∷ []) (others ++ answer) (amid peer)
   life_opens peer unit others answer o apart none a =
       opens_by peer unit o [] [] tt refl others answer [] apart none a
-      (ap (λ (l : List Marked). others ++ l) (sym (append-nil answer))) (life_open peer [] [] tt tt)
+      (ap (λ (l : List Marked). others ++ l) (sym (append-nil answer))) (life_open peer [] [] tt tt tt)
 
   -- ---- one after the other
 
@@ -194,6 +209,7 @@ module _ (is_caller : Bool) (r : ℕ) where
           took_is = joined xs more a.during b.during b.after (whole xs a.during a.after a.took_is none) b.took_is;
           put_is = joined ys puts a.put_during b.put_during b.put_after (whole ys a.put_during a.put_after a.put_is none_put) b.put_is;
           takes = all_of_both (λ (m : Marked). (m.0 == r) ≡ is_for r m.1) a.during b.during a.takes b.takes;
+          no_dr = all_of_both (λ (m : Marked). is_dr r m.1 ≡ false) a.during b.during a.no_dr b.no_dr;
           gives = all_of_both (λ (m : Marked). (m.0 == r) ≡ true → is_for peer m.1 ≡ true) a.put_during b.put_during a.gives b.gives;
           none_after = b.none_after;
           none_put = b.none_put;
@@ -209,6 +225,7 @@ module _ (is_caller : Bool) (r : ℕ) where
           took_is = ap (λ (l : List Marked). l ++ more) a.took_is ∙ append_assoc a.during a.after more;
           put_is = ap (λ (l : List Marked). l ++ puts) a.put_is ∙ append_assoc a.put_during a.put_after puts;
           takes = a.takes;
+          no_dr = a.no_dr;
           gives = a.gives;
           none_after = both_apart a.after more a.none_after b.none_took;
           none_put = both_apart a.put_after puts a.none_put b.none_put;

@@ -2,8 +2,10 @@
 -- For the course of a connection.
 use Rattle.osi_honest.proofs.Vocabulary.{[], ap, arith, Bool, false, is_some, IsSome, List, nat_le, nat_lt, None, Ok, Option, refl, Some}
 use Rattle.osi_honest.proofs.Vocabulary.{subst, sym, true, ℕ, ◌&&◌, ◌<◌, ◌==◌, ◌∙◌, ◌∷◌, ◌≡◌, ◌≢◌, eq-eqb, eqb-true, nat_tests, append-nil}
-use Rattle.osi_honest.proofs.Vocabulary.{acknowledge, data0, data2, request, Value, Ends, Flow, all_given, Standing, taken, taken_by, Class}
-use Rattle.osi_honest.proofs.Vocabulary.{Two, react_quiet, put_other, beyond, put_here, connection_by, connection_of, only_of, pumped}
+use Rattle.osi_honest.proofs.Vocabulary.{acknowledge, confirm, data0, data2, disconnect, disconnected, error, request, Value, Ends, Flow}
+use Rattle.osi_honest.proofs.Vocabulary.{all_given, Standing, taken, taken_by, Class, RiseFrom, leaves, to_connection, to_only, Rows}
+use Rattle.osi_honest.proofs.Vocabulary.{Two, Zero, react_quiet, put_other, beyond, put_here, without_here, connection_by, connection_of}
+use Rattle.osi_honest.proofs.Vocabulary.{only_of, pumped, in_zero}
 use Rattle.osi_honest.proofs.Vocabulary.{written_by, handed_out, in_class, in_two, settles, put, value_at, asked, Connection, linked}
 use Rattle.osi_honest.proofs.Vocabulary.{State as Carrier, EndReason, has_given, AreApart, GivesTo, is_for, Opens, TakesAll, IsShut}
 use Rattle.osi_honest.proofs.Vocabulary.{is_of_link, Marked}
@@ -15,8 +17,8 @@ use Rattle.osi_honest.proofs.courses.units_of_each_connection.{marked, none_mark
 use Rattle.osi_honest.proofs.courses.a_connection_without_a_unit.{given_to}
 use Rattle.osi_honest.proofs.courses.what_a_unit_does_to_a_connection.{Acts, IsDeaf, acts_elsewhere}
 use Rattle.osi_honest.proofs.courses.what_a_unit_does_to_a_connection.Acts.{answers_it, joins, leaves_it, over, rests}
-use Rattle.osi_honest.proofs.courses.how_long_a_connection_is_open.{Life, Stage, life_as, life_open, life_opens, life_to_past, stage_at}
-use Rattle.osi_honest.proofs.courses.how_long_a_connection_is_open.{stage_by, stage_is, stage_over, stage_there}
+use Rattle.osi_honest.proofs.courses.how_long_a_connection_is_open.{Life, Stage, is_dr, life_as, life_open, life_opens, life_to_past}
+use Rattle.osi_honest.proofs.courses.how_long_a_connection_is_open.{stage_at, stage_by, stage_is, stage_over, stage_there}
 use Rattle.osi_honest.proofs.courses.how_long_a_connection_is_open.Stage.{amid, early, past}
 
 -- ---- a unit of another connection is not for this one
@@ -97,6 +99,91 @@ module _ (s : Carrier) (q peer : ℕ) (link after : Standing) (here : value_at q
       (λ empty. no_ack link.ends credit destination number after link.flow empty is)
   taken_for v own by_class is = plain_refused link.ends link.flow v after refl is
 
+-- ---- a DR ends the connection that it names
+
+module _ (r source reason : ℕ) (user : List ℕ) (s : Carrier) (peer : ℕ) (link : Standing)
+    (here : value_at r s.live ≡ Some (linked peer link)) where
+  abbrev dr : Value
+  dr = disconnect r source reason user
+
+  -- in class 2 its row is gone
+  gone_by : (k : Option Class) → k ≡ Some Two → RiseFrom 0 s.live → value_at r (leaves r peer reason k s).live ≡ None
+  gone_by (Some Two) class rise = without_here r s.live rise
+  gone_by (Some Zero) class rise = absurd (cc)
+  gone_by None class rise = absurd (cc)
+
+  dr_two : (b : Bool) → s.class ≡ Some Two → RiseFrom 0 s.live → value_at r (in_two b dr s).live ≡ None
+  dr_two true class rise =
+      ap (λ (o : Option Connection). value_at r (to_connection r o dr s).live) here ∙ gone_by s.class class rise
+  dr_two false class rise =
+      ap (λ (o : Option Connection). value_at r (to_connection r o dr s).live) here ∙ gone_by s.class class rise
+
+  -- in class 0 the carrier ends
+  over_by : (q first : ℕ) (k : Option Class) → k ≡ Some Zero → IsSome (leaves q first reason k s).ended
+  over_by q first (Some Zero) class = refl
+  over_by q first (Some Two) class = absurd (cc)
+  over_by q first None class = absurd (cc)
+
+  dr_zero : (b : Bool) (q first : ℕ) (old : Standing) → s.class ≡ Some Zero → s.live ≡ (q, linked first old) ∷ [] →
+      IsSome (in_zero b dr s).ended
+  dr_zero true q first old class live =
+      ap (λ (rows : Rows Connection). is_some (to_only rows dr s).ended) live ∙ over_by q first s.class class
+  dr_zero false q first old class live =
+      ap (λ (rows : Rows Connection). is_some (to_only rows dr s).ended) live ∙ over_by q first s.class class
+
+  module _ (h : IsSound s) (lasted : s.ended ≡ None) (lasts : (react dr s).ended ≡ None)
+      (still : value_at r (react dr s).live ≡ Some (linked peer link)) where
+    in_its_class : (k : Option Class) → s.class ≡ k → react dr s ≡ in_class k dr s
+    in_its_class k class = react_quiet dr s lasted ∙ ap (λ (x : Option Class). in_class x dr s) class
+
+    not_open_by : ByClass s → ⊥
+    not_open_by (two class) =
+        let none = dr_two s.is_caller class h.orderly.rise in
+        let now = sym (ap (λ (c : Carrier). value_at r c.live) (in_its_class (Some Two) class)) ∙ still in
+        let both : None ≡ Some (linked peer link) = sym none ∙ now in cc
+    not_open_by (none live) = let both : None ≡ Some (linked peer link) = sym (ap (value_at r) live) ∙ here in cc
+    not_open_by (asks q class caller live) =
+        let same = one_here r q asked (linked peer link) (ap (value_at r) (sym live) ∙ here) in
+        let k = same.1 in cc
+    not_open_by (zero q first old class flow live) =
+        let over = dr_zero s.is_caller q first old class live in
+        never_lasts (react dr s).ended (ap (λ (c : Carrier). is_some c.ended) (in_its_class (Some Zero) class) ∙ over) lasts
+
+    dr_not : ⊥
+    dr_not = not_open_by h.by_class
+
+-- so a unit after which the connection is open as it was is none
+no_dr : (r : ℕ) (v : Value) (s : Carrier) (peer : ℕ) (link : Standing) → IsSound s → s.ended ≡ None → (react v s).ended ≡ None →
+    value_at r s.live ≡ Some (linked peer link) → value_at r (react v s).live ≡ value_at r s.live → is_dr r v ≡ false
+no_dr r (disconnect d source reason user) s peer link h lasted lasts here same = by (d == r) refl
+  where
+    by : (b : Bool) → (d == r) ≡ b → b ≡ false
+    by false e = refl
+    by true e =
+        let is : disconnect d source reason user ≡ disconnect r source reason user =
+        ap (λ (n : ℕ). disconnect n source reason user) (eqb-true d r e) in
+        absurd (dr_not r source reason user s peer link here h lasted
+        (ap (λ (v : Value). (react v s).ended) (sym is) ∙ lasts)
+        (ap (λ (v : Value). value_at r (react v s).live) (sym is) ∙ same ∙ here))
+no_dr r (request c) s peer link h lasted lasts here same = refl
+no_dr r (confirm d c) s peer link h lasted lasts here same = refl
+no_dr r (disconnected d source) s peer link h lasted lasts here same = refl
+no_dr r (data0 end user) s peer link h lasted lasts here same = refl
+no_dr r (data2 d number end user) s peer link h lasted lasts here same = refl
+no_dr r (acknowledge credit d number) s peer link h lasted lasts here same = refl
+no_dr r (error d cause) s peer link h lasted lasts here same = refl
+
+-- and neither is one that a link takes
+link_no_dr : (q r : ℕ) (v : Value) → is_for q v ≡ true → is_dr r v ≡ false
+link_no_dr q r (disconnect d source reason user) h = absurd (cc)
+link_no_dr q r (request c) h = refl
+link_no_dr q r (confirm d c) h = refl
+link_no_dr q r (disconnected d source) h = refl
+link_no_dr q r (data0 end user) h = refl
+link_no_dr q r (data2 d number end user) h = refl
+link_no_dr q r (acknowledge credit d number) h = refl
+link_no_dr q r (error d cause) h = refl
+
 -- ---- the unit at one connection
 
 amid_linked : (b given : Bool) (o : Option Connection) (p : ℕ) → stage_by b given o ≡ amid p →
@@ -141,11 +228,18 @@ module _ (is_caller : Bool) (r : ℕ) (some : 0 < r) (v : Value) (s : Carrier) (
       let k = amid_linked (is_some s.ended) (has_given r s) (value_at r s.live) p is in
       (other ∙ sym (deaf k.0 k.1 k.2), tt)
 
-  same_life : (q : ℕ) (put : List Marked) → (q == r) ≡ false → AreApart r put → stage_at r t ≡ stage_at r s → IsDeaf r v s →
+  -- it is no DR for the connection
+  abbrev IsNoDr : Type 0
+  IsNoDr = (peer : ℕ) (link : Standing) → value_at r s.live ≡ Some (linked peer link) → is_dr r v ≡ false
+
+  same_life : (q : ℕ) (put : List Marked) → (q == r) ≡ false → AreApart r put → stage_at r t ≡ stage_at r s → IsDeaf r v s → IsNoDr →
       P (stage_at r s) q put (stage_at r t)
-  same_life q put other apart same deaf =
+  same_life q put other apart same deaf plain =
       life_between q put (stage_at r s) (stage_at r s) refl same
-      (life_as is_caller r (stage_at r s) ((q, v) ∷ []) put (other, tt) apart (deaf_takes q other deaf))
+      (life_as is_caller r (stage_at r s) ((q, v) ∷ []) put (other, tt) apart
+      (λ p is.
+      let k = amid_linked (is_some s.ended) (has_given r s) (value_at r s.live) p is in
+      (deaf_takes q other deaf p is, (plain k.0 k.1 k.2, tt))))
 
   to_past : (units : List Value) → stage_at r t ≡ past → P (stage_at r s) 0 (marked 0 units) (stage_at r t)
   to_past units is =
@@ -164,6 +258,7 @@ module _ (is_caller : Bool) (r : ℕ) (some : 0 < r) (v : Value) (s : Carrier) (
       same_life 0 (marked 0 units) no_mark (none_marked r units some)
       (stage_is r t (value_at r s.live) (has_given r s) lasts given live
       ∙ sym (stage_is r s (value_at r s.live) (has_given r s) lasted refl refl)) deaf
+      (λ peer link here. no_dr r v s peer link h lasted lasts here live)
   acts_live units (joins called_end alone free given peer first fresh here events opener answer) lasts =
       let empty : value_at r s.live ≡ None = beyond r s.given s.live h.orderly.up_to (above_given r s.given some free) in
       life_between 0 (marked 0 units) early (amid peer) (stage_is r s None false lasted free empty)
@@ -204,6 +299,7 @@ module _ (is_caller : Bool) (r : ℕ) (some : 0 < r) (v : Value) (s : Carrier) (
       (stage_is r t (value_at r s.live) (has_given r s) lasts given live
       ∙ sym (stage_is r s (value_at r s.live) (has_given r s) lasted refl refl))
       (elsewhere_deaf v s lasted lasts r h.by_class (λ same. differ (same ∙ sym own)))
+      (λ p l there. link_no_dr q r v (taken_for s q peer link after here v own h.by_class took))
   taken_by_one q true is own peer link after here took then_is =
       let same = eqb-true r q is in
       let lasts : t.ended ≡ None = ap (λ (c : Carrier). c.ended) then_is ∙ lasted in
@@ -217,6 +313,7 @@ module _ (is_caller : Bool) (r : ℕ) (some : 0 < r) (v : Value) (s : Carrier) (
       (stage_is r t (Some next) (has_given r t) lasts refl now)
       (life_open is_caller r peer ((q, v) ∷ []) (marked q units)
       (eq-eqb q r (sym same) ∙ sym (ap (λ (n : ℕ). is_for n v) same ∙ taken_for s q peer link after here v own h.by_class took), tt)
+      (link_no_dr q r v (taken_for s q peer link after here v own h.by_class took), tt)
       (subst (λ (n : ℕ). GivesTo r peer (marked n units)) same (given_to r peer (all_given (handed_out after)))))
 
   pub passed_life : (units : List Value) (q : ℕ) → q ≡ connection_of v s → Acts q v units s t →

@@ -1,7 +1,8 @@
--- A called end of class 2 hears each unit of the other side that breaks no rule: a DT adds to what is in flight at its connection alone.
--- So all its connections stand after a packet of the other side; or a CR was one connection too many, and nobody is to blame then.
+-- A called end of class 2 hears each unit of the other side that breaks no rule: a DT adds to what is left over at its connection alone.
+-- And a DT or an AK after a DR of its sender changes nothing. So all its connections stand after a packet of the other side; or a CR was
+-- one connection too many, and nobody is to blame then.
 -- For all connections of an end and a tap.
-use Rattle.std.proofs.Common.{◌≡◌, ◌⊎◌, inl, inr, refl, sym, subst, ℕ, Bool, false, List, [], ◌∷◌, ◌++◌, append_assoc}
+use Rattle.std.proofs.Common.{◌≡◌, ◌≤◌, ◌⊎◌, inl, inr, refl, sym, subst, ℕ, Bool, false, List, [], ◌∷◌, ◌++◌, append_assoc}
 use Rattle.std.specs.List.{AllByRecursion}
 use Rattle.std.proofs.lemmas.List.{append-nil}
 use Rattle.osi_tpdu.specs.Value.{Value, acknowledge, confirm, data0, data2, disconnect, disconnected, error, request}
@@ -23,17 +24,21 @@ use Rattle.osi_watched.proofs.what_a_unit_leaves_at_a_tap.{IsCalm}
 use Rattle.osi_watched.proofs.what_a_taker_passes_over.{applied_of}
 use Rattle.osi_watched.proofs.sessions.a_dt_that_is_no_break_is_right.{dt_clear}
 use Rattle.osi_watched.proofs.sessions.a_right_dt_has_one_place.{two_placed}
+use Rattle.osi_watched.proofs.sessions.a_unit_after_a_dr_changes_nothing.{IsAfterDr, is_there, same_sessions}
+use Rattle.osi_watched.proofs.sessions.a_unit_after_a_dr_leaves_all_standing.{after_shut, after_stand}
 use Rattle.osi_watched.proofs.sessions.a_unit_is_joined_where_it_is_named.{joined_named}
 use Rattle.osi_watched.proofs.sessions.after_too_many_nobody_is_to_blame.{IsSilenced, too_many_silenced, units_silenced}
 use Rattle.osi_watched.proofs.sessions.all_connections_stand.{AllStand, there_too}
-use Rattle.osi_watched.proofs.sessions.connections_have_the_same_places.{at_same, unit_joins}
+use Rattle.osi_watched.proofs.sessions.connections_have_the_same_places.{at_same, unit_joins, unit_knows}
 use Rattle.osi_watched.proofs.sessions.each_cr_that_passes_gives_a_new_reference.{AreUpTo, IsUpTo, unit_up}
 use Rattle.osi_watched.proofs.sessions.nothing_comes_before_a_cc_passes.{IsBelow, left_below, left_up_to, no_cc_of_left}
 use Rattle.osi_watched.proofs.sessions.nothing_is_done_before_a_cr_passes.{known_from}
 use Rattle.osi_watched.proofs.sessions.references_of_an_end_are_distinct.{AreDistinct, GivesNew, stays_so, unit_distinct}
+use Rattle.osi_watched.proofs.sessions.right_units_leave_all_standing.{IsLink, ak, dt}
 use Rattle.osi_watched.proofs.sessions.steps_leave_all_standing.{IsTakeable}
 use Rattle.osi_watched.proofs.sessions.steps_of_either_class_leave_all_standing.{stand_none}
-use Rattle.osi_watched.proofs.sessions.what_is_in_flight_to_an_end.{flight_grows, flight_same, known_of}
+use Rattle.osi_watched.proofs.sessions.the_dr_of_the_other_side_is_in_flight.{AreShut, HaveRoom, other_shut}
+use Rattle.osi_watched.proofs.sessions.what_is_left_for_an_end.{known_left, left_grows, left_same}
 use Rattle.osi_watched.proofs.sessions.what_passes_leaves_all_standing.{IsHeard, other_stands}
 use Rattle.osi_watched.proofs.sessions.what_stands_of_a_connection.{Known, Stands, lives, past, unnamed}
 
@@ -42,7 +47,8 @@ use Rattle.osi_watched.proofs.sessions.what_stands_of_a_connection.{Known, Stand
 -- each, as it passes, while all is judged
 abbrev pub AreFine : ℕ → List Value → Course → Type 0
 AreFine at [] c = Unit {0}
-AreFine at (v ∷ vs) c = IsTakeable Left v c × IsClear c.traffic.course × AreFine at vs (unit_passes Left at v c)
+AreFine at (v ∷ vs) c =
+    (IsTakeable Left v c ⊎ IsAfterDr Left v c) × IsClear c.traffic.course × AreFine at vs (unit_passes Left at v c)
 
 -- each, up to a CR that is one connection too many
 abbrev pub AreTooMany : ℕ → List Value → Course → Type 0
@@ -63,9 +69,16 @@ module _ (deeds : ℕ → Deeds) (is_live : ℕ → Bool) (put : List Value) (be
     pub stand : AllStand Right deeds (known_from is_live coming) put begun c.traffic c.sessions
     pub distinct : AreDistinct Right c.sessions
     pub up : AreUpTo Right b c.sessions
+    pub shut : AreShut Right is_live coming c.traffic c.sessions
+
+  rooms : (coming : List Value) (c : Course) → AreHeard coming c → HaveRoom c.sessions
+  rooms coming c h i j here =
+      let a = h.stand in
+      let (k, there) = there_too c.traffic.connections c.sessions.live i j a.places here in
+      room_of deeds (known_from is_live coming) put begun k j (a.live i k j there here)
 
   unit_heard : (coming : List Value) (v : Value) (c : Course) → IsTakeable Left v c → AreHeard coming c →
-      IsHeard Right (known_of is_live coming) (known_of is_live (coming ++ v ∷ [])) v put c.traffic c.sessions
+      IsHeard Right (known_left is_live coming) (known_left is_live (coming ++ v ∷ [])) v put c.traffic c.sessions
   unit_heard coming (data2 n number end user) c fine h =
       let v : Value = data2 n number end user in
       let a = h.stand in
@@ -74,22 +87,22 @@ module _ (deeds : ℕ → Deeds) (is_live : ℕ → Bool) (put : List Value) (be
       let p = two_placed way.Left n number end user c.traffic kept in
       let (k, here, one) = at_same c.traffic.connections c.sessions.live p.place p.connection a.places p.there in
       let named = joined_named Left v c n p.place p.connection k a.places refl p.told p.there p.judged here in (
-        λ later sure. flight_grows is_live coming n number end user later sure,
+        λ later sure. left_grows is_live coming n number end user later sure,
         stays_so Right is_live coming n number end user c.traffic c.sessions p.place k h.distinct here named p.told,
       )
   unit_heard coming (confirm n x) c fine h = no_cc_of_left b at c h.stand.judged h.stand.places h.up n x fine
-  unit_heard coming (request x) c fine h = λ r later sure. flight_same is_live coming (request x) r later refl sure
+  unit_heard coming (request x) c fine h = λ r later sure. left_same is_live coming (request x) r later refl sure
   unit_heard coming (disconnect n source reason user) c fine h =
-      λ r later sure. flight_same is_live coming (disconnect n source reason user) r later refl sure
+      λ r later sure. left_same is_live coming (disconnect n source reason user) r later refl sure
   unit_heard coming (disconnected n source) c fine h =
-      λ r later sure. flight_same is_live coming (disconnected n source) r later refl sure
+      λ r later sure. left_same is_live coming (disconnected n source) r later refl sure
   unit_heard coming (data0 end user) c fine h = absurd (left_below b at c h.stand.judged h.stand.places h.up (data0 end user) fine)
   unit_heard coming (acknowledge credit n number) c fine h =
-      λ r later sure. flight_same is_live coming (acknowledge credit n number) r later refl sure
-  unit_heard coming (error n cause) c fine h = λ r later sure. flight_same is_live coming (error n cause) r later refl sure
+      λ r later sure. left_same is_live coming (acknowledge credit n number) r later refl sure
+  unit_heard coming (error n cause) c fine h = λ r later sure. left_same is_live coming (error n cause) r later refl sure
 
   heard_from : (coming : List Value) (v : Value) (s : State) (t : Sessions) →
-      IsHeard Right (known_of is_live coming) (known_of is_live (coming ++ v ∷ [])) v put s t →
+      IsHeard Right (known_left is_live coming) (known_left is_live (coming ++ v ∷ [])) v put s t →
       IsHeard Right (known_from is_live coming) (known_from is_live (coming ++ v ∷ [])) v put s t
   heard_from coming (data2 n number end user) s t h = (
     λ later sure. (sure.0, h.0 later sure.1),
@@ -125,11 +138,50 @@ module _ (deeds : ℕ → Deeds) (is_live : ℕ → Bool) (put : List Value) (be
         stand = other_stands Right deeds (known_from is_live coming) (known_from is_live (coming ++ v ∷ [])) at v put begun c fine.firm
             fine.goes fine.two fine.none (heard_from coming v c.traffic c.sessions (unit_heard coming v c fine h)) a;
         distinct = subst (AreDistinct Right) (sym (unit_joins Left at v c))
-            (unit_distinct Right Left at v c.traffic c.sessions a.places h.distinct (gives_none v c coming fine h)
-            (λ i j here. let (k, there) = there_too c.traffic.connections c.sessions.live i j a.places here in
-            room_of deeds (known_from is_live coming) put begun k j (a.live i k j there here)));
+            (unit_distinct Right Left at v c.traffic c.sessions a.places h.distinct (gives_none v c coming fine h) (rooms coming c h));
         up = unit_up Right Left b at v c a.places (left_up_to b at c a.judged a.places h.up v fine) h.up;
+        shut = subst (λ (s : State). AreShut Right is_live (coming ++ v ∷ []) s (unit_passes Left at v c).sessions)
+            (sym (unit_knows Left at v c))
+            (subst (λ (t : Sessions). AreShut Right is_live (coming ++ v ∷ []) (takes way.Left v c.traffic).state t)
+            (sym (unit_joins Left at v c))
+            (other_shut Right at is_live coming c.traffic c.sessions a.places (rooms coming c h) a.judged fine.firm h.shut v));
       }
+
+  -- a DT or an AK after a DR
+  one_after : (coming : List Value) (v : Value) (c : Course) → IsAfterDr Left v c → IsClear c.traffic.course → AreHeard coming c →
+      AreHeard (coming ++ v ∷ []) (unit_passes Left at v c)
+  one_after coming v c after clear h = record {
+    stand = after_stand Right is_live coming at v c after clear.sure.firm h.shut deeds put begun h.stand;
+    distinct = subst (AreDistinct Right) (sym (same_sessions Left at v c after)) h.distinct;
+    up = subst (AreUpTo Right b) (sym (same_sessions Left at v c after)) h.up;
+    shut = after_shut Right is_live coming at v c after clear.sure.firm h.shut;
+  }
+
+  link_below : (v : Value) (n : ℕ) → IsLink v n → n ≤ b → IsBelow b v
+  link_below v n (dt number end user is) low = subst (IsBelow b) (sym is) low
+  link_below v n (ak credit number is) low = subst (IsBelow b) (sym is) low
+
+  link_up_to : (v : Value) (n : ℕ) → IsLink v n → IsUpTo Right b v
+  link_up_to v n (dt number end user is) = subst (IsUpTo Right b) (sym is) tt
+  link_up_to v n (ak credit number is) = subst (IsUpTo Right b) (sym is) tt
+
+  after_below : (coming : List Value) (v : Value) (c : Course) → IsAfterDr Left v c → IsClear c.traffic.course → AreHeard coming c →
+      IsBelow b v
+  after_below coming v c after clear h =
+      let p = is_there Left at v c after h.stand.judged clear.sure.firm h.stand.places in
+      link_below v after.n after.link (h.up.live p.place p.joined after.n p.here p.named).1
+
+  -- either
+  either_heard : (coming : List Value) (v : Value) (c : Course) → IsTakeable Left v c ⊎ IsAfterDr Left v c → IsClear c.traffic.course →
+      AreHeard coming c → AreHeard (coming ++ v ∷ []) (unit_passes Left at v c) × IsBelow b v × IsUpTo Right b v
+  either_heard coming v c (inl fine) clear h =
+      let a = h.stand in (
+        one_heard coming v c fine h,
+        left_below b at c a.judged a.places h.up v fine,
+        left_up_to b at c a.judged a.places h.up v fine,
+      )
+  either_heard coming v c (inr after) clear h =
+      (one_after coming v c after clear h, after_below coming v c after clear h, link_up_to v after.n after.link)
 
   pub record PacketHeard (coming vs : List Value) (c : Course) : Type 0 where
     pub all : AreHeard (coming ++ vs) (units_pass Left at vs c)
@@ -141,12 +193,12 @@ module _ (deeds : ℕ → Deeds) (is_live : ℕ → Bool) (put : List Value) (be
   units_heard [] coming c fine h =
       record { all = subst (λ (l : List Value). AreHeard l c) (sym (append-nil coming)) h; below = tt; given = tt }
   units_heard (v ∷ vs) coming c (one, clear, more) h =
-      let next = units_heard vs (coming ++ v ∷ []) (unit_passes Left at v c) more (one_heard coming v c one h) in
-      let a = h.stand in
+      let (heard, below, given) = either_heard coming v c one clear h in
+      let next = units_heard vs (coming ++ v ∷ []) (unit_passes Left at v c) more heard in
       record {
         all = subst (λ (l : List Value). AreHeard l (units_pass Left at (v ∷ vs) c)) (append_assoc coming (v ∷ []) vs) next.all;
-        below = (left_below b at c a.judged a.places h.up v one, next.below);
-        given = (left_up_to b at c a.judged a.places h.up v one, next.given);
+        below = (below, next.below);
+        given = (given, next.given);
       }
 
   -- or nothing more is judged, and nobody is to blame

@@ -23,8 +23,7 @@ use Rattle.osi_fair.proofs.left_selects_no_class.{left_class}
 use Rattle.osi_honest.specs.Courses.{Deeds}
 use Rattle.osi_tap.specs.Connections.{Sessions, taken}
 use Rattle.osi_tap.specs.Courses.{Course, unit_passes, units_pass}
-use Rattle.osi_watched.proofs.the_first_break_is_not_of_an_end.{IsNoBreak}
-use Rattle.osi_watched.proofs.what_a_taker_passes_over.{mild_of}
+use Rattle.osi_watched.proofs.what_a_taker_passes_over.{IsMild}
 use Rattle.osi_watched.proofs.sessions.a_calling_end_hears_what_comes_until_class_2.{IsNotTwo}
 use Rattle.osi_watched.proofs.sessions.a_dt_of_class_0_has_one_place.{is_live_there}
 use Rattle.osi_watched.proofs.sessions.a_dt_of_class_0_leaves_all_standing as in_zero
@@ -37,7 +36,7 @@ use Rattle.osi_watched.proofs.sessions.each_step_leaves_class_0_one_connection.{
 use Rattle.osi_watched.proofs.sessions.no_connection_is_opened_before_a_class_is_selected.{UncalledUntil, uncalled_claim}
 use Rattle.osi_watched.proofs.sessions.nothing_is_done_before_a_cr_passes.{may_take}
 use Rattle.osi_watched.proofs.sessions.steps_of_class_0_leave_all_standing.{zero_grows}
-use Rattle.osi_watched.proofs.sessions.steps_of_either_class_leave_all_standing.{IsRight}
+use Rattle.osi_watched.proofs.sessions.steps_of_either_class_leave_all_standing.{IsTolerable}
 use Rattle.osi_watched.proofs.sessions.what_a_turn_puts_goes_to_its_peer.{all_of_both}
 use Rattle.osi_watched.proofs.sessions.what_is_in_flight_to_an_end.{flight_same, known_of}
 use Rattle.osi_watched.proofs.sessions.what_passes_leaves_all_standing as in_two
@@ -87,9 +86,9 @@ pub record StandsCalledEarly (deeds : ℕ → Deeds) (r : ℕ) (end : Carrier) (
   pub plain : AllByRecursion IsNoCc coming
   pub zero : c.traffic.course.class ≡ Some Zero → HasOne Right r IsNone c.traffic c.sessions
 
--- a unit of the other side that breaks no rule, while class 2 is not selected
+-- a unit of the other side that breaks no rule or is passed over, while class 2 is not selected
 pub record IsTaken (v : Value) (c : Course) : Type 0 where
-  pub right : IsRight Left v c
+  pub right : IsTolerable Left v c
   pub firm : c.traffic.course.right_stopped ≡ false
   pub not_two : IsNotTwo c
 
@@ -140,42 +139,43 @@ module _ (s : State) (goes : is_stopped way.Left s.course ≡ false) (seen : s.c
       ap (λ (b : Bool). if b then none_told way.Left NotJudged s else routed way.Left v s (route way.Left s.course v)) goes
       ∙ ap (λ (k : Option Class). routed way.Left v s (route_in k way.Left (is_stopped way.Right s.course) v)) seen
 
-  only_asking : (v : Value) → IsNoBreak (takes way.Left v s).told.finding → IsAsking v
-  only_asking v none = by v (subst (λ (o : Outcome). IsNoBreak o.told.finding) (takes_early v) none)
+  only_asking : (v : Value) → IsMild v (takes way.Left v s).told.finding → IsAsking v
+  only_asking v mild = by v (subst (λ (o : Outcome). IsMild v o.told.finding) (takes_early v) mild)
     where
-      by : (v : Value) → IsNoBreak (routed way.Left v s (route_in None way.Left (is_stopped way.Right s.course) v)).told.finding →
+      by : (v : Value) → IsMild v (routed way.Left v s (route_in None way.Left (is_stopped way.Right s.course) v)).told.finding →
           IsAsking v
-      by (request x) none = tt
-      by (disconnected n source) none = tt
-      by (confirm n x) none = absurd none
-      by (disconnect n source reason user) none = absurd none
-      by (data0 end user) none = absurd none
-      by (data2 n number end user) none = absurd none
-      by (acknowledge credit n number) none = absurd none
-      by (error n cause) none = absurd none
+      by (request x) mild = tt
+      by (disconnected n source) mild = tt
+      by (confirm n x) mild = absurd mild
+      by (disconnect n source reason user) mild = absurd mild
+      by (data0 end user) mild = absurd mild
+      by (data2 n number end user) mild = absurd mild
+      by (acknowledge credit n number) mild = absurd mild
+      by (error n cause) mild = absurd mild
 
   -- a CR is a break while a connection is not over
-  first_passes : (a : Bool) (ts : List Test) → IsNoBreak (first_failed ((a, Broke rule.Negotiating) ∷ ts)) → a ≡ true
-  first_passes true ts none = refl
-  first_passes false ts none = absurd none
+  first_passes : (v : Value) (a : Bool) (ts : List Test) → IsMild v (first_failed ((a, Broke rule.Negotiating) ∷ ts)) → a ≡ true
+  first_passes v true ts mild = refl
+  first_passes v false ts mild = absurd mild
 
-  asked_found : (f : Finding) (x : Connect) → IsNoBreak (asks_by way.Left f x s).told.finding → IsNoBreak f
-  asked_found Kept x none = tt
-  asked_found NotJudged x none = tt
-  asked_found TooMany x none = tt
-  asked_found (Broke r) x none = none
-  asked_found Outside x none = none
+  asked_found : (f : Finding) (x : Connect) → IsMild (request x) (asks_by way.Left f x s).told.finding → IsMild (request x) f
+  asked_found Kept x mild = tt
+  asked_found NotJudged x mild = tt
+  asked_found TooMany x mild = tt
+  asked_found (Broke r) x mild = mild
+  asked_found Outside x mild = mild
 
   none_known : (k : Option Class) (all : Bool) → k ≡ None → (is_some k || all) ≡ true → all ≡ true
   none_known None all e h = h
   none_known (Some class) all e h = absurd (cc)
 
-  all_over : (x : Connect) → IsNoBreak (takes way.Left (request x) s).told.finding → list_all (is_over way.Left) s.connections ≡ true
-  all_over x none =
+  all_over : (x : Connect) → IsMild (request x) (takes way.Left (request x) s).told.finding →
+      list_all (is_over way.Left) s.connections ≡ true
+  all_over x mild =
       none_known s.course.class_seen (list_all (is_over way.Left) s.connections) seen
-      (first_passes (is_some s.course.class_seen || list_all (is_over way.Left) s.connections) (drop 1 (request_tests s x))
+      (first_passes (request x) (is_some s.course.class_seen || list_all (is_over way.Left) s.connections) (drop 1 (request_tests s x))
       (asked_found (first_failed (request_tests s x)) x
-      (subst (λ (o : Outcome). IsNoBreak o.told.finding) (takes_early (request x)) none)))
+      (subst (λ (o : Outcome). IsMild (request x) o.told.finding) (takes_early (request x)) mild)))
 
 -- ---- a unit passes
 
@@ -209,7 +209,7 @@ module _ (deeds : ℕ → Deeds) (r : ℕ) (end : Carrier) (put : List Value) (b
 
     module _ (seen : c.traffic.course.class_seen ≡ None) where
       asks : IsAsking v
-      asks = only_asking c.traffic k.right.goes seen v k.right.none
+      asks = only_asking c.traffic k.right.goes seen v k.right.mild
 
       asked_heard : (u : Value) → IsAsking u → IsHeard Right (known coming) (known (coming ++ u ∷ [])) u put c.traffic c.sessions
       asked_heard (request x) a = same_known coming (request x) refl
@@ -228,7 +228,7 @@ module _ (deeds : ℕ → Deeds) (r : ℕ) (end : Carrier) (put : List Value) (b
           let z = is_zero Right c.traffic h.sure k.right.firm k.firm class in
           let over = all_so (is_over way.Left) c.traffic.connections z.only.place z.only.connection
           (all_over c.traffic k.right.goes seen x
-          (subst (λ (w : Value). IsNoBreak (takes way.Left w c.traffic).told.finding) (sym e) k.right.none)) z.only.there in
+          (subst (λ (w : Value). IsMild w (takes way.Left w c.traffic).told.finding) (sym e) k.right.mild)) z.only.there in
           differ (is_over way.Left z.only.connection) over
           (not_true (is_over way.Left z.only.connection)
           (is_live_there c.traffic h.all.judged k.right.firm h.all.apart z.only way.Left))
@@ -243,8 +243,7 @@ module _ (deeds : ℕ → Deeds) (r : ℕ) (end : Carrier) (put : List Value) (b
       unseen_early = record {
         sure = sure_claim.passes Left at v c h.sure;
         all = in_two.other_stands Right deeds (known coming) (known (coming ++ v ∷ [])) at v put begun c k.right.firm k.right.goes
-            (λ e. none_some c.traffic.course.class_seen Zero seen e)
-            (mild_of v (takes way.Left v c.traffic).told.finding k.right.none) (asked_heard v asks) h.all;
+            (λ e. none_some c.traffic.course.class_seen Zero seen e) k.right.mild (asked_heard v asks) h.all;
         uncalled = uncalled_claim.passes Left at v c h.uncalled;
         asking = λ none. all_of_both IsAsking coming (v ∷ []) (h.asking (sym (class_was v c) ∙ none)) (asks, tt);
         plain = all_of_both IsNoCc coming (v ∷ []) h.plain (asking_plain v asks, tt);
@@ -256,7 +255,7 @@ module _ (deeds : ℕ → Deeds) (r : ℕ) (end : Carrier) (put : List Value) (b
 
     module _ (seen : c.traffic.course.class_seen ≡ Some Zero) where
       class : c.traffic.course.class ≡ Some Zero
-      class = h.sure.agrees seen
+      class = h.sure.agrees Zero seen
 
       one : HasOne Right r IsNone c.traffic c.sessions
       one = h.zero class
@@ -265,7 +264,7 @@ module _ (deeds : ℕ → Deeds) (r : ℕ) (end : Carrier) (put : List Value) (b
       is_z = is_zero Left c.traffic h.sure k.right.firm k.right.goes seen
 
       still : IsStill Left v c.traffic
-      still = zero_still Left c.traffic k.right.goes seen v k.right.none
+      still = zero_still Left c.traffic k.right.goes seen v k.right.mild
 
       -- the place of the one connection
       place_is : (p i : ℕ) (last : Bool) (user : List ℕ) → (takes way.Left (data0 last user) c.traffic).told.place ≡ Some p →
@@ -302,7 +301,7 @@ module _ (deeds : ℕ → Deeds) (r : ℕ) (end : Carrier) (put : List Value) (b
       seen_early : Early (coming ++ v ∷ []) (after v c)
       seen_early = record {
         sure = sure_claim.passes Left at v c h.sure;
-        all = in_zero.other_stands Right deeds (known coming) (known (coming ++ v ∷ [])) at v put begun c is_z k.right.none
+        all = in_zero.other_stands Right deeds (known coming) (known (coming ++ v ∷ [])) at v put begun c is_z k.right.mild
             (heard_zero v still) h.all;
         uncalled = uncalled_claim.passes Left at v c h.uncalled;
         asking = λ none. none_some c.traffic.course.class Zero (sym (class_was v c) ∙ none) class;

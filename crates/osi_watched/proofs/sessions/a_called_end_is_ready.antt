@@ -60,6 +60,7 @@ use Rattle.osi_watched.proofs.sessions.units_written_alike_have_the_same_ccs.{or
 use Rattle.osi_watched.proofs.sessions.what_a_turn_puts_goes_to_its_peer.{all_back, all_of_both}
 use Rattle.osi_watched.proofs.sessions.what_an_end_takes_at_a_connection.{apart_none, during_taken}
 use Rattle.osi_watched.proofs.sessions.what_is_in_flight_to_an_end.{parts_taken}
+use Rattle.osi_watched.proofs.sessions.what_is_left_for_an_end.{left_empty}
 use Rattle.osi_watched.proofs.sessions.what_passes_leaves_all_standing.{IsReady}
 use Rattle.osi_watched.proofs.sessions.what_stands_of_a_connection.{is_for, waiting_for}
 use Rattle.osi_watched.proofs.sessions.what_waits_after_the_ccs_of_a_called_end.{named, none_put, puts_for}
@@ -163,7 +164,7 @@ module _ (local : Local) where
         parts_taken (deeds x.source).calls ∙ ap parts_of none,
         (
           omega (arith, less),
-          λ live. sym (ap parts_of (none_waits h.ahead.bound x.source (units_in old.coming) less h.below)),
+          λ live. left_empty x.source (units_in old.coming) (none_waits h.ahead.bound x.source (units_in old.coming) less h.below),
         ),
       )
   is_ready deeds at (request x) old new step clear judged places h = tt

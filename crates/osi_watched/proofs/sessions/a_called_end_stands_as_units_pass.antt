@@ -14,8 +14,8 @@ use Rattle.osi_watched.proofs.sessions.a_called_end_hears_what_breaks_no_rule.{A
 use Rattle.osi_watched.proofs.sessions.a_called_end_is_ready.{IsCalled, begins_other_called, begins_own_called, first, is_ready}
 use Rattle.osi_watched.proofs.sessions.a_called_end_is_ready.{passes_other_called, passes_own_called, turn_homed, turns_called}
 use Rattle.osi_watched.proofs.sessions.a_called_end_of_class_2_has_its_lines.{has_lines}
-use Rattle.osi_watched.proofs.sessions.a_called_end_takes_what_is_in_flight.{called_takes}
-use Rattle.osi_watched.proofs.sessions.a_calling_end_stands_as_units_pass.{known_at}
+use Rattle.osi_watched.proofs.sessions.a_called_end_takes_what_is_in_flight.{called_dr, called_takes}
+use Rattle.osi_watched.proofs.sessions.a_calling_end_stands_as_units_pass.{AreShutAtJoint, known_at, own_passes_shut}
 use Rattle.osi_watched.proofs.sessions.a_turn_does_what_its_deeds_say.{units_join}
 use Rattle.osi_watched.proofs.sessions.a_turn_leaves_all_standing.{Turns}
 use Rattle.osi_watched.proofs.sessions.all_connections_stand.{AllStand, there_too}
@@ -26,6 +26,7 @@ use Rattle.osi_watched.proofs.sessions.nothing_is_done_before_a_cr_passes.{known
 use Rattle.osi_watched.proofs.sessions.references_of_an_end_are_distinct.{AreDistinct, begins_distinct, unit_distinct}
 use Rattle.osi_watched.proofs.sessions.steps_leave_all_standing.{IsFine, Standing, step_begins_other, step_begins_own, step_passes_own}
 use Rattle.osi_watched.proofs.sessions.steps_leave_all_standing.{step_turns}
+use Rattle.osi_watched.proofs.sessions.the_dr_of_the_other_side_is_in_flight.{AreShut, HaveRoom, begins_shut, turn_shut}
 use Rattle.osi_watched.proofs.sessions.units_written_alike_have_the_same_ccs.{AnswersTwo}
 use Rattle.osi_watched.proofs.sessions.what_stands_of_a_connection.{waiting_for}
 
@@ -35,6 +36,7 @@ module _ (local : Local) (proper : AllProper) where
     pub called : IsCalled local deeds j
     pub standing : Standing Right deeds (known_at j) j
     pub distinct : AreDistinct Right j.course.sessions
+    pub shut : AreShutAtJoint Right j
     pub can : AllByRecursion CanBeWritten j.put
 
   pub begins_own_stands : (deeds : ℕ → Deeds) (old new : Joint) → Steps Right begins_own old new →
@@ -47,6 +49,8 @@ module _ (local : Local) (proper : AllProper) where
         called = begins_own_called local proper deeds old mid (some, none, refl) h.called;
         standing = step_begins_own Right deeds (known_at old) old mid (some, none, refl) courses few h.standing;
         distinct = begins_distinct Right Right old.course.sessions h.distinct;
+        shut = begins_shut Right Right (may_take old.holding.end.carrier) (units_in old.coming) old.course.traffic old.course.sessions
+            h.shut;
         can = h.can;
       })
 
@@ -58,8 +62,16 @@ module _ (local : Local) (proper : AllProper) where
         called = begins_other_called local proper deeds old mid refl h.called;
         standing = step_begins_other Right deeds (known_at old) old mid refl h.standing;
         distinct = begins_distinct Right Left old.course.sessions h.distinct;
+        shut = begins_shut Right Left (may_take old.holding.end.carrier) (units_in old.coming) old.course.traffic old.course.sessions
+            h.shut;
         can = h.can;
       })
+
+  rooms : (deeds : ℕ → Deeds) (j : Joint) → StandsCalled deeds j → HaveRoom j.course.sessions
+  rooms deeds j h i k here =
+      let a = h.standing.all in
+      let (c, there) = there_too j.course.traffic.connections j.course.sessions.live i k a.places here in
+      room_of deeds (known_at j) j.put j.begun c k (a.live i c k there here)
 
   pub passes_own_stands : (deeds : ℕ → Deeds) (at : ℕ) (unit : Value) (old new : Joint) → Steps Right (passes_own at unit) old new →
       IsFine Right unit old.course → IsClear old.course.traffic.course → StandsCalled deeds old → StandsCalled deeds new
@@ -73,15 +85,14 @@ module _ (local : Local) (proper : AllProper) where
             (is_ready local deeds at unit old mid step clear a.judged a.places h.called) h.standing;
         distinct = subst (AreDistinct Right) (sym (unit_joins Right at unit old.course))
             (unit_distinct Right Right at unit old.course.traffic old.course.sessions a.places h.distinct
-            (gives_new (first local) at unit old mid step h.called.ahead)
-            (λ i j here. let (k, there) = there_too old.course.traffic.connections old.course.sessions.live i j a.places here in
-            room_of deeds (known_at old) old.put old.begun k j (a.live i k j there here)));
+            (gives_new (first local) at unit old mid step h.called.ahead) (rooms deeds old h));
+        shut = own_passes_shut Right at unit old a.places (rooms deeds old h) h.shut;
         can = (subst (AllByRecursion CanBeWritten) put h.can).1;
       })
 
   heard_now : (deeds : ℕ → Deeds) (at : ℕ) (j : Joint) (h : StandsCalled deeds j) →
       AreHeard deeds (may_take j.holding.end.carrier) j.put j.begun h.called.ahead.bound at (units_in j.coming) j.course
-  heard_now deeds at j h = record { stand = h.standing.all; distinct = h.distinct; up = h.called.ahead.below }
+  heard_now deeds at j h = record { stand = h.standing.all; distinct = h.distinct; up = h.called.ahead.below; shut = h.shut }
 
   pub passes_other_stands : (deeds : ℕ → Deeds) (at : ℕ) (packet : List ℕ) (units : List Value) (old new : Joint) →
       Steps Right (passes_other at packet units) old new → AreFine at units old.course → StandsCalled deeds old → StandsCalled deeds new
@@ -100,6 +111,8 @@ module _ (local : Local) (proper : AllProper) where
               (units_pass Left at units old.course).traffic (units_pass Left at units old.course).sessions) all k.all.stand;
         };
         distinct = k.all.distinct;
+        shut = subst (λ (l : List Value). AreShut Right (may_take old.holding.end.carrier) l (units_pass Left at units old.course).traffic
+            (units_pass Left at units old.course).sessions) all k.all.shut;
         can = h.can;
       })
 
@@ -133,5 +146,12 @@ module _ (local : Local) (proper : AllProper) where
             (λ begun. none_written old.put f.whole.put (sym f.put)
             (λ none. lines.called.some (f.begun ∙ begun) (sym lines.called.put ∙ none))) turns h.standing;
         distinct = subst (λ (c : Passed). AreDistinct Right c.sessions) (sym t.course) h.distinct;
+        shut = subst (λ (c : Passed). AreShut Right (may_take new.holding.end.carrier) (units_in new.coming) c.traffic c.sessions)
+            (sym t.course)
+            (turn_shut Right (may_take old.holding.end.carrier) (may_take new.holding.end.carrier) (units_in old.coming)
+            (units_in new.coming) old.course.traffic old.course.sessions
+            (λ i c j r there here closing named live.
+            let up = h.called.ahead.below.live i j r here named in
+            called_dr local turn old new t deeds on h.called h.can clear r up.0 (life r up.0) up.1 live) h.shut);
         can = then_can;
       }

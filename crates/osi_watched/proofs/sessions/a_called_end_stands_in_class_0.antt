@@ -1,5 +1,5 @@
--- Once the CC has passed that selects class 0, all connections of a called end stand at a tap: after what passes and breaks no rule, and
--- after turns. For the session of the connection of a called end in class 0.
+-- Once the CC has passed that selects class 0, all connections of a called end stand at a tap: after what passes and is no break or is
+-- passed over, and after turns. For the session of the connection of a called end in class 0.
 use Rattle.osi_watched.proofs.Vocabulary.{[], ap, Bool, false, inl, inr, length, List, None, Option, refl, Some, subst, sym, true, ℕ, ◌++◌}
 use Rattle.osi_watched.proofs.Vocabulary.{◌<◌, ◌^◌, ◌∙◌, ◌∷◌, ◌≡◌, ◌≢◌, ◌⊎◌, append-nil, AllByRecursion, slice_get, units_of, confirm}
 use Rattle.osi_watched.proofs.Vocabulary.{Connect, data0, request, Value, written, Class, Two, Zero, Local, Traffic as State, takes, Left}

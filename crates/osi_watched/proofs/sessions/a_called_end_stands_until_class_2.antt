@@ -1,6 +1,6 @@
 -- Until class 2 is selected all connections of a called end stand at a tap: while it has selected no class, while its CC of class 0 waits,
 -- and after that CC. So nobody of the end is to blame.
--- For the law that no session of an end is blamed first.
+-- For the laws that no session of an end is blamed first, nor after a break of the other side.
 use Rattle.std.proofs.Common.{◌≡◌, ◌∙◌, ◌⊎◌, inl, inr, refl, sym, ap, subst, ℕ, ◌^◌, ◌<◌, Bool, true, false, if◌then◌else◌, List, [], ◌∷◌}
 use Rattle.std.proofs.Common.{◌++◌, length, Some, None}
 use Rattle.std.specs.Prelude.{◌==◌, slice_get}
@@ -62,7 +62,7 @@ use Rattle.osi_watched.proofs.sessions.each_cc_that_passes_gives_a_new_reference
 use Rattle.osi_watched.proofs.sessions.each_step_leaves_class_0_one_connection.{Sure, fresh_sure, sure_claim}
 use Rattle.osi_watched.proofs.sessions.no_connection_is_opened_before_a_class_is_selected.{UncalledUntil, uncalled_claim}
 use Rattle.osi_watched.proofs.sessions.no_session_of_a_called_end_breaks_first.{called_first}
-use Rattle.osi_watched.proofs.sessions.no_session_of_an_end_breaks_first.{ArePassed, HaveCourses}
+use Rattle.osi_watched.proofs.sessions.no_session_of_an_end_breaks_first.{ArePassed, HaveCourses, early}
 use Rattle.osi_watched.proofs.sessions.only_a_cc_selects_a_class.{selects_none}
 use Rattle.osi_watched.proofs.sessions.steps_leave_all_standing.{IsFine}
 use Rattle.osi_watched.proofs.sessions.steps_of_either_class_leave_all_standing.{IsRight, stand_none}
@@ -109,17 +109,17 @@ two_class x is = ap (λ (k : ℕ). if◌then◌else◌ {A = Class} (k == 2) Two 
 pub taken_of : (at : ℕ) (vs : List Value) (c : Passed) → ArePassed Two Right at vs c → AreTaken at vs c
 taken_of at [] c h = tt
 taken_of at (v ∷ vs) c h =
-    (record { right = h.0.right; firm = h.0.firm.right; not_two = h.0.not }, taken_of at vs (unit_passes Left at v c) h.1)
+    (record { right = early Right v c h.0; firm = h.0.firm.right; not_two = h.0.not }, taken_of at vs (unit_passes Left at v c) h.1)
 
 fine_of : (at : ℕ) (vs : List Value) (c : Passed) → c.traffic.course.class ≡ None → ArePassed Two Right at vs c → AreFine at vs c
 fine_of at [] c none h = tt
 fine_of at (v ∷ vs) c none h = (
-  record {
-    firm = h.0.right.firm;
-    goes = h.0.right.goes;
-    two = λ seen. none_some c.traffic.course.class Zero none (h.0.sure.agrees seen);
-    none = mild_of v (takes way.Left v c.traffic).told.finding h.0.right.none;
-  },
+  inl (record {
+    firm = (early Right v c h.0).firm;
+    goes = (early Right v c h.0).goes;
+    two = λ seen. none_some c.traffic.course.class Zero none (h.0.sure.agrees Zero seen);
+    none = (early Right v c h.0).mild;
+  }),
   record { sure = h.0.firm; two = λ zero_is. none_some c.traffic.course.class Zero none zero_is },
   fine_of at vs (unit_passes Left at v c)
       (ap (λ (s : State). s.course.class) (unit_knows Left at v c) ∙ left_class v c.traffic ∙ none) h.1,
@@ -193,7 +193,8 @@ module _ (local : Local) (proper : AllProper) where
       old.course.traffic.course.class ≡ None → (unit_passes Right at (confirm m x) old.course).traffic.course.class ≡ Some Two
   no_cc_passes at m x old two right sure none =
       ap (λ (s : State). s.course.class) (unit_knows Right at (confirm m x) old.course)
-      ∙ (has_effect m x old.course.traffic right.goes none right.firm sure.judged right.none).class
+      ∙ (has_effect m x old.course.traffic right.goes none right.firm sure.judged
+      (mild_of (confirm m x) (takes way.Right (confirm m x) old.course.traffic).told.finding right.none)).class
       ∙ ap (λ (k : Class). Some k) (two_class x two)
 
   not_cc : (at : ℕ) (v : Value) (old : Joint) (rest : List Value) → old.put ≡ v ∷ rest → AllByRecursion AnswersTwo old.put →

@@ -1,23 +1,22 @@
--- What a called end of class 2 takes in a turn at a connection is the first of what is in flight to it: nothing is for a connection that
--- the end has not answered.
+-- What a called end of class 2 takes in a turn at a connection is the first of what is left over for it: nothing is for a connection that
+-- the end has not answered. And a DR in flight to a connection that the tap knows stays there as long as the end has it open.
 -- For all connections of an end and a tap.
-use Rattle.osi_watched.proofs.Vocabulary.{ap, arith, Bool, false, is_some, List, None, Option, refl, Some, sym, true, ℕ, ◌++◌, ◌<◌, ◌∙◌}
+use Rattle.osi_watched.proofs.Vocabulary.{ap, arith, Bool, false, is_some, List, None, Option, refl, Some, sym, true, ℕ, ◌<◌, ◌∙◌}
 use Rattle.osi_watched.proofs.Vocabulary.{◌≡◌, leb-false, leb-true, AllByRecursion, nat_le, Part, Local, value_at, Live, linked, Carrier}
-use Rattle.osi_watched.proofs.Vocabulary.{has_given, early, Life, stage_at, stage_is, CanBeWritten, Continues, Deeds, units_in, Turn}
+use Rattle.osi_watched.proofs.Vocabulary.{has_given, amid, early, Life, past, stage_at, stage_is, Time, CanBeWritten, Continues, Deeds}
+use Rattle.osi_watched.proofs.Vocabulary.{units_in, Turn, ◌≤◌}
 use Rattle.osi_watched.proofs.Vocabulary.{above_up, IsClear, Joint, TakesTurn}
 use Rattle.osi_carrier.specs.State.{asked}
 use Rattle.osi_watched.proofs.small_facts_that_many_lemmas_use.{amid_not, given_so, past_not}
 use Rattle.osi_fair.proofs.small_facts_that_many_lemmas_use.{differ, none_of}
 use Rattle.osi_watched.proofs.sessions.a_called_end_is_ready.{IsCalled}
 use Rattle.osi_watched.proofs.sessions.a_called_end_of_class_2_has_its_lines.{has_lines}
-use Rattle.osi_watched.proofs.sessions.a_calling_end_takes_nothing_before_its_cc.{quiet_turn}
 use Rattle.osi_watched.proofs.sessions.a_calling_end_takes_what_is_in_flight.{early_lasts}
-use Rattle.osi_watched.proofs.sessions.a_turn_does_what_its_deeds_say.{turn_uses}
+use Rattle.osi_watched.proofs.sessions.an_end_takes_what_is_left_for_it.{dr_stays, left_takes, none_takes, was_live}
 use Rattle.osi_watched.proofs.sessions.nothing_comes_before_a_cc_passes.{none_waits}
 use Rattle.osi_watched.proofs.sessions.nothing_is_done_before_a_cr_passes.{may_take}
-use Rattle.osi_watched.proofs.sessions.what_an_end_takes_at_each_stage.{AreCalm, turn_takes}
-use Rattle.osi_watched.proofs.sessions.what_is_in_flight_to_an_end.{known_of}
-use Rattle.osi_watched.proofs.sessions.what_stands_of_a_connection.{Takes, waiting_for}
+use Rattle.osi_watched.proofs.sessions.what_is_left_for_an_end.{has_dr, known_left}
+use Rattle.osi_watched.proofs.sessions.what_stands_of_a_connection.{Takes}
 
 -- a connection that may open at a called end has no reference yet
 early_not_given : (r : ℕ) (c : Carrier) → c.ended ≡ None → ((m : ℕ) → value_at m c.live ≡ Some asked → ⊥) → stage_at r c ≡ early →
@@ -52,18 +51,30 @@ module _ (local : Local) where
       let most = above_up f.whole.end.given h.ahead.bound f.whole.put h.ahead.above in
       omega (arith, over, most)
 
-  pub called_takes : (turn : Turn) (old new : Joint) (t : TakesTurn turn old new) (deeds : ℕ → Deeds)
-      (on : Continues false deeds old.holding turn new.holding) → IsCalled local deeds old → AllByRecursion CanBeWritten old.put →
-      IsClear old.course.traffic.course → (r : ℕ) → 0 < r →
-      Life false r (stage_at r old.holding.end.carrier) on.took on.put (stage_at r new.holding.end.carrier) → (later : List Part) →
-      known_of (may_take old.holding.end.carrier) (units_in old.coming) r later →
-      Takes (on.more r) later (known_of (may_take new.holding.end.carrier) (units_in new.coming) r)
-  called_takes turn old new t deeds on h can clear r some life later sure =
-      turn_takes false turn old new t deeds on r some life calm later sure
-    where
-      calm : stage_at r old.holding.end.carrier ≡ early → AreCalm false r (stage_at r new.holding.end.carrier) on.took
-      calm may =
-          let s = turn_uses turn old new t false deeds on (early_lasts r old.holding.end.carrier may) in
-          quiet_turn false r (stage_at r new.holding.end.carrier) on.took (s.left ++ units_in new.coming)
-          (ap (waiting_for (Some r)) (sym s.coming)
-          ∙ none_waits h.ahead.bound r (units_in old.coming) (early_above deeds old h can clear r some may) h.below)
+  module _ (turn : Turn) (old new : Joint) (t : TakesTurn turn old new) (deeds : ℕ → Deeds)
+      (on : Continues false deeds old.holding turn new.holding) (h : IsCalled local deeds old) (can : AllByRecursion CanBeWritten old.put)
+      (clear : IsClear old.course.traffic.course) (r : ℕ) (some : 0 < r)
+      (life : Life false r (stage_at r old.holding.end.carrier) on.took on.put (stage_at r new.holding.end.carrier)) where
+    abbrev stage : Time
+    stage = stage_at r old.holding.end.carrier
+
+    pub called_takes : (later : List Part) → known_left (may_take old.holding.end.carrier) (units_in old.coming) r later →
+        Takes (on.more r) later (known_left (may_take new.holding.end.carrier) (units_in new.coming) r)
+    called_takes later sure = by stage refl
+      where
+        by : (s : Time) → stage ≡ s → Takes (on.more r) later (known_left (may_take new.holding.end.carrier) (units_in new.coming) r)
+        by early may =
+            none_takes false turn old new t deeds on r some life
+            (none_waits h.ahead.bound r (units_in old.coming) (early_above deeds old h can clear r some may) h.below)
+            (λ still. early_lasts r old.holding.end.carrier still) later sure
+        by (amid peer) is = left_takes false turn old new t deeds on r some life (λ may. amid_not stage peer may is) later sure
+        by past is = left_takes false turn old new t deeds on r some life (λ may. past_not stage may is) later sure
+
+    -- a DR in flight to a connection that the tap knows stays there as long as the connection is open
+    pub called_dr : r ≤ h.ahead.bound → may_take new.holding.end.carrier r ≡ true →
+        (may_take old.holding.end.carrier r ≡ true) × (has_dr r (units_in old.coming) ≡ true → has_dr r (units_in new.coming) ≡ true)
+    called_dr low live = (
+      was_live false turn old new t deeds on r some life live,
+      dr_stays false turn old new t deeds on r some life
+          (λ may. let over = early_above deeds old h can clear r some may in absurd (omega (arith, low, over))) live,
+    )

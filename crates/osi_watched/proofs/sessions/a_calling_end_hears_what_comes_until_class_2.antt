@@ -1,8 +1,8 @@
 -- Until class 2 is selected all connections of a calling end stand at a tap as units of the other side pass: answers to its CRs, and in
 -- class 0 DTs for its one connection. For the session of the connection of an end in class 0.
 use Rattle.std.proofs.Common.{◌≡◌, ◌∙◌, refl, sym, ap, subst, ℕ, ◌<◌, ◌≤◌, Bool, true, false, if◌then◌else◌, List, [], ◌∷◌, ◌++◌}
-use Rattle.std.proofs.Common.{map, Option, Some, None, is_some, arith, append_assoc, inl}
-use Rattle.std.specs.Prelude.{◌&&◌, nat_le, position, slice_get}
+use Rattle.std.proofs.Common.{map, Option, Some, None, is_some, arith, append_assoc}
+use Rattle.std.specs.Prelude.{◌&&◌, ◌||◌, nat_le, position, slice_get}
 use Rattle.std.specs.List.{AllByRecursion}
 use Rattle.std.proofs.lemmas.Bool.{le-leb, lt-ltb}
 use Rattle.std.proofs.lemmas.List.{append-nil}
@@ -22,19 +22,19 @@ use Rattle.osi_rules.specs.declared.connections.Connection.{Connection}
 use Rattle.osi_rules.specs.declared.courses.Course.{Course as Rules}
 use Rattle.osi_rules.specs.declared.directions.Direction.TheVariants as way
 use Rattle.osi_rules.specs.declared.findings.Finding.{Finding}
-use Rattle.osi_rules.specs.declared.findings.Finding.TheVariants.{Broke, Kept, NotJudged, Outside, TooMany}
+use Rattle.osi_rules.specs.declared.findings.Finding.TheVariants.{NotJudged, TooMany}
+use Rattle.osi_rules.specs.declared.findings.Reach.{Reach}
 use Rattle.osi_rules.specs.Reaches.{is_applied, reach_of}
 use Rattle.osi_rules.specs.Sides.{is_named, is_refused}
 use Rattle.osi_rules.specs.Traffic.{Outcome, State, at_found, at_place, class_for, class_of, course_after, course_after_none, found_on}
-use Rattle.osi_rules.specs.Traffic.{is_stopped, none_told, route, route_in, routed, takes, unnamed}
+use Rattle.osi_rules.specs.Traffic.{is_stopped, none_told, route, route_in, routed, stops_by, takes, unnamed}
+use Rattle.osi_rules.proofs.a_stop_is_said.{stops_are_said}
 use Rattle.osi_stack.specs.Calls.{has_given}
 use Rattle.osi_fair.specs.Naming.{unit as passing}
 use Rattle.osi_fair.specs.Wholes.{Whole}
 use Rattle.osi_fair.specs.Wholes as wholes
-use Rattle.osi_fair.proofs.a_called_end_is_judged_as_the_other_side_is.{own_judged}
 use Rattle.osi_fair.proofs.class_0_stays_selected.{reached_class, zero_stays}
 use Rattle.osi_fair.proofs.no_request_is_blamed.{Holds, holds_next}
-use Rattle.osi_fair.proofs.the_end_is_judged_as_the_other_side_is.{other_judged}
 use Rattle.osi_fair.proofs.what_lasts_at_the_tap.{lasts_passing}
 use Rattle.osi_honest.specs.Courses.{Deeds}
 use Rattle.osi_honest.proofs.courses.how_long_a_connection_is_open.{amid, past, stage_at, stage_over}
@@ -42,8 +42,8 @@ use Rattle.osi_tap.specs.declared.rooms.Room.TheVariants.{All}
 use Rattle.osi_tap.specs.Connections.{Joined, Sessions, taken}
 use Rattle.osi_tap.specs.Courses.{Course, unit_passes, units_pass, way_of}
 use Rattle.osi_watched.proofs.a_carrier_does_events.{IsLike, none_of}
-use Rattle.osi_watched.proofs.the_first_break_is_not_of_an_end.{IsNoBreak}
-use Rattle.osi_watched.proofs.what_a_taker_passes_over.{mild_of}
+use Rattle.osi_watched.proofs.a_break_ends_no_judging_or_all.{reach_so}
+use Rattle.osi_watched.proofs.what_a_taker_passes_over.{IsMild, mild_reach}
 use Rattle.osi_watched.proofs.sessions.a_cc_of_class_0_opens_one_connection.{awaits_this, cc_opens, effect}
 use Rattle.osi_watched.proofs.sessions.a_dt_of_class_0_leaves_all_standing as in_zero
 use Rattle.osi_watched.proofs.sessions.a_dt_of_class_0_leaves_all_standing.{GrowsThere, IsHeardZero, IsZero, told_there}
@@ -57,7 +57,7 @@ use Rattle.osi_watched.proofs.sessions.each_step_leaves_class_0_one_connection.{
 use Rattle.osi_watched.proofs.sessions.nothing_is_done_before_a_cr_passes.{is_under_way, may_take}
 use Rattle.osi_watched.proofs.sessions.references_of_an_end_are_distinct.{AreDistinct, GivesNew, unit_distinct}
 use Rattle.osi_watched.proofs.sessions.steps_of_class_0_leave_all_standing.{zero_grows, zero_stays as flight_stays}
-use Rattle.osi_watched.proofs.sessions.steps_of_either_class_leave_all_standing.{IsRight}
+use Rattle.osi_watched.proofs.sessions.steps_of_either_class_leave_all_standing.{IsTolerable}
 use Rattle.osi_watched.proofs.sessions.units_of_class_0_come_after_its_cc.{InOrder, IsCcFor, IsLater, IsQuiet, order_more, quiet_cc}
 use Rattle.osi_watched.proofs.sessions.what_a_turn_puts_goes_to_its_peer.{all_of_both}
 use Rattle.osi_watched.proofs.sessions.what_is_in_flight_to_an_end.{flight_same, known_of}
@@ -141,12 +141,8 @@ given_so r c some up = ap (λ (b : Bool). b && nat_le r c.given) (lt-ltb 0 r som
 past_not : (q : ℕ) (end : Carrier) → stage_at q end ≡ past → may_take end q ≡ false
 past_not q end e = ap is_under_way e
 
-kept_of : (f : Finding) → IsNoBreak f → is_applied f ≡ true → f ≡ Kept
-kept_of Kept none h = refl
-kept_of NotJudged none h = absurd (cc)
-kept_of TooMany none h = absurd (cc)
-kept_of (Broke rule) none h = absurd none
-kept_of Outside none h = absurd none
+few_of : (f : Finding) → is_applied f ≡ true → f ≡ TooMany → ⊥
+few_of f h many = let no : false ≡ true = sym (ap is_applied many) ∙ h in cc
 
 refused_not : (c : Connection) → is_refused c.right.phase ≡ true → is_refused c.right.phase ≡ false → ⊥
 refused_not c h k = differ (is_refused c.right.phase) h k
@@ -154,11 +150,11 @@ refused_not c h k = differ (is_refused c.right.phase) h k
 same_place : (p q : ℕ) → Some p ≡ Some q → p ≡ q
 same_place p q e = cc
 
--- ---- units that break no rule
+-- ---- units that break no rule, or are passed over
 
 -- a unit of the other side, while both sides are judged and class 2 is not selected
 pub record IsTaken (v : Value) (c : Course) : Type 0 where
-  pub right : IsRight Right v c
+  pub right : IsTolerable Right v c
   pub left : c.traffic.course.left_stopped ≡ false
   pub not_two : IsNotTwo c
 
@@ -189,12 +185,11 @@ units_none_before at [] c none = none
 units_none_before at (v ∷ vs) c none = none_before Right at v c (units_none_before at vs (unit_passes Right at v c) none)
 
 -- the other side asks for nothing
-not_cr : (b : ℕ) (v : Value) (c : Course) → IsRight Right v c → IsUpTo Left b v
+not_cr : (b : ℕ) (v : Value) (c : Course) → IsTolerable Right v c → IsUpTo Left b v
 not_cr b (request x) c right =
     cr_broke (class_for way.Right c.traffic.course) (is_stopped way.Left c.traffic.course) x c.traffic
     (goes_on (request x) (is_stopped way.Right c.traffic.course) c.traffic
-    (routed way.Right (request x) c.traffic (route way.Right c.traffic.course (request x))) right.goes
-    (mild_of (request x) (takes way.Right (request x) c.traffic).told.finding right.none))
+    (routed way.Right (request x) c.traffic (route way.Right c.traffic.course (request x))) right.goes right.mild)
 not_cr b (confirm n x) c right = tt
 not_cr b (disconnect n source reason user) c right = tt
 not_cr b (disconnected n source) c right = tt
@@ -209,7 +204,7 @@ no_crs b at (v ∷ vs) c taken = (not_cr b v c taken.0.right, no_crs b at vs (un
 
 -- ---- no class is selected yet
 
--- a CR, a DT and an AK are breaks then
+-- a CR, a DT and an AK are breaks then that are not passed over
 abbrev IsEarlyBreak : Value → Type 0
 IsEarlyBreak (request x) = Unit {0}
 IsEarlyBreak (data0 end user) = Unit {0}
@@ -226,19 +221,19 @@ module _ (s : State) (goes : is_stopped way.Right s.course ≡ false) (class : s
       ap (λ (b : Bool). if b then none_told way.Right NotJudged s else routed way.Right v s (route way.Right s.course v)) goes
       ∙ ap (λ (k : Option Class). routed way.Right v s (route_in k way.Right (is_stopped way.Left s.course) v)) class
 
-  early_break : {A : Type 0} (v : Value) → IsEarlyBreak v → IsNoBreak (takes way.Right v s).told.finding → A
-  early_break v h none = by v h (subst (λ (o : Outcome). IsNoBreak o.told.finding) (takes_early v) none)
+  early_break : {A : Type 0} (v : Value) → IsEarlyBreak v → IsMild v (takes way.Right v s).told.finding → A
+  early_break v h mild = by v h (subst (λ (o : Outcome). IsMild v o.told.finding) (takes_early v) mild)
     where
       by : {A : Type 0} (v : Value) → IsEarlyBreak v →
-          IsNoBreak (routed way.Right v s (route_in None way.Right (is_stopped way.Left s.course) v)).told.finding → A
-      by (request x) h none = absurd none
-      by (data0 end user) h none = absurd none
-      by (data2 n number end user) h none = absurd none
-      by (acknowledge credit n number) h none = absurd none
-      by (confirm n x) h none = absurd h
-      by (disconnect n source reason user) h none = absurd h
-      by (disconnected n source) h none = absurd h
-      by (error n cause) h none = absurd h
+          IsMild v (routed way.Right v s (route_in None way.Right (is_stopped way.Left s.course) v)).told.finding → A
+      by (request x) h mild = absurd mild
+      by (data0 end user) h mild = absurd mild
+      by (data2 n number end user) h mild = absurd mild
+      by (acknowledge credit n number) h mild = absurd mild
+      by (confirm n x) h mild = absurd h
+      by (disconnect n source reason user) h mild = absurd h
+      by (disconnected n source) h mild = absurd h
+      by (error n cause) h mild = absurd h
 
   -- a DR, a DC or an ER selects none
   quiet_same : (v : Value) → IsQuiet v → (c : Connection) (b : Bool) (k : Rules) → (course_after way.Right c v b k).class ≡ k.class
@@ -314,7 +309,7 @@ module _ (local : Local) (deeds : ℕ → Deeds) (b : ℕ) (end : Carrier) (put 
 
   -- ---- in class 0
 
-  module _ (coming : List Value) (v : Value) (c : Course) (h : Early coming c) (right : IsRight Right v c)
+  module _ (coming : List Value) (v : Value) (c : Course) (h : Early coming c) (right : IsTolerable Right v c)
       (class : c.traffic.course.class ≡ Some Zero) where
     abbrev z : IsZeroAt end coming c
     z = h.zero class
@@ -323,7 +318,7 @@ module _ (local : Local) (deeds : ℕ → Deeds) (b : ℕ) (end : Carrier) (put 
     is_z = is_zero Right c.traffic h.sure right.firm right.goes class
 
     still : IsStill Right v c.traffic
-    still = zero_still Right c.traffic right.goes class v right.none
+    still = zero_still Right c.traffic right.goes class v right.mild
 
     -- the place of the one connection
     place_is : (p i : ℕ) (last : Bool) (user : List ℕ) → (takes way.Right (data0 last user) c.traffic).told.place ≡ Some p →
@@ -380,7 +375,7 @@ module _ (local : Local) (deeds : ℕ → Deeds) (b : ℕ) (end : Carrier) (put 
         record {
           sure = sure_claim.passes Right at v c h.sure;
           all = in_zero.other_stands Left deeds (known_below b end coming) (known_below b end (coming ++ v ∷ [])) at v put begun c is_z
-              right.none (heard_zero v still) h.all;
+              right.mild (heard_zero v still) h.all;
           distinct = distinct_after coming v c h new;
           below = unit_up Left Right b at v c h.all.places up h.below;
           quiet = λ none. none_zero (after v c).traffic.course.class none
@@ -399,7 +394,7 @@ module _ (local : Local) (deeds : ℕ → Deeds) (b : ℕ) (end : Carrier) (put 
 
   -- ---- before it
 
-  module _ (coming : List Value) (v : Value) (c : Course) (h : Early coming c) (right : IsRight Right v c)
+  module _ (coming : List Value) (v : Value) (c : Course) (h : Early coming c) (right : IsTolerable Right v c)
       (class : c.traffic.course.class ≡ None) where
     quiet_heard : (u : Value) → IsQuiet u →
         IsHeard Left (known_below b end coming) (known_below b end (coming ++ u ∷ [])) u put c.traffic c.sessions
@@ -426,8 +421,7 @@ module _ (local : Local) (deeds : ℕ → Deeds) (b : ℕ) (end : Carrier) (put 
         AllStand Left deeds (known_below b end (coming ++ v ∷ [])) put begun (after v c).traffic (after v c).sessions
     all_heard heard =
         in_two.other_stands Left deeds (known_below b end coming) (known_below b end (coming ++ v ∷ [])) at v put begun c right.firm
-        right.goes (λ e. none_zero c.traffic.course.class class e)
-        (mild_of v (takes way.Right v c.traffic).told.finding right.none) heard h.all
+        right.goes (λ e. none_zero c.traffic.course.class class e) right.mild heard h.all
 
     quiet_early : IsQuiet v → Early (coming ++ v ∷ []) (after v c)
     quiet_early q =
@@ -443,18 +437,21 @@ module _ (local : Local) (deeds : ℕ → Deeds) (b : ℕ) (end : Carrier) (put 
         }
 
   -- the CC
-  module _ (coming : List Value) (n : ℕ) (x : Connect) (c : Course) (h : Early coming c) (right : IsRight Right (confirm n x) c)
+  module _ (coming : List Value) (n : ℕ) (x : Connect) (c : Course) (h : Early coming c) (right : IsTolerable Right (confirm n x) c)
       (class : c.traffic.course.class ≡ None) (w : IsWith local end put c) (left : c.traffic.course.left_stopped ≡ false)
       (shut : (q peer : ℕ) → 0 < q → stage_at q end ≡ amid peer → ⊥) where
     abbrev v : Value
     v = confirm n x
 
-    -- it is no break, so both sides stay judged
+    -- it has its effect, so the end stays judged
     then_left : (takes way.Right v c.traffic).state.course.left_stopped ≡ false
     then_left =
-        let kept = kept_of (takes way.Right v c.traffic).told.finding right.none
-        (effect n x at c h.all.places right.goes class right.firm h.all.judged right.none).applied in
-        other_judged v c.traffic left (own_judged v c.traffic (inl kept) right.goes)
+        let found = (takes way.Right v c.traffic).told.finding in
+        let few = few_of found (effect n x at c h.all.places right.goes class right.firm h.all.judged right.mild).applied in
+        stops_are_said way.Right v c.traffic way.Left
+        ∙ ap (λ (r : Reach). stops_by way.Right r way.Left || c.traffic.course.left_stopped)
+        ((reach_so Right at v c).far ∙ mild_reach v (class_for way.Right c.traffic.course) found right.mild few)
+        ∙ left
 
     came : (w.whole.put ≡ []) × AwaitsAnswer local w.whole
     came =
@@ -472,7 +469,7 @@ module _ (local : Local) (deeds : ℕ → Deeds) (b : ℕ) (end : Carrier) (put 
     past_by q within apart lasts whole_lasts (awaits r p o cs strays is tap waits) =
         let same = w.like.lasts whole_lasts in
         let mine : n ≡ r =
-        awaits_this n x at c h.all.places right.goes class right.firm h.all.judged right.none r p o cs strays (sym w.tap ∙ tap) waits in
+        awaits_this n x at c h.all.places right.goes class right.firm h.all.judged right.mild r p o cs strays (sym w.tap ∙ tap) waits in
         let given_here : has_given q w.whole.end ≡ true =
         ap (has_given q) same
         ∙ given_so q end within.0 (let low = within.1 in let most = given lasts in omega (arith, low, most)) in
@@ -489,7 +486,7 @@ module _ (local : Local) (deeds : ℕ → Deeds) (b : ℕ) (end : Carrier) (put 
     cc_early : Early (coming ++ v ∷ []) (after v c)
     cc_early =
         let selects : (after v c).traffic.course.class ≡ Some (class_of x) =
-        class_was v c ∙ (effect n x at c h.all.places right.goes class right.firm h.all.judged right.none).class in
+        class_was v c ∙ (effect n x at c h.all.places right.goes class right.firm h.all.judged right.mild).class in
         record {
           sure = sure_claim.passes Right at v c h.sure;
           all = all_heard coming v c h right class
@@ -502,7 +499,7 @@ module _ (local : Local) (deeds : ℕ → Deeds) (b : ℕ) (end : Carrier) (put 
             one = subst (λ (s : State). HasOne Left n (IsGone end) s (after v c).sessions) (sym (unit_knows Right at v c))
                 (subst (λ (t : Sessions). HasOne Left n (IsGone end) (takes way.Right v c.traffic).state t)
                 (sym (unit_joins Right at v c))
-                (cc_opens n x at c h.all.places right.goes class right.firm h.all.judged right.none (IsGone end) h.distinct b
+                (cc_opens n x at c h.all.places right.goes class right.firm h.all.judged right.mild (IsGone end) h.distinct b
                 h.below (λ q within apart some. others_past q within apart)));
             amid_is = λ q peer some live. absurd (shut q peer some live);
             ccs = all_of_both (IsCcFor n) coming (v ∷ []) (quiet_ccs n coming (h.quiet class)) ((λ m y is. same_number n m x y is), tt);
@@ -519,12 +516,12 @@ module _ (local : Local) (deeds : ℕ → Deeds) (b : ℕ) (end : Carrier) (put 
     none_early (disconnect n source reason user) k class = quiet_early coming (disconnect n source reason user) c h k.right class tt
     none_early (disconnected n source) k class = quiet_early coming (disconnected n source) c h k.right class tt
     none_early (error n cause) k class = quiet_early coming (error n cause) c h k.right class tt
-    none_early (request x) k class = early_break c.traffic k.right.goes class (request x) tt k.right.none
-    none_early (data0 last user) k class = early_break c.traffic k.right.goes class (data0 last user) tt k.right.none
+    none_early (request x) k class = early_break c.traffic k.right.goes class (request x) tt k.right.mild
+    none_early (data0 last user) k class = early_break c.traffic k.right.goes class (data0 last user) tt k.right.mild
     none_early (data2 n number last user) k class =
-        early_break c.traffic k.right.goes class (data2 n number last user) tt k.right.none
+        early_break c.traffic k.right.goes class (data2 n number last user) tt k.right.mild
     none_early (acknowledge credit n number) k class =
-        early_break c.traffic k.right.goes class (acknowledge credit n number) tt k.right.none
+        early_break c.traffic k.right.goes class (acknowledge credit n number) tt k.right.mild
 
     unit_early : (v : Value) → IsTaken v c → Early (coming ++ v ∷ []) (after v c)
     unit_early v k = by c.traffic.course.class refl

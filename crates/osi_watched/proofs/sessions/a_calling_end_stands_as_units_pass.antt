@@ -4,7 +4,9 @@ use Rattle.osi_watched.proofs.Vocabulary.{[], ap, false, length, List, refl, Som
 use Rattle.osi_watched.proofs.Vocabulary.{append-nil, AllByRecursion, slice_get, units_fit, units_found, units_of, Value, Part, Local, Left}
 use Rattle.osi_watched.proofs.Vocabulary.{Right, AllProper, early, Life, stage_at, CanBeWritten, Continues, Deeds, then_did, units_in}
 use Rattle.osi_watched.proofs.Vocabulary.{units_read, all_units, Turn, Joined, reference_of, spoken, units_pass, heard, Tracked, IsClear}
-use Rattle.osi_watched.proofs.Vocabulary.{begins_other, begins_own, Joint, passes_other, passes_own, Steps, TakesTurn}
+use Rattle.osi_watched.proofs.Vocabulary.{begins_other, begins_own, Joint, passes_other, passes_own, Steps, TakesTurn, Direction, Sessions}
+use Rattle.osi_watched.proofs.Vocabulary.{Traffic as State, takes, way_of, unit_passes, Connection, is_closing, HaveSamePlaces}
+use Rattle.osi_fair.proofs.small_facts_that_many_lemmas_use.{number_is}
 use Rattle.osi_honest.specs.Courses.{Course}
 use Rattle.osi_tap.specs.Courses.{Course as Passed, packet_begins}
 use Rattle.osi_watched.proofs.small_facts_that_many_lemmas_use.{can_more as all_more, ranges_of}
@@ -13,29 +15,47 @@ use Rattle.osi_watched.proofs.sessions.a_calling_end_hears_what_breaks_no_rule.{
 use Rattle.osi_watched.proofs.sessions.a_calling_end_is_ready.{IsCalling, begins_other_calling, begins_own_calling, is_ready}
 use Rattle.osi_watched.proofs.sessions.a_calling_end_is_ready.{passes_other_plain, passes_own_calling, turns_calling, whole_followed}
 use Rattle.osi_watched.proofs.sessions.a_calling_end_is_ready.{whole_joined}
-use Rattle.osi_watched.proofs.sessions.a_calling_end_takes_what_is_in_flight.{calling_takes}
+use Rattle.osi_watched.proofs.sessions.a_calling_end_takes_what_is_in_flight.{calling_dr, calling_takes}
 use Rattle.osi_watched.proofs.sessions.a_turn_leaves_all_standing.{Turns}
 use Rattle.osi_watched.proofs.sessions.a_turn_does_what_its_deeds_say.{units_join}
-use Rattle.osi_watched.proofs.sessions.all_connections_stand.{AllStand, there_too}
-use Rattle.osi_watched.proofs.sessions.connections_have_the_same_places.{unit_joins}
+use Rattle.osi_watched.proofs.sessions.all_connections_stand.{AllStand, one_at, there_too}
+use Rattle.osi_watched.proofs.sessions.connections_have_the_same_places.{unit_joins, unit_knows}
 use Rattle.osi_watched.proofs.sessions.each_unit_of_a_turn_has_one_connection.{IsMarked, puts_wait}
 use Rattle.osi_watched.proofs.sessions.each_cr_that_passes_gives_a_new_reference.{gives_new}
 use Rattle.osi_watched.proofs.sessions.nothing_is_done_before_a_cr_passes.{known_from, may_take}
 use Rattle.osi_watched.proofs.sessions.references_of_an_end_are_distinct.{AreDistinct, begins_distinct, unit_distinct}
 use Rattle.osi_watched.proofs.sessions.steps_leave_all_standing.{IsFine, Standing, step_begins_other, step_begins_own, step_passes_own}
 use Rattle.osi_watched.proofs.sessions.steps_leave_all_standing.{step_turns}
-use Rattle.osi_watched.proofs.sessions.what_is_in_flight_to_an_end.{known_of}
+use Rattle.osi_watched.proofs.sessions.the_dr_of_the_other_side_is_in_flight.{AreShut, HaveRoom, begins_shut, own_shut, turn_shut}
+use Rattle.osi_watched.proofs.sessions.what_is_left_for_an_end.{known_left}
 use Rattle.osi_watched.proofs.sessions.what_stands_of_a_connection.{Known, Takes, waiting_for}
 
--- what is known of the parts in flight
+-- what is known of the parts that are left over
 abbrev pub known_at : Joint → Known
 known_at j = known_from (may_take j.holding.end.carrier) (units_in j.coming)
+
+-- the DRs of the other side are in flight
+abbrev pub AreShutAtJoint : Direction → Joint → Type 0
+AreShutAtJoint d j = AreShut d (may_take j.holding.end.carrier) (units_in j.coming) j.course.traffic j.course.sessions
+
+pub own_passes_shut : (d : Direction) (at : ℕ) (unit : Value) (j : Joint) →
+    HaveSamePlaces j.course.traffic.connections j.course.sessions.live → HaveRoom j.course.sessions → AreShutAtJoint d j →
+    AreShut d (may_take j.holding.end.carrier) (units_in j.coming) (unit_passes d at unit j.course).traffic
+    (unit_passes d at unit j.course).sessions
+own_passes_shut d at unit j places rooms h =
+    let live = may_take j.holding.end.carrier in
+    subst (λ (s : State). AreShut d live (units_in j.coming) s (unit_passes d at unit j.course).sessions)
+    (sym (unit_knows d at unit j.course))
+    (subst (λ (t : Sessions). AreShut d live (units_in j.coming) (takes (way_of d) unit j.course.traffic).state t)
+    (sym (unit_joins d at unit j.course))
+    (own_shut d at unit live (units_in j.coming) j.course.traffic j.course.sessions places rooms h))
 
 module _ (local : Local) (two : local.class2 ≡ true) (proper : AllProper) where
   pub record StandsCalling (deeds : ℕ → Deeds) (j : Joint) : Type 0 where
     pub calling : IsCalling local two deeds j
     pub standing : Standing Left deeds (known_at j) j
     pub distinct : AreDistinct Left j.course.sessions
+    pub shut : AreShutAtJoint Left j
     pub can : AllByRecursion CanBeWritten j.put
 
   pub begins_own_stands : (deeds : ℕ → Deeds) (old new : Joint) → Steps Left begins_own old new →
@@ -48,6 +68,8 @@ module _ (local : Local) (two : local.class2 ≡ true) (proper : AllProper) wher
         calling = begins_own_calling local two proper deeds old mid (some, none, refl) h.calling;
         standing = step_begins_own Left deeds (known_at old) old mid (some, none, refl) courses few h.standing;
         distinct = begins_distinct Left Left old.course.sessions h.distinct;
+        shut = begins_shut Left Left (may_take old.holding.end.carrier) (units_in old.coming) old.course.traffic old.course.sessions
+            h.shut;
         can = h.can;
       })
 
@@ -59,8 +81,16 @@ module _ (local : Local) (two : local.class2 ≡ true) (proper : AllProper) wher
         calling = begins_other_calling local two proper deeds old mid refl h.calling;
         standing = step_begins_other Left deeds (known_at old) old mid refl h.standing;
         distinct = begins_distinct Left Right old.course.sessions h.distinct;
+        shut = begins_shut Left Right (may_take old.holding.end.carrier) (units_in old.coming) old.course.traffic old.course.sessions
+            h.shut;
         can = h.can;
       })
+
+  rooms : (deeds : ℕ → Deeds) (j : Joint) → StandsCalling deeds j → HaveRoom j.course.sessions
+  rooms deeds j h i k here =
+      let a = h.standing.all in
+      let (c, there) = there_too j.course.traffic.connections j.course.sessions.live i k a.places here in
+      room_of deeds (known_at j) j.put j.begun c k (a.live i c k there here)
 
   pub passes_own_stands : (deeds : ℕ → Deeds) (at : ℕ) (unit : Value) (old new : Joint) → Steps Left (passes_own at unit) old new →
       IsFine Left unit old.course → IsClear old.course.traffic.course → StandsCalling deeds old → StandsCalling deeds new
@@ -74,9 +104,8 @@ module _ (local : Local) (two : local.class2 ≡ true) (proper : AllProper) wher
             (is_ready local two deeds at unit old mid step clear h.calling) h.standing;
         distinct = subst (AreDistinct Left) (sym (unit_joins Left at unit old.course))
             (unit_distinct Left Left at unit old.course.traffic old.course.sessions a.places h.distinct
-            (gives_new _ at unit old mid step h.calling.ahead)
-            (λ i j here. let (k, there) = there_too old.course.traffic.connections old.course.sessions.live i j a.places here in
-            room_of deeds (known_at old) old.put old.begun k j (a.live i k j there here)));
+            (gives_new _ at unit old mid step h.calling.ahead) (rooms deeds old h));
+        shut = own_passes_shut Left at unit old a.places (rooms deeds old h) h.shut;
         can = (subst (AllByRecursion CanBeWritten) put h.can).1;
       })
 
@@ -95,16 +124,19 @@ module _ (local : Local) (two : local.class2 ≡ true) (proper : AllProper) wher
       let one : units_in (packet ∷ []) ≡ units = append-nil (units_read (units_of packet)) ∙ ap units_read read in
       let all : units_in old.coming ++ units ≡ units_in (old.coming ++ packet ∷ []) =
       sym (units_join old.coming (packet ∷ []) ∙ ap (λ (l : List Value). units_in old.coming ++ l) one) in
-      let (stand, apart) = units_heard local deeds (may_take old.holding.end.carrier) old.put h.can old.begun at units (units_in old.coming)
-      old.course fine (ranges_of units (units_fit units packet (units_found packet units octets read))) behind h.standing.all h.distinct in
+      let k = units_heard local deeds (may_take old.holding.end.carrier) old.put h.can old.begun at units (units_in old.coming)
+      old.course fine (ranges_of units (units_fit units packet (units_found packet units octets read))) behind
+      (record { stand = h.standing.all; distinct = h.distinct; shut = h.shut }) in
       subst (StandsCalling deeds) (sym is) (record {
         calling = passes_other_plain local two proper deeds at packet units old mid (octets, read, refl) h.standing.all.places h.calling
             (fine_plain h.calling.ahead.bound at units old.course fine);
         standing = record {
           all = subst (λ (l : List Value). AllStand Left deeds (known_from (may_take old.holding.end.carrier) l) old.put old.begun
-              (units_pass Right at units old.course).traffic (units_pass Right at units old.course).sessions) all stand;
+              (units_pass Right at units old.course).traffic (units_pass Right at units old.course).sessions) all k.stand;
         };
-        distinct = apart;
+        distinct = k.distinct;
+        shut = subst (λ (l : List Value). AreShut Left (may_take old.holding.end.carrier) l (units_pass Right at units old.course).traffic
+            (units_pass Right at units old.course).sessions) all k.shut;
         can = h.can;
       })
 
@@ -114,10 +146,11 @@ module _ (local : Local) (two : local.class2 ≡ true) (proper : AllProper) wher
       ((r : ℕ) → 0 < r → Life true r (stage_at r old.holding.end.carrier) on.took on.put (stage_at r new.holding.end.carrier)) →
       t.units ≡ all_units on.put → AllByRecursion CanBeWritten (all_units on.put) →
       AllByRecursion (IsMarked Left old.course.traffic old.course.sessions) on.put →
-      ((r : ℕ) → 0 < r → (later : List Part) → known_of (may_take old.holding.end.carrier) (units_in old.coming) r later →
-      Takes (on.more r) later (known_of (may_take new.holding.end.carrier) (units_in new.coming) r)) →
+      ((r : ℕ) → 0 < r → (later : List Part) → known_left (may_take old.holding.end.carrier) (units_in old.coming) r later →
+      Takes (on.more r) later (known_left (may_take new.holding.end.carrier) (units_in new.coming) r)) →
+      AreShut Left (may_take new.holding.end.carrier) (units_in new.coming) old.course.traffic old.course.sessions →
       IsClear old.course.traffic.course → StandsCalling deeds old → StandsCalling (λ r. then_did (deeds r) (on.more r)) new
-  turns_stand turn old new t deeds on life units can marked takes clear h =
+  turns_stand turn old new t deeds on life units can marked takes shut clear h =
       let a = h.standing.all in
       let f = h.calling.ahead.followed in
       let turns : Turns Left on.more (known_at old) (known_at new) t.units old.course.traffic old.course.sessions = record {
@@ -135,11 +168,14 @@ module _ (local : Local) (two : local.class2 ≡ true) (proper : AllProper) wher
             (λ begun. none_written old.put f.whole.put (sym f.put) ((whole_followed local two old f clear).some (f.begun ∙ begun))) turns
             h.standing;
         distinct = subst (λ (c : Passed). AreDistinct Left c.sessions) (sym t.course) h.distinct;
+        shut = subst (λ (c : Passed). AreShut Left (may_take new.holding.end.carrier) (units_in new.coming) c.traffic c.sessions)
+            (sym t.course) shut;
         can = subst (AllByRecursion CanBeWritten) (sym (t.put ∙ ap (λ (l : List Value). old.put ++ l) units))
             (all_more old.put (all_units on.put) h.can can);
       }
 
-  -- So it is if at each connection that may open the CC has passed the tap, or nothing of what has come is for it.
+  -- So it is if at each connection that may open the CC has passed the tap, or nothing of what has come is for it; and if it has passed at
+  -- each that the other side has closed.
   pub turns_stand_early : (turn : Turn) (old new : Joint) (t : TakesTurn turn old new) (deeds : ℕ → Deeds)
       (on : Continues true deeds old.holding turn new.holding) →
       ((r : ℕ) → 0 < r → Life true r (stage_at r old.holding.end.carrier) on.took on.put (stage_at r new.holding.end.carrier)) →
@@ -147,9 +183,22 @@ module _ (local : Local) (two : local.class2 ≡ true) (proper : AllProper) wher
       AllByRecursion (IsMarked Left old.course.traffic old.course.sessions) on.put →
       ((r : ℕ) → 0 < r → stage_at r old.holding.end.carrier ≡ early →
       Tracked old.course.traffic.connections r ⊎ (waiting_for (Some r) (units_in old.coming) ≡ [])) →
-      IsClear old.course.traffic.course → StandsCalling deeds old → StandsCalling (λ r. then_did (deeds r) (on.more r)) new
-  turns_stand_early turn old new t deeds on life units can marked quiet clear h =
-      let then_calling = turns_calling local two proper turn old new t deeds on life h.standing.all.places clear h.calling in
+      ((i : ℕ) (c : Connection) → slice_get old.course.traffic.connections i ≡ Some c → is_closing c.right.phase ≡ true →
+      0 < c.left.reference → stage_at c.left.reference old.holding.end.carrier ≡ early →
+      Tracked old.course.traffic.connections c.left.reference) → IsClear old.course.traffic.course → StandsCalling deeds old →
+      StandsCalling (λ r. then_did (deeds r) (on.more r)) new
+  turns_stand_early turn old new t deeds on life units can marked quiet tracked clear h =
+      let places = h.standing.all.places in
+      let then_calling = turns_calling local two proper turn old new t deeds on life places clear h.calling in
       turns_stand turn old new t deeds on life units can marked
-      (λ r some later sure. calling_takes local two turn old new t deeds on h.calling then_calling clear h.standing.all.places r some
-      (life r some) (quiet r some) later sure) clear h
+      (λ r some later sure. calling_takes local two turn old new t deeds on h.calling then_calling clear places r some
+      (life r some) (quiet r some) later sure)
+      (turn_shut Left (may_take old.holding.end.carrier) (may_take new.holding.end.carrier) (units_in old.coming)
+      (units_in new.coming) old.course.traffic old.course.sessions
+      (λ i c j r there here closing named live.
+      let some = (h.calling.ahead.below.live i j r here named).0 in
+      let one = one_at old.course.traffic.connections old.course.sessions.live i c j places there here in
+      let same : c.left.reference ≡ r = number_is c.left.reference r (ap (λ (n : ℕ). Some n) (sym one.calling) ∙ named) in
+      calling_dr local two turn old new t deeds on h.calling then_calling clear places r some (life r some)
+      (subst (λ (n : ℕ). 0 < n → stage_at n old.holding.end.carrier ≡ early → Tracked old.course.traffic.connections n) same
+      (tracked i c there closing) some) live) h.shut) clear h

@@ -1,5 +1,5 @@
 -- Until class 2 is selected all connections of a calling end stand at a tap, whatever classes it offers: at the beginning, and after what
--- passes and breaks no rule. For the session of the connection of an end in class 0.
+-- passes and is no break, or is passed over. For the session of the connection of an end in class 0.
 use Rattle.std.proofs.Common.{◌≡◌, ◌≢◌, ◌∙◌, refl, sym, ap, subst, ℕ, ◌^◌, ◌<◌, ◌≤◌, Bool, true, false, List, [], ◌∷◌, ◌++◌, length}
 use Rattle.std.proofs.Common.{Some, None, arith, is_some}
 use Rattle.std.specs.Prelude.{slice_get}
@@ -33,6 +33,7 @@ use Rattle.osi_honest.proofs.courses.how_long_a_connection_is_open.{amid, stage_
 use Rattle.osi_tap.specs.Connections.{Joined, Sessions, spoken, taken}
 use Rattle.osi_tap.specs.Courses.{Course as Passed, packet_begins, units_pass}
 use Rattle.osi_tap.specs.Lines.{heard}
+use Rattle.osi_watched.specs.Shown.{parts_of}
 use Rattle.osi_watched.specs.ShownPlaces.{HaveSamePlaces}
 use Rattle.osi_watched.specs.Joint.{Joint, Steps, begin, begins_other, begins_own, passes_other, passes_own}
 use Rattle.osi_watched.proofs.a_carrier_does_events.{happen_join, none_of}
@@ -415,7 +416,7 @@ module _ (local : Local) where
         let now : StandsEarly deeds n end put false coming (own_passed at (request x) old put).course =
         own_early (request x) step right n e.all
         (unit_up Left Left n at (request x) old.course h.early.all.places (some, omega arith) below)
-        (λ not. (ready.0, ready.1, ((some, omega arith), ready.2.1)))
+        (λ not. (ready.0, ready.1, ((some, omega arith), λ live. sym (ap parts_of (quiet_none n coming (h.early.quiet class))))))
         (λ zero. none_class old.course class (sym (class_same (request x) step right) ∙ zero)) in
         record {
           ahead = k.ahead;

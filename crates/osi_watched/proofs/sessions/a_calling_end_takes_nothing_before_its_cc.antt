@@ -5,11 +5,15 @@ use Rattle.osi_watched.proofs.Vocabulary.{[], ap, append_assoc, Bool, inl, inr, 
 use Rattle.osi_watched.proofs.Vocabulary.{◌∙◌, ◌∷◌, ◌≡◌, ◌⊎◌, eq-eqb, append-nil, AllByRecursion, confirm, Connect, request, Value, Local}
 use Rattle.osi_watched.proofs.Vocabulary.{value_at, closing, Live, linked, Carrier, has_given, early, Time as Stage, stage_at, stage_is}
 use Rattle.osi_watched.proofs.Vocabulary.{all_units_more, Opens, all_units, Marked, Followed, IsNoCc, Row, Tracked, first_kept, IsDc}
-use Rattle.osi_watched.proofs.Vocabulary.{picked_join, those, those_join, Line, Whole}
+use Rattle.osi_watched.proofs.Vocabulary.{first_left, names, picked_join, those, those_join, Line, Whole, acknowledge, data0, data2}
+use Rattle.osi_watched.proofs.Vocabulary.{disconnect, disconnected, error, false, ◌||◌}
+use Rattle.osi_honest.proofs.courses.how_long_a_connection_is_open.{is_dr}
 use Rattle.osi_fair.proofs.each_connection_has_its_line.{asks, closes, over, talks}
 use Rattle.osi_watched.proofs.small_facts_that_many_lemmas_use.{amid_not, over_not, past_not}
 use Rattle.osi_watched.proofs.sessions.nothing_is_done_before_a_cr_passes.{IsNoZero, dcs_none}
-use Rattle.osi_watched.proofs.sessions.what_an_end_takes_at_each_stage.{AreCalm, EndsEarly, calm_before, dcs_before, opens_next, opens_not}
+use Rattle.osi_watched.proofs.sessions.what_an_end_takes_at_each_stage.{AreCalm, AreReady, EndsEarly, dcs_before, dcs_first, opens_next}
+use Rattle.osi_watched.proofs.sessions.what_an_end_takes_at_each_stage.{opens_not}
+use Rattle.osi_watched.proofs.sessions.what_is_left_for_an_end.{has_dr}
 use Rattle.osi_watched.proofs.sessions.what_stands_of_a_connection.{is_for, waiting_for}
 
 -- ---- what comes for a connection
@@ -63,42 +67,89 @@ zero_front (x ∷ xs) ys h = (h.0, zero_front xs ys h.1)
 own_cc : (r : ℕ) (y : Connect) (rest : List Value) → those r (confirm r y ∷ rest) ≡ confirm r y ∷ those r rest
 own_cc r y rest = first_kept r (confirm r y) rest (eq-eqb r r refl)
 
--- a front of what comes, right before a CC for the connection
-before_cc : (r : ℕ) (front rest : List Value) (y : Connect) → AwaitsCc r (front ++ confirm r y ∷ rest) → AllByRecursion IsNoZero front →
-    waiting_for (Some r) front ≡ []
-before_cc r front rest y a zero =
-    dcs_none r front zero
-    (dcs_before r a.confirmed y (those r front) (those r rest) a.before a.after
+-- of a front of what comes, right before a CC for the connection, all that comes for it is DCs
+before_cc : (r : ℕ) (front rest : List Value) (y : Connect) → AwaitsCc r (front ++ confirm r y ∷ rest) → AllByRecursion IsDc (those r front)
+before_cc r front rest y a =
+    dcs_before r a.confirmed y (those r front) (those r rest) a.before a.after
     (ap (λ (l : List Value). those r front ++ l) (sym (own_cc r y rest)) ∙ sym (those_join r front (confirm r y ∷ rest)) ∙ a.is)
-    a.only a.calm)
+    a.only a.calm
 
 before_opening : (r peer : ℕ) (unit : Value) (front rest : List Value) → Opens true r peer unit → AwaitsCc r (front ++ unit ∷ rest) →
-    AllByRecursion IsNoZero front → waiting_for (Some r) front ≡ []
-before_opening r peer (confirm n x) front rest o a zero =
-    before_cc r front rest x (subst (λ (m : ℕ). AwaitsCc r (front ++ confirm m x ∷ rest)) o.0 a) zero
-before_opening r peer (request x) front rest o a zero = absurd (cc o.0)
-before_opening r peer _ front rest o a zero = absurd o
+    AllByRecursion IsDc (those r front)
+before_opening r peer (confirm n x) front rest o a =
+    before_cc r front rest x (subst (λ (m : ℕ). AwaitsCc r (front ++ confirm m x ∷ rest)) o.0 a)
+before_opening r peer (request x) front rest o a = absurd (cc o.0)
+before_opening r peer _ front rest o a = absurd o
 
--- The end took these units, the first of those that had come. If it may still open afterwards, the CC is among the others.
-pub calm_turn : (r : ℕ) (t : Stage) (took : List Marked) (others : List Value) → AwaitsCc r (all_units took ++ others) →
-    (t ≡ early → AwaitsCc r others) → AllByRecursion IsNoZero (all_units took ++ others) → AreCalm true r t took
-calm_turn r t took others a then_awaits zero front back parts ends = by back parts ends
+-- The end took these units, the first of those that had come. If it may still open afterwards, the CC is among the others. So before it
+-- opens only DCs come for it.
+dcs_turn : (r : ℕ) (t : Stage) (took : List Marked) (others : List Value) → AwaitsCc r (all_units took ++ others) →
+    (t ≡ early → AwaitsCc r others) → (front back : List Marked) → took ≡ front ++ back → EndsEarly true r t back →
+    AllByRecursion IsDc (those r (all_units front))
+dcs_turn r t took others a then_awaits front back parts ends = by back parts ends
   where
-    by : (back : List Marked) → took ≡ front ++ back → EndsEarly true r t back → waiting_for (Some r) (all_units front) ≡ []
+    by : (back : List Marked) → took ≡ front ++ back → EndsEarly true r t back → AllByRecursion IsDc (those r (all_units front))
     by _ is (opens_not still) =
         let same : took ≡ front = is ∙ append-nil front in
         let b = then_awaits still in
-        calm_before r a.confirmed b.confirmed (all_units front) others a.before a.after b.before b.after
+        dcs_first r a.confirmed b.confirmed (all_units front) others a.before a.after b.before b.after
         (subst (λ (l : List Marked). those r (all_units l ++ others) ≡ a.before ++ confirm r a.confirmed ∷ a.after) same a.is)
         a.only a.calm b.is
-        (zero_front (all_units front) others (subst (λ (l : List Marked). AllByRecursion IsNoZero (all_units l ++ others)) same zero))
     by _ is (opens_next peer unit rest o) =
         let units : all_units took ++ others ≡ all_units front ++ unit ∷ (all_units rest ++ others) =
         ap (λ (l : List Marked). all_units l ++ others) is
         ∙ ap (λ (l : List Value). l ++ others) (all_units_more front ((0, unit) ∷ rest))
         ∙ append_assoc (all_units front) (unit ∷ all_units rest) others in
         before_opening r peer unit (all_units front) (all_units rest ++ others) o (subst (AwaitsCc r) units a)
-        (zero_front (all_units front) (unit ∷ (all_units rest ++ others)) (subst (AllByRecursion IsNoZero) units zero))
+
+-- of units of which only DCs come for it, none is a DR for it
+dcs_clean : (r : ℕ) (vs : List Value) → AllByRecursion IsDc (those r vs) → has_dr r vs ≡ false
+dcs_clean r [] h = refl
+dcs_clean r (v ∷ vs) h = by (names r v) refl (λ more. dcs_clean r vs more)
+  where
+    dc_not : (u : Value) → IsDc u → is_dr r u ≡ false
+    dc_not (disconnect n source reason user) k = absurd (cc)
+    dc_not (disconnected n source) k = refl
+    dc_not (request x) k = refl
+    dc_not (confirm n x) k = refl
+    dc_not (data0 end user) k = refl
+    dc_not (data2 n number end user) k = refl
+    dc_not (acknowledge credit n number) k = refl
+    dc_not (error n cause) k = refl
+
+    other_not : (u : Value) → names r u ≡ false → is_dr r u ≡ false
+    other_not (disconnect n source reason user) e = e
+    other_not (disconnected n source) e = refl
+    other_not (request x) e = refl
+    other_not (confirm n x) e = refl
+    other_not (data0 end user) e = refl
+    other_not (data2 n number end user) e = refl
+    other_not (acknowledge credit n number) e = refl
+    other_not (error n cause) e = refl
+
+    by : (b : Bool) → names r v ≡ b → (AllByRecursion IsDc (those r vs) → has_dr r vs ≡ false) → has_dr r (v ∷ vs) ≡ false
+    by true e rest =
+        let both = subst (AllByRecursion IsDc) (first_kept r v vs e) h in
+        ap (λ (b : Bool). b || has_dr r vs) (dc_not v both.0) ∙ rest both.1
+    by false e rest =
+        ap (λ (b : Bool). b || has_dr r vs) (other_not v e) ∙ rest (subst (AllByRecursion IsDc) (first_left r v vs e) h)
+
+-- So none is for it, and no DR is for it.
+pub calm_turn : (r : ℕ) (t : Stage) (took : List Marked) (others : List Value) → AwaitsCc r (all_units took ++ others) →
+    (t ≡ early → AwaitsCc r others) → AllByRecursion IsNoZero (all_units took ++ others) →
+    AreReady true r (λ (units : List Value). has_dr r units ≡ false) t took
+calm_turn r t took others a then_awaits zero front back parts ends = (
+  dcs_none r (all_units front)
+      (zero_front (all_units front) (all_units back ++ others)
+      (subst (AllByRecursion IsNoZero)
+      (ap (λ (l : List Marked). all_units l ++ others) parts
+      ∙ ap (λ (l : List Value). l ++ others) (all_units_more front back) ∙ append_assoc (all_units front) (all_units back) others)
+      zero)) dcs,
+  dcs_clean r (all_units front) dcs,
+)
+  where
+    dcs : AllByRecursion IsDc (those r (all_units front))
+    dcs = dcs_turn r t took others a then_awaits front back parts ends
 
 -- or none of what has come is for it
 pub quiet_turn : (is_caller : Bool) (r : ℕ) (t : Stage) (took : List Marked) (others : List Value) →

@@ -1,5 +1,5 @@
--- What a calling end takes in a turn at a connection is the first of what is in flight to it, if its CC has passed the tap, or nothing of
--- what has come is for it, or it can open no more.
+-- What a calling end takes in a turn at a connection is the first of what is left over for it, if its CC has passed the tap, or nothing of
+-- what has come is for it, or it can open no more. And a DR in flight to it stays there as long as the end has it open.
 -- For all connections of an end and a tap.
 use Rattle.std.proofs.Common.{◌≡◌, ◌∙◌, ◌⊎◌, inl, inr, refl, sym, ap, subst, ℕ, ◌<◌, ◌≤◌, Bool, true, List, [], ◌++◌}
 use Rattle.std.proofs.Common.{Option, Some, None, arith, is_some}
@@ -17,18 +17,20 @@ use Rattle.osi_fair.proofs.each_connection_has_its_line.{Tracked}
 use Rattle.osi_fair.proofs.what_the_other_side_closes.{IsClear}
 use Rattle.osi_honest.specs.Courses.{Continues, Deeds, then_did, units_in}
 use Rattle.osi_honest.specs.Turns.{Turn}
-use Rattle.osi_honest.proofs.courses.how_long_a_connection_is_open.{Life, Stage, early, past, stage_at, stage_over}
+use Rattle.osi_honest.proofs.courses.how_long_a_connection_is_open.{Life, Stage, amid, early, past, stage_at, stage_over}
 use Rattle.osi_tap.specs.Courses.{Course}
 use Rattle.osi_watched.specs.Joint.{Joint, TakesTurn}
 use Rattle.osi_watched.specs.ShownPlaces.{HaveSamePlaces}
 use Rattle.osi_watched.proofs.a_carrier_does_events.{none_of}
+use Rattle.osi_watched.proofs.small_facts_that_many_lemmas_use.{amid_not, past_not}
 use Rattle.osi_watched.proofs.sessions.a_calling_end_is_ready.{IsCalling, whole_followed}
-use Rattle.osi_watched.proofs.sessions.a_calling_end_takes_nothing_before_its_cc.{AwaitsCc, awaits_cc, calm_turn, quiet_turn}
+use Rattle.osi_watched.proofs.sessions.a_calling_end_takes_nothing_before_its_cc.{AwaitsCc, awaits_cc, calm_turn}
 use Rattle.osi_watched.proofs.sessions.a_turn_does_what_its_deeds_say.{turn_uses}
+use Rattle.osi_watched.proofs.sessions.an_end_takes_what_is_left_for_it.{IsClean, dr_stays, left_takes, none_takes, was_live}
 use Rattle.osi_watched.proofs.sessions.connections_have_the_same_places.{at_same}
 use Rattle.osi_watched.proofs.sessions.nothing_is_done_before_a_cr_passes.{IsNoZero, may_take, same_units}
-use Rattle.osi_watched.proofs.sessions.what_an_end_takes_at_each_stage.{AreCalm, turn_takes}
-use Rattle.osi_watched.proofs.sessions.what_is_in_flight_to_an_end.{known_of}
+use Rattle.osi_watched.proofs.sessions.what_an_end_takes_at_each_stage.{AreReady}
+use Rattle.osi_watched.proofs.sessions.what_is_left_for_an_end.{has_dr, known_left}
 use Rattle.osi_watched.proofs.sessions.what_stands_of_a_connection.{Takes, waiting_for}
 
 early_not : {A : Type 0} (s : Stage) → s ≡ early → s ≡ past → A
@@ -63,33 +65,49 @@ module _ (local : Local) (two : local.class2 ≡ true) where
       (awaits_cc local f.whole r (whole_followed local two j f clear) (subst (λ (s : State). Tracked s.connections r) (sym f.tap) tracked)
       (given_so r f.whole.end some (omega (arith, low, most))) (alike ∙ may) whole_lasts)
 
-  pub calling_takes : (turn : Turn) (old new : Joint) (t : TakesTurn turn old new) (deeds : ℕ → Deeds)
-      (on : Continues true deeds old.holding turn new.holding) → IsCalling local two deeds old →
-      IsCalling local two (λ r. then_did (deeds r) (on.more r)) new → IsClear old.course.traffic.course →
-      HaveSamePlaces old.course.traffic.connections old.course.sessions.live → (r : ℕ) → 0 < r →
-      Life true r (stage_at r old.holding.end.carrier) on.took on.put (stage_at r new.holding.end.carrier) →
-      (stage_at r old.holding.end.carrier ≡ early →
-      Tracked old.course.traffic.connections r ⊎ (waiting_for (Some r) (units_in old.coming) ≡ [])) → (later : List Part) →
-      known_of (may_take old.holding.end.carrier) (units_in old.coming) r later →
-      Takes (on.more r) later (known_of (may_take new.holding.end.carrier) (units_in new.coming) r)
-  calling_takes turn old new t deeds on h then_h clear places r some life known later sure =
-      turn_takes true turn old new t deeds on r some life (λ may. by may (known may)) later sure
-    where
-      by : stage_at r old.holding.end.carrier ≡ early →
-          Tracked old.course.traffic.connections r ⊎ (waiting_for (Some r) (units_in old.coming) ≡ []) →
-          AreCalm true r (stage_at r new.holding.end.carrier) on.took
-      by may (inr none) =
-          let s = turn_uses turn old new t true deeds on (early_lasts r old.holding.end.carrier may) in
-          quiet_turn true r (stage_at r new.holding.end.carrier) on.took (s.left ++ units_in new.coming)
-          (ap (waiting_for (Some r)) (sym s.coming) ∙ none)
-      by may (inl tracked) =
-          let s = turn_uses turn old new t true deeds on (early_lasts r old.holding.end.carrier may) in
-          calm_turn r (stage_at r new.holding.end.carrier) on.took (s.left ++ units_in new.coming)
-          (subst (AwaitsCc r) s.coming (joint_awaits deeds old h clear places r some tracked may))
-          (λ still. subst (λ (l : List Value). AwaitsCc r (l ++ units_in new.coming))
-          (sym (s.all (early_lasts r new.holding.end.carrier still)))
-          (joint_awaits (λ q. then_did (deeds q) (on.more q)) new then_h
-          (subst (λ (c : Course). IsClear c.traffic.course) (sym t.course) clear)
-          (subst (λ (c : Course). HaveSamePlaces c.traffic.connections c.sessions.live) (sym t.course) places) r some
-          (subst (λ (c : Course). Tracked c.traffic.connections r) (sym t.course) tracked) still))
-          (subst (AllByRecursion IsNoZero) s.coming h.zero)
+  module _ (turn : Turn) (old new : Joint) (t : TakesTurn turn old new) (deeds : ℕ → Deeds)
+      (on : Continues true deeds old.holding turn new.holding) (h : IsCalling local two deeds old)
+      (then_h : IsCalling local two (λ r. then_did (deeds r) (on.more r)) new) (clear : IsClear old.course.traffic.course)
+      (places : HaveSamePlaces old.course.traffic.connections old.course.sessions.live) (r : ℕ) (some : 0 < r)
+      (life : Life true r (stage_at r old.holding.end.carrier) on.took on.put (stage_at r new.holding.end.carrier)) where
+    abbrev stage : Stage
+    stage = stage_at r old.holding.end.carrier
+
+    -- a connection whose CC has passed
+    tracked_ready : Tracked old.course.traffic.connections r → stage ≡ early →
+        AreReady true r (IsClean r) (stage_at r new.holding.end.carrier) on.took
+    tracked_ready tracked may =
+        let s = turn_uses turn old new t true deeds on (early_lasts r old.holding.end.carrier may) in
+        calm_turn r (stage_at r new.holding.end.carrier) on.took (s.left ++ units_in new.coming)
+        (subst (AwaitsCc r) s.coming (joint_awaits deeds old h clear places r some tracked may))
+        (λ still. subst (λ (l : List Value). AwaitsCc r (l ++ units_in new.coming))
+        (sym (s.all (early_lasts r new.holding.end.carrier still)))
+        (joint_awaits (λ q. then_did (deeds q) (on.more q)) new then_h
+        (subst (λ (c : Course). IsClear c.traffic.course) (sym t.course) clear)
+        (subst (λ (c : Course). HaveSamePlaces c.traffic.connections c.sessions.live) (sym t.course) places) r some
+        (subst (λ (c : Course). Tracked c.traffic.connections r) (sym t.course) tracked) still))
+        (subst (AllByRecursion IsNoZero) s.coming h.zero)
+
+    pub calling_takes : (stage ≡ early → Tracked old.course.traffic.connections r ⊎ (waiting_for (Some r) (units_in old.coming) ≡ [])) →
+        (later : List Part) → known_left (may_take old.holding.end.carrier) (units_in old.coming) r later →
+        Takes (on.more r) later (known_left (may_take new.holding.end.carrier) (units_in new.coming) r)
+    calling_takes known later sure = by stage refl
+      where
+        early_by : Tracked old.course.traffic.connections r ⊎ (waiting_for (Some r) (units_in old.coming) ≡ []) →
+            Takes (on.more r) later (known_left (may_take new.holding.end.carrier) (units_in new.coming) r)
+        early_by (inr none) =
+            none_takes true turn old new t deeds on r some life none (λ still. early_lasts r old.holding.end.carrier still) later sure
+        early_by (inl tracked) = left_takes true turn old new t deeds on r some life (tracked_ready tracked) later sure
+
+        by : (s : Stage) → stage ≡ s → Takes (on.more r) later (known_left (may_take new.holding.end.carrier) (units_in new.coming) r)
+        by early may = early_by (known may)
+        by (amid peer) is = left_takes true turn old new t deeds on r some life (λ may. amid_not stage peer may is) later sure
+        by past is = left_takes true turn old new t deeds on r some life (λ may. past_not stage may is) later sure
+
+    -- a DR in flight to a connection whose CC has passed stays there as long as the connection is open
+    pub calling_dr : (stage ≡ early → Tracked old.course.traffic.connections r) → may_take new.holding.end.carrier r ≡ true →
+        (may_take old.holding.end.carrier r ≡ true) × (has_dr r (units_in old.coming) ≡ true → has_dr r (units_in new.coming) ≡ true)
+    calling_dr tracked live = (
+      was_live true turn old new t deeds on r some life live,
+      dr_stays true turn old new t deeds on r some life (λ may. tracked_ready (tracked may) may) live,
+    )

@@ -33,7 +33,7 @@ use Rattle.osi_tap.specs.Connections.{Joined, Sessions, reference_of, taken}
 use Rattle.osi_tap.specs.Connections as joined
 use Rattle.osi_tap.specs.Courses.{Course}
 use Rattle.osi_watched.specs.ShownPlaces.{HaveSamePlaces}
-use Rattle.osi_watched.proofs.the_first_break_is_not_of_an_end.{IsNoBreak}
+use Rattle.osi_watched.proofs.what_a_taker_passes_over.{IsMild}
 use Rattle.osi_watched.proofs.sessions.a_unit_is_joined_where_it_is_named.{joined_named}
 use Rattle.osi_watched.proofs.sessions.class_0_keeps_its_one_place.{HasOne}
 use Rattle.osi_watched.proofs.sessions.connections_have_the_same_places.{at_same, first_answer}
@@ -82,39 +82,39 @@ pub record HasEffect (s : State) (k : Class) (o : Outcome) : Type 0 where
   pub class : o.state.course.class ≡ Some k
 
 unknown_breaks : {A : Type 0} (loose strays : Bool) (n : ℕ) (x : Connect) → loose ≡ false →
-    IsNoBreak (if loose then NotJudged else unnamed_by strays (confirm n x)) → A
-unknown_breaks true strays n x firm none = absurd (cc)
-unknown_breaks false true n x firm none = absurd none
-unknown_breaks false false n x firm none = absurd none
+    IsMild (confirm n x) (if loose then NotJudged else unnamed_by strays (confirm n x)) → A
+unknown_breaks true strays n x firm mild = absurd (cc)
+unknown_breaks false true n x firm mild = absurd mild
+unknown_breaks false false n x firm mild = absurd mild
 
-tests_applied : (a b i u l : Bool) →
-    IsNoBreak (first_failed ((a, Broke rule.WrongForm) ∷ (b, Broke rule.BadAnswer) ∷ (i, Outside) ∷ (u, Broke rule.ReferenceInUse)
+tests_applied : (v : Value) (a b i u l : Bool) →
+    IsMild v (first_failed ((a, Broke rule.WrongForm) ∷ (b, Broke rule.BadAnswer) ∷ (i, Outside) ∷ (u, Broke rule.ReferenceInUse)
     ∷ (l, Broke rule.LargerSize) ∷ [])) →
     is_applied (first_failed ((a, Broke rule.WrongForm) ∷ (b, Broke rule.BadAnswer) ∷ (i, Outside) ∷ (u, Broke rule.ReferenceInUse)
     ∷ (l, Broke rule.LargerSize) ∷ [])) ≡ true
-tests_applied false b i u l none = absurd none
-tests_applied true false i u l none = absurd none
-tests_applied true true false u l none = absurd none
-tests_applied true true true false l none = absurd none
-tests_applied true true true true false none = refl
-tests_applied true true true true true none = refl
+tests_applied v false b i u l mild = absurd mild
+tests_applied v true false i u l mild = absurd mild
+tests_applied v true true false u l mild = absurd mild
+tests_applied v true true true false l mild = absurd mild
+tests_applied v true true true true false mild = refl
+tests_applied v true true true true true mild = refl
 
-judged_applied : (j : Bool) (f : Finding) → j ≡ true → (IsNoBreak f → is_applied f ≡ true) → IsNoBreak (if j then f else NotJudged) →
-    is_applied (if j then f else NotJudged) ≡ true
-judged_applied true f h g none = g none
-judged_applied false f h g none = absurd (cc)
+judged_applied : (v : Value) (j : Bool) (f : Finding) → j ≡ true → (IsMild v f → is_applied f ≡ true) →
+    IsMild v (if j then f else NotJudged) → is_applied (if j then f else NotJudged) ≡ true
+judged_applied v true f h g mild = g mild
+judged_applied v false f h g mild = absurd (cc)
 
 module _ (n : ℕ) (x : Connect) (s : State) (goes : is_stopped Right s.course ≡ false) (class : s.course.class ≡ None)
     (firm : s.course.loose ≡ false) (judged : AreJudged s) where
   abbrev v : Value
   v = confirm n x
 
-  applied_so : (c : Connection) → c.is_judged ≡ true → IsNoBreak (found_on Right s c v) → is_applied (found_on Right s c v) ≡ true
-  applied_so c j none =
+  applied_so : (c : Connection) → c.is_judged ≡ true → IsMild v (found_on Right s c v) → is_applied (found_on Right s c v) ≡ true
+  applied_so c j mild =
       let used = uses_source Right s.connections v in
-      judged_applied c.is_judged (found Right s.course used c v) j
-      (tests_applied (is_silent c.right.phase) (is_offered c.offer s.course.class x) (is_inside x) (not used)
-      (nat_le (code_named x.parameters.size) c.offer.size_code)) none
+      judged_applied v c.is_judged (found Right s.course used c v) j
+      (tests_applied v (is_silent c.right.phase) (is_offered c.offer s.course.class x) (is_inside x) (not used)
+      (nat_le (code_named x.parameters.size) c.offer.size_code)) mild
 
   silent_so : (c : Connection) → is_applied (found_on Right s c v) ≡ true → is_silent c.right.phase ≡ true
   silent_so c h =
@@ -123,11 +123,11 @@ module _ (n : ℕ) (x : Connect) (s : State) (goes : is_stopped Right s.course �
       (nat_le (code_named x.parameters.size) c.offer.size_code) (applied_found c.is_judged (found Right s.course used c v) h)
 
   found_effect : (p : ℕ) (o : Option Connection) → slice_get s.connections p ≡ o →
-      IsNoBreak (at_found Right v s p o).told.finding → HasEffect s (class_of x) (at_found Right v s p o)
-  found_effect p None there none = unknown_breaks s.course.loose s.course.strays n x firm none
-  found_effect p (Some c) there none =
+      IsMild v (at_found Right v s p o).told.finding → HasEffect s (class_of x) (at_found Right v s p o)
+  found_effect p None there mild = unknown_breaks s.course.loose s.course.strays n x firm mild
+  found_effect p (Some c) there mild =
       let f = found_on Right s c v in
-      let applied = applied_so c (judged firm p c there) none in
+      let applied = applied_so c (judged firm p c there) mild in
       record {
         place = p;
         connection = c;
@@ -140,26 +140,26 @@ module _ (n : ℕ) (x : Connect) (s : State) (goes : is_stopped Right s.course �
             ∙ ap (λ (b : Bool). (course_after Right c v b s.course).class) applied;
       }
 
-  place_effect : (o : Option ℕ) → IsNoBreak (at_place Right v s o).told.finding → HasEffect s (class_of x) (at_place Right v s o)
-  place_effect None none = unknown_breaks s.course.loose s.course.strays n x firm none
-  place_effect (Some p) none = found_effect p (slice_get s.connections p) refl none
+  place_effect : (o : Option ℕ) → IsMild v (at_place Right v s o).told.finding → HasEffect s (class_of x) (at_place Right v s o)
+  place_effect None mild = unknown_breaks s.course.loose s.course.strays n x firm mild
+  place_effect (Some p) mild = found_effect p (slice_get s.connections p) refl mild
 
   takes_so : takes Right v s ≡ at_place Right v s (position (is_named Right n) s.connections)
   takes_so =
       ap (λ (b : Bool). if b then none_told Right NotJudged s else routed Right v s (route Right s.course v)) goes
       ∙ ap (λ (k : Option Class). routed Right v s (route_in k Right (is_stopped Left s.course) v)) class
 
-  -- if it is no break
-  pub has_effect : IsNoBreak (takes Right v s).told.finding → HasEffect s (class_of x) (takes Right v s)
-  has_effect none =
+  -- if it is no break, or is passed over
+  pub has_effect : IsMild v (takes Right v s).told.finding → HasEffect s (class_of x) (takes Right v s)
+  has_effect mild =
       subst (HasEffect s (class_of x)) (sym takes_so)
-      (place_effect (position (is_named Right n) s.connections) (subst (λ (o : Outcome). IsNoBreak o.told.finding) takes_so none))
+      (place_effect (position (is_named Right n) s.connections) (subst (λ (o : Outcome). IsMild v o.told.finding) takes_so mild))
 
 -- ---- so it opens that connection
 
 module _ (n : ℕ) (x : Connect) (at : ℕ) (c : Course) (places : HaveSamePlaces c.traffic.connections c.sessions.live)
     (goes : is_stopped Right c.traffic.course ≡ false) (class : c.traffic.course.class ≡ None) (firm : c.traffic.course.loose ≡ false)
-    (judged : AreJudged c.traffic) (none : IsNoBreak (takes Right (confirm n x) c.traffic).told.finding) where
+    (judged : AreJudged c.traffic) (mild : IsMild (confirm n x) (takes Right (confirm n x) c.traffic).told.finding) where
   abbrev s : State
   s = c.traffic
 
@@ -170,7 +170,7 @@ module _ (n : ℕ) (x : Connect) (at : ℕ) (c : Course) (places : HaveSamePlace
   unit = confirm n x
 
   pub effect : HasEffect s (class_of x) (takes Right unit s)
-  effect = has_effect n x s goes class firm judged none
+  effect = has_effect n x s goes class firm judged mild
 
   -- the one that waits for its answer has this reference
   pub awaits_this : (r p : ℕ) (o : Offer) (cs : List Connection) (strays : Bool) → s ≡ calm_tap cs strays → Waits r p o cs → n ≡ r

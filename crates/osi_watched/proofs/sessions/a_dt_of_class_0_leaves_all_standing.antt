@@ -1,5 +1,5 @@
--- What passes of class 0 leaves all connections of an end standing at a tap, as long as nobody breaks a rule: a unit of the end, and
--- one of the other side. For the session of the connection of an end in class 0.
+-- What passes of class 0 leaves all connections of an end standing at a tap: a unit of the end that is no break, and one of the other
+-- side that is none or is passed over. For the session of the connection of an end in class 0.
 use Rattle.std.proofs.Common.{◌≡◌, ◌∙◌, inl, inr, refl, sym, ap, subst, ℕ, Bool, true, false, List, [], ◌∷◌, ◌++◌, Some, None}
 use Rattle.std.specs.Prelude.{is_some, slice_get}
 use Rattle.osi_tpdu.specs.Value.{Value, acknowledge, confirm, data0, data2, disconnect, disconnected, error, request}
@@ -20,11 +20,12 @@ use Rattle.osi_rules.specs.Sides as sides
 use Rattle.osi_rules.specs.Traffic.{Outcome, State, class_for, connection_after, is_stopped, meaning_if, meant, route_zero, routed, takes}
 use Rattle.osi_honest.specs.Courses.{Deeds}
 use Rattle.osi_tap.specs.declared.rooms.Room.TheVariants.{All}
-use Rattle.osi_tap.specs.Connections.{Joined, Sessions, adds, reference_of}
+use Rattle.osi_tap.specs.Connections.{Joined, Sessions, reference_of}
 use Rattle.osi_tap.specs.Connections as joined
 use Rattle.osi_tap.specs.Courses.{Course, unit_passes, way_of}
 use Rattle.osi_watched.specs.ShownPlaces.{IsOneOf}
 use Rattle.osi_watched.proofs.the_first_break_is_not_of_an_end.{IsNoBreak}
+use Rattle.osi_watched.proofs.what_a_taker_passes_over.{IsMild, applied_of, mild_of}
 use Rattle.osi_watched.proofs.sessions.a_dt_of_class_0_has_one_place.{IsOnly, both_named, dt_takes, open_there, other_none, zero_takes}
 use Rattle.osi_watched.proofs.sessions.a_dt_that_is_no_break_is_right.{IsClear, dt_clear}
 use Rattle.osi_watched.proofs.sessions.a_right_dt_has_one_place.{zero_placed}
@@ -130,14 +131,14 @@ pub record GrowsThere (d : Direction) (known then_known : Known) (end : Bool) (u
 
 other_dt : (d : Direction) (deeds : ℕ → Deeds) (known then_known : Known) (at : ℕ) (end : Bool) (user : List ℕ) (put : List Value)
     (b : Bool) (s : State) (t : Sessions) → AllStand d deeds known put b s t → IsZero (other d) s →
-    (takes (way_of (other d)) (data0 end user) s).told.finding ≡ Kept → GrowsThere d known then_known end user s t →
+    is_applied (takes (way_of (other d)) (data0 end user) s).told.finding ≡ true → GrowsThere d known then_known end user s t →
     Leaves d deeds known then_known put put b b (other d) at (data0 end user) s t
-other_dt d deeds known then_known at end user put b s t a z kept g = record {
-  all = λ e c j h. no_place _ (sym (zero_placed (way_of (other d)) end user s kept).told ∙ e);
+other_dt d deeds known then_known at end user put b s t a z applied g = record {
+  all = λ e c j h. no_place _ (sym (told_there d (other d) deeds known put b end user s t a z) ∙ e);
   elsewhere = λ p i first c k j apart place there one at_k finding at_c at_j another h.
       stands_other_none d deeds known then_known put b c c j j (like_same d j) refl refl (g.stays.live p i j apart place at_j) h;
   here = λ p c j x r place there at_j one finding is h.
-      by x (sym (ap is_applied (sym finding ∙ kept)) ∙ is) p c j r place at_j one
+      by x (sym applied ∙ ap is_applied finding ∙ is) p c j r place at_j one
       (here_open d (other d) deeds known put b end user s t a z p c place there) h;
   asked_so = λ x number is. absurd (cc);
   others = λ x is c j h. absurd (cc);
@@ -161,7 +162,7 @@ other_dt d deeds known then_known at end user put b s t a z kept g = record {
 
 -- ---- what else may pass in class 0
 
--- every other unit is a break
+-- every other unit is a break that is not passed over
 abbrev pub Breaks : Value → Type 0
 Breaks (request x) = Unit {0}
 Breaks (confirm n x) = Unit {0}
@@ -173,7 +174,7 @@ Breaks (disconnected n source) = ⊥
 Breaks (error n cause) = ⊥
 
 pub routed_breaks : {A : Type 0} (d : Way) (b : Bool) (v : Value) (s : State) → Breaks v →
-    IsNoBreak (routed d v s (route_zero d b v)).told.finding → A
+    IsMild v (routed d v s (route_zero d b v)).told.finding → A
 routed_breaks way.Left b (request x) s h none = absurd none
 routed_breaks way.Left b (confirm n x) s h none = absurd none
 routed_breaks way.Left b (disconnect n source reason user) s h none = absurd none
@@ -188,10 +189,13 @@ routed_breaks d b (data0 end user) s h none = absurd h
 routed_breaks d b (disconnected n source) s h none = absurd h
 routed_breaks d b (error n cause) s h none = absurd h
 
-is_break : {A : Type 0} (e : Direction) (v : Value) (s : State) → IsZero e s → Breaks v → IsNoBreak (takes (way_of e) v s).told.finding → A
-is_break e v s z h none =
+is_break : {A : Type 0} (e : Direction) (v : Value) (s : State) → IsZero e s → Breaks v → IsMild v (takes (way_of e) v s).told.finding → A
+is_break e v s z h mild =
     routed_breaks (way_of e) (is_stopped (sides.other (way_of e)) s.course) v s h
-    (subst (λ (o : Outcome). IsNoBreak o.told.finding) (zero_takes (way_of e) v s z.goes z.zero) none)
+    (subst (λ (o : Outcome). IsMild v o.told.finding) (zero_takes (way_of e) v s z.goes z.zero) mild)
+
+own_break : {A : Type 0} (e : Direction) (v : Value) (s : State) → IsZero e s → Breaks v → IsNoBreak (takes (way_of e) v s).told.finding → A
+own_break e v s z h none = is_break e v s z h (mild_of v (takes (way_of e) v s).told.finding none)
 
 -- ---- a unit of the end
 
@@ -205,11 +209,11 @@ own_goes d deeds known at (disconnected n source) rest s t z none a =
     own_close d deeds known at (disconnected n source) rest s t a (λ b. tt) (λ o. refl) (λ x e. cc e)
 own_goes d deeds known at (error n cause) rest s t z none a =
     own_close d deeds known at (error n cause) rest s t a (λ b. tt) (λ o. refl) (λ x e. cc e)
-own_goes d deeds known at (request x) rest s t z none a = is_break d (request x) s z tt none
-own_goes d deeds known at (confirm n x) rest s t z none a = is_break d (confirm n x) s z tt none
-own_goes d deeds known at (disconnect n source reason user) rest s t z none a = is_break d (disconnect n source reason user) s z tt none
-own_goes d deeds known at (data2 n number end user) rest s t z none a = is_break d (data2 n number end user) s z tt none
-own_goes d deeds known at (acknowledge credit n number) rest s t z none a = is_break d (acknowledge credit n number) s z tt none
+own_goes d deeds known at (request x) rest s t z none a = own_break d (request x) s z tt none
+own_goes d deeds known at (confirm n x) rest s t z none a = own_break d (confirm n x) s z tt none
+own_goes d deeds known at (disconnect n source reason user) rest s t z none a = own_break d (disconnect n source reason user) s z tt none
+own_goes d deeds known at (data2 n number end user) rest s t z none a = own_break d (data2 n number end user) s z tt none
+own_goes d deeds known at (acknowledge credit n number) rest s t z none a = own_break d (acknowledge credit n number) s z tt none
 
 pub own_stands : (d : Direction) (deeds : ℕ → Deeds) (known : Known) (at : ℕ) (v : Value) (rest : List Value) (c : Course) →
     IsZero d c.traffic → IsNoBreak (takes (way_of d) v c.traffic).told.finding →
@@ -228,32 +232,33 @@ IsHeardZero d known then_known (data0 end user) s t = GrowsThere d known then_kn
 IsHeardZero d known then_known v s t = (r : ℕ) (later : List Part) → known r later → then_known r later
 
 other_goes : (d : Direction) (deeds : ℕ → Deeds) (known then_known : Known) (at : ℕ) (v : Value) (put : List Value) (b : Bool) (s : State)
-    (t : Sessions) → IsZero (other d) s → IsNoBreak (takes (way_of (other d)) v s).told.finding →
+    (t : Sessions) → IsZero (other d) s → IsMild v (takes (way_of (other d)) v s).told.finding →
     IsHeardZero d known then_known v s t → AllStand d deeds known put b s t →
     Leaves d deeds known then_known put put b b (other d) at v s t
-other_goes d deeds known then_known at (data0 end user) put b s t z none heard a =
-    other_dt d deeds known then_known at end user put b s t a z (kept_of (takes (way_of (other d)) (data0 end user) s).told.finding
-    (dt_clear (way_of (other d)) (data0 end user) end s refl z.goes z.firm a.judged) none) heard
-other_goes d deeds known then_known at (disconnected n source) put b s t z none heard a =
+other_goes d deeds known then_known at (data0 end user) put b s t z mild heard a =
+    other_dt d deeds known then_known at end user put b s t a z
+    (applied_of (data0 end user) (takes (way_of (other d)) (data0 end user) s).told.finding (λ dr. dr)
+    (dt_clear (way_of (other d)) (data0 end user) end s refl z.goes z.firm a.judged) mild) heard
+other_goes d deeds known then_known at (disconnected n source) put b s t z mild heard a =
     other_close d deeds known then_known at (disconnected n source) put b s t a (λ x. tt) (λ x e. cc e) heard
-other_goes d deeds known then_known at (error n cause) put b s t z none heard a =
+other_goes d deeds known then_known at (error n cause) put b s t z mild heard a =
     other_close d deeds known then_known at (error n cause) put b s t a (λ x. tt) (λ x e. cc e) heard
-other_goes d deeds known then_known at (request x) put b s t z none heard a = is_break (other d) (request x) s z tt none
-other_goes d deeds known then_known at (confirm n x) put b s t z none heard a = is_break (other d) (confirm n x) s z tt none
-other_goes d deeds known then_known at (disconnect n source reason user) put b s t z none heard a =
-    is_break (other d) (disconnect n source reason user) s z tt none
-other_goes d deeds known then_known at (data2 n number end user) put b s t z none heard a =
-    is_break (other d) (data2 n number end user) s z tt none
-other_goes d deeds known then_known at (acknowledge credit n number) put b s t z none heard a =
-    is_break (other d) (acknowledge credit n number) s z tt none
+other_goes d deeds known then_known at (request x) put b s t z mild heard a = is_break (other d) (request x) s z tt mild
+other_goes d deeds known then_known at (confirm n x) put b s t z mild heard a = is_break (other d) (confirm n x) s z tt mild
+other_goes d deeds known then_known at (disconnect n source reason user) put b s t z mild heard a =
+    is_break (other d) (disconnect n source reason user) s z tt mild
+other_goes d deeds known then_known at (data2 n number end user) put b s t z mild heard a =
+    is_break (other d) (data2 n number end user) s z tt mild
+other_goes d deeds known then_known at (acknowledge credit n number) put b s t z mild heard a =
+    is_break (other d) (acknowledge credit n number) s z tt mild
 
 pub other_stands : (d : Direction) (deeds : ℕ → Deeds) (known then_known : Known) (at : ℕ) (v : Value) (put : List Value) (b : Bool)
-    (c : Course) → IsZero (other d) c.traffic → IsNoBreak (takes (way_of (other d)) v c.traffic).told.finding →
+    (c : Course) → IsZero (other d) c.traffic → IsMild v (takes (way_of (other d)) v c.traffic).told.finding →
     IsHeardZero d known then_known v c.traffic c.sessions → AllStand d deeds known put b c.traffic c.sessions →
     AllStand d deeds then_known put b (unit_passes (other d) at v c).traffic (unit_passes (other d) at v c).sessions
-other_stands d deeds known then_known at v put b c z none heard a =
+other_stands d deeds known then_known at v put b c z mild heard a =
     subst (λ (s : State). AllStand d deeds then_known put b s (unit_passes (other d) at v c).sessions) (sym (unit_knows (other d) at v c))
     (subst (λ (t : Sessions). AllStand d deeds then_known put b (takes (way_of (other d)) v c.traffic).state t)
     (sym (unit_joins (other d) at v c))
     (all_after d deeds known then_known put put b b (other d) at v c.traffic c.sessions a
-    (other_goes d deeds known then_known at v put b c.traffic c.sessions z none heard a)))
+    (other_goes d deeds known then_known at v put b c.traffic c.sessions z mild heard a)))

@@ -25,7 +25,7 @@ use Rattle.osi_tap.specs.Connections.{Joined, Sessions, all_begin, packet_begins
 use Rattle.osi_tap.specs.Connections as joined
 use Rattle.osi_tap.specs.Courses.{way_of}
 use Rattle.osi_watched.specs.ShownPlaces.{HaveSamePlaces}
-use Rattle.osi_watched.proofs.the_first_break_is_not_of_an_end.{IsNoBreak}
+use Rattle.osi_watched.proofs.what_a_taker_passes_over.{IsMild}
 use Rattle.osi_watched.proofs.sessions.a_dt_of_class_0_has_one_place.{zero_takes}
 use Rattle.osi_watched.proofs.sessions.a_dt_of_class_0_leaves_all_standing.{Breaks, routed_breaks}
 use Rattle.osi_watched.proofs.sessions.all_connections_stand.{map_of}
@@ -107,23 +107,23 @@ error_nowhere Right false n cause s = refl
 
 module _ (e : Direction) (s : State) (goes : is_stopped (way_of e) s.course ≡ false)
     (zero : class_for (way_of e) s.course ≡ Some Zero) where
-  breaks_so : {A : Type 0} (v : Value) → Breaks v → IsNoBreak (takes (way_of e) v s).told.finding → A
-  breaks_so v h none =
+  breaks_so : {A : Type 0} (v : Value) → Breaks v → IsMild v (takes (way_of e) v s).told.finding → A
+  breaks_so v h mild =
       routed_breaks (way_of e) (is_stopped (sides.other (way_of e)) s.course) v s h
-      (subst (λ (o : Outcome). IsNoBreak o.told.finding) (zero_takes (way_of e) v s goes zero) none)
+      (subst (λ (o : Outcome). IsMild v o.told.finding) (zero_takes (way_of e) v s goes zero) mild)
 
-  -- every other unit is a break
-  pub zero_still : (v : Value) → IsNoBreak (takes (way_of e) v s).told.finding → IsStill e v s
-  zero_still (data0 end user) none = tt
-  zero_still (disconnected n source) none = tt
-  zero_still (error n cause) none =
+  -- every other unit is a break that is not passed over
+  pub zero_still : (v : Value) → IsMild v (takes (way_of e) v s).told.finding → IsStill e v s
+  zero_still (data0 end user) mild = tt
+  zero_still (disconnected n source) mild = tt
+  zero_still (error n cause) mild =
       ap (λ (o : Outcome). o.told.place) (zero_takes (way_of e) (error n cause) s goes zero)
       ∙ error_nowhere (way_of e) (is_stopped (sides.other (way_of e)) s.course) n cause s
-  zero_still (request x) none = breaks_so (request x) tt none
-  zero_still (confirm n x) none = breaks_so (confirm n x) tt none
-  zero_still (disconnect n source reason user) none = breaks_so (disconnect n source reason user) tt none
-  zero_still (data2 n number end user) none = breaks_so (data2 n number end user) tt none
-  zero_still (acknowledge credit n number) none = breaks_so (acknowledge credit n number) tt none
+  zero_still (request x) mild = breaks_so (request x) tt mild
+  zero_still (confirm n x) mild = breaks_so (confirm n x) tt mild
+  zero_still (disconnect n source reason user) mild = breaks_so (disconnect n source reason user) tt mild
+  zero_still (data2 n number end user) mild = breaks_so (data2 n number end user) tt mild
+  zero_still (acknowledge credit n number) mild = breaks_so (acknowledge credit n number) tt mild
 
 -- ---- what it leaves
 

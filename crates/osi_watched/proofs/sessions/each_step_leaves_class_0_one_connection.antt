@@ -1,4 +1,5 @@
--- At each step of an end and of a tap it holds that in class 0 one connection was opened, and each other one was refused.
+-- At each step of an end and of a tap it holds that in class 0 one connection was opened, and each other one was refused; and that left
+-- knows a class only if it is selected.
 -- For the session of the connection of an end in class 0.
 use Rattle.osi_watched.proofs.Vocabulary.{Bool, false, if◌then◌else◌, is_some, None, Option, refl, Some, subst, sym, true, ℕ, ◌∙◌, ◌≡◌}
 use Rattle.osi_watched.proofs.Vocabulary.{position, slice_get, Connect, request, Value, Class, Two, Zero, is_applied, reach_of}
@@ -8,6 +9,7 @@ use Rattle.osi_watched.proofs.Vocabulary.{route, routed, Traffic as State, takes
 use Rattle.osi_watched.proofs.Vocabulary.{NotJudged, Route, Asks, Named, Only, Unnamed, Direction, marked, marks_of, moved, unread_mark}
 use Rattle.osi_watched.proofs.Vocabulary.{unread_moment, way_of, Cause, fresh_apart, no_item, passes_apart, AreJudged, still_judged}
 use Rattle.osi_watched.proofs.Vocabulary.{reached_class, zero_stays, NamesApart as AreApart, packet, passes, Passing, rubbish, unit}
+use Rattle.osi_watched.proofs.Vocabulary.{lasts_passing}
 use Rattle.osi_rules.specs.declared.directions.Direction.TheVariants.{Left, Right}
 use Rattle.osi_rules.specs.Traffic as traffic
 use Rattle.osi_tap.specs.Courses.{Course}
@@ -70,14 +72,19 @@ pub record IsSure (s : State) : Type 0 where
   pub apart : AreApart s.connections
   pub judged : AreJudged s
   pub narrow : NarrowIf s
-  pub agrees : s.course.class_seen ≡ Some Zero → s.course.class ≡ Some Zero
+  pub agrees : (k : Class) → s.course.class_seen ≡ Some k → s.course.class ≡ Some k
 
-still_agrees : (p : Passing) (s : State) → (s.course.class_seen ≡ Some Zero → s.course.class ≡ Some Zero) →
-    (passes p s).course.class_seen ≡ Some Zero → (passes p s).course.class ≡ Some Zero
-still_agrees (packet Left) s a h = h
-still_agrees (packet Right) s a h = a h
-still_agrees (unit d v) s a h = zero_stays (unit d v) s (a (sym (takes_seen d v s) ∙ h))
-still_agrees (rubbish d) s a h =
+-- a class stays selected
+pub class_stays : (k : Class) (p : Passing) (s : State) → s.course.class ≡ Some k → (passes p s).course.class ≡ Some k
+class_stays Zero p s h = zero_stays p s h
+class_stays Two p s h = (lasts_passing p s).two h
+
+still_agrees : (k : Class) (p : Passing) (s : State) → (s.course.class_seen ≡ Some k → s.course.class ≡ Some k) →
+    (passes p s).course.class_seen ≡ Some k → (passes p s).course.class ≡ Some k
+still_agrees k (packet Left) s a h = h
+still_agrees k (packet Right) s a h = a h
+still_agrees k (unit d v) s a h = class_stays k (unit d v) s (a (sym (takes_seen d v s) ∙ h))
+still_agrees k (rubbish d) s a h =
     let r = refused_reach d s in reached_class d r s.course ∙ a (sym (reached_seen d r s.course) ∙ h)
 
 pub still_sure : (p : Passing) (s : State) → IsSure s → IsSure (passes p s)
@@ -85,7 +92,7 @@ still_sure p s h = record {
   apart = passes_apart p s h.apart;
   judged = still_judged p s h.judged;
   narrow = still_narrow p s h.apart h.narrow;
-  agrees = still_agrees p s h.agrees;
+  agrees = λ k seen. still_agrees k p s (h.agrees k) seen;
 }
 
 pub fresh_sure : IsSure fresh
@@ -93,7 +100,7 @@ fresh_sure = record {
   apart = fresh_apart;
   judged = λ h i c at. no_item i c at;
   narrow = fresh_narrow;
-  agrees = λ h. absurd (cc h);
+  agrees = λ k h. absurd (cc h);
 }
 
 -- ---- at a tap
@@ -119,7 +126,7 @@ sure_claim = record {
 -- ---- in class 0
 
 class_so : (d : Way) (s : State) → IsSure s → class_for d s.course ≡ Some Zero → s.course.class ≡ Some Zero
-class_so Left s h zero = h.agrees zero
+class_so Left s h zero = h.agrees Zero zero
 class_so Right s h zero = zero
 
 not_two : (k : Option Class) → k ≡ Some Zero → k ≡ Some Two → ⊥

@@ -1,6 +1,5 @@
--- What holds of a called end until class 2 is selected is as it is asked for: nobody of the end is to blame, as long as nobody has broken
--- a rule.
--- For the law that no session of an end is blamed first.
+-- What holds of a called end until class 2 is selected is as it is asked for: nobody of the end is to blame, as long as all is judged.
+-- For the laws that no session of an end is blamed first, nor after a break of the other side.
 use Rattle.osi_watched.proofs.Vocabulary.{Two, Local, AsSent, AsParts, CalledLaw, CallerLaw, Right, AllProper}
 use Rattle.osi_watched.proofs.sessions.a_called_end_stands_until_class_2.{StandsCalledUntilTwo, begins_called, begins_other_called}
 use Rattle.osi_watched.proofs.sessions.a_called_end_stands_until_class_2.{begins_own_called, none_amid_called, none_called}

@@ -1,6 +1,5 @@
--- What holds of a calling end until class 2 is selected is as it is asked for: nobody of the end is to blame, as long as nobody has broken
--- a rule.
--- For the law that no session of an end is blamed first.
+-- What holds of a calling end until class 2 is selected is as it is asked for: nobody of the end is to blame, as long as all is judged.
+-- For the laws that no session of an end is blamed first, nor after a break of the other side.
 use Rattle.osi_watched.proofs.Vocabulary.{[], List, ℕ, ◌∷◌, Value, Two, Local, AsSent, AsParts, CalledLaw, CallerLaw, Left, Right}
 use Rattle.osi_watched.proofs.Vocabulary.{AllProper, unit_passes}
 use Rattle.osi_tap.specs.Courses.{Course}
@@ -8,13 +7,13 @@ use Rattle.osi_watched.proofs.sessions.a_calling_end_hears_what_comes_until_clas
 use Rattle.osi_watched.proofs.sessions.a_calling_end_stands_until_class_2.{StandsUntilTwo, begin_early, begins_other_early}
 use Rattle.osi_watched.proofs.sessions.a_calling_end_stands_until_class_2.{begins_own_early, passes_other_early, passes_own_early}
 use Rattle.osi_watched.proofs.sessions.a_turn_of_a_calling_end_until_class_2.{turns_early}
-use Rattle.osi_watched.proofs.sessions.no_session_of_an_end_breaks_first.{ArePassed, KeepsUnless}
+use Rattle.osi_watched.proofs.sessions.no_session_of_an_end_breaks_first.{ArePassed, KeepsUnless, early}
 use Rattle.osi_watched.proofs.sessions.nobody_of_a_calling_end_is_to_blame_until_class_2.{none_amid_early, none_early}
 
 taken_so : (at : ℕ) (vs : List Value) (c : Course) → ArePassed Two Left at vs c → AreTaken at vs c
 taken_so at [] c h = tt
 taken_so at (v ∷ vs) c h =
-    (record { right = h.0.right; left = h.0.firm.left; not_two = h.0.not }, taken_so at vs (unit_passes Right at v c) h.1)
+    (record { right = early Left v c h.0; left = h.0.firm.left; not_two = h.0.not }, taken_so at vs (unit_passes Right at v c) h.1)
 
 pub early_keeps : (local : Local) → AllProper → AsSent → AsParts → CallerLaw → CalledLaw → KeepsUnless Two Left local (StandsUntilTwo local)
 early_keeps local proper known_of parts caller called = record {

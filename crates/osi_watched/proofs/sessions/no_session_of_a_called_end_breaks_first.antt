@@ -32,6 +32,7 @@ use Rattle.osi_watched.proofs.sessions.nothing_is_done_before_a_cr_passes.{known
 use Rattle.osi_watched.proofs.sessions.references_of_an_end_are_distinct.{AreDistinct}
 use Rattle.osi_watched.proofs.sessions.steps_leave_all_standing.{IsFine, Standing}
 use Rattle.osi_watched.proofs.sessions.steps_of_either_class_leave_all_standing.{stand_none}
+use Rattle.osi_watched.proofs.sessions.the_dr_of_the_other_side_is_in_flight.{first_shut}
 use Rattle.osi_watched.proofs.sessions.units_written_alike_have_the_same_ccs.{AnswersTwo, first_not_zero}
 use Rattle.osi_watched.proofs.sessions.what_stands_of_a_connection.{Known, Stands, lives, past, unnamed}
 
@@ -96,6 +97,7 @@ module _ (local : Local) (proper : AllProper) where
     called = begin_called local h fresh;
     standing = standing_first (known_at (begin h)) h;
     distinct = distinct_first;
+    shut = first_shut Right (may_take h.end.carrier) [];
     can = tt;
   }
 
@@ -236,6 +238,7 @@ module _ (local : Local) (proper : AllProper) where
           stand = h.standing.all;
           distinct = h.distinct;
           up = h.called.ahead.below;
+          shut = h.shut;
         } in
         let k = units_heard deeds live old.put old.begun h.called.ahead.bound at front (units_in old.coming) old.course
         (fine_of at front old.course taken) now in

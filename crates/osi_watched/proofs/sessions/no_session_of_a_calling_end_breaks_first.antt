@@ -22,8 +22,9 @@ use Rattle.osi_watched.proofs.sessions.nothing_is_done_before_a_cr_passes.{known
 use Rattle.osi_watched.proofs.sessions.references_of_an_end_are_distinct.{AreDistinct}
 use Rattle.osi_watched.proofs.sessions.steps_leave_all_standing.{IsFine, Standing}
 use Rattle.osi_watched.proofs.sessions.steps_of_either_class_leave_all_standing.{stand_none}
+use Rattle.osi_watched.proofs.sessions.the_dr_of_the_other_side_is_in_flight.{first_shut}
 use Rattle.osi_watched.proofs.sessions.what_has_come_before_a_cc.{AreQuiet, begin_quiet, begins_other_quiet, begins_own_quiet}
-use Rattle.osi_watched.proofs.sessions.what_has_come_before_a_cc.{passes_other_quiet, passes_own_quiet, turns_quiet}
+use Rattle.osi_watched.proofs.sessions.what_has_come_before_a_cc.{closing_tracked, passes_other_quiet, passes_own_quiet, turns_quiet}
 use Rattle.osi_watched.proofs.sessions.what_stands_of_a_connection.{Known}
 
 -- ---- at the beginning
@@ -61,6 +62,7 @@ module _ (local : Local) (two : local.class2 ≡ true) (proper : AllProper) wher
       calling = begin_calling local two h fresh;
       standing = standing_first (known_at (begin h)) h;
       distinct = distinct_first;
+      shut = first_shut Left (may_take h.end.carrier) [];
       can = tt;
     };
     quiet = begin_quiet h;
@@ -81,7 +83,8 @@ module _ (local : Local) (two : local.class2 ≡ true) (proper : AllProper) wher
       let fine = fine_of at units old.course taken in
       record {
         stands = passes_other_stands local two proper deeds at octets units old new step fine h.stands;
-        quiet = passes_other_quiet local two deeds at octets units old new step h.stands.calling fine h.quiet;
+        quiet = passes_other_quiet local two deeds at octets units old new step h.stands.calling h.stands.standing.all.places fine
+            h.quiet;
       }
 
   takes_turn : (turn : Turn) (old new : Joint) (t : TakesTurn turn old new) (deeds : ℕ → Deeds)
@@ -93,7 +96,10 @@ module _ (local : Local) (two : local.class2 ≡ true) (proper : AllProper) wher
       record {
         stands = turns_stand_early local two proper turn old new t deeds on does.of.life does.units on.can
             (calling_marked local two deeds turn old new t on f g clear h.stands.standing.all.places)
-            (λ r some may. (h.quiet clear).before r (some, may)) clear h.stands;
+            (λ r some may. (h.quiet clear).before r (some, may))
+            (λ i c there closing some may.
+            closing_tracked old.holding.end.carrier (units_in old.coming) old.course.traffic (h.quiet clear) i c there closing (some, may))
+            clear h.stands;
         quiet = turns_quiet turn old new t deeds on does.of.life h.quiet;
       }
 
@@ -120,10 +126,11 @@ module _ (local : Local) (two : local.class2 ≡ true) (proper : AllProper) wher
         let ranges = ranges_of (front ++ back) (units_fit (front ++ back) octets (units_found octets (front ++ back) all_octets read)) in
         let after = units_pass Right at front old.course in
         let live = may_take old.holding.end.carrier in
-        let (stand, apart) = units_heard local deeds live old.put h.can old.begun at front (units_in old.coming) old.course
-        (fine_of at front old.course taken) (all_front HasFieldsInRange front back ranges) behind h.standing.all h.distinct in
+        let k = units_heard local deeds live old.put h.can old.begun at front (units_in old.coming) old.course
+        (fine_of at front old.course taken) (all_front HasFieldsInRange front back ranges) behind
+        (record { stand = h.standing.all; distinct = h.distinct; shut = h.shut }) in
         stand_none known_of parts caller called Left deeds old.put old.begun old.holding.end courses
-        (known_from live (units_in old.coming ++ front)) after.traffic after.sessions stand
+        (known_from live (units_in old.coming ++ front)) after.traffic after.sessions k.stand
 
     pub calling_keeps : KeepsNoneToBlame Left local StandsQuiet
     calling_keeps = record {

@@ -15,12 +15,10 @@ use Rattle.osi_judge.specs.declared.directions.Direction.TheVariants.{Left, Righ
 use Rattle.osi_rules.specs.declared.findings.Finding.{Finding}
 use Rattle.osi_rules.specs.declared.findings.Finding.TheVariants.{Broke, Kept, NotJudged, Outside, TooMany}
 use Rattle.osi_rules.specs.Sides as sides
-use Rattle.osi_rules.specs.Traffic.{State as Traffic, is_stopped, takes}
+use Rattle.osi_rules.specs.Traffic.{State as Traffic, class_for, is_stopped, takes}
 use Rattle.osi_rules.specs.Traffic as traffic
-use Rattle.osi_fair.specs.Naming.{Passing as Any, packet, passes, rubbish, unit}
+use Rattle.osi_fair.specs.Naming.{packet, rubbish, unit}
 use Rattle.osi_fair.specs.Wholes as wholes
-use Rattle.osi_fair.proofs.class_0_stays_selected.{zero_stays}
-use Rattle.osi_fair.proofs.what_lasts_at_the_tap.{lasts_passing}
 use Rattle.osi_fair.proofs.what_the_other_side_closes.{IsClear, IsFirm}
 use Rattle.osi_stack.specs.State.{End, Holding}
 use Rattle.osi_honest.specs.Courses.{Course, Deeds, all_did, no_deeds, then_did}
@@ -42,25 +40,27 @@ use Rattle.osi_watched.specs.Passing.{TurnsBad}
 use Rattle.osi_watched.specs.Shown.{calls_from}
 use Rattle.osi_watched.proofs.steps_are_events.{IsFollowed, begin_followed, own_first, step_followed}
 use Rattle.osi_watched.proofs.the_first_break_is_not_of_an_end.{IsFairFrom, IsNoBreak}
+use Rattle.osi_watched.proofs.what_a_taker_passes_over.{mild_of}
 use Rattle.osi_watched.proofs.what_a_unit_leaves_at_a_tap.{IsCalm, IsJudged, IsOver, Leaves, unit_leaves}
 use Rattle.osi_watched.proofs.what_passes_keeps_a_claim.{IsClaim, after_join, after_kept, step_kept, units_kept}
 use Rattle.osi_watched.proofs.what_the_turns_among_steps_do.{ComesByDoing, IsOfTap, StepsDo, TurnDoes}
+use Rattle.osi_watched.proofs.sessions.a_unit_after_a_dr_changes_nothing.{IsAfterDr, after_two}
 use Rattle.osi_watched.proofs.sessions.after_too_many_nobody_is_to_blame.{NoneIsToBlame, too_many_silenced}
 use Rattle.osi_watched.proofs.sessions.connections_have_the_same_places.{marked_traffic, unit_knows}
-use Rattle.osi_watched.proofs.sessions.each_step_leaves_class_0_one_connection.{Sure, fresh_sure, sure_claim}
+use Rattle.osi_watched.proofs.sessions.each_step_leaves_class_0_one_connection.{Sure, class_stays, fresh_sure, sure_claim}
 use Rattle.osi_watched.proofs.sessions.no_more_tsdus_than_moments_have_passed.{AreFew, few_claim}
-use Rattle.osi_watched.proofs.sessions.steps_leave_all_standing.{IsFine, IsTakeable, takeable_of}
-use Rattle.osi_watched.proofs.sessions.steps_of_either_class_leave_all_standing.{IsRight}
+use Rattle.osi_watched.proofs.sessions.steps_leave_all_standing.{IsFine, IsTakeable}
+use Rattle.osi_watched.proofs.sessions.steps_of_either_class_leave_all_standing.{IsRight, IsTolerable}
 use Rattle.osi_watched.proofs.sessions.the_first_break_of_all_is_of_the_other_side.{AreClean, Ends, HasBroken, IsSilent, broken_claim}
 use Rattle.osi_watched.proofs.sessions.the_first_break_of_all_is_of_the_other_side.{moment, silent_claim, unit_breaks}
 use Rattle.osi_watched.proofs.sessions.the_first_break_of_all_is_of_the_other_side.{unit_clean, unit_past, unread_breaks_so}
-use Rattle.osi_watched.proofs.sessions.what_passes_is_no_break_while_none_is_told.{fine_so}
+use Rattle.osi_watched.proofs.sessions.what_passes_is_no_break_while_none_is_told.{fine_so, takeable_so}
 
 -- ---- what is asked of what holds at each step
 
--- a unit of the other side breaks no rule, or its taker passes over that, and it is not one connection too many
+-- a unit of the other side breaks no rule, or its taker passes over that, or it comes after a DR; and it is not one connection too many
 pub record IsTaken (d : Direction) (v : Value) (c : Passed) : Type 0 where
-  pub fine : IsTakeable (other d) v c
+  pub fine : IsTakeable (other d) v c ⊎ IsAfterDr (other d) v c
   pub clear : IsClear c.traffic.course
   pub few : (takes (way_of (other d)) v c.traffic).told.finding ≢ TooMany
 
@@ -97,7 +97,7 @@ pub record KeepsNoneToBlame (d : Direction) (local : Local) (Inv : (ℕ → Deed
 
 -- The same of an end and a tap, as long as this class is not selected.
 pub record IsPassed (barred : Class) (d : Direction) (v : Value) (c : Passed) : Type 0 where
-  pub right : IsRight (other d) v c
+  pub taken : IsTolerable (other d) v c ⊎ IsAfterDr (other d) v c
   pub firm : IsFirm c.traffic.course
   pub not : c.traffic.course.class ≡ Some barred → ⊥
   pub sure : Sure c
@@ -128,13 +128,21 @@ pub record KeepsUnless (barred : Class) (d : Direction) (local : Local) (Inv : (
       Steps d (passes_other at octets (front ++ back)) old new → HaveCourses d deeds old → ArePassed barred d at front old.course →
       Inv deeds old → NoneIsToBlame d (units_pass (other d) at front old.course).sessions
 
+-- no unit comes after a DR while class 2 is not selected
+pub early : (d : Direction) (v : Value) (c : Passed) → IsPassed Two d v c → IsTolerable (other d) v c
+early d v c h = by h.taken
+  where
+    knows : (e : Direction) → class_for (way_of e) c.traffic.course ≡ Some Two → c.traffic.course.class ≡ Some Two
+    knows Left is = h.sure.agrees Two is
+    knows Right is = is
+
+    by : IsTolerable (other d) v c ⊎ IsAfterDr (other d) v c → IsTolerable (other d) v c
+    by (inl t) = t
+    by (inr after) = absurd (h.not (knows (other d) (after_two (other d) v c after)))
+
 -- ---- what stays, whatever passes
 
 -- a class stays selected
-class_stays : (k : Class) (p : Any) (s : Traffic) → s.course.class ≡ Some k → (passes p s).course.class ≡ Some k
-class_stays Zero p s h = zero_stays p s h
-class_stays Two p s h = (lasts_passing p s).two h
-
 class_bad : (k : Class) (b : Bool) (d : Direction) (at : ℕ) (cause : Cause) (c : Passed) → c.traffic.course.class ≡ Some k →
     (if b then c else marked (unread_mark d at cause) (traffic.refused_reach (way_of d) c.traffic)
     (moved (unread_moment d at cause c.sessions) (record c { traffic = traffic.refused (way_of d) c.traffic }))).traffic.course.class
@@ -217,7 +225,7 @@ pub units_join : (d : Direction) (at : ℕ) (xs ys : List Value) (c : Passed) �
 units_join d at [] ys c = refl
 units_join d at (x ∷ xs) ys c = units_join d at xs ys (unit_passes d at x c)
 
-passed_then : (barred : Class) (d : Direction) (at : ℕ) (xs : List Value) (v : Value) (c : Passed) → ArePassed barred d at xs c →
+pub passed_then : (barred : Class) (d : Direction) (at : ℕ) (xs : List Value) (v : Value) (c : Passed) → ArePassed barred d at xs c →
     IsPassed barred d v (units_pass (other d) at xs c) → ArePassed barred d at (xs ++ v ∷ []) c
 passed_then barred d at [] v c h k = (k, tt)
 passed_then barred d at (x ∷ xs) v c h k = (h.0, passed_then barred d at xs v (unit_passes (other d) at x c) h.1 k)
@@ -249,7 +257,7 @@ not_many f many none (inr is) = let no : NotJudged ≡ TooMany = sym is ∙ many
 pub firm_so : (c : Passed) → IsJudged c → IsFirm c.traffic.course
 firm_so c j = record { firm = j.firm; left = j.left; right = j.right }
 
-goes_so : (e : Direction) (c : Passed) → IsJudged c → is_stopped (way_of e) c.traffic.course ≡ false
+pub goes_so : (e : Direction) (c : Passed) → IsJudged c → is_stopped (way_of e) c.traffic.course ≡ false
 goes_so Left c j = j.left
 goes_so Right c j = j.right
 
@@ -352,7 +360,7 @@ module _ (proper : AllProper) (barred : Class) (d : Direction) (local : Local)
         where
           taken : ArePassed barred d at (front ++ v ∷ []) old.course
           taken = passed_then barred d at front v old.course so.taken (record {
-            right = record { firm = so.judged.firm; goes = goes_so (other d) c so.judged; none = none };
+            taken = inl (record { firm = so.judged.firm; goes = goes_so (other d) c so.judged; mild = mild_of v found none });
             firm = firm_so c so.judged;
             not = not_yet;
             sure = is_sure;
@@ -632,23 +640,28 @@ without_zero : (c : Passed) → IsWithin c → IsWithout Zero c
 without_zero c h = record { not = h.two; few = h.few }
 
 taken_one : (d : Direction) (v : Value) (c : Passed) → IsPassed Zero d v c → IsTaken d v c
-taken_one d v c h =
-    let clear : IsClear c.traffic.course = record { sure = h.firm; two = h.not } in
-    record { fine = takeable_of (other d) v c (fine_so (other d) v c h.sure.agrees clear h.right.none); clear = clear; few = h.few }
+taken_one d v c h = record { fine = by h.taken; clear = clear; few = h.few }
+  where
+    clear : IsClear c.traffic.course
+    clear = record { sure = h.firm; two = h.not }
+
+    by : IsTolerable (other d) v c ⊎ IsAfterDr (other d) v c → IsTakeable (other d) v c ⊎ IsAfterDr (other d) v c
+    by (inl t) = inl (takeable_so (other d) v c (h.sure.agrees Zero) clear t.mild)
+    by (inr after) = inr after
 
 taken_all : (d : Direction) (at : ℕ) (vs : List Value) (c : Passed) → ArePassed Zero d at vs c → AreTaken d at vs c
 taken_all d at [] c h = tt
 taken_all d at (v ∷ vs) c h = (taken_one d v c h.0, taken_all d at vs (unit_passes (other d) at v c) h.1)
 
 module _ (d : Direction) (local : Local) (Inv : (ℕ → Deeds) → Joint → Type 0) (k : KeepsNoneToBlame d local Inv) where
-  unless_zero : KeepsUnless Zero d local Inv
+  pub unless_zero : KeepsUnless Zero d local Inv
   unless_zero = record {
     begins = k.begins;
     own_begins = k.own_begins;
     other_begins = k.other_begins;
     own_passes = λ deeds at v old new step right firm sure was_not not h.
         let clear : IsClear old.course.traffic.course = record { sure = firm; two = was_not } in
-        k.own_passes deeds at v old new step (fine_so d v old.course sure.agrees clear right.none) clear not h;
+        k.own_passes deeds at v old new step (fine_so d v old.course (sure.agrees Zero) clear right.none) clear not h;
     other_passes = λ deeds at octets units old new step passed h.
         k.other_passes deeds at octets units old new step (taken_all d at units old.course passed) h;
     turn = λ turn old new t deeds does f g firm not h.

@@ -1,12 +1,12 @@
 -- No session of an end is to blame, also after breaks of the other side that a taker passes over, if something holds at each step by which
--- nobody of the end is to blame, as long as all is judged and class 0 is not selected.
+-- nobody of the end is to blame, as long as all is judged and one class is not selected.
 -- For the law that no session of an end is blamed after such a break.
-use Rattle.std.proofs.Common.{◌≡◌, ◌∙◌, ◌⊎◌, inl, inr, refl, sym, ap, subst, ℕ, ◌^◌, ◌<◌, Bool, true, false, if◌then◌else◌}
-use Rattle.std.proofs.Common.{List, [], ◌∷◌, ◌++◌, length, Some, is_some, append_assoc, arith}
+use Rattle.std.proofs.Common.{◌≡◌, ◌∙◌, ◌⊎◌, inl, inr, refl, sym, ap, subst, ℕ, ◌^◌, ◌<◌, Bool, true, false}
+use Rattle.std.proofs.Common.{List, [], ◌∷◌, ◌++◌, length, Some, append_assoc, arith}
 use Rattle.std.specs.Prelude.{slice_get}
-use Rattle.std.specs.List.{AllByRecursion}
 use Rattle.std.proofs.lemmas.List.{append-nil}
-use Rattle.osi_tpdu.specs.Value.{Value, acknowledge, confirm, data0, data2, disconnect, disconnected, error, request}
+use Rattle.osi_tpdu.specs.Value.{Value}
+use Rattle.osi_class.specs.declared.terms.Class.{Class}
 use Rattle.osi_class.specs.declared.terms.Class.TheVariants.{Zero}
 use Rattle.osi_class.specs.declared.terms.Local.{Local}
 use Rattle.osi_judge.specs.Captures.{Capture, other}
@@ -14,11 +14,9 @@ use Rattle.osi_judge.specs.declared.directions.Direction.{Direction}
 use Rattle.osi_rules.specs.declared.findings.Finding.{Finding}
 use Rattle.osi_rules.specs.declared.findings.Finding.TheVariants.{Broke, Kept, NotJudged, Outside, TooMany}
 use Rattle.osi_rules.specs.declared.findings.Rule.TheVariants as rule
-use Rattle.osi_rules.specs.Reaches.{is_applied}
+use Rattle.osi_rules.specs.Reaches.{is_applied, reach_of}
 use Rattle.osi_rules.specs.Traffic.{class_for, is_stopped, takes}
-use Rattle.osi_rules.specs.Traffic as traffic
 use Rattle.osi_fair.specs.Wholes as wholes
-use Rattle.osi_fair.proofs.what_the_other_side_closes.{IsClear}
 use Rattle.osi_stack.specs.State.{End, Holding}
 use Rattle.osi_honest.specs.Courses.{Course, Deeds, all_did, no_deeds}
 use Rattle.osi_honest.specs.Seeing.{IsFresh}
@@ -26,19 +24,15 @@ use Rattle.osi_honest.specs.Turns.{Turn}
 use Rattle.osi_honest.proofs.class_0.what_a_packet_does_in_class_0.{AllProper}
 use Rattle.osi_honest.proofs.courses.what_a_run_does_to_it.{fresh_course}
 use Rattle.osi_tap.specs.declared.marks.Cause.{Cause}
-use Rattle.osi_tap.specs.declared.marks.Cause.TheVariants as cause
-use Rattle.osi_tap.specs.declared.marks.Mark.{Mark}
-use Rattle.osi_tap.specs.declared.marks.UnitKind.TheVariants.{Dr}
 use Rattle.osi_tap.specs.Connections.{Joined, spoken}
-use Rattle.osi_tap.specs.Courses.{Course as Passed, Moment, cause_of, kind_of, marked, marks_of, mark_by, moved, number_at}
-use Rattle.osi_tap.specs.Courses.{packet_begins, unit_passes, units_pass, unread, unread_mark, unread_moment, way_of}
+use Rattle.osi_tap.specs.Courses.{Course as Passed}
+use Rattle.osi_tap.specs.Courses.{unit_passes, units_pass, unread, way_of}
 use Rattle.osi_tap.specs.Lines.{heard}
 use Rattle.osi_tap.specs.Tapping as tapping
 use Rattle.osi_tap.specs.Tapping.{after, comes_to}
-use Rattle.osi_tap.proofs.no_break_was_before_the_first.{marked_past}
 use Rattle.osi_watched.specs.Joint.{Joint, Step, Steps, StepsAlong, TakesTurn, begin, begins_other, begins_own, passes_other, passes_own}
 use Rattle.osi_watched.specs.Joint.{turns}
-use Rattle.osi_watched.specs.Judging.{ClosesLast, IsJudgedWhole}
+use Rattle.osi_watched.specs.Judging.{IsJudgedWhole}
 use Rattle.osi_watched.specs.Passing.{TurnsBad}
 use Rattle.osi_watched.specs.Shown.{calls_from}
 use Rattle.osi_watched.proofs.a_break_ends_no_judging_or_all.{IsPartly, all_ends, begins_judged, hard_ends, none_ends, nothing_ends}
@@ -46,114 +40,21 @@ use Rattle.osi_watched.proofs.a_break_ends_no_judging_or_all.{partly_claim, reac
 use Rattle.osi_watched.proofs.a_break_ends_no_judging_or_all.{unread_sessions}
 use Rattle.osi_watched.proofs.steps_are_events.{IsFollowed, begin_followed, step_followed}
 use Rattle.osi_watched.proofs.the_first_break_is_not_of_an_end.{IsFairFrom}
-use Rattle.osi_watched.proofs.what_a_taker_passes_over.{IsDr, IsMild, Sort, is_hard, is_mild, is_shut, mild_reach, sort_of}
+use Rattle.osi_watched.proofs.what_a_taker_passes_over.{IsMild, Sort, is_hard, is_mild, is_shut, mild_reach, sort_of}
 use Rattle.osi_watched.proofs.what_a_unit_leaves_at_a_tap.{IsJudged, IsOver, begins_over, unread_over}
 use Rattle.osi_watched.proofs.what_passes_keeps_a_claim.{IsClaim, after_join, after_kept, step_kept, units_kept}
 use Rattle.osi_watched.proofs.what_the_turns_among_steps_do.{ComesByDoing, IsOfTap, StepsDo, TurnDoes}
+use Rattle.osi_watched.proofs.sessions.a_unit_after_a_dr_changes_nothing.{IsAfterDr, after_dr}
 use Rattle.osi_watched.proofs.sessions.after_too_many_nobody_is_to_blame.{NoneIsToBlame, none_begins, over_joins}
 use Rattle.osi_watched.proofs.sessions.each_step_leaves_class_0_one_connection.{Sure, fresh_sure, sure_claim}
 use Rattle.osi_watched.proofs.sessions.no_more_tsdus_than_moments_have_passed.{AreFew, few_claim}
-use Rattle.osi_watched.proofs.sessions.no_session_of_an_end_breaks_first.{AreTaken, HaveCourses, IsTaken, IsWithout, KeepsNoneToBlame}
-use Rattle.osi_watched.proofs.sessions.no_session_of_an_end_breaks_first.{after_without, firm_so, own_right, step_without, units_join}
-use Rattle.osi_watched.proofs.sessions.no_session_of_an_end_breaks_first.{units_not, unread_without}
+use Rattle.osi_watched.proofs.sessions.no_session_of_an_end_breaks_first.{ArePassed, HaveCourses, IsWithout, KeepsUnless}
+use Rattle.osi_watched.proofs.sessions.no_session_of_an_end_breaks_first.{after_without, firm_so, goes_so, own_right, passed_then}
+use Rattle.osi_watched.proofs.sessions.no_session_of_an_end_breaks_first.{step_without, units_join, units_not, unread_without}
 use Rattle.osi_watched.proofs.sessions.steps_of_either_class_leave_all_standing.{IsRight}
-use Rattle.osi_watched.proofs.sessions.the_first_break_of_all_is_of_the_other_side.{moment, then_joined, unit_past}
 use Rattle.osi_watched.proofs.sessions.what_has_no_effect_joins_nothing.{joins_none, too_many_ends}
-use Rattle.osi_watched.proofs.sessions.what_passes_is_no_break_while_none_is_told.{fine_so, takeable_so}
-
--- ---- a DT or an AK on a connection that its side had closed
-
-pub record IsShut (m : Moment) : Type 0 where
-  pub mark : Mark
-  pub is : m.mark ≡ Some mark
-  pub closed : mark.cause ≡ cause.Broke rule.Closed
-  pub unlike : mark.unit ≡ Some Dr → ⊥
-
-abbrev pub HasShut : List Moment → Type 0
-HasShut [] = ⊥
-HasShut (m ∷ past) = IsShut m ⊎ HasShut past
-
-shut_then : (past : List Moment) (m : Moment) → IsShut m → HasShut (past ++ m ∷ [])
-shut_then [] m h = inl h
-shut_then (x ∷ past) m h = inr (shut_then past m h)
-
-shut_more : (past more : List Moment) → HasShut past → HasShut (past ++ more)
-shut_more [] more h = absurd h
-shut_more (x ∷ past) more (inl h) = inl h
-shut_more (x ∷ past) more (inr h) = inr (shut_more past more h)
-
-shut_not : (past : List Moment) → AllByRecursion (λ (m : Moment). ClosesLast m.mark) past → HasShut past → ⊥
-shut_not [] all h = h
-shut_not (m ∷ past) all (inl h) =
-    let last : ClosesLast (Some h.mark) = subst ClosesLast h.is all.0 in h.unlike (last h.closed)
-shut_not (m ∷ past) all (inr h) = shut_not past all.1 h
-
-no_dr : (v : Value) → (IsDr v → ⊥) → Some (kind_of v) ≡ Some Dr → ⊥
-no_dr (disconnect n source reason user) not e = not tt
-no_dr (request x) not e = cc
-no_dr (confirm n x) not e = cc
-no_dr (disconnected n source) not e = cc
-no_dr (data0 end user) not e = cc
-no_dr (data2 n number end user) not e = cc
-no_dr (acknowledge credit n number) not e = cc
-no_dr (error n cause) not e = cc
-
-shut_now : (e : Direction) (at : ℕ) (v : Value) (c : Passed) → (takes (way_of e) v c.traffic).told.finding ≡ Broke rule.Closed →
-    (IsDr v → ⊥) → HasShut (unit_passes e at v c).past
-shut_now e at v c is not =
-    let told = (takes (way_of e) v c.traffic).told in
-    subst HasShut (sym (unit_past e at v c)) (shut_then c.past (moment e at v c) (record {
-      mark = record {
-        direction = e;
-        offset = at;
-        unit = Some (kind_of v);
-        connection = number_at told.place (then_joined e at v c);
-        cause = cause.Broke rule.Closed;
-      };
-      is = ap (λ (f : Finding). mark_by e at v (number_at told.place (then_joined e at v c)) (cause_of f)) is;
-      closed = refl;
-      unlike = no_dr v not;
-    }))
-
-shut_bad : (b : Bool) (e : Direction) (at : ℕ) (k : Cause) (c : Passed) → HasShut c.past →
-    HasShut (if b then c else marked (unread_mark e at k) (traffic.refused_reach (way_of e) c.traffic)
-    (moved (unread_moment e at k c.sessions) (record c { traffic = traffic.refused (way_of e) c.traffic }))).past
-shut_bad true e at k c h = h
-shut_bad false e at k c h =
-    subst HasShut (sym (marked_past (unread_mark e at k) (traffic.refused_reach (way_of e) c.traffic) _))
-    (shut_more c.past (unread_moment e at k c.sessions ∷ []) h)
-
-shut_claim : IsClaim (λ c. HasShut c.past)
-shut_claim = record {
-  begins = λ e c h. h;
-  passes = λ e at v c h. subst HasShut (sym (unit_past e at v c)) (shut_more c.past (moment e at v c ∷ []) h);
-  bad = λ e at k c h. shut_bad (is_some (marks_of e c).halted) e at k c h;
-}
 
 -- ---- what stays, whatever passes
-
--- of a part nothing is judged any more, or such a unit has passed
-abbrev pub IsLost : Direction → Passed → Type 0
-IsLost d c = IsPartly (other d) c ⊎ HasShut c.past
-
-lost_claim : (d : Direction) → IsClaim (IsLost d)
-lost_claim d = record {
-  begins = λ e c h. by_begins e c h;
-  passes = λ e at v c h. by_passes e at v c h;
-  bad = λ e at k c h. by_bad e at k c h;
-}
-  where
-    by_begins : (e : Direction) (c : Passed) → IsLost d c → IsLost d (packet_begins e c)
-    by_begins e c (inl p) = inl ((partly_claim (other d)).begins e c p)
-    by_begins e c (inr h) = inr (shut_claim.begins e c h)
-
-    by_passes : (e : Direction) (at : ℕ) (v : Value) (c : Passed) → IsLost d c → IsLost d (unit_passes e at v c)
-    by_passes e at v c (inl p) = inl ((partly_claim (other d)).passes e at v c p)
-    by_passes e at v c (inr h) = inr (shut_claim.passes e at v c h)
-
-    by_bad : (e : Direction) (at : ℕ) (k : Cause) (c : Passed) → IsLost d c → IsLost d (unread e at k c)
-    by_bad e at k c (inl p) = inl ((partly_claim (other d)).bad e at k c p)
-    by_bad e at k c (inr h) = inr (shut_claim.bad e at k c h)
 
 -- nothing is judged any more, and nobody of this side is to blame
 pub record IsDone (d : Direction) (c : Passed) : Type 0 where
@@ -179,15 +80,14 @@ many_or NotJudged = inr (λ e. cc e)
 many_or Outside = inr (λ e. cc e)
 many_or (Broke r) = inr (λ e. cc e)
 
-taken_then : (d : Direction) (at : ℕ) (xs : List Value) (v : Value) (c : Passed) → AreTaken d at xs c →
-    IsTaken d v (units_pass (other d) at xs c) → AreTaken d at (xs ++ v ∷ []) c
-taken_then d at [] v c h k = (k, tt)
-taken_then d at (x ∷ xs) v c h k = (h.0, taken_then d at xs v (unit_passes (other d) at x c) h.1 k)
+not_many : {f : Finding} → f ≡ Broke rule.Closed → f ≡ TooMany → ⊥
+not_many closed many = let no : Broke rule.Closed ≡ TooMany = sym closed ∙ many in cc
 
 -- ---- the steps
 
-module _ (proper : AllProper) (d : Direction) (local : Local) (fair : IsFairFrom (way_of d) (wholes.begin (calls_from d) local))
-    (Inv : (ℕ → Deeds) → Joint → Type 0) (k : KeepsNoneToBlame d local Inv) where
+module _ (proper : AllProper) (barred : Class) (d : Direction) (local : Local)
+    (fair : IsFairFrom (way_of d) (wholes.begin (calls_from d) local)) (Inv : (ℕ → Deeds) → Joint → Type 0)
+    (k : KeepsUnless barred d local Inv) where
   -- all that passes is judged
   record Goes (deeds : ℕ → Deeds) (j : Joint) : Type 0 where
     judged : IsJudged j.course
@@ -200,28 +100,29 @@ module _ (proper : AllProper) (d : Direction) (local : Local) (fair : IsFairFrom
   data Stays (deeds : ℕ → Deeds) (j : Joint) : Type 0 where
     goes : Goes deeds j → Stays deeds j
     ended : IsDone d j.course → Stays deeds j
-    lost : IsLost d j.course → Stays deeds j
+    lost : IsPartly (other d) j.course → Stays deeds j
 
   -- ---- a packet of the other side
 
   data Passing (at : ℕ) (vs : List Value) (c : Passed) : Type 0 where
-    all_taken : AreTaken d at vs c → IsJudged (units_pass (other d) at vs c) → Passing at vs c
+    all_taken : ArePassed barred d at vs c → IsJudged (units_pass (other d) at vs c) → Passing at vs c
     then_done : IsDone d (units_pass (other d) at vs c) → Passing at vs c
-    then_lost : IsLost d (units_pass (other d) at vs c) → Passing at vs c
+    then_lost : IsPartly (other d) (units_pass (other d) at vs c) → Passing at vs c
 
   module _ (deeds : ℕ → Deeds) (at : ℕ) (octets : List ℕ) (units : List Value) (old new : Joint)
       (step : Steps d (passes_other at octets units) old new) (g : Goes deeds old)
-      (not : (units_pass (other d) at units old.course).traffic.course.class ≡ Some Zero → ⊥) where
+      (not : (units_pass (other d) at units old.course).traffic.course.class ≡ Some barred → ⊥) where
     abbrev After : List Value → Passed
     After front = units_pass (other d) at front old.course
 
-    blameless : (front back : List Value) → units ≡ front ++ back → AreTaken d at front old.course → NoneIsToBlame d (After front).sessions
+    blameless : (front back : List Value) → units ≡ front ++ back → ArePassed barred d at front old.course →
+        NoneIsToBlame d (After front).sessions
     blameless front back is taken =
         k.none_amid deeds at octets front back old new (subst (λ (l : List Value). Steps d (passes_other at octets l) old new) is step)
         g.courses taken g.holds
 
     record AllSoFar (front : List Value) : Type 0 where
-      taken : AreTaken d at front old.course
+      taken : ArePassed barred d at front old.course
       judged : IsJudged (After front)
 
     module _ (front back : List Value) (v : Value) (is : units ≡ front ++ v ∷ back) (so : AllSoFar front) where
@@ -237,10 +138,10 @@ module _ (proper : AllProper) (d : Direction) (local : Local) (fair : IsFairFrom
       joined : After (front ++ v ∷ []) ≡ next
       joined = units_join (other d) at front (v ∷ []) old.course
 
-      not_yet : c.traffic.course.class ≡ Some Zero → ⊥
+      not_yet : c.traffic.course.class ≡ Some barred → ⊥
       not_yet =
-          units_not Zero (other d) at (v ∷ back) c
-          (λ is_so. not (subst (λ (l : List Value). (After l).traffic.course.class ≡ Some Zero) (sym is)
+          units_not barred (other d) at (v ∷ back) c
+          (λ is_so. not (subst (λ (l : List Value). (After l).traffic.course.class ≡ Some barred) (sym is)
           (ap (λ (x : Passed). x.traffic.course.class) (units_join (other d) at front (v ∷ back) old.course) ∙ is_so)))
 
       is_sure : Sure c
@@ -250,7 +151,7 @@ module _ (proper : AllProper) (d : Direction) (local : Local) (fair : IsFairFrom
       data One : Type 0 where
         goes_on : AllSoFar (front ++ v ∷ []) → One
         is_done : IsDone d next → One
-        is_lost : IsLost d next → One
+        is_lost : IsPartly (other d) next → One
 
       nobody : NoneIsToBlame d c.sessions
       nobody = blameless front (v ∷ back) is so.taken
@@ -266,11 +167,12 @@ module _ (proper : AllProper) (d : Direction) (local : Local) (fair : IsFairFrom
             none = none_joined (ap is_applied many);
           })
       by_mild m (inr few) =
-          let clear : IsClear c.traffic.course = record { sure = firm_so c so.judged; two = not_yet } in
           goes_on (record {
-            taken = taken_then d at front v old.course so.taken (record {
-              fine = takeable_so (other d) v c is_sure.agrees clear m;
-              clear = clear;
+            taken = passed_then barred d at front v old.course so.taken (record {
+              taken = inl (record { firm = so.judged.firm; goes = goes_so (other d) c so.judged; mild = m });
+              firm = firm_so c so.judged;
+              not = not_yet;
+              sure = is_sure;
               few = few;
             });
             judged = subst IsJudged (sym joined)
@@ -278,16 +180,32 @@ module _ (proper : AllProper) (d : Direction) (local : Local) (fair : IsFairFrom
                 ((reach_so (other d) at v c).far ∙ mild_reach v (class_for (way_of (other d)) c.traffic.course) found m few) so.judged);
           })
 
+      -- it comes after a DR of its sender
+      by_after : IsAfterDr (other d) v c → One
+      by_after after =
+          goes_on (record {
+            taken = passed_then barred d at front v old.course so.taken (record {
+              taken = inr after;
+              firm = firm_so c so.judged;
+              not = not_yet;
+              sure = is_sure;
+              few = λ many. not_many after.closed many;
+            });
+            judged = subst IsJudged (sym joined)
+                (nothing_ends (other d) at v c
+                ((reach_so (other d) at v c).far ∙ ap (reach_of (class_for (way_of (other d)) c.traffic.course)) after.closed) so.judged);
+          })
+
       by_hard : is_applied found ≡ false → IsOver next ⊎ IsPartly (other d) next → One
       by_hard unapplied (inl o) = is_done (record { over = o; none = none_joined unapplied })
-      by_hard unapplied (inr p) = is_lost (inl p)
+      by_hard unapplied (inr p) = is_lost p
 
       one_by : Sort v found → One
       one_by (is_mild m) = by_mild m (many_or found)
-      one_by (is_shut closed other_unit) = is_lost (inr (shut_now (other d) at v c closed other_unit))
+      one_by (is_shut closed other_unit) = by_after (after_dr (other d) v c closed other_unit)
       one_by (is_hard unapplied less) =
           by_hard unapplied (hard_ends (other d) at v c
-          (λ none. less (class_for (way_of (other d)) c.traffic.course) (sym (reach_so (other d) at v c).far ∙ none)) is_sure.agrees)
+          (λ none. less (class_for (way_of (other d)) c.traffic.course) (sym (reach_so (other d) at v c).far ∙ none)) (is_sure.agrees Zero))
 
       all_join : After units ≡ units_pass (other d) at back next
       all_join = ap After is ∙ units_join (other d) at front (v ∷ back) old.course
@@ -297,7 +215,8 @@ module _ (proper : AllProper) (d : Direction) (local : Local) (fair : IsFairFrom
       then_rest (is_done s) rest =
           then_done (subst (IsDone d) (sym all_join) (units_kept (IsDone d) (done_claim d) (other d) at back next s))
       then_rest (is_lost b) rest =
-          then_lost (subst (IsLost d) (sym all_join) (units_kept (IsLost d) (lost_claim d) (other d) at back next b))
+          then_lost (subst (IsPartly (other d)) (sym all_join)
+          (units_kept (IsPartly (other d)) (partly_claim (other d)) (other d) at back next b))
 
     pass_on : (back front : List Value) → units ≡ front ++ back → AllSoFar front → Passing at units old.course
     pass_on [] front is so =
@@ -322,22 +241,19 @@ module _ (proper : AllProper) (d : Direction) (local : Local) (fair : IsFairFrom
       sure = step_kept Sure sure_claim d (passes_other at octets units) old new step g.sure;
     })
     other_by (then_done s) = ended (subst (IsDone d) (sym same) s)
-    other_by (then_lost b) = lost (subst (IsLost d) (sym same) b)
+    other_by (then_lost b) = lost (subst (IsPartly (other d)) (sym same) b)
 
   -- ---- a unit of the end
 
   own_so : (deeds : ℕ → Deeds) (at : ℕ) (v : Value) (old new : Joint) → Steps d (passes_own at v) old new → Goes deeds old →
-      (old.course.traffic.course.class ≡ Some Zero → ⊥) → (new.course.traffic.course.class ≡ Some Zero → ⊥) → Stays deeds new
+      (old.course.traffic.course.class ≡ Some barred → ⊥) → (new.course.traffic.course.class ≡ Some barred → ⊥) → Stays deeds new
   own_so deeds at v old new step g was_not not = by (none_ends d at v old.course right.none g.judged)
     where
       right : IsRight d v old.course
       right = own_right d local fair at v old new step g.followed g.judged
 
-      clear : IsClear old.course.traffic.course
-      clear = record { sure = firm_so old.course g.judged; two = was_not }
-
       holds : Inv deeds new
-      holds = k.own_passes deeds at v old new step (fine_so d v old.course g.sure.agrees clear right.none) clear not g.holds
+      holds = k.own_passes deeds at v old new step right (firm_so old.course g.judged) g.sure was_not not g.holds
 
       courses : HaveCourses d deeds new
       courses = subst (HaveCourses d deeds) (sym step.4) g.courses
@@ -358,7 +274,7 @@ module _ (proper : AllProper) (d : Direction) (local : Local) (fair : IsFairFrom
 
   -- ---- each step
 
-  few_so : (deeds : ℕ → Deeds) (old : Joint) → Goes deeds old → IsWithout Zero old.course → (i : ℕ) (j : Joined) →
+  few_so : (deeds : ℕ → Deeds) (old : Joint) → Goes deeds old → IsWithout barred old.course → (i : ℕ) (j : Joined) →
       slice_get old.course.sessions.live i ≡ Some j → length (heard (spoken (other d) j)) < 2 ^ 64
   few_so deeds old g within i j here = let most = g.few i j here in let few = within.few in omega (arith, most, few)
 
@@ -375,16 +291,16 @@ module _ (proper : AllProper) (d : Direction) (local : Local) (fair : IsFairFrom
   })
 
   turn_so : (turn : Turn) (old new : Joint) (t : TakesTurn turn old new) (deeds : ℕ → Deeds)
-      (does : TurnDoes (calls_from d) deeds turn old new t) → Goes deeds old → IsWithout Zero old.course →
+      (does : TurnDoes (calls_from d) deeds turn old new t) → Goes deeds old → IsWithout barred old.course →
       Stays (all_did deeds does.of.on.more) new
   turn_so turn old new t deeds does g within =
       still_goes deeds (all_did deeds does.of.on.more) (turns turn) old new t g (subst IsJudged (sym t.course) g.judged)
       (k.turn turn old new t deeds does g.followed
       (step_followed d (wholes.begin (calls_from d) local) proper (turns turn) old new t g.followed)
-      (record { sure = firm_so old.course g.judged; two = within.not }) g.holds)
+      (firm_so old.course g.judged) within.not g.holds)
       does.of.on.course
 
-  own_begins_so : (old new : Joint) → Steps d begins_own old new → IsWithout Zero old.course → (deeds : ℕ → Deeds) → Goes deeds old →
+  own_begins_so : (old new : Joint) → Steps d begins_own old new → IsWithout barred old.course → (deeds : ℕ → Deeds) → Goes deeds old →
       Stays deeds new
   own_begins_so old new step within deeds g =
       still_goes deeds deeds begins_own old new step g
@@ -399,16 +315,16 @@ module _ (proper : AllProper) (d : Direction) (local : Local) (fair : IsFairFrom
       (k.other_begins deeds old new step g.holds) (subst (HaveCourses d deeds) (sym step) g.courses)
 
   -- what passes
-  tap_so : (step : Step) → IsOfTap step → (old new : Joint) → Steps d step old new → IsWithout Zero new.course → (deeds : ℕ → Deeds) →
+  tap_so : (step : Step) → IsOfTap step → (old new : Joint) → Steps d step old new → IsWithout barred new.course → (deeds : ℕ → Deeds) →
       Goes deeds old → Stays deeds new
   tap_so (turns turn) tap old new t within deeds g = absurd tap
   tap_so begins_own tap old new step within deeds g =
-      own_begins_so old new step (step_without Zero d begins_own old new step within) deeds g
+      own_begins_so old new step (step_without barred d begins_own old new step within) deeds g
   tap_so begins_other tap old new step within deeds g = other_begins_so old new step deeds g
   tap_so (passes_own at v) tap old new step within deeds g =
-      own_so deeds at v old new step g (step_without Zero d (passes_own at v) old new step within).not within.not
+      own_so deeds at v old new step g (step_without barred d (passes_own at v) old new step within).not within.not
   tap_so (passes_other at octets units) tap old new step within deeds g =
-      let not : (units_pass (other d) at units old.course).traffic.course.class ≡ Some Zero → ⊥ =
+      let not : (units_pass (other d) at units old.course).traffic.course.class ≡ Some barred → ⊥ =
       λ is_so. within.not (ap (λ (j : Joint). j.course.traffic.course.class) step.2 ∙ is_so) in
       other_by deeds at octets units old new step g not (passed deeds at octets units old new step g not)
 
@@ -417,29 +333,30 @@ module _ (proper : AllProper) (d : Direction) (local : Local) (fair : IsFairFrom
       (Goes deeds old → Stays then_deeds new) → Stays deeds old → Stays then_deeds new
   step_stays step deeds then_deeds old new does on (goes g) = on g
   step_stays step deeds then_deeds old new does on (ended s) = ended (step_kept (IsDone d) (done_claim d) d step old new does s)
-  step_stays step deeds then_deeds old new does on (lost b) = lost (step_kept (IsLost d) (lost_claim d) d step old new does b)
+  step_stays step deeds then_deeds old new does on (lost b) =
+      lost (step_kept (IsPartly (other d)) (partly_claim (other d)) d step old new does b)
 
-  tap_stays : (step : Step) → IsOfTap step → (deeds : ℕ → Deeds) (old new : Joint) → Steps d step old new → IsWithout Zero new.course →
+  tap_stays : (step : Step) → IsOfTap step → (deeds : ℕ → Deeds) (old new : Joint) → Steps d step old new → IsWithout barred new.course →
       Stays deeds old → Stays deeds new
   tap_stays step tap deeds old new does within s =
       step_stays step deeds deeds old new does (λ g. tap_so step tap old new does within deeds g) s
 
-  along_within : (steps : List Step) (old new : Joint) → StepsAlong d old steps new → IsWithout Zero new.course →
-      IsWithout Zero old.course
-  along_within [] old new is h = subst (λ (j : Joint). IsWithout Zero j.course) is h
-  along_within (step ∷ steps) old new (mid, one, more) h = step_without Zero d step old mid one (along_within steps mid new more h)
+  along_within : (steps : List Step) (old new : Joint) → StepsAlong d old steps new → IsWithout barred new.course →
+      IsWithout barred old.course
+  along_within [] old new is h = subst (λ (j : Joint). IsWithout barred j.course) is h
+  along_within (step ∷ steps) old new (mid, one, more) h = step_without barred d step old mid one (along_within steps mid new more h)
 
   abbrev Stood : Joint → Type 0
   Stood j = (deeds : ℕ → Deeds) × Stays deeds j
 
   along_so : (steps : List Step) (deeds : ℕ → Deeds) (old new : Joint) (along : StepsAlong d old steps new) →
-      StepsDo d (calls_from d) deeds old steps new along → IsWithout Zero new.course → Stays deeds old → Stood new
+      StepsDo d (calls_from d) deeds old steps new along → IsWithout barred new.course → Stays deeds old → Stood new
   along_so [] deeds old new is does within s = (deeds, subst (Stays deeds) (sym is) s)
   along_so (turns turn ∷ steps) deeds old new (mid, t, more) (does, rest) within s =
       let now = along_within steps mid new more within in
       along_so steps (all_did deeds does.of.on.more) mid new more rest within
       (step_stays (turns turn) deeds (all_did deeds does.of.on.more) old mid t
-      (λ g. turn_so turn old mid t deeds does g (subst (IsWithout Zero) t.course now)) s)
+      (λ g. turn_so turn old mid t deeds does g (subst (IsWithout barred) t.course now)) s)
   along_so (begins_own ∷ steps) deeds old new (mid, one, more) does within s =
       along_so steps deeds mid new more does within (tap_stays begins_own tt deeds old mid one (along_within steps mid new more within) s)
   along_so (passes_own at v ∷ steps) deeds old new (mid, one, more) does within s =
@@ -465,7 +382,7 @@ module _ (proper : AllProper) (d : Direction) (local : Local) (fair : IsFairFrom
 
   -- nobody is to blame, or not all is judged
   abbrev pub EndsWell : Passed → Type 0
-  EndsWell c = NoneIsToBlame d c.sessions ⊎ IsLost d c
+  EndsWell c = NoneIsToBlame d c.sessions ⊎ IsPartly (other d) c
 
   ends_so : (j : Joint) → Stood j → EndsWell j.course
   ends_so j (deeds, goes g) = inl (k.none deeds j g.courses g.holds)
@@ -477,43 +394,43 @@ module _ (proper : AllProper) (d : Direction) (local : Local) (fair : IsFairFrom
     abbrev bad : Passed
     bad = unread (other d) at cause_is j.course
 
-    unread_by : NoneIsToBlame d j.course.sessions → IsOver bad ⊎ IsPartly (other d) bad → IsDone d bad ⊎ IsLost d bad
+    unread_by : NoneIsToBlame d j.course.sessions → IsOver bad ⊎ IsPartly (other d) bad → IsDone d bad ⊎ IsPartly (other d) bad
     unread_by none (inl o) =
         inl (record { over = o; none = subst (NoneIsToBlame d) (sym (unread_sessions (other d) at cause_is j.course)) none })
-    unread_by none (inr p) = inr (inl p)
+    unread_by none (inr p) = inr p
 
-    unread_so : Stood j → IsDone d bad ⊎ IsLost d bad
+    unread_so : Stood j → IsDone d bad ⊎ IsPartly (other d) bad
     unread_so (deeds, goes g) =
-        unread_by (k.none deeds j g.courses g.holds) (unread_ends (other d) at cause_is j.course g.judged g.sure.agrees)
+        unread_by (k.none deeds j g.courses g.holds) (unread_ends (other d) at cause_is j.course g.judged (g.sure.agrees Zero))
     unread_so (deeds, ended s) = inl ((done_claim d).bad (other d) at cause_is j.course s)
-    unread_so (deeds, lost b) = inr ((lost_claim d).bad (other d) at cause_is j.course b)
+    unread_so (deeds, lost b) = inr ((partly_claim (other d)).bad (other d) at cause_is j.course b)
 
-  after_bad : (capture : Capture) (s : tapping.State) → IsDone d s.course ⊎ IsLost d s.course → EndsWell (after capture s).course
+  after_bad : (capture : Capture) (s : tapping.State) → IsDone d s.course ⊎ IsPartly (other d) s.course → EndsWell (after capture s).course
   after_bad capture s (inl h) = let last = after_kept (IsDone d) (done_claim d) capture s h in inl last.none
-  after_bad capture s (inr b) = inr (after_kept (IsLost d) (lost_claim d) capture s b)
+  after_bad capture s (inr b) = inr (after_kept (IsPartly (other d)) (partly_claim (other d)) capture s b)
 
   bad_so : (capture : Capture) (j : Joint) → TurnsBad d capture j.course → Stood j → EndsWell (comes_to capture).course
   bad_so capture j t stays =
       let join = ap (λ (x : Capture). comes_to x) t.parts ∙ after_join t.front t.back tapping.begin in
       subst (λ (s : tapping.State). EndsWell s.course) (sym join)
       (after_bad t.back (comes_to t.front)
-      (subst (λ (c : Passed). IsDone d c ⊎ IsLost d c) (sym t.unreadable) (unread_so t.at t.cause j stays)))
+      (subst (λ (c : Passed). IsDone d c ⊎ IsPartly (other d) c) (sym t.unreadable) (unread_so t.at t.cause j stays)))
 
-  bad_within : (capture : Capture) (c : Passed) → TurnsBad d capture c → IsWithout Zero (comes_to capture).course → IsWithout Zero c
+  bad_within : (capture : Capture) (c : Passed) → TurnsBad d capture c → IsWithout barred (comes_to capture).course → IsWithout barred c
   bad_within capture c t h =
       let join = ap (λ (x : Capture). comes_to x) t.parts ∙ after_join t.front t.back tapping.begin in
-      unread_without Zero (other d) t.at t.cause c (subst (IsWithout Zero) t.unreadable
-      (after_without Zero t.back (comes_to t.front) (subst (λ (s : tapping.State). IsWithout Zero s.course) join h)))
+      unread_without barred (other d) t.at t.cause c (subst (IsWithout barred) t.unreadable
+      (after_without barred t.back (comes_to t.front) (subst (λ (s : tapping.State). IsWithout barred s.course) join h)))
 
   pub ends_well : (h : Holding) (capture : Capture) → IsFresh (calls_from d) local h → ComesByDoing d (calls_from d) capture h →
-      IsWithout Zero (comes_to capture).course → EndsWell (comes_to capture).course
+      IsWithout barred (comes_to capture).course → EndsWell (comes_to capture).course
   ends_well h capture fresh comes within = by comes.all
     where
-      at_last : IsWithout Zero comes.last.course → Stood comes.last
+      at_last : IsWithout barred comes.last.course → Stood comes.last
       at_last w = along_so comes.steps (λ r. no_deeds) (begin h) comes.last comes.along comes.does w (stays_first h fresh)
 
       by : ((comes_to capture).course ≡ comes.last.course) ⊎ TurnsBad d capture comes.last.course → EndsWell (comes_to capture).course
-      by (inl is) = subst EndsWell (sym is) (ends_so comes.last (at_last (subst (IsWithout Zero) is within)))
+      by (inl is) = subst EndsWell (sym is) (ends_so comes.last (at_last (subst (IsWithout barred) is within)))
       by (inr bad) = bad_so capture comes.last bad (at_last (bad_within capture comes.last.course bad within))
 
 -- ---- in the end
@@ -521,11 +438,10 @@ module _ (proper : AllProper) (d : Direction) (local : Local) (fair : IsFairFrom
 differ : {A : Type 0} (b : Bool) → b ≡ true → b ≡ false → A
 differ b h k = absurd (cc)
 
--- all is judged, or nothing any more; and nobody sends a DT or an AK on what it has closed
-pub nobody_of_well : (d : Direction) (c : Passed) → NoneIsToBlame d c.sessions ⊎ IsLost d c → IsJudgedWhole d c →
-    AllByRecursion (λ (m : Moment). ClosesLast m.mark) c.past → NoneIsToBlame d c.sessions
-nobody_of_well d c (inl none) whole last = none
-nobody_of_well d c (inr (inl (inl loose))) whole last = differ c.traffic.course.loose loose whole.firm
-nobody_of_well d c (inr (inl (inr (zero, stop)))) whole last =
+-- all is judged, or nothing any more
+pub nobody_of_well : (d : Direction) (c : Passed) → NoneIsToBlame d c.sessions ⊎ IsPartly (other d) c → IsJudgedWhole d c →
+    NoneIsToBlame d c.sessions
+nobody_of_well d c (inl none) whole = none
+nobody_of_well d c (inr (inl loose)) whole = differ c.traffic.course.loose loose whole.firm
+nobody_of_well d c (inr (inr (zero, stop))) whole =
     differ (is_stopped (way_of (other d)) c.traffic.course) stop (whole.both zero)
-nobody_of_well d c (inr (inr h)) whole last = absurd (shut_not c.past last h)

@@ -1,5 +1,5 @@
--- Until class 2 is selected, and nobody has broken a rule, no session of a calling end is to blame at a tap: at each step, and after each
--- unit of a packet of the other side. For the law that no session of an end is blamed first, in class 0.
+-- Until class 2 is selected no session of a calling end is to blame at a tap, as long as all is judged: at each step, and after each unit
+-- of a packet of the other side. For the laws that no session of an end is blamed first, nor after a break, in class 0.
 use Rattle.osi_watched.proofs.Vocabulary.{List, true, ℕ, ◌++◌, units_fit, units_found, HasFieldsInRange, Value, Local, AsSent, AsParts}
 use Rattle.osi_watched.proofs.Vocabulary.{CalledLaw, CallerLaw, Left, Right, Deeds, units_in, units_pass, Joint, passes_other, Steps}
 use Rattle.osi_honest.specs.Courses.{Course}

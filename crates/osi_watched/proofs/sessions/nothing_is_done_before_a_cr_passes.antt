@@ -30,7 +30,8 @@ use Rattle.osi_watched.proofs.steps_are_events.{IsFollowed}
 use Rattle.osi_watched.proofs.sessions.a_turn_does_what_its_deeds_say.{turn_uses}
 use Rattle.osi_watched.proofs.sessions.connections_have_the_same_places.{at_same}
 use Rattle.osi_watched.proofs.sessions.each_cr_that_passes_gives_a_new_reference.{AreUpTo}
-use Rattle.osi_watched.proofs.sessions.what_is_in_flight_to_an_end.{known_of, parts_taken}
+use Rattle.osi_watched.proofs.sessions.what_is_in_flight_to_an_end.{parts_taken}
+use Rattle.osi_watched.proofs.sessions.what_is_left_for_an_end.{AreLeft, known_left, left_empty}
 use Rattle.osi_watched.proofs.sessions.what_passes_leaves_all_standing.{IsReady}
 use Rattle.osi_watched.proofs.sessions.what_stands_of_a_connection.{Known, is_for, waiting_for}
 
@@ -220,7 +221,7 @@ may_take c r = is_under_way (stage_at r c)
 
 -- of the references that an end gives this is known
 abbrev pub known_from : (ℕ → Bool) → List Value → Known
-known_from is_live coming r later = (0 < r) × known_of is_live coming r later
+known_from is_live coming r later = (0 < r) × known_left is_live coming r later
 
 -- nothing is done there, and none of the units in flight is for it unless the end is over
 pub cr_ready : (b : ℕ) (deeds : ℕ → Deeds) (c : Carrier) (x : Connect) (coming rest : List Value) (s : State) (t : Sessions) →
@@ -234,8 +235,8 @@ cr_ready b deeds c x coming rest s t less u none =
     over_not : {A : Type 0} (z : Stage) → z ≡ past → is_under_way z ≡ true → A
     over_not z e h = absurd (let gone : is_under_way z ≡ false = ap is_under_way e in cc)
 
-    by : (o : Option EndReason) → c.ended ≡ o → may_take c x.source ≡ true → [] ≡ parts_of (waiting_for (Some x.source) coming)
-    by None lasts live = sym (ap parts_of (none lasts))
+    by : (o : Option EndReason) → c.ended ≡ o → may_take c x.source ≡ true → AreLeft x.source coming []
+    by None lasts live = left_empty x.source coming (none lasts)
     by (Some reason) over live = over_not (stage_at x.source c) (stage_over x.source c (ap is_some over)) live
 
 -- as the whole end says of a CR that it has put

@@ -11,7 +11,7 @@ use Rattle.osi_fair.proofs.small_facts_that_many_lemmas_use.{number_is}
 use Rattle.osi_watched.proofs.sessions.all_connections_stand.{map_of}
 use Rattle.osi_watched.proofs.sessions.right_units_leave_all_standing.{StaysElsewhere}
 use Rattle.osi_watched.proofs.sessions.what_a_tap_shows_goes_on.{named_added}
-use Rattle.osi_watched.proofs.sessions.what_is_in_flight_to_an_end.{flight_stays, known_of}
+use Rattle.osi_watched.proofs.sessions.what_is_left_for_an_end.{known_left, left_stays}
 use Rattle.osi_watched.proofs.sessions.what_a_unit_does_at_its_place.{Does, asks_again, asks_more, nowhere, somewhere, unit_does}
 use Rattle.osi_watched.proofs.sessions.what_stands_of_a_connection.{named_begun}
 
@@ -166,12 +166,12 @@ unit_distinct d e at v s t places h new rooms = distinct_by d e at v s t h new r
 pub stays_so : (d : Direction) (is_live : ℕ → Bool) (coming : List Value) (n number : ℕ) (end : Bool) (user : List ℕ) (s : State)
     (t : Sessions) (p : ℕ) (k : Joined) → AreDistinct d t → slice_get t.live p ≡ Some k → reference_of d k ≡ Some n →
     (takes (way_of (other d)) (data2 n number end user) s).told.place ≡ Some p →
-    StaysElsewhere d (known_of is_live coming) (known_of is_live (coming ++ data2 n number end user ∷ [])) (data2 n number end user) s t
+    StaysElsewhere d (known_left is_live coming) (known_left is_live (coming ++ data2 n number end user ∷ [])) (data2 n number end user) s t
 stays_so d is_live coming n number end user s t p k h there named place = record {
   live = λ q i j apart told here r later is sure.
-      flight_stays is_live coming n number end user r later
+      left_stays is_live coming n number end user r later
       (λ same. apart (h.live i p j k r here there is (named ∙ ap (λ (m : ℕ). Some m) same) ∙ number_is p q (sym place ∙ told))) sure;
   done = λ i j here r later is sure.
-      flight_stays is_live coming n number end user r later
+      left_stays is_live coming n number end user r later
       (λ same. h.done p i k j r there here (named ∙ ap (λ (m : ℕ). Some m) same) is) sure;
 }

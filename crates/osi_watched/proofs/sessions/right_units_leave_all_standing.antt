@@ -114,7 +114,7 @@ pub data IsLink (v : Value) (n : ℕ) : Type 0 where
   dt : (number : ℕ) (end : Bool) (user : List ℕ) → v ≡ data2 n number end user → IsLink v n
   ak : (credit number : ℕ) → v ≡ acknowledge credit n number → IsLink v n
 
-link_names : (v : Value) (n : ℕ) → IsLink v n → destination_of v ≡ Some n
+pub link_names : (v : Value) (n : ℕ) → IsLink v n → destination_of v ≡ Some n
 link_names v n (dt number end user is) = ap destination_of is
 link_names v n (ak credit number is) = ap destination_of is
 
@@ -244,7 +244,7 @@ own_close d deeds known at v rest s t a plain not_for no_cr = record {
 
 -- ---- units of the other side
 
-other_twice : (d : Direction) (j : Joined) → reference_of (other (other d)) j ≡ reference_of d j
+pub other_twice : (d : Direction) (j : Joined) → reference_of (other (other d)) j ≡ reference_of d j
 other_twice Left j = refl
 other_twice Right j = refl
 

@@ -15,7 +15,7 @@ use Rattle.osi_tap.specs.Lines.{heard}
 use Rattle.osi_watched.specs.Joint.{Joint, Steps, TakesTurn, begins_other, begins_own, passes_other, passes_own}
 use Rattle.osi_watched.specs.Shown.{calls_from}
 use Rattle.osi_watched.proofs.the_first_break_is_not_of_an_end.{IsNoBreak}
-use Rattle.osi_watched.proofs.what_a_taker_passes_over.{IsMild, mild_of}
+use Rattle.osi_watched.proofs.what_a_taker_passes_over.{IsMild}
 use Rattle.osi_watched.proofs.sessions.a_turn_leaves_all_standing.{Turns, all_turn}
 use Rattle.osi_watched.proofs.sessions.all_connections_stand.{AllStand, all_begin_other, all_begin_own}
 use Rattle.osi_watched.proofs.sessions.what_passes_leaves_all_standing.{IsHeard, IsReady, other_stands, own_stands}
@@ -38,14 +38,6 @@ pub record IsTakeable (d : Direction) (v : Value) (c : Passed) : Type 0 where
   pub goes : is_stopped (way_of d) c.traffic.course ≡ false
   pub two : class_for (way_of d) c.traffic.course ≢ Some Zero
   pub none : IsMild v (takes (way_of d) v c.traffic).told.finding
-
-pub takeable_of : (d : Direction) (v : Value) (c : Passed) → IsFine d v c → IsTakeable d v c
-takeable_of d v c fine = record {
-  firm = fine.firm;
-  goes = fine.goes;
-  two = fine.two;
-  none = mild_of v (takes (way_of d) v c.traffic).told.finding fine.none;
-}
 
 module _ (d : Direction) (deeds : ℕ → Deeds) (known : Known) where
   pub step_begins_own : (old new : Joint) → Steps d begins_own old new →

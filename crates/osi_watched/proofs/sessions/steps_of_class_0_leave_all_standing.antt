@@ -57,7 +57,8 @@ units_stand d deeds put b at _ _ _ _ (two_heard known mid then_known v vs c fine
     (mild_of v (takes (way_of (other d)) v c.traffic).told.finding fine.none) heard a)
 units_stand d deeds put b at _ _ _ _ (zero_heard known mid then_known v vs c fine heard more) a =
     units_stand d deeds put b at mid then_known vs (unit_passes (other d) at v c) more
-    (other_stands d deeds known mid at v put b c fine.zero fine.none heard a)
+    (other_stands d deeds known mid at v put b c fine.zero
+    (mild_of v (takes (way_of (other d)) v c.traffic).told.finding fine.none) heard a)
 
 pub zero_passes_other : (d : Direction) (deeds : ℕ → Deeds) (known then_known : Known) (at : ℕ) (packet : List ℕ) (units : List Value)
     (old new : Joint) → Steps d (passes_other at packet units) old new → HeardToo d old.put at known then_known units old.course →

@@ -18,7 +18,7 @@ use Rattle.osi_tap.specs.Courses.{Course as Passed, unit_passes, units_pass, way
 use Rattle.osi_watched.specs.Joint.{Joint, Steps, passes_other, passes_own}
 use Rattle.osi_watched.specs.Shown.{calls_from}
 use Rattle.osi_watched.proofs.the_first_break_is_not_of_an_end.{IsNoBreak}
-use Rattle.osi_watched.proofs.what_a_taker_passes_over.{mild_of}
+use Rattle.osi_watched.proofs.what_a_taker_passes_over.{IsMild, mild_of}
 use Rattle.osi_watched.proofs.what_a_unit_leaves_at_a_tap.{IsCalm}
 use Rattle.osi_watched.proofs.sessions.a_dt_of_class_0_leaves_all_standing as zero
 use Rattle.osi_watched.proofs.sessions.a_dt_of_class_0_leaves_all_standing.{IsHeardZero}
@@ -37,11 +37,17 @@ pub record IsRight (d : Direction) (v : Value) (c : Passed) : Type 0 where
   pub goes : is_stopped (way_of d) c.traffic.course ≡ false
   pub none : IsNoBreak (takes (way_of d) v c.traffic).told.finding
 
+-- and it is one that its taker passes over, if it is a break
+pub record IsTolerable (d : Direction) (v : Value) (c : Passed) : Type 0 where
+  pub firm : c.traffic.course.loose ≡ false
+  pub goes : is_stopped (way_of d) c.traffic.course ≡ false
+  pub mild : IsMild v (takes (way_of d) v c.traffic).told.finding
+
 -- a side knows class 0, or not
 abbrev pub InZero : Direction → Passed → Type 0
 InZero d c = class_for (way_of d) c.traffic.course ≡ Some Zero
 
-zero_by : {A : Type 0} (k : Option Class) → (k ≡ Some Zero → A) → ((k ≡ Some Zero → ⊥) → A) → A
+pub zero_by : {A : Type 0} (k : Option Class) → (k ≡ Some Zero → A) → ((k ≡ Some Zero → ⊥) → A) → A
 zero_by (Some Zero) f g = f refl
 zero_by (Some Two) f g = g (λ h. cc h)
 zero_by None f g = g (λ h. cc h)
@@ -87,8 +93,8 @@ other_stands : (d : Direction) (deeds : ℕ → Deeds) (known then_known : Known
     AllStand d deeds then_known put b (unit_passes (other d) at v c).traffic (unit_passes (other d) at v c).sessions
 other_stands d deeds known then_known at v put b c sure r heard_zero heard a =
     zero_by (class_for (way_of (other d)) c.traffic.course)
-    (λ h. zero.other_stands d deeds known then_known at v put b c (is_zero (other d) c.traffic sure r.firm r.goes h) r.none
-    (heard_zero h) a)
+    (λ h. zero.other_stands d deeds known then_known at v put b c (is_zero (other d) c.traffic sure r.firm r.goes h)
+    (mild_of v (takes (way_of (other d)) v c.traffic).told.finding r.none) (heard_zero h) a)
     (λ not. two.other_stands d deeds known then_known at v put b c r.firm r.goes not
     (mild_of v (takes (way_of (other d)) v c.traffic).told.finding r.none) (heard not) a)
 

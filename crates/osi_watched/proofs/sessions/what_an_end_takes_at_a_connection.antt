@@ -1,11 +1,10 @@
 -- What an end takes in a turn at a connection is the first of what is in flight to it: all that is for it from the time at which it opens.
 -- For all connections of an end and a tap.
-use Rattle.osi_watched.proofs.Vocabulary.{[], ap, append_assoc, Bool, if◌then◌else◌, List, refl, Some, ℕ, ◌++◌, ◌∙◌, ◌∷◌, ◌≡◌, append-nil}
-use Rattle.osi_watched.proofs.Vocabulary.{data0, Value, all_units_more, units_more, TakesAll, all_units, Marked, units_at, parts_of}
+use Rattle.osi_watched.proofs.Vocabulary.{[], ap, Bool, if◌then◌else◌, List, refl, Some, ℕ, ◌++◌, ◌∙◌, ◌∷◌, ◌≡◌, append-nil}
+use Rattle.osi_watched.proofs.Vocabulary.{data0, Value, units_more, TakesAll, all_units, Marked, units_at}
 use Rattle.osi_honest.specs.Arriving.{AreApart}
 use Rattle.osi_honest.specs.Arriving as arriving
 use Rattle.osi_watched.proofs.sessions.what_a_turn_puts_waits.{Agree, marks_wait}
-use Rattle.osi_watched.proofs.sessions.what_is_in_flight_to_an_end.{in_flight, in_flight_more}
 use Rattle.osi_watched.proofs.sessions.what_stands_of_a_connection.{is_for, waiting_for}
 
 -- the end and the tap say alike for which connection a unit is
@@ -32,16 +31,3 @@ during_taken r took before during after is early takes apart =
     ∙ units_more r during after
     ∙ (λ i. marks_wait r (Some r) during (takes_agree r during takes) i ++ apart_none r after apart i)
     ∙ append-nil (waiting_for (Some r) (all_units during))
-
--- what is in flight comes after the unit with which the connection opens
-pub after_opening : (r : ℕ) (took before during after : List Marked) (coming : List Value) → took ≡ before ++ (during ++ after) →
-    waiting_for (Some r) (all_units before) ≡ [] →
-    in_flight r (all_units took ++ coming) ≡ in_flight r (all_units during ++ (all_units after ++ coming))
-after_opening r took before during after coming is early =
-    ap (λ (l : List Marked). in_flight r (all_units l ++ coming)) is
-    ∙ ap (λ (l : List Value). in_flight r (l ++ coming)) (all_units_more before (during ++ after))
-    ∙ ap (in_flight r) (append_assoc (all_units before) (all_units (during ++ after)) coming)
-    ∙ in_flight_more r (all_units before) (all_units (during ++ after) ++ coming)
-    ∙ ap (λ (l : List Value). parts_of l ++ in_flight r (all_units (during ++ after) ++ coming)) early
-    ∙ ap (λ (l : List Value). in_flight r (l ++ coming)) (all_units_more during after)
-    ∙ ap (in_flight r) (append_assoc (all_units during) (all_units after) coming)

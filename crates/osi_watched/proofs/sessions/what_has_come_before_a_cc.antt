@@ -37,6 +37,7 @@ use Rattle.osi_fair.specs.Wholes.{Whole}
 use Rattle.osi_fair.specs.Wholes as wholes
 use Rattle.osi_fair.proofs.a_calling_end_is_fair_in_class_2.{Joined as Follows, next_joined}
 use Rattle.osi_fair.proofs.a_dr_for_what_is_gone.{before_clear}
+use Rattle.osi_fair.proofs.all_are_judged_unless_one_broke.{AreJudged}
 use Rattle.osi_fair.proofs.each_connection_has_its_line.{Followed, IsAnswer, Tracked, all_so, is_tracked}
 use Rattle.osi_fair.proofs.no_two_open_connections_have_one_peer.{both, differ, left_open}
 use Rattle.osi_fair.proofs.what_becomes_of_a_connection.{IsIdle, Told, comes_for}
@@ -58,14 +59,16 @@ use Rattle.osi_watched.specs.ShownPlaces.{HaveSamePlaces, IsOneOf, named_by}
 use Rattle.osi_watched.proofs.a_carrier_does_events.{none_of}
 use Rattle.osi_watched.proofs.steps_are_events.{IsFollowed, own_first}
 use Rattle.osi_watched.proofs.what_a_taker_passes_over.{IsDr, IsMild}
-use Rattle.osi_watched.proofs.sessions.a_calling_end_hears_what_breaks_no_rule.{AreFine}
-use Rattle.osi_watched.proofs.sessions.a_calling_end_is_ready.{IsCalling, first, right_plain, whole_joined}
+use Rattle.osi_watched.proofs.sessions.a_calling_end_hears_what_breaks_no_rule.{AreFine, one_plain}
+use Rattle.osi_watched.proofs.sessions.a_calling_end_is_ready.{IsCalling, first, whole_joined}
 use Rattle.osi_watched.proofs.sessions.a_calling_end_takes_nothing_before_its_cc.{AwaitsCc, awaits_cc}
 use Rattle.osi_watched.proofs.sessions.a_calling_end_takes_what_is_in_flight.{early_lasts, given_so}
 use Rattle.osi_watched.proofs.sessions.a_turn_does_what_its_deeds_say.{turn_leaves, units_join}
+use Rattle.osi_watched.proofs.sessions.a_unit_after_a_dr_changes_nothing.{IsAfterDr, is_there}
 use Rattle.osi_watched.proofs.sessions.a_unit_is_joined_where_it_is_named.{named_there, names_there}
-use Rattle.osi_watched.proofs.sessions.connections_have_the_same_places.{unit_knows}
+use Rattle.osi_watched.proofs.sessions.connections_have_the_same_places.{Agree, unit_agrees, unit_knows}
 use Rattle.osi_watched.proofs.sessions.nothing_is_done_before_a_cr_passes.{IsNoZero, same_units}
+use Rattle.osi_watched.proofs.sessions.right_units_leave_all_standing.{IsLink, link_names}
 use Rattle.osi_watched.proofs.sessions.steps_leave_all_standing.{IsTakeable}
 use Rattle.osi_watched.proofs.sessions.what_a_turn_puts_goes_to_its_peer.{all_front, one_of}
 use Rattle.osi_watched.proofs.sessions.what_a_unit_does_at_its_place.{Does, asks_again, asks_more, nowhere, somewhere, unit_does}
@@ -321,18 +324,9 @@ no_dc : {A : Type 0} (r m source : ℕ) (v : Value) → IsForOne r v → v ≡ d
 no_dc r m source v (a_dt number end user is) e = absurd (cc (sym is ∙ e))
 no_dc r m source v (an_ak credit number is) e = absurd (cc (sym is ∙ e))
 
-module _ (local : Local) (v : Value) (ranges : HasFieldsInRange v) (w : Whole) (j : Follows local w)
-    (none : IsMild v (takes way.Right v w.tap).told.finding) (zero : IsNoZero v) (clear : IsClear w.tap.course)
+module _ (local : Local) (v : Value) (w : Whole) (j : Follows local w)
+    (none : IsMild v (takes way.Right v w.tap).told.finding) (clear : IsClear w.tap.course)
     (then_clear : IsClear (takes way.Right v w.tap).state.course) (q : IsQuiet w.end w.coming w.tap) where
-  abbrev other_after : Whole
-  other_after = record w { tap = (takes way.Right v w.tap).state; coming = w.coming ++ v ∷ [] }
-
-  other_joined : Follows local other_after
-  other_joined = next_joined local (wholes.passes_other v) w other_after (ranges, refl) j
-
-  other_still : (r : ℕ) → MayOpen w.end r → Tracked w.tap.connections r → Tracked other_after.tap.connections r
-  other_still = still_tracked local w other_after (v ∷ []) j other_joined clear then_clear refl refl
-
   -- the connection that a DT or an AK names has its CC
   named_there_by : (r : ℕ) → MayOpen w.end r → IsForOne r v → (t : Told v w.tap (takes way.Right v w.tap)) → (opened : Bool) →
       is_open t.c.left.phase ≡ opened → t.c.left.reference ≡ r → is_open t.c.right.phase ≡ true → Tracked w.tap.connections r
@@ -361,6 +355,56 @@ module _ (local : Local) (v : Value) (ranges : HasFieldsInRange v) (w : Whole) (
   tracked_now r may one =
       tracked_of r may one (comes_for w.tap clear.sure.firm v clear.sure.left clear.sure.right (j.followed clear).zero then_clear.sure)
 
+-- one that right is closing has its CC too, if it may open
+pub closing_tracked : (end : Carrier) (coming : List Value) (s : State) → IsQuiet end coming s → (i : ℕ) (c : Connection) →
+    slice_get s.connections i ≡ Some c → is_closing c.right.phase ≡ true → MayOpen end c.left.reference →
+    Tracked s.connections c.left.reference
+closing_tracked end coming s q i c at closing may = by (is_open c.left.phase) refl
+  where
+    or_so : (b : Bool) → (b || is_closing c.right.phase) ≡ true
+    or_so true = refl
+    or_so false = closing
+
+    by : (b : Bool) → is_open c.left.phase ≡ b → Tracked s.connections c.left.reference
+    by true e = (
+      i,
+      c,
+      at,
+      both (is_open c.left.phase) (is_open c.right.phase || is_closing c.right.phase) e (or_so (is_open c.right.phase)),
+      refl,
+    )
+    by false e = absurd (q.closed i c at e may)
+
+link_one : (r n : ℕ) (v : Value) → IsLink v n → IsForOne r v → n ≡ r
+link_one r n v link one = same_name (destination_of v) n r (link_names v n link) (destination_is r v one)
+
+-- so it has if a DT or an AK for it comes after a DR
+after_tracked : (end : Carrier) (coming : List Value) (v : Value) (c : Course) → IsAfterDr Right v c →
+    IsQuiet end coming c.traffic → AreJudged c.traffic → c.traffic.course.loose ≡ false →
+    HaveSamePlaces c.traffic.connections c.sessions.live → (r : ℕ) → MayOpen end r → IsForOne r v → Tracked c.traffic.connections r
+after_tracked end coming v c after q judged firm places r may one =
+    let p = is_there Right 0 v c after judged firm places in
+    let same : p.connection.left.reference ≡ r =
+    same_one p.connection.left.reference r (ap (λ (n : ℕ). Some n) (sym p.one.calling) ∙ p.named
+    ∙ ap (λ (n : ℕ). Some n) (link_one r after.n v after.link one)) in
+    subst (Tracked c.traffic.connections) same
+    (closing_tracked end coming c.traffic q p.place p.connection p.there p.closing (subst (MayOpen end) (sym same) may))
+  where
+    same_one : (m n : ℕ) → Some m ≡ Some n → m ≡ n
+    same_one m n e = cc
+
+module _ (local : Local) (v : Value) (ranges : HasFieldsInRange v) (w : Whole) (j : Follows local w) (zero : IsNoZero v)
+    (clear : IsClear w.tap.course) (then_clear : IsClear (takes way.Right v w.tap).state.course) (q : IsQuiet w.end w.coming w.tap)
+    (now : (r : ℕ) → MayOpen w.end r → IsForOne r v → Tracked w.tap.connections r) where
+  abbrev other_after : Whole
+  other_after = record w { tap = (takes way.Right v w.tap).state; coming = w.coming ++ v ∷ [] }
+
+  other_joined : Follows local other_after
+  other_joined = next_joined local (wholes.passes_other v) w other_after (ranges, refl) j
+
+  other_still : (r : ℕ) → MayOpen w.end r → Tracked w.tap.connections r → Tracked other_after.tap.connections r
+  other_still = still_tracked local w other_after (v ∷ []) j other_joined clear then_clear refl refl
+
   other_before : (r : ℕ) → MayOpen w.end r → Tracked w.tap.connections r ⊎ (waiting_for (Some r) w.coming ≡ []) →
       Tracked other_after.tap.connections r ⊎ (waiting_for (Some r) (w.coming ++ v ∷ []) ≡ [])
   other_before r may (inl tracked) = inl (other_still r may tracked)
@@ -369,7 +413,7 @@ module _ (local : Local) (v : Value) (ranges : HasFieldsInRange v) (w : Whole) (
       by : (b : Bool) → is_for (Some r) v ≡ b →
           Tracked other_after.tap.connections r ⊎ (waiting_for (Some r) (w.coming ++ v ∷ []) ≡ [])
       by false e = inr (picked_other (is_for (Some r)) w.coming v e ∙ waits)
-      by true e = inl (other_still r may (tracked_now r may (for_one r v zero e)))
+      by true e = inl (other_still r may (now r may (for_one r v zero e)))
 
   other_quiet : IsQuiet w.end (w.coming ++ v ∷ []) (takes way.Right v w.tap).state
   other_quiet = record {
@@ -386,24 +430,33 @@ clear_first : (at : ℕ) (vs : List Value) (c : Course) → AreFine at vs c → 
 clear_first at [] c fine clear = clear
 clear_first at (v ∷ vs) c (one, clear, more) then_clear = clear
 
-zero_of : (v : Value) (c : Course) → IsTakeable Right v c → IsNoZero v
-zero_of v c fine = (right_plain 0 v c.traffic fine.goes fine.two fine.none).0
+-- a DT or an AK that may be for a connection which has not opened is for one whose CC has passed
+fine_tracked : (local : Local) (v : Value) (w : Whole) (c : Course) → IsTakeable Right v c ⊎ IsAfterDr Right v c → Agree c →
+    IsClear c.traffic.course → IsClear (takes way.Right v w.tap).state.course → Follows local w → w.tap ≡ c.traffic →
+    IsQuiet w.end w.coming w.tap → (r : ℕ) → MayOpen w.end r → IsForOne r v → Tracked w.tap.connections r
+fine_tracked local v w c (inl one) places clear then_clear j same q r may for_it =
+    tracked_now local v w j (subst (λ (s : State). IsMild v (takes way.Right v s).told.finding) (sym same) one.none)
+    (subst (λ (s : State). IsClear s.course) (sym same) clear) then_clear q r may for_it
+fine_tracked local v w c (inr after) places clear then_clear j same q r may for_it =
+    subst (λ (s : State). Tracked s.connections r) (sym same)
+    (after_tracked w.end w.coming v c after (subst (IsQuiet w.end w.coming) same q) (subst AreJudged same j.kept.sane.judged)
+    clear.sure.firm places r may for_it)
 
-units_quiet : (local : Local) (at : ℕ) (vs : List Value) (w : Whole) (c : Course) → AreFine at vs c →
+units_quiet : (local : Local) (at : ℕ) (vs : List Value) (w : Whole) (c : Course) → AreFine at vs c → Agree c →
     IsClear (units_pass Right at vs c).traffic.course → AllByRecursion HasFieldsInRange vs → Follows local w → w.tap ≡ c.traffic →
     IsQuiet w.end w.coming w.tap → IsQuiet w.end (w.coming ++ vs) (units_pass Right at vs c).traffic
-units_quiet local at [] w c fine clear ranges j same q =
+units_quiet local at [] w c fine places clear ranges j same q =
     subst (IsQuiet w.end (w.coming ++ [])) same (subst (λ (l : List Value). IsQuiet w.end l w.tap) (sym (append-nil w.coming)) q)
-units_quiet local at (v ∷ vs) w c (one, clear, more) then_clear ranges j same q =
+units_quiet local at (v ∷ vs) w c (one, clear, more) places then_clear ranges j same q =
     let next : Whole = record w { tap = (takes way.Right v w.tap).state; coming = w.coming ++ v ∷ [] } in
     let knows : next.tap ≡ (unit_passes Right at v c).traffic =
     ap (λ (s : State). (takes way.Right v s).state) same ∙ sym (unit_knows Right at v c) in
     let next_clear = subst (λ (s : State). IsClear s.course) (sym knows) (clear_first at vs (unit_passes Right at v c) more then_clear) in
     let now_clear = subst (λ (s : State). IsClear s.course) (sym same) clear in
-    let none = subst (λ (s : State). IsMild v (takes way.Right v s).told.finding) (sym same) one.none in
-    let then_quiet = other_quiet local v ranges.0 w j none (zero_of v c one) now_clear next_clear q in
+    let then_quiet = other_quiet local v ranges.0 w j (one_plain 0 v c one).0 now_clear next_clear q
+    (fine_tracked local v w c one places clear next_clear j same q) in
     subst (λ (l : List Value). IsQuiet w.end l (units_pass Right at (v ∷ vs) c).traffic) (append_assoc w.coming (v ∷ []) vs)
-    (units_quiet local at vs next (unit_passes Right at v c) more then_clear ranges.1
+    (units_quiet local at vs next (unit_passes Right at v c) more (unit_agrees Right at v c places) then_clear ranges.1
     (next_joined local (wholes.passes_other v) w next (ranges.0, refl) j) knows then_quiet)
 
 -- ---- a turn of the end
@@ -524,9 +577,9 @@ module _ (local : Local) (two : local.class2 ≡ true) where
       (subst (λ (t : State). IsClear t.course) (sym knows) clear))))))
 
   pub passes_other_quiet : (deeds : ℕ → Deeds) (at : ℕ) (bytes : List ℕ) (units : List Value) (old new : Joint) →
-      Steps Left (passes_other at bytes units) old new → IsCalling local two deeds old → AreFine at units old.course → AreQuiet old →
-      AreQuiet new
-  passes_other_quiet deeds at bytes units old new (octets, read, is) h fine q =
+      Steps Left (passes_other at bytes units) old new → IsCalling local two deeds old → Agree old.course →
+      AreFine at units old.course → AreQuiet old → AreQuiet new
+  passes_other_quiet deeds at bytes units old new (octets, read, is) h places fine q =
       let f = h.ahead.followed in
       let one : units_in (bytes ∷ []) ≡ units = append-nil (units_read (units_of bytes)) ∙ ap units_read read in
       let all : units_in (old.coming ++ bytes ∷ []) ≡ units_in old.coming ++ units =
@@ -537,7 +590,7 @@ module _ (local : Local) (two : local.class2 ≡ true) where
       subst AreQuiet (sym is) (λ clear.
       quiet_as f.whole.end old.holding.end.carrier (f.whole.coming ++ units) (units_in (old.coming ++ bytes ∷ [])) after after refl
       (λ r may. let (m, same) = joint_alike old f r may in (m, all ∙ ap (λ (l : List Value). l ++ units) (sym same)))
-      (units_quiet local at units f.whole old.course fine clear ranges (whole_joined local two old f) f.tap
+      (units_quiet local at units f.whole old.course fine places clear ranges (whole_joined local two old f) f.tap
       (to_whole old f (q (clear_first at units old.course fine clear)))))
 
 pub turns_quiet : (turn : Turn) (old new : Joint) (t : TakesTurn turn old new) (deeds : ℕ → Deeds)

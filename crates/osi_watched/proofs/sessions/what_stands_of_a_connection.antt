@@ -127,7 +127,7 @@ named_begun Left Right j = refl
 named_begun Right Left j = refl
 named_begun Right Right j = refl
 
-open_begun : (d e : Direction) (c : Connection) → (own (way_of d) (begins (way_of e) c)).phase ≡ (own (way_of d) c).phase
+pub open_begun : (d e : Direction) (c : Connection) → (own (way_of d) (begins (way_of e) c)).phase ≡ (own (way_of d) c).phase
 open_begun Left Left c = refl
 open_begun Left Right c = refl
 open_begun Right Left c = refl

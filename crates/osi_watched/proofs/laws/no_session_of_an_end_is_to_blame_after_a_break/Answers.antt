@@ -4,7 +4,7 @@ use Rattle.osi_stack.proofs.called.what_is_sent_is_short.{SpduLaws}
 use Rattle.osi_honest.proofs.class_0.what_a_session_answers_fits.{all_proper}
 use Rattle.osi_honest.proofs.courses.what_sessions_hear_of_it.{Known}
 use Rattle.osi_honest.proofs.opening.what_an_asking_end_does.{can_begin}
-use Rattle.osi_watched.proofs.sessions.no_end_is_to_blame_in_class_2.{called_later, calling_later}
+use Rattle.osi_watched.proofs.sessions.no_end_is_to_blame_after_a_break.{called_later, calling_later}
 use Rattle.osi_watched.proofs.laws.no_session_of_an_end_is_to_blame_after_a_break.Goals as goal
 
 -- what the laws of messages and of units state
@@ -24,13 +24,13 @@ known c =
     record { proper = all_proper law c.what_closes_sends_nothing.ensures.octets; can = can_begin law }
 
 pub returns-clause-called : goal.returns-clause-called
-returns-clause-called c = λ local begin end turns capture i j fresh run octets seen few two there whole last.
+returns-clause-called c = λ local begin end turns capture i j fresh run octets seen few there whole.
     called_later (known c) (as_sent c) c.what_leaves_in_parts.ensures.read c.an_honest_session_is_explained.ensures.caller
     c.an_honest_session_is_explained.ensures.called local capture begin end turns i j fresh run octets seen
-    (record { few = few; two = two; whole = whole; last = last }) there
+    (record { few = few; whole = whole }) there
 
 pub returns-clause-calling : goal.returns-clause-calling
-returns-clause-calling c = λ local begin end turns capture i j fresh run octets seen few two there whole last.
+returns-clause-calling c = λ local begin end turns capture i j fresh run octets seen few there whole.
     calling_later (known c) (as_sent c) c.what_leaves_in_parts.ensures.read c.an_honest_session_is_explained.ensures.caller
     c.an_honest_session_is_explained.ensures.called local capture begin end turns i j fresh run octets seen
-    (record { few = few; two = two; whole = whole; last = last }) there
+    (record { few = few; whole = whole }) there

@@ -1,0 +1,78 @@
+-- A DT or an AK that the other side sends on a connection that it has closed leaves all connections of an end standing at a tap, and its DR
+-- in flight: the tap joins nothing, and what is left over for the end stays, since the unit comes after the DR.
+-- For the sessions of an end after such a unit of the other side.
+use Rattle.osi_watched.proofs.Vocabulary.{[], ap, Bool, false, List, refl, Some, subst, sym, true, ℕ, ◌++◌, ◌==◌, ◌∙◌, ◌∷◌, ◌≡◌, eqb-true}
+use Rattle.osi_watched.proofs.Vocabulary.{acknowledge, data2, Value, Part, other, Direction, Deeds, unit_passes, AreJudged, HaveSamePlaces}
+use Rattle.osi_watched.proofs.Vocabulary.{parts_of, picked_rest, Sessions, Traffic as State}
+use Rattle.osi_tap.specs.Courses.{Course}
+use Rattle.osi_fair.proofs.small_facts_that_many_lemmas_use.{number_is}
+use Rattle.osi_watched.proofs.sessions.a_unit_after_a_dr_changes_nothing.{IsAfterDr, is_there, same_sessions, same_traffic}
+use Rattle.osi_watched.proofs.sessions.all_connections_stand.{AllStand, like_same}
+use Rattle.osi_watched.proofs.sessions.nothing_is_done_before_a_cr_passes.{known_from}
+use Rattle.osi_watched.proofs.sessions.right_units_leave_all_standing.{IsLink, ak, dt, other_twice, rests_on}
+use Rattle.osi_watched.proofs.sessions.the_dr_of_the_other_side_is_in_flight.{AreShut, same_shut}
+use Rattle.osi_watched.proofs.sessions.what_is_in_flight_to_an_end.{in_flight}
+use Rattle.osi_watched.proofs.sessions.what_is_left_for_an_end.{has_dr, known_left, left_after, left_still}
+use Rattle.osi_watched.proofs.sessions.what_stands_of_a_connection.{Known, is_for, stands_other_none}
+
+-- ---- what is left over
+
+link_none : (r n : ℕ) (v : Value) → IsLink v n → (n == r) ≡ false → in_flight r (v ∷ []) ≡ []
+link_none r n v (dt number end user is) e =
+    subst (λ (u : Value). in_flight r (u ∷ []) ≡ []) (sym is) (ap parts_of (picked_rest (is_for (Some r)) (data2 n number end user) [] e))
+link_none r n v (ak credit number is) e =
+    subst (λ (u : Value). in_flight r (u ∷ []) ≡ []) (sym is)
+    (ap parts_of (picked_rest (is_for (Some r)) (acknowledge credit n number) [] e))
+
+link_keeps : (is_live : ℕ → Bool) (coming : List Value) (v : Value) (n : ℕ) → IsLink v n → (is_live n ≡ true → has_dr n coming ≡ true) →
+    (r : ℕ) (later : List Part) → known_left is_live coming r later → known_left is_live (coming ++ v ∷ []) r later
+link_keeps is_live coming v n link some r later = by (n == r) refl
+  where
+    by : (b : Bool) → (n == r) ≡ b → known_left is_live coming r later → known_left is_live (coming ++ v ∷ []) r later
+    by true e =
+        left_after is_live coming v r later (subst (λ (m : ℕ). is_live m ≡ true → has_dr m coming ≡ true) (eqb-true n r e) some)
+    by false e = left_still is_live coming v r later (link_none r n v link e)
+
+-- ---- all connections
+
+all_keep : (d : Direction) (deeds : ℕ → Deeds) (known then_known : Known) (put : List Value) (b : Bool) (s : State) (t : Sessions) →
+    ((r : ℕ) (later : List Part) → known r later → then_known r later) → AllStand d deeds known put b s t →
+    AllStand d deeds then_known put b s t
+all_keep d deeds known then_known put b s t keeps a = record {
+  places = a.places;
+  apart = a.apart;
+  judged = a.judged;
+  room = a.room;
+  live = λ i c j there here.
+      stands_other_none d deeds known then_known put b c c j j (like_same d j) refl refl (λ r later named. keeps r later)
+      (a.live i c j there here);
+  done = λ i j here. rests_on d deeds known then_known j (λ r later named. keeps r later) (a.done i j here);
+}
+
+module _ (d : Direction) (is_live : ℕ → Bool) (coming : List Value) (at : ℕ) (v : Value) (c : Course) (a : IsAfterDr (other d) v c)
+    (firm : c.traffic.course.loose ≡ false) (h : AreShut d is_live coming c.traffic c.sessions) where
+  came_after : HaveSamePlaces c.traffic.connections c.sessions.live → AreJudged c.traffic → is_live a.n ≡ true → has_dr a.n coming ≡ true
+  came_after places judged =
+      let p = is_there (other d) at v c a judged firm places in
+      let k = h.each p.place p.connection p.joined p.there p.here p.closing in
+      subst (λ (m : ℕ). is_live m ≡ true → has_dr m coming ≡ true)
+      (number_is k.r a.n (sym k.named ∙ sym (other_twice d p.joined) ∙ p.named)) k.dr
+
+  pub after_stand : (deeds : ℕ → Deeds) (put : List Value) (b : Bool) →
+      AllStand d deeds (known_from is_live coming) put b c.traffic c.sessions →
+      AllStand d deeds (known_from is_live (coming ++ v ∷ [])) put b (unit_passes (other d) at v c).traffic
+      (unit_passes (other d) at v c).sessions
+  after_stand deeds put b all =
+      let then_known : Known = known_from is_live (coming ++ v ∷ []) in
+      subst (λ (s : State). AllStand d deeds then_known put b s (unit_passes (other d) at v c).sessions)
+      (sym (same_traffic (other d) at v c a))
+      (subst (λ (t : Sessions). AllStand d deeds then_known put b c.traffic t) (sym (same_sessions (other d) at v c a))
+      (all_keep d deeds (known_from is_live coming) then_known put b c.traffic c.sessions
+      (λ r later sure. (sure.0, link_keeps is_live coming v a.n a.link (came_after all.places all.judged) r later sure.1)) all))
+
+  pub after_shut : AreShut d is_live (coming ++ v ∷ []) (unit_passes (other d) at v c).traffic (unit_passes (other d) at v c).sessions
+  after_shut =
+      subst (λ (s : State). AreShut d is_live (coming ++ v ∷ []) s (unit_passes (other d) at v c).sessions)
+      (sym (same_traffic (other d) at v c a))
+      (subst (λ (t : Sessions). AreShut d is_live (coming ++ v ∷ []) c.traffic t) (sym (same_sessions (other d) at v c a))
+      (same_shut d is_live coming (v ∷ []) c.traffic c.sessions h))

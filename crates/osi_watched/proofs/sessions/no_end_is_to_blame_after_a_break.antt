@@ -1,0 +1,118 @@
+-- No session of an end is to blame, also after breaks of the other side that a taker passes over, whichever class is selected.
+-- For the law that no session of an end is blamed after such a break.
+use Rattle.std.specs.Prelude.{slice_get}
+use Rattle.std.proofs.Common.{◌⊎◌, ℕ, inl, inr, ◌≡◌, refl, ◌^◌, ◌<◌, Bool, false, true, List, length, Option, Some}
+use Rattle.osi_class.specs.declared.terms.Class.{Class}
+use Rattle.osi_class.specs.declared.terms.Class.TheVariants.{Two, Zero}
+use Rattle.osi_class.specs.declared.terms.Local.{Local}
+use Rattle.osi_judge.specs.Captures.{Capture, other}
+use Rattle.osi_judge.specs.declared.directions.Direction.{Direction}
+use Rattle.osi_judge.specs.declared.directions.Direction.TheVariants.{Left, Right}
+use Rattle.osi_judge.proofs.honest.a_call_is_explained.{AsSent}
+use Rattle.osi_judge.proofs.honest.an_honest_run_stays_in_the_profile.{AsParts}
+use Rattle.osi_judge.proofs.honest.an_honest_side_is_kept.{CalledLaw, CallerLaw}
+use Rattle.osi_stack.specs.State.{Holding}
+use Rattle.osi_honest.specs.Seeing.{IsFresh, IsSeen}
+use Rattle.osi_honest.specs.Turns.{Run, Turn}
+use Rattle.osi_honest.proofs.courses.what_sessions_hear_of_it.{Known}
+use Rattle.osi_tap.specs.Blaming.{IsToBlame}
+use Rattle.osi_tap.specs.Connections.{Joined}
+use Rattle.osi_tap.specs.Courses.{Course}
+use Rattle.osi_tap.specs.Tapping.{comes_to}
+use Rattle.osi_watched.specs.Judging.{IsJudgedWhole}
+use Rattle.osi_watched.specs.Passing.{AreOctets}
+use Rattle.osi_watched.proofs.a_break_ends_no_judging_or_all.{IsPartly}
+use Rattle.osi_watched.proofs.a_capture_is_steps.{capture_steps}
+use Rattle.osi_watched.proofs.no_unit_of_a_whole_end_is_a_break.{called_is_fair, calling_is_fair}
+use Rattle.osi_watched.proofs.small_facts_that_many_lemmas_use.{zero_two}
+use Rattle.osi_watched.proofs.what_the_turns_among_steps_do.{ComesByDoing}
+use Rattle.osi_watched.proofs.sessions.a_called_end_stands_until_class_2.{StandsCalledUntilTwo}
+use Rattle.osi_watched.proofs.sessions.a_calling_end_stands_until_class_2.{StandsUntilTwo}
+use Rattle.osi_watched.proofs.sessions.a_calling_end_without_class_2_puts_no_dt.{calling_puts_none}
+use Rattle.osi_watched.proofs.sessions.after_too_many_nobody_is_to_blame.{NoneIsToBlame}
+use Rattle.osi_watched.proofs.sessions.an_end_that_has_said_nothing_is_not_to_blame.{HasSaidNothing, mute_keeps}
+use Rattle.osi_watched.proofs.sessions.no_called_end_is_blamed_first_in_class_0.{called_early_keeps}
+use Rattle.osi_watched.proofs.sessions.no_calling_end_is_blamed_first_in_class_0.{early_keeps}
+use Rattle.osi_watched.proofs.sessions.no_session_of_a_called_end_breaks_first.{StandsOrSelected, called_keeps}
+use Rattle.osi_watched.proofs.sessions.no_session_of_a_calling_end_breaks_first.{StandsQuiet, calling_keeps}
+use Rattle.osi_watched.proofs.sessions.no_session_of_an_end_breaks_first.{unless_zero}
+use Rattle.osi_watched.proofs.sessions.no_session_of_an_end_is_to_blame.{ends_well, nobody_of_well}
+use Rattle.osi_watched.proofs.sessions.steps_of_either_class_leave_all_standing.{zero_by}
+
+module _ (known : Known) (known_of : AsSent) (parts : AsParts) (caller : CallerLaw) (called : CalledLaw) (local : Local)
+    (capture : Capture) where
+  abbrev course : Course
+  course = (comes_to capture).course
+
+  abbrev selected : Option Class
+  selected = course.traffic.course.class
+
+  -- all is judged, or nothing any more
+  pub record IsAssumed (d : Direction) : Type 0 where
+    pub few : length course.past < 2 ^ 64
+    pub whole : IsJudgedWhole d course
+
+  -- nobody is to blame, or not all is judged
+  abbrev EndsWell : Direction → Type 0
+  EndsWell d = NoneIsToBlame d course.sessions ⊎ IsPartly (other d) course
+
+  -- ---- in class 0, and while it is not selected
+
+  module _ (few : length course.past < 2 ^ 64) (begin : Holding) where
+    called_ends : IsFresh false local begin → ComesByDoing Right false capture begin → EndsWell Right
+    called_ends fresh comes = zero_by selected in_zero without
+      where
+        in_zero : selected ≡ Some Zero → EndsWell Right
+        in_zero zero =
+            ends_well known.proper Two Right local (called_is_fair local) (StandsCalledUntilTwo local known.proper)
+            (called_early_keeps local known.proper known_of parts caller called) begin capture fresh comes
+            (record { not = λ two. zero_two selected zero two; few = few })
+
+        without : (selected ≡ Some Zero → ⊥) → EndsWell Right
+        without not =
+            ends_well known.proper Zero Right local (called_is_fair local) (StandsOrSelected local known.proper)
+            (unless_zero Right local (StandsOrSelected local known.proper)
+            (called_keeps local known.proper known_of parts caller called)) begin capture fresh comes (record { not = not; few = few })
+
+    calling_ends : IsFresh true local begin → ComesByDoing Left true capture begin → EndsWell Left
+    calling_ends fresh comes = zero_by selected in_zero (λ not. without not local.class2 refl)
+      where
+        in_zero : selected ≡ Some Zero → EndsWell Left
+        in_zero zero =
+            ends_well known.proper Two Left local (calling_is_fair local) (StandsUntilTwo local)
+            (early_keeps local known.proper known_of parts caller called) begin capture fresh comes
+            (record { not = λ two. zero_two selected zero two; few = few })
+
+        without : (selected ≡ Some Zero → ⊥) → (b : Bool) → local.class2 ≡ b → EndsWell Left
+        without not true two =
+            ends_well known.proper Zero Left local (calling_is_fair local) (StandsQuiet local two known.proper)
+            (unless_zero Left local (StandsQuiet local two known.proper)
+            (calling_keeps local two known.proper known_of parts caller called)) begin capture fresh comes
+            (record { not = not; few = few })
+        without not false none =
+            ends_well known.proper Zero Left local (calling_is_fair local) (HasSaidNothing Left local)
+            (unless_zero Left local (HasSaidNothing Left local) (mute_keeps known.proper Left local (calling_puts_none local none))) begin
+            capture fresh comes (record { not = not; few = few })
+
+  -- ---- so nobody is to blame
+
+  among : (d : Direction) (i : ℕ) (j : Joined) → NoneIsToBlame d course.sessions →
+      (slice_get course.sessions.live i ≡ Some j) ⊎ (slice_get course.sessions.done i ≡ Some j) → IsToBlame d j → ⊥
+  among d i j nobody (inl here) blame = nobody.live i j here blame
+  among d i j nobody (inr here) blame = nobody.done i j here blame
+
+  pub called_later : (begin end : Holding) (turns : List Turn) (i : ℕ) (j : Joined) → IsFresh false local begin → Run begin turns end →
+      AreOctets capture → IsSeen Right turns capture → IsAssumed Right →
+      (slice_get course.sessions.live i ≡ Some j) ⊎ (slice_get course.sessions.done i ≡ Some j) → IsToBlame Right j → ⊥
+  called_later begin end turns i j fresh run octets seen h there =
+      among Right i j
+      (nobody_of_well Right course
+      (called_ends h.few begin fresh (capture_steps known Right false local begin end turns capture fresh run octets seen)) h.whole) there
+
+  pub calling_later : (begin end : Holding) (turns : List Turn) (i : ℕ) (j : Joined) → IsFresh true local begin → Run begin turns end →
+      AreOctets capture → IsSeen Left turns capture → IsAssumed Left →
+      (slice_get course.sessions.live i ≡ Some j) ⊎ (slice_get course.sessions.done i ≡ Some j) → IsToBlame Left j → ⊥
+  calling_later begin end turns i j fresh run octets seen h there =
+      among Left i j
+      (nobody_of_well Left course
+      (calling_ends h.few begin fresh (capture_steps known Left true local begin end turns capture fresh run octets seen)) h.whole) there
