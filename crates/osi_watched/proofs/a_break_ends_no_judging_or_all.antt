@@ -59,7 +59,7 @@ pub record Reaches (k : Option Class) (old : Bool) (o : Outcome) : Type 0 where
 abbrev pub IsReached : Direction → State → Outcome → Type 0
 IsReached d s o = Reaches (class_for d s.course) s.course.loose o
 
-reached_loose : (d : Direction) (r : Reach) (c : Judging) (old : Bool) → c.loose ≡ old → (traffic.reached d r c).loose ≡ loose_by r old
+pub reached_loose : (d : Direction) (r : Reach) (c : Judging) (old : Bool) → c.loose ≡ old → (traffic.reached d r c).loose ≡ loose_by r old
 reached_loose d reach.Nothing c old e = e
 reached_loose d reach.Connection c old e = refl
 reached_loose Left reach.Side c old e = e
@@ -208,14 +208,14 @@ breaks_halted m k = by (is_break m.cause)
 breaks_no : (m : Mark) (k : Marks) → is_break m.cause ≡ false → (breaks m k).broke ≡ k.broke
 breaks_no m k h = ap (λ (b : Bool). (if b then record k { broke = earlier k.broke m } else k).broke) h
 
-halted_by : (d e : Side) (m : Mark) (c : Course) →
+pub halted_by : (d e : Side) (m : Mark) (c : Course) →
     (marks_of e (changes d (breaks m) (first_marked m c))).halted ≡ (marks_of e c).halted
 halted_by side.Left side.Left m c = breaks_halted m c.left
 halted_by side.Left side.Right m c = refl
 halted_by side.Right side.Left m c = refl
 halted_by side.Right side.Right m c = breaks_halted m c.right
 
-some_earlier : (o : Option Mark) (m : Mark) → is_some (earlier o m) ≡ true
+pub some_earlier : (o : Option Mark) (m : Mark) → is_some (earlier o m) ≡ true
 some_earlier None m = refl
 some_earlier (Some k) m = refl
 
@@ -245,17 +245,17 @@ own_marked side.Left m c h = breaks_no m c.left h
 own_marked side.Right m c h = breaks_no m c.right h
 
 module _ (d : Side) (at : ℕ) (v : Value) (c : Course) where
-  abbrev o : Outcome
+  abbrev pub o : Outcome
   o = takes (way_of d) v c.traffic
 
   -- what it comes to, before what was found is noted
-  abbrev mid : Course
+  abbrev pub mid : Course
   mid = moved (moment_of d at v o.told (taken d at v o.told.meaning o.told.place c.sessions)) (record c { traffic = o.state })
 
-  abbrev mark : Cause → Mark
+  abbrev pub mark : Cause → Mark
   mark k = record { direction = d; offset = at; unit = Some (kind_of v); connection = number_at o.told.place mid.sessions; cause = k }
 
-  mid_marks : (e : Side) → marks_of e mid ≡ marks_of e c
+  pub mid_marks : (e : Side) → marks_of e mid ≡ marks_of e c
   mid_marks side.Left = refl
   mid_marks side.Right = refl
 
@@ -279,7 +279,7 @@ module _ (d : Side) (at : ℕ) (v : Value) (c : Course) where
   abbrev next : Course
   next = unit_passes d at v c
 
-  stops_so : (r : Reach) → o.told.reach ≡ r → (e : Direction) →
+  pub stops_so : (r : Reach) → o.told.reach ≡ r → (e : Direction) →
       is_stopped e next.traffic.course ≡ (traffic.stops_by (way_of d) r e || is_stopped e c.traffic.course)
   stops_so r is e =
       ap (λ (s : State). is_stopped e s.course) (unit_knows d at v c) ∙ stops_are_said (way_of d) v c.traffic e
@@ -288,7 +288,7 @@ module _ (d : Side) (at : ℕ) (v : Value) (c : Course) where
   pub reach_so : IsReached (way_of d) c.traffic o
   reach_so = takes_reach (way_of d) v c.traffic
 
-  loose_so : (r : Reach) → o.told.reach ≡ r → next.traffic.course.loose ≡ loose_by r c.traffic.course.loose
+  pub loose_so : (r : Reach) → o.told.reach ≡ r → next.traffic.course.loose ≡ loose_by r c.traffic.course.loose
   loose_so r is =
       ap (λ (s : State). s.course.loose) (unit_knows d at v c) ∙ reach_so.loose
       ∙ ap (λ (x : Reach). loose_by x c.traffic.course.loose) is
@@ -321,7 +321,7 @@ module _ (d : Side) (at : ℕ) (v : Value) (c : Course) where
         right_halts = halts_all side.Right (cause_of o.told.finding) x caused is;
       }
 
-  side_so : o.told.reach ≡ reach.Side → IsKnownOnce c.traffic →
+  pub side_so : o.told.reach ≡ reach.Side → IsKnownOnce c.traffic →
       (next.traffic.course.class ≡ Some Zero) × (is_stopped (way_of d) next.traffic.course ≡ true)
   side_so is once =
       let k = side_zero (class_for (way_of d) c.traffic.course) o.told.finding (sym reach_so.far ∙ is) in (
@@ -339,7 +339,7 @@ module _ (d : Side) (at : ℕ) (v : Value) (c : Course) where
   pub unit_ends : IsJudged c → IsKnownOnce c.traffic → Judges d next
   unit_ends j once = ends_by o.told.reach refl j once
 
-  far_of : (f : Finding) → o.told.finding ≡ f → o.told.reach ≡ reach_of (class_for (way_of d) c.traffic.course) f
+  pub far_of : (f : Finding) → o.told.finding ≡ f → o.told.reach ≡ reach_of (class_for (way_of d) c.traffic.course) f
   far_of f is = reach_so.far ∙ ap (reach_of (class_for (way_of d) c.traffic.course)) is
 
   none_by : (f : Finding) → o.told.finding ≡ f → IsNoBreak f → IsJudged c → IsJudged next ⊎ IsOver next
@@ -411,22 +411,22 @@ reached_stops Right reach.Side c Right = refl
 reached_stops d reach.Everything c Left = refl
 reached_stops d reach.Everything c Right = refl
 
-abbrev refuses : Side → (at : ℕ) → Cause → Course → Course
+abbrev pub refuses : Side → (at : ℕ) → Cause → Course → Course
 refuses d at k c = marked (unread_mark d at k) (traffic.refused_reach (way_of d) c.traffic)
     (moved (unread_moment d at k c.sessions) (record c { traffic = traffic.refused (way_of d) c.traffic }))
 
-abbrev unread_if : Bool → Side → (at : ℕ) → Cause → Course → Course
+abbrev pub unread_if : Bool → Side → (at : ℕ) → Cause → Course → Course
 unread_if b d at k c = if b then c else refuses d at k c
 
 module _ (d : Side) (at : ℕ) (k : Cause) (c : Course) where
-  refused_traffic : (refuses d at k c).traffic ≡ traffic.refused (way_of d) c.traffic
+  pub refused_traffic : (refuses d at k c).traffic ≡ traffic.refused (way_of d) c.traffic
   refused_traffic = marked_traffic (unread_mark d at k) (traffic.refused_reach (way_of d) c.traffic) _
 
   goes : IsJudged c → (e : Side) → is_some (marks_of e c).halted ≡ false
   goes j side.Left = ap is_some j.left_goes
   goes j side.Right = ap is_some j.right_goes
 
-  refused_stops : (r : Reach) → traffic.refused_reach (way_of d) c.traffic ≡ r → (e : Direction) →
+  pub refused_stops : (r : Reach) → traffic.refused_reach (way_of d) c.traffic ≡ r → (e : Direction) →
       is_stopped e (refuses d at k c).traffic.course ≡ (traffic.stops_by (way_of d) r e || is_stopped e c.traffic.course)
   refused_stops r is e =
       ap (λ (s : State). is_stopped e s.course) refused_traffic
@@ -437,7 +437,7 @@ module _ (d : Side) (at : ℕ) (k : Cause) (c : Course) where
   before_halts = changes d (breaks (unread_mark d at k)) (first_marked (unread_mark d at k)
       (moved (unread_moment d at k c.sessions) (record c { traffic = traffic.refused (way_of d) c.traffic })))
 
-  refused_over : traffic.refused_reach (way_of d) c.traffic ≡ reach.Everything → IsOver (refuses d at k c)
+  pub refused_over : traffic.refused_reach (way_of d) c.traffic ≡ reach.Everything → IsOver (refuses d at k c)
   refused_over is = record {
     left = refused_stops reach.Everything is Left;
     right = refused_stops reach.Everything is Right;
@@ -447,14 +447,14 @@ module _ (d : Side) (at : ℕ) (k : Cause) (c : Course) where
         ∙ some_earlier before_halts.right.halted (unread_mark d at k);
   }
 
-  class_kept : c.traffic.course.class ≡ Some Zero → (refuses d at k c).traffic.course.class ≡ Some Zero
+  pub class_kept : c.traffic.course.class ≡ Some Zero → (refuses d at k c).traffic.course.class ≡ Some Zero
   class_kept h = ap (λ (s : State). s.course.class) refused_traffic ∙ zero_stays (rubbish (way_of d)) c.traffic h
 
   own_too : (e : Side) (b : Bool) → (traffic.stops_by (way_of e) reach.Side (way_of e) || b) ≡ true
   own_too side.Left b = refl
   own_too side.Right b = refl
 
-  known_too : (e : Side) → IsKnownOnce c.traffic → class_for (way_of e) c.traffic.course ≡ Some Zero →
+  pub known_too : (e : Side) → IsKnownOnce c.traffic → class_for (way_of e) c.traffic.course ≡ Some Zero →
       c.traffic.course.class ≡ Some Zero
   known_too side.Left once h = once h
   known_too side.Right once h = h
@@ -560,7 +560,7 @@ left_claim d = record {
 }
 
 -- what is not judged is not judged later
-loose_more : (r : Reach) → loose_by r true ≡ true
+pub loose_more : (r : Reach) → loose_by r true ≡ true
 loose_more reach.Nothing = refl
 loose_more reach.Connection = refl
 loose_more reach.Side = refl
