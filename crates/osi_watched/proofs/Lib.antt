@@ -30,4 +30,5 @@ pub mod a_break_ends_no_judging_or_all
 pub mod what_is_halted_stays_halted
 pub mod later_steps_are_events
 pub mod in_class_0_one_side_alone_is_judged
+pub mod an_end_that_is_judged_alone_stays_so
 pub mod no_unit_of_an_end_breaks_a_rule

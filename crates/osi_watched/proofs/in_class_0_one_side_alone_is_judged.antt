@@ -1,6 +1,6 @@
 -- In class 0 a break of the other side leaves an end judged alone, and whatever passes leaves that so, as long as each unit of the end is
 -- right. For the law that the transport of an end is blamed nowhere.
-use Rattle.std.proofs.Common.{◌≡◌, ◌∙◌, ℕ, Bool, true, false, Option, Some, None, refl, sym, ap, subst}
+use Rattle.std.proofs.Common.{◌≡◌, ◌∙◌, ◌⊎◌, inl, inr, ℕ, Bool, true, false, List, [], ◌∷◌, Option, Some, None, refl, sym, ap, subst}
 use Rattle.std.specs.Prelude.{◌||◌, is_some}
 use Rattle.osi_tpdu.specs.Value.{Value}
 use Rattle.osi_class.specs.declared.terms.Class.{Class}
@@ -22,12 +22,11 @@ use Rattle.osi_tap.specs.declared.marks.Cause.{Cause}
 use Rattle.osi_tap.specs.declared.marks.Cause.TheVariants as cause
 use Rattle.osi_tap.specs.Connections.{taken}
 use Rattle.osi_tap.specs.Courses.{Course, cause_of, marked, marks_of, moment_of, moved, noted_by, packet_begins, unit_passes}
-use Rattle.osi_tap.specs.Courses.{unread, way_of}
-use Rattle.osi_watched.proofs.a_break_ends_no_judging_or_all.{class_kept, far_of, known_too, loose_by, loose_more, loose_so, mark, mid, o}
-use Rattle.osi_watched.proofs.a_break_ends_no_judging_or_all.{other_unbroken, own_unbroken, reached_loose, reach_so, refused_over}
+use Rattle.osi_tap.specs.Courses.{units_pass, unread, way_of}
+use Rattle.osi_watched.proofs.a_break_ends_no_judging_or_all.{all_ends, class_kept, far_of, known_too, loose_by}
+use Rattle.osi_watched.proofs.a_break_ends_no_judging_or_all.{loose_more, loose_so, mark, mid, o}
+use Rattle.osi_watched.proofs.a_break_ends_no_judging_or_all.{reached_loose, reach_so, refused_over}
 use Rattle.osi_watched.proofs.a_break_ends_no_judging_or_all.{refused_stops, refused_traffic, refuses, side_so, stops_so, unread_if}
-use Rattle.osi_watched.proofs.a_break_ends_no_judging_or_all.{unread_unbroken}
-use Rattle.osi_watched.proofs.the_first_break_is_not_of_an_end.{IsNoBreak}
 use Rattle.osi_watched.proofs.what_a_unit_leaves_at_a_tap.{IsJudged, IsOver}
 use Rattle.osi_watched.proofs.what_is_halted_stays_halted.{IsHalted, halted_claim, side_halts, unread_halts, unread_same}
 use Rattle.osi_watched.proofs.what_passes_keeps_a_claim.{IsClaim}
@@ -59,24 +58,23 @@ loose_claim = record {
 
 -- ---- the end alone is judged
 
--- class 0 is selected; this side is judged and has broken no rule, and the other side is not judged any more
+-- class 0 is selected; this side is judged, and the other side is not judged any more
 pub record IsAlone (d : Direction) (c : Course) : Type 0 where
   pub zero : c.traffic.course.class ≡ Some Zero
   pub firm : c.traffic.course.loose ≡ false
   pub own : is_stopped (way_of d) c.traffic.course ≡ false
   pub stopped : is_stopped (way_of (other d)) c.traffic.course ≡ true
   pub halted : IsHalted (other d) c
-  pub unbroken : (marks_of d c).broke ≡ None
 
 pub alone_begins : (d e : Direction) (c : Course) → IsAlone d c → IsAlone d (packet_begins e c)
 alone_begins Left Left c a =
-    record { zero = a.zero; firm = a.firm; own = a.own; stopped = a.stopped; halted = a.halted; unbroken = a.unbroken }
+    record { zero = a.zero; firm = a.firm; own = a.own; stopped = a.stopped; halted = a.halted }
 alone_begins Left Right c a =
-    record { zero = a.zero; firm = a.firm; own = a.own; stopped = a.stopped; halted = a.halted; unbroken = a.unbroken }
+    record { zero = a.zero; firm = a.firm; own = a.own; stopped = a.stopped; halted = a.halted }
 alone_begins Right Left c a =
-    record { zero = a.zero; firm = a.firm; own = a.own; stopped = a.stopped; halted = a.halted; unbroken = a.unbroken }
+    record { zero = a.zero; firm = a.firm; own = a.own; stopped = a.stopped; halted = a.halted }
 alone_begins Right Right c a =
-    record { zero = a.zero; firm = a.firm; own = a.own; stopped = a.stopped; halted = a.halted; unbroken = a.unbroken }
+    record { zero = a.zero; firm = a.firm; own = a.own; stopped = a.stopped; halted = a.halted }
 
 pub alone_unread : (d : Direction) (at : ℕ) (k : Cause) (c : Course) → IsAlone d c → IsAlone d (unread (other d) at k c)
 alone_unread d at k c a = subst (IsAlone d) (sym (unread_same (other d) at k c a.halted)) a
@@ -92,8 +90,8 @@ alone_other d at v c a =
   where
     by : (e : Direction) → IsAlone e c →
         IsAlone e (passed (other e) at v (traffic.none_told (way_of (other e)) NotJudged c.traffic) c)
-    by Left b = record { zero = b.zero; firm = b.firm; own = b.own; stopped = b.stopped; halted = b.halted; unbroken = b.unbroken }
-    by Right b = record { zero = b.zero; firm = b.firm; own = b.own; stopped = b.stopped; halted = b.halted; unbroken = b.unbroken }
+    by Left b = record { zero = b.zero; firm = b.firm; own = b.own; stopped = b.stopped; halted = b.halted }
+    by Right b = record { zero = b.zero; firm = b.firm; own = b.own; stopped = b.stopped; halted = b.halted }
 
 pub alone_own : (d : Direction) (at : ℕ) (v : Value) (c : Course) → (traffic.takes (way_of d) v c.traffic).told.finding ≡ Kept →
     IsAlone d c → IsAlone d (unit_passes d at v c)
@@ -105,7 +103,6 @@ alone_own d at v c kept a =
       own = stops_so d at v c reach.Nothing is (way_of d) ∙ a.own;
       stopped = stops_so d at v c reach.Nothing is (way_of (other d)) ∙ a.stopped;
       halted = (halted_claim (other d)).passes d at v c a.halted;
-      unbroken = own_unbroken d at v c (subst IsNoBreak (sym kept) tt) ∙ a.unbroken;
     }
 
 -- ---- how it comes to that
@@ -134,9 +131,9 @@ side_stops Left b = refl
 side_stops Right b = refl
 
 -- a unit of the other side
-pub unit_alone : (d : Direction) (at : ℕ) (v : Value) (c : Course) → IsJudged c → IsKnownOnce c.traffic → (marks_of d c).broke ≡ None →
+pub unit_alone : (d : Direction) (at : ℕ) (v : Value) (c : Course) → IsJudged c → IsKnownOnce c.traffic →
     (traffic.takes (way_of (other d)) v c.traffic).told.reach ≡ reach.Side → IsAlone d (unit_passes (other d) at v c)
-unit_alone d at v c j once none is =
+unit_alone d at v c j once is =
     let e = other d in
     let (zero, stopped) = side_so e at v c is once in
     let (x, caused) = side_caused (class_for (way_of e) c.traffic.course) (o e at v c).told.finding (sym (reach_so e at v c).far ∙ is) in
@@ -148,7 +145,6 @@ unit_alone d at v c j once none is =
       halted = ap (λ (y : Option Cause). is_some (marks_of e (noted_by e at v (o e at v c).told y (mid e at v c))).halted) caused
           ∙ ap (λ (r : Reach). is_some (marks_of e (marked (mark e at v c x) r (mid e at v c))).halted) is
           ∙ side_halts e (mark e at v c x) _;
-      unbroken = other_unbroken d at v c ∙ none;
     }
 
 -- and what can't be read of it
@@ -156,8 +152,7 @@ pub data AfterUnread (d : Direction) (c : Course) : Type 0 where
   all_over : IsOver c → AfterUnread d c
   alone : IsAlone d c → AfterUnread d c
 
-module _ (d : Direction) (at : ℕ) (k : Cause) (c : Course) (j : IsJudged c) (once : IsKnownOnce c.traffic)
-    (none : (marks_of d c).broke ≡ None) where
+module _ (d : Direction) (at : ℕ) (k : Cause) (c : Course) (j : IsJudged c) (once : IsKnownOnce c.traffic) where
   abbrev e : Direction
   e = other d
 
@@ -177,7 +172,6 @@ module _ (d : Direction) (at : ℕ) (k : Cause) (c : Course) (j : IsJudged c) (o
         stopped = ap (λ (x : Course). is_stopped (way_of e) x.traffic.course) unread_is ∙ refused_stops e at k c reach.Side is (way_of e)
             ∙ side_stops e (is_stopped (way_of e) c.traffic.course);
         halted = unread_halts e at k c;
-        unbroken = unread_unbroken d at k c ∙ none;
       }
 
   refused_over_so : traffic.refused_reach (way_of e) c.traffic ≡ reach.Everything → IsOver (unread e at k c)
@@ -190,3 +184,36 @@ module _ (d : Direction) (at : ℕ) (k : Cause) (c : Course) (j : IsJudged c) (o
 
   pub unread_alone : AfterUnread d (unread e at k c)
   unread_alone = by_class (class_for (way_of e) c.traffic.course) refl
+
+-- ---- less than all is judged
+
+-- a connection has lost its judgement, or in class 0 this side alone is judged
+abbrev pub JudgesLess : Direction → Course → Type 0
+JudgesLess d c = IsLoose c ⊎ IsAlone d c
+
+pub less_begins : (d e : Direction) (c : Course) → JudgesLess d c → JudgesLess d (packet_begins e c)
+less_begins d e c (inl h) = inl (loose_claim.begins e c h)
+less_begins d e c (inr a) = inr (alone_begins d e c a)
+
+pub less_others : (d : Direction) (at : ℕ) (vs : List Value) (c : Course) → JudgesLess d c → JudgesLess d (units_pass (other d) at vs c)
+less_others d at [] c h = h
+less_others d at (v ∷ vs) c (inl h) = less_others d at vs (unit_passes (other d) at v c) (inl (loose_claim.passes (other d) at v c h))
+less_others d at (v ∷ vs) c (inr a) = less_others d at vs (unit_passes (other d) at v c) (inr (alone_other d at v c a))
+
+pub less_unread : (d : Direction) (at : ℕ) (k : Cause) (c : Course) → JudgesLess d c → JudgesLess d (unread (other d) at k c)
+less_unread d at k c (inl h) = inl (loose_claim.bad (other d) at k c h)
+less_unread d at k c (inr a) = inr (alone_unread d at k c a)
+
+-- after a unit of the other side with which some judging ends, nothing is judged any more, or less
+less_by : (d : Direction) (at : ℕ) (v : Value) (c : Course) → IsJudged c → IsKnownOnce c.traffic → (r : Reach) →
+    (traffic.takes (way_of (other d)) v c.traffic).told.reach ≡ r → (r ≡ reach.Nothing → ⊥) →
+    IsOver (unit_passes (other d) at v c) ⊎ JudgesLess d (unit_passes (other d) at v c)
+less_by d at v c j once reach.Nothing is less = absurd (less refl)
+less_by d at v c j once reach.Connection is less = inr (inl (loose_so (other d) at v c reach.Connection is))
+less_by d at v c j once reach.Side is less = inr (inr (unit_alone d at v c j once is))
+less_by d at v c j once reach.Everything is less = inl (all_ends (other d) at v c is)
+
+pub hard_less : (d : Direction) (at : ℕ) (v : Value) (c : Course) → IsJudged c → IsKnownOnce c.traffic →
+    ((traffic.takes (way_of (other d)) v c.traffic).told.reach ≡ reach.Nothing → ⊥) →
+    IsOver (unit_passes (other d) at v c) ⊎ JudgesLess d (unit_passes (other d) at v c)
+hard_less d at v c j once less = less_by d at v c j once (traffic.takes (way_of (other d)) v c.traffic).told.reach refl less

@@ -7,7 +7,6 @@ use Rattle.osi_class.specs.declared.terms.Local.{Local}
 use Rattle.osi_judge.specs.Captures.{Capture, other}
 use Rattle.osi_judge.specs.declared.directions.Direction.{Direction}
 use Rattle.osi_judge.specs.declared.directions.Direction.TheVariants.{Left, Right}
-use Rattle.osi_rules.specs.declared.findings.Finding.TheVariants.{Kept}
 use Rattle.osi_rules.specs.declared.findings.Reach.{Reach}
 use Rattle.osi_rules.specs.declared.findings.Reach.TheVariants as reach
 use Rattle.osi_rules.specs.Sides as sides
@@ -26,6 +25,7 @@ use Rattle.osi_watched.specs.Spoilt.{GoesOn, LaterAlong, LaterSteps, spoilt}
 use Rattle.osi_watched.proofs.a_break_ends_no_judging_or_all.{IsLeft, all_ends, begins_judged, left_claim, loose_so, none_ends}
 use Rattle.osi_watched.proofs.a_break_ends_no_judging_or_all.{nothing_ends}
 use Rattle.osi_watched.proofs.a_break_ends_no_judging_or_all.{other_unbroken, own_unbroken, unread_unbroken}
+use Rattle.osi_watched.proofs.an_end_that_is_judged_alone_stays_so.{own_alone}
 use Rattle.osi_watched.proofs.in_class_0_one_side_alone_is_judged.{AfterUnread, IsAlone, IsLoose, all_over, alone, alone_begins}
 use Rattle.osi_watched.proofs.in_class_0_one_side_alone_is_judged.{alone_other}
 use Rattle.osi_watched.proofs.in_class_0_one_side_alone_is_judged.{alone_own, alone_unread, loose_claim, unit_alone, unread_alone}
@@ -45,7 +45,7 @@ pub record IsWhole (d : Direction) (c : Course) : Type 0 where
 pub data IsBlamedNowhere (d : Direction) (c : Course) : Type 0 where
   is_whole : IsWhole d c → IsBlamedNowhere d c
   is_left : IsLeft d c → IsBlamedNowhere d c
-  is_alone : IsAlone d c → IsBlamedNowhere d c
+  is_alone : IsAlone d c → (marks_of d c).broke ≡ None → IsBlamedNowhere d c
   is_loose : IsLoose c → IsBlamedNowhere d c
 
 other_goes : (d : Direction) (c : Course) → IsJudged c → is_stopped (sides.other (way_of d)) c.traffic.course ≡ false
@@ -61,7 +61,7 @@ module _ (d : Direction) where
   begins_so : (e : Direction) (c : Course) → IsBlamedNowhere d c → IsBlamedNowhere d (packet_begins e c)
   begins_so e c (is_whole w) = is_whole (record { judged = begins_judged e c w.judged; unbroken = begins_marks d e c ∙ w.unbroken })
   begins_so e c (is_left l) = is_left ((left_claim d).begins e c l)
-  begins_so e c (is_alone a) = is_alone (alone_begins d e c a)
+  begins_so e c (is_alone a none) = is_alone (alone_begins d e c a) (begins_marks d e c ∙ none)
   begins_so e c (is_loose p) = is_loose (loose_claim.begins e c p)
 
   other_by : (at : ℕ) (v : Value) (c : Course) → IsKnownOnce c.traffic → IsWhole d c → (r : Reach) →
@@ -69,7 +69,7 @@ module _ (d : Direction) where
   other_by at v c once w reach.Nothing is =
       is_whole (record { judged = nothing_ends (other d) at v c is w.judged; unbroken = other_unbroken d at v c ∙ w.unbroken })
   other_by at v c once w reach.Connection is = is_loose (loose_so (other d) at v c reach.Connection is)
-  other_by at v c once w reach.Side is = is_alone (unit_alone d at v c w.judged once w.unbroken is)
+  other_by at v c once w reach.Side is = is_alone (unit_alone d at v c w.judged once is) (other_unbroken d at v c ∙ w.unbroken)
   other_by at v c once w reach.Everything is =
       is_left (record { over = all_ends (other d) at v c is; unbroken = other_unbroken d at v c ∙ w.unbroken })
 
@@ -83,7 +83,7 @@ module _ (d : Direction) where
       by : IsBlamedNowhere d c → IsBlamedNowhere d (unit_passes (other d) at v c)
       by (is_whole w) = other_by at v c once w (takes (way_of (other d)) v c.traffic).told.reach refl
       by (is_left l) = is_left ((left_claim d).passes (other d) at v c l)
-      by (is_alone a) = is_alone (alone_other d at v c a)
+      by (is_alone a none) = is_alone (alone_other d at v c a) (other_unbroken d at v c ∙ none)
       by (is_loose p) = is_loose (loose_claim.passes (other d) at v c p)
 
   module _ (proper : AllProper) (is_caller : Bool) (local : Local) (fair : IsFairFrom (way_of d) (wholes.begin is_caller local))
@@ -101,20 +101,12 @@ module _ (d : Direction) where
         (ap (λ (t : Traffic). is_stopped (sides.other (way_of d)) t.course) f.tap ∙ other_goes d old.course j)
         (ap (λ (t : Traffic). t.course.loose) f.tap ∙ j.firm))
 
-    own_alone : (at : ℕ) (v : Value) (old new : Joint) → Steps d (passes_own at v) old new → IsFollowed d first old → IsAlone d old.course →
-        (takes (way_of d) v old.course.traffic).told.finding ≡ Kept
-    own_alone at v old new (read, octets, put, begun, is) f a =
-        let s = own_first d first old new v (read, octets, put) f in
-        subst (λ (t : Traffic). (takes (way_of d) v t).told.finding ≡ Kept) f.tap
-        (fair_alone f.events f.whole v s.rest f.along (f.begun ∙ begun) s.is
-        (ap (λ (t : Traffic). is_stopped (way_of d) t.course) f.tap ∙ a.own)
-        (ap (λ (t : Traffic). t.course.loose) f.tap ∙ a.firm)
-        (ap (λ (t : Traffic). t.course.class) f.tap ∙ a.zero))
-
     own_passes_so : (at : ℕ) (v : Value) (old new : Joint) → Steps d (passes_own at v) old new → IsFollowed d first old →
         IsBlamedNowhere d old.course → IsBlamedNowhere d (unit_passes d at v old.course)
     own_passes_so at v old new step f (is_left l) = is_left ((left_claim d).passes d at v old.course l)
-    own_passes_so at v old new step f (is_alone a) = is_alone (alone_own d at v old.course (own_alone at v old new step f a) a)
+    own_passes_so at v old new step f (is_alone a none) =
+        let kept = own_alone d proper is_caller local fair_alone at v old new step f a in
+        is_alone (alone_own d at v old.course kept a) (own_unbroken d at v old.course (subst IsNoBreak (sym kept) tt) ∙ none)
     own_passes_so at v old new step f (is_loose p) = is_loose (loose_claim.passes d at v old.course p)
     own_passes_so at v old new step f (is_whole w) = by (none_ends d at v old.course none w.judged)
       where
@@ -181,12 +173,12 @@ module _ (d : Direction) where
 
       unread_by : (marks_of d c).broke ≡ None → AfterUnread d bad → IsBlamedNowhere d bad
       unread_by none (all_over o) = is_left (record { over = o; unbroken = unread_unbroken d at cause c ∙ none })
-      unread_by none (alone a) = is_alone a
+      unread_by none (alone a) = is_alone a (unread_unbroken d at cause c ∙ none)
 
       unread_so : IsBlamedNowhere d c → IsBlamedNowhere d bad
-      unread_so (is_whole w) = unread_by w.unbroken (unread_alone d at cause c w.judged once w.unbroken)
+      unread_so (is_whole w) = unread_by w.unbroken (unread_alone d at cause c w.judged once)
       unread_so (is_left l) = is_left ((left_claim d).bad (other d) at cause c l)
-      unread_so (is_alone a) = is_alone (alone_unread d at cause c a)
+      unread_so (is_alone a none) = is_alone (alone_unread d at cause c a) (unread_unbroken d at cause c ∙ none)
       unread_so (is_loose p) = is_loose (loose_claim.bad (other d) at cause c p)
 
     spoilt_so : (at : ℕ) (cause : Cause) (packets : List (List ℕ)) → units_in packets ≡ [] → (j : Joint) → Stood j →
@@ -228,7 +220,7 @@ module _ (d : Direction) where
   unbroken_by : (c : Course) → c.traffic.course.loose ≡ false → IsBlamedNowhere d c → (marks_of d c).broke ≡ None
   unbroken_by c firm (is_whole w) = w.unbroken
   unbroken_by c firm (is_left l) = l.unbroken
-  unbroken_by c firm (is_alone a) = a.unbroken
+  unbroken_by c firm (is_alone a none) = none
   unbroken_by c firm (is_loose loose) = differ c.traffic.course.loose loose firm
 
   pub firm_unbroken : AllProper → (is_caller : Bool) (local : Local) (h : Holding) (capture : Capture) → IsFresh is_caller local h →

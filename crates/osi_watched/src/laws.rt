@@ -244,10 +244,10 @@ pub fn no_session_of_an_end_is_blamed_first()
 
 /// No session of an end is to blame after breaks of the other side that a taker passes over. Take any run of an end of this library from
 /// its beginning, and any capture of it, as in [`no_session_of_an_end_is_blamed_first`]. As long as no break of the other side has ended
-/// the judging of a part ([`IsJudgedWhole`]), no session of the end is to blame for what has passed, in either class, on any of its
-/// connections, open or over, be the end the called one (`called`) or the calling one (`calling`). So it is after DTs beyond the credit or
-/// longer than the size, after a CC with a larger size, and after a DT, an AK or a second DR on a connection that its sender had closed;
-/// and unless class 0 is selected, so it is after a break with which all judging ends.
+/// the judging of a part, of one connection or in class 0 of the other side alone ([`IsJudgedWhole`]), no session of the end is to blame
+/// for what has passed, in either class, on any of its connections, open or over, be the end the called one (`called`) or the calling one
+/// (`calling`). So it is after DTs beyond the credit or longer than the size, after a CC with a larger size, and after a DT, an AK or a
+/// second DR on a connection that its sender had closed; and so it is after a break with which all judging ends.
 ///
 /// It is assumed that fewer than 2^64 units have passed.
 ///
