@@ -91,3 +91,4 @@ pub mod a_called_end_selects_class_zero
 pub mod a_called_end_is_judged_as_the_other_side_is
 pub mod what_comes_to_an_end_of_class_zero
 pub mod a_unit_of_an_end_of_class_zero_passes
+pub mod a_called_end_is_fair_in_class_0

@@ -30,7 +30,7 @@ use Rattle.osi_fair.proofs.which_unit_comes_to_a_called_end.{IsCalm, by_reach, c
 
 -- ---- a unit of the end
 
-abbrev IsFine : Whole → Value → Type 0
+abbrev pub IsFine : Whole → Value → Type 0
 IsFine w v = ((takes Right v w.tap).told.finding ≡ Kept) ⊎ (((takes Right v w.tap).told.finding ≡ NotJudged)
     × (w.tap.course.strays ≡ true))
 
@@ -55,7 +55,7 @@ module _ (local : Local) (w : Whole) (f : Called local w) (apart : AreApart w.ta
   own_passes : w.put ≡ v ∷ rest → Passed
   own_passes e = let h = head_of v rest f.tagged (sym e ∙ f.put) in by_tag h.o h.later h.is h.values_are
 
-mild : (w : Whole) (v : Value) → IsFine w v → IsNotBlamed (takes Right v w.tap).told.finding
+pub mild : (w : Whole) (v : Value) → IsFine w v → IsNotBlamed (takes Right v w.tap).told.finding
 mild w v (inl e) = inl e
 mild w v (inr (e, strays)) = inr e
 
@@ -122,10 +122,10 @@ module _ (local : Local) (w : Whole) (j : Joined local w) where
   other_stage (selecting f) = selecting (selecting_begins local Left w w.begun (λ c h k. h k) f)
   other_stage (selected f) = selected (selected_begins Left w w.begun f)
 
-  abbrev Passes : Value → List Value → Type 0
+  abbrev pub Passes : Value → List Value → Type 0
   Passes v rest = IsFine w v × Stage local (record w { put = rest; begun = false; tap = (takes Right v w.tap).state })
 
-  passes_stage : (v : Value) (rest : List Value) → w.put ≡ v ∷ rest → w.begun ≡ true → IsCalm w.tap.course → Stage local w → Passes v rest
+  pub passes_stage : (v : Value) (rest : List Value) → w.put ≡ v ∷ rest → w.begun ≡ true → IsCalm w.tap.course → Stage local w → Passes v rest
   passes_stage v rest e begun calm (lines f c) =
       let (fine, after) = own_passes local w f j.apart (j.judged calm.firm) calm.right v rest begun e in (fine, lines after c)
   passes_stage v rest e begun calm (selecting f) =
@@ -139,7 +139,7 @@ module _ (local : Local) (w : Whole) (j : Joined local w) where
   comes_stage v ranges calm calm_after (selecting f) = selecting (selecting_comes w j.apart (j.judged calm.firm) v calm_after local f)
   comes_stage v ranges calm calm_after (selected f) = selected (selected_comes w j.apart (j.judged calm.firm) v calm_after f)
 
-next_joined : (local : Local) (event : Event) (w new : Whole) → Happens Right event w new → Joined local w → Joined local new
+pub next_joined : (local : Local) (event : Event) (w new : Whole) → Happens Right event w new → Joined local w → Joined local new
 next_joined local arrives w new (u, coming, is) j = subst (Joined local) (sym is) (record {
   apart = j.apart;
   judged = j.judged;

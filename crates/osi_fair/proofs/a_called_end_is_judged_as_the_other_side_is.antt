@@ -1,12 +1,12 @@
 -- As long as the other side is judged, a called end is: what is right stops nothing, and what stops the end stops both sides.
 -- For the law on a whole called end.
 use Rattle.osi_fair.proofs.Vocabulary.{arith}
-use Rattle.osi_fair.proofs.Vocabulary.{ap, false, inl, inr, Option, refl, ◌∙◌, ◌≡◌, ◌⊎◌, ◌||◌, Value, Class, stops_are_said}
+use Rattle.osi_fair.proofs.Vocabulary.{ap, false, inl, inr, Option, refl, Some, sym, true, Zero, ◌∙◌, ◌≡◌, ◌⊎◌, ◌||◌, Value, Class, stops_are_said}
 use Rattle.osi_fair.proofs.Vocabulary.{reach_by, reach_of, class_for, reached, refused, Traffic as State, stops_by, takes, Left, Right}
-use Rattle.osi_fair.proofs.Vocabulary.{Finding, Kept, NotJudged, Reach}
+use Rattle.osi_fair.proofs.Vocabulary.{Course, Finding, Kept, NotJudged, Reach}
 use Rattle.osi_rules.specs.declared.findings.Reach.TheVariants as reach
 use Rattle.osi_fair.proofs.small_facts_that_many_lemmas_use.{differ}
-use Rattle.osi_fair.proofs.the_end_is_judged_as_the_other_side_is.{told_by}
+use Rattle.osi_fair.proofs.the_end_is_judged_as_the_other_side_is.{side_zero, told_by}
 
 -- ---- a unit of the end
 
@@ -21,11 +21,44 @@ no_reach k f (inr e) = ap (reach_of k) e
 pub own_judged : (v : Value) (s : State) → IsNotBlamed (takes Right v s).told.finding → s.course.right_stopped ≡ false →
     (takes Right v s).state.course.right_stopped ≡ false
 own_judged v s mild right =
-    let (k, is) = told_by Right v s in
     stops_are_said Right v s Right ∙ ap (λ (r : Reach). stops_by Right r Right || s.course.right_stopped)
-    (is ∙ no_reach k (takes Right v s).told.finding mild) ∙ right
+    (told_by Right v s ∙ no_reach s.course.class (takes Right v s).told.finding mild) ∙ right
+
+-- and it stops the other side as little
+pub other_kept : (v : Value) (s : State) → IsNotBlamed (takes Right v s).told.finding →
+    (takes Right v s).state.course.left_stopped ≡ s.course.left_stopped
+other_kept v s mild =
+    stops_are_said Right v s Left ∙ ap (λ (r : Reach). stops_by Right r Left || s.course.left_stopped)
+    (told_by Right v s ∙ no_reach s.course.class (takes Right v s).told.finding mild)
 
 -- ---- what the other side sends
+
+-- only what it sends in class 0 stops it alone
+alone_by : (r : Reach) (v : Value) (s : State) → (takes Left v s).told.reach ≡ r → s.course.left_stopped ≡ false →
+    (takes Left v s).state.course.left_stopped ≡ true → (takes Left v s).state.course.right_stopped ≡ false →
+    s.course.class_seen ≡ Some Zero
+alone_by reach.Side v s e was left right = side_zero s.course.class_seen (takes Left v s).told.finding (sym (told_by Left v s) ∙ e)
+alone_by reach.Everything v s e was left right =
+    differ (takes Left v s).state.course.right_stopped
+    (stops_are_said Left v s Right ∙ ap (λ (r : Reach). stops_by Left r Right || s.course.right_stopped) e) right
+alone_by reach.Nothing v s e was left right =
+    differ (takes Left v s).state.course.left_stopped left
+    (stops_are_said Left v s Left ∙ ap (λ (r : Reach). stops_by Left r Left || s.course.left_stopped) e ∙ was)
+alone_by reach.Connection v s e was left right =
+    differ (takes Left v s).state.course.left_stopped left
+    (stops_are_said Left v s Left ∙ ap (λ (r : Reach). stops_by Left r Left || s.course.left_stopped) e ∙ was)
+
+pub alone_zero : (v : Value) (s : State) → s.course.left_stopped ≡ false → (takes Left v s).state.course.left_stopped ≡ true →
+    (takes Left v s).state.course.right_stopped ≡ false → s.course.class_seen ≡ Some Zero
+alone_zero v s was left right = alone_by (takes Left v s).told.reach v s refl was left right
+
+rubbish_zero_by : (k : Option Class) (c : Course) → c.left_stopped ≡ false → (reached Left (reach_by k false) c).left_stopped ≡ true →
+    (reached Left (reach_by k false) c).right_stopped ≡ false → k ≡ Some Zero
+rubbish_zero_by k c was left right = grind (arith, differ)
+
+pub rubbish_zero : (s : State) → s.course.left_stopped ≡ false → (refused Left s).course.left_stopped ≡ true →
+    (refused Left s).course.right_stopped ≡ false → s.course.class_seen ≡ Some Zero
+rubbish_zero s was left right = rubbish_zero_by s.course.class_seen s.course was left right
 
 other_by : (r : Reach) (v : Value) (s : State) → (takes Left v s).told.reach ≡ r → s.course.right_stopped ≡ false →
     (takes Left v s).state.course.left_stopped ≡ false → (takes Left v s).state.course.right_stopped ≡ false

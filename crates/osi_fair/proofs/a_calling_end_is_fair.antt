@@ -1,6 +1,6 @@
 -- A whole calling end is fair as long as the other side has broken no rule, whatever classes it offers: by its stages.
 -- For the law of that name.
-use Rattle.osi_fair.proofs.Vocabulary.{[], false, inl, List, refl, Some, subst, sym, true, ◌∙◌, ◌∷◌, ◌≡◌, ◌⊎◌, AllByRecursion, request}
+use Rattle.osi_fair.proofs.Vocabulary.{[], ap, Bool, Connection, Traffic, Zero, false, inl, List, refl, Some, subst, sym, true, ◌∙◌, ◌∷◌, ◌≡◌, ◌⊎◌, AllByRecursion, request}
 use Rattle.osi_fair.proofs.Vocabulary.{Value, Two, Local, is_stopped, takes, Course, Left, Right, Kept, NotJudged, TooMany, passes, rubbish}
 use Rattle.osi_fair.proofs.Vocabulary.{unit as passing, arrives, begin, calls, Event, HappenAlong, Happens, passes_rubbish, Whole}
 use Rattle.osi_fair.specs.Wholes.{begins_other, begins_own, passes_other, passes_own}
@@ -12,6 +12,7 @@ use Rattle.osi_fair.proofs.no_request_is_blamed.{Holds as Staged, holds_first, h
 use Rattle.osi_fair.proofs.the_end_is_judged_as_the_other_side_is.{other_judged, own_judged, rubbish_judged}
 use Rattle.osi_fair.proofs.what_lasts_at_the_tap.{lasts_passing}
 use Rattle.osi_fair.proofs.what_the_other_side_closes.{IsClear}
+use Rattle.osi_fair.proofs.while_no_class_is_selected.{calm_tap}
 
 -- as long as the other side is judged, the end is
 abbrev IsJudged : Course → Type 0
@@ -105,3 +106,29 @@ pub calling_fair : (local : Local) (events : List Event) (w : Whole) (v : Value)
     ⊎ (((takes Left v w.tap).told.finding ≡ NotJudged) × (w.tap.course.strays ≡ true)))
 calling_fair local events w v rest along begun e right firm =
     is_fine local w v rest (all_stand local events (begin true local) w along (first_stands local)) e begun firm right
+
+-- ---- in class 0
+
+module _ (local : Local) (w : Whole) (v : Value) (rest : List Value) (e : w.put ≡ v ∷ rest) (begun : w.begun ≡ true)
+    (left : w.tap.course.left_stopped ≡ false) (class : w.tap.course.class ≡ Some Zero) where
+  not_asking : {A : Type 0} (cs : List Connection) (strays : Bool) → w.tap ≡ calm_tap cs strays → A
+  not_asking cs strays tap = absurd (cc (sym (ap (λ (s : Traffic). s.course.class) tap) ∙ class))
+
+  zero_by : Stage local w → (takes Left v w.tap).told.finding ≡ Kept
+  zero_by (ended none h) = none_put v rest w.put e none
+  zero_by (quiet is none not_begun cs strays tap done dcs) = none_put v rest w.put e none
+  zero_by (asks x put is offers cs strays tap done dcs all) = not_asking cs strays tap
+  zero_by (waits r is none not_begun cs strays tap p o offers waiting dcs) = none_put v rest w.put e none
+  zero_by (refused r is none not_begun cs strays tap done dcs u more coming are refusal too) = none_put v rest w.put e none
+  zero_by (answered r is none not_begun dcs n x more coming are class_of has after so z) = none_put v rest w.put e none
+  zero_by (zero has z) = (zeroed_passes w.end w.tap v rest left
+      (subst (λ (l : List Value). IsZeroed w.end l true w.tap) e
+      (subst (λ b. IsZeroed w.end w.put b w.tap) begun z))).0
+  zero_by (known two seen has) = absurd (cc (sym two ∙ class))
+
+pub calling_fair_in_class_0 : (local : Local) (events : List Event) (w : Whole) (v : Value) (rest : List Value) →
+    HappenAlong Left (begin true local) events w → w.begun ≡ true → w.put ≡ v ∷ rest → is_stopped Left w.tap.course ≡ false →
+    w.tap.course.class ≡ Some Zero → (takes Left v w.tap).told.finding ≡ Kept
+calling_fair_in_class_0 local events w v rest along begun e left class =
+    let j = all_stand local events (begin true local) w along (first_stands local) in
+    zero_by local w v rest e begun left class (j.staged.stage left)

@@ -1,59 +1,70 @@
 -- As long as the other side is judged, an end is: what is right stops nothing, and what stops the end stops both sides.
 -- For the law on a whole end.
 use Rattle.osi_fair.proofs.Vocabulary.{arith}
-use Rattle.osi_fair.proofs.Vocabulary.{ap, Bool, false, if◌then◌else◌, inl, inr, None, Option, refl, Some, true, ℕ, ◌∙◌, ◌≡◌, ◌⊎◌, position}
-use Rattle.osi_fair.proofs.Vocabulary.{slice_get, ◌||◌, Connect, request, Value, Class, stops_are_said, reach_by, reach_of}
+use Rattle.osi_fair.proofs.Vocabulary.{Zero, ap, Bool, false, if◌then◌else◌, inl, inr, None, Option, refl, Some, true, ℕ, ◌∙◌, ◌≡◌, ◌⊎◌, position}
+use Rattle.osi_fair.proofs.Vocabulary.{slice_get, ◌||◌, Connect, request, Value, Class, stops_are_said, reach_by, reach_of, reach_past}
 use Rattle.osi_fair.proofs.Vocabulary.{first_failed, is_live, is_named, asks_by, asks_of, at_found, at_place, class_for, course_after_none}
 use Rattle.osi_fair.proofs.Vocabulary.{is_stopped, none_told, one_told, Outcome, reached, refused, request_tests, route, routed}
-use Rattle.osi_fair.proofs.Vocabulary.{Traffic as State, stops_by, takes, unnamed_told, Connection, Direction, Left, Right, Finding, Kept}
+use Rattle.osi_fair.proofs.Vocabulary.{Traffic as State, stops_by, takes, unnamed, unnamed_told, Connection, Course, Direction, Left, Right, Finding, Kept}
 use Rattle.osi_fair.proofs.Vocabulary.{NotJudged, TooMany, Reach, Route, Asks, Named, Only, Unnamed}
 use Rattle.osi_rules.specs.declared.findings.Reach.TheVariants as reach
 use Rattle.osi_fair.proofs.small_facts_that_many_lemmas_use.{differ}
 
--- ---- how far a unit reaches is by what is found of it
+-- ---- how far a unit reaches is by what is found of it, and by the class that its side knows
 
-abbrev pub IsBy : Outcome → Type 0
-IsBy o = (k : Option Class) × (o.told.reach ≡ reach_of k o.told.finding)
+abbrev pub IsBy : Direction → State → Outcome → Type 0
+IsBy d s o = o.told.reach ≡ reach_of (class_for d s.course) o.told.finding
 
-to_none : (d : Direction) (f : Finding) (s : State) → IsBy (none_told d f s)
-to_none d f s = (class_for d s.course, refl)
+none_class : (d : Direction) (v : Value) (c : Course) → class_for d (course_after_none v c) ≡ class_for d c
+none_class d v c = grind arith
 
-to_one : (d : Direction) (p : ℕ) (c : Connection) (v : Value) (s : State) → IsBy (one_told d p c v s)
-to_one d p c v s = (class_for d s.course, refl)
+to_none : (d : Direction) (f : Finding) (s : State) → IsBy d s (none_told d f s)
+to_none d f s = refl
 
-to_unnamed : (d : Direction) (v : Value) (s : State) → IsBy (unnamed_told d v s)
-to_unnamed d v s = (class_for d (course_after_none v s.course), refl)
+to_one : (d : Direction) (p : ℕ) (c : Connection) (v : Value) (s : State) → IsBy d s (one_told d p c v s)
+to_one d p c v s = refl
 
-at_one : (d : Direction) (v : Value) (s : State) (p : ℕ) (c : Option Connection) → IsBy (at_found d v s p c)
+to_unnamed : (d : Direction) (v : Value) (s : State) → IsBy d s (unnamed_told d v s)
+to_unnamed d v s = ap (λ (k : Option Class). reach_of k (unnamed s.course v)) (none_class d v s.course)
+
+at_one : (d : Direction) (v : Value) (s : State) (p : ℕ) (c : Option Connection) → IsBy d s (at_found d v s p c)
 at_one d v s p None = to_unnamed d v s
 at_one d v s p (Some c) = to_one d p c v s
 
-at_any : (d : Direction) (v : Value) (s : State) (p : Option ℕ) → IsBy (at_place d v s p)
+at_any : (d : Direction) (v : Value) (s : State) (p : Option ℕ) → IsBy d s (at_place d v s p)
 at_any d v s None = to_unnamed d v s
 at_any d v s (Some p) = at_one d v s p (slice_get s.connections p)
 
-asking : (d : Direction) (f : Finding) (c : Connect) (s : State) → IsBy (asks_by d f c s)
-asking d Kept c s = (None, refl)
+asking : (d : Direction) (f : Finding) (c : Connect) (s : State) → IsBy d s (asks_by d f c s)
+asking d Kept c s = refl
 asking d v c s = to_none d v s
 
-asks : (d : Direction) (v : Value) (s : State) → IsBy (asks_of d v s)
+asks : (d : Direction) (v : Value) (s : State) → IsBy d s (asks_of d v s)
 asks d (request c) s = asking d (first_failed (request_tests s c)) c s
 asks d _ s = to_none d NotJudged s
 
-by_route : (d : Direction) (v : Value) (s : State) (r : Route) → IsBy (routed d v s r)
+by_route : (d : Direction) (v : Value) (s : State) (r : Route) → IsBy d s (routed d v s r)
 by_route d v s Asks = asks d v s
 by_route d v s (Named n) = at_any d v s (position (is_named d n) s.connections)
 by_route d v s Only = at_any d v s (position (is_live d) s.connections)
 by_route d v s (Unnamed finding) = to_none d finding s
 
-if_judged : (b : Bool) (d : Direction) (v : Value) (s : State) (r : Route) → IsBy (if b then none_told d NotJudged s else routed d v s r)
+if_judged : (b : Bool) (d : Direction) (v : Value) (s : State) (r : Route) → IsBy d s (if b then none_told d NotJudged s else routed d v s r)
 if_judged true d v s r = to_none d NotJudged s
 if_judged false d v s r = by_route d v s r
 
-pub told_by : (d : Direction) (v : Value) (s : State) → IsBy (takes d v s)
+pub told_by : (d : Direction) (v : Value) (s : State) → IsBy d s (takes d v s)
 told_by d v s = if_judged (is_stopped d s.course) d v s (route d s.course v)
 
--- ---- a unit of the end
+-- only in class 0 one side alone is not judged any more
+by_zero : (k : Option Class) (b : Bool) → reach_by k b ≡ reach.Side → k ≡ Some Zero
+by_zero k b e = grind arith
+
+past_zero : (p : Bool) (k : Option Class) (b : Bool) → reach_past p (reach_by k b) ≡ reach.Side → k ≡ Some Zero
+past_zero p k b e = grind (arith, by_zero)
+
+pub side_zero : (k : Option Class) (f : Finding) → reach_of k f ≡ reach.Side → k ≡ Some Zero
+side_zero k f e = grind (arith, past_zero)
 
 -- right, or not judged, or there are too many connections
 abbrev pub IsMild : Finding → Type 0
@@ -74,9 +85,8 @@ same_reach r q e k = grind arith
 pub own_judged : (v : Value) (s : State) → IsMild (takes Left v s).told.finding → s.course.left_stopped ≡ false →
     (takes Left v s).state.course.right_stopped ≡ false → (takes Left v s).state.course.left_stopped ≡ false
 own_judged v s mild left right =
-    let (k, is) = told_by Left v s in
-    own_by v s (same_reach (takes Left v s).told.reach (reach_of k (takes Left v s).told.finding) is
-    (all_or_none k (takes Left v s).told.finding mild)) left right
+    own_by v s (same_reach (takes Left v s).told.reach (reach_of s.course.class_seen (takes Left v s).told.finding) (told_by Left v s)
+    (all_or_none s.course.class_seen (takes Left v s).told.finding mild)) left right
 
 -- ---- what the other side sends
 

@@ -96,20 +96,19 @@ cr_by false false ts e h = cc
 
 -- ---- a unit of the other side passes
 
-reached_seen : (r : Reach) (c : Course) → (reached Left r c).class_seen ≡ c.class_seen
+pub reached_seen : (r : Reach) (c : Course) → (reached Left r c).class_seen ≡ c.class_seen
 reached_seen reach.Nothing c = refl
 reached_seen _ c = refl
 
-module _ (w : Whole) (apart : AreApart w.tap.connections) (judged : HoldsOfEach IsJudged w.tap.connections) (v : Value)
-    (calm_after : IsCalm (takes Left v w.tap).state.course) where
+module _ (w : Whole) (apart : AreApart w.tap.connections) (judged : HoldsOfEach IsJudged w.tap.connections) (v : Value) where
   abbrev cs : List Connection
   cs = w.tap.connections
 
   abbrev after : Whole
   after = record w { tap = (takes Left v w.tap).state; coming = w.coming ++ v ∷ [] }
 
-  calm : IsCalm w.tap.course
-  calm = calm_before w.tap.course (takes Left v w.tap).state.course (lasts_passing (passing Left v) w.tap) calm_after
+  calm : IsCalm (takes Left v w.tap).state.course → IsCalm w.tap.course
+  calm calm_after = calm_before w.tap.course (takes Left v w.tap).state.course (lasts_passing (passing Left v) w.tap) calm_after
 
   -- a connection that left has not refused, and right has neither, is not over for left
   not_over : (p : ℕ) (c : Connection) → slice_get cs p ≡ Some c → is_there c.left.phase ≡ true → is_open c.right.phase ≡ true →
@@ -207,7 +206,7 @@ module _ (w : Whole) (apart : AreApart w.tap.connections) (judged : HoldsOfEach 
       f.there,
     )
 
-    selected_one : Selected w → Selected after
+    pub selected_one : Selected w → Selected after
     selected_one f =
         let (y, there, right, size, left) = one_there f (f.p == q) refl in
         record {
@@ -294,8 +293,10 @@ module _ (w : Whole) (apart : AreApart w.tap.connections) (judged : HoldsOfEach 
   selected_by_came f (only q e at seen is) = selected_one q e at is f
   selected_by_came f (lost dc strays same) = selected_same same f
 
-  pub selecting_comes : (local : Local) → Selecting local w → Selecting local after
-  selecting_comes local f = selecting_by local f (came_so v w.tap judged calm.left calm.firm calm.right calm_after)
+  pub selecting_comes : IsCalm (takes Left v w.tap).state.course → (local : Local) → Selecting local w → Selecting local after
+  selecting_comes after_it local f =
+      let was = calm after_it in selecting_by local f (came_so v w.tap judged was.left was.firm was.right after_it)
 
-  pub selected_comes : Selected w → Selected after
-  selected_comes f = selected_by_came f (came_so v w.tap judged calm.left calm.firm calm.right calm_after)
+  pub selected_comes : IsCalm (takes Left v w.tap).state.course → Selected w → Selected after
+  selected_comes after_it f =
+      let was = calm after_it in selected_by_came f (came_so v w.tap judged was.left was.firm was.right after_it)

@@ -271,27 +271,38 @@ pub fn a_dr_for_what_is_gone_closed_nothing()
 /// sends, however many connections, memory that runs out at any time, and a tap anywhere between the two ends. Then each unit of
 /// the end that passes is right: a CR, and what it puts on an open connection of either class; or it is a CR and there are more
 /// connections than the rules look at, or it is a DC that is not judged, since a DR has passed that closed nothing. This holds as
-/// long as the other side is judged, and no connection has lost its judgement because that side broke a rule.
+/// long as the other side is judged, and no connection has lost its judgement because that side broke a rule (`judged`). In class 0 each
+/// unit of the end is right as long as the end itself is judged: also after the other side has broken a rule, and isn't judged any more
+/// (`in_class_0`).
 pub fn a_calling_end_is_fair()
-    ensures { (local : Local) (events : List Event) (w : Whole) (unit : Value) (rest : List Value) →
+    ensures judged { (local : Local) (events : List Event) (w : Whole) (unit : Value) (rest : List Value) →
         HappenAlong Direction.Left (begin true local) events w → w.begun ≡ true → w.put ≡ unit ∷ rest →
         is_stopped Direction.Right w.tap.course ≡ false → w.tap.course.loose ≡ false →
         ((takes Direction.Left unit w.tap).told.finding ≡ Finding.Kept)
         ⊎ (((takes Direction.Left unit w.tap).told.finding ≡ Finding.TooMany)
         ⊎ (((takes Direction.Left unit w.tap).told.finding ≡ Finding.NotJudged) × (w.tap.course.strays ≡ true))) }
+    ensures in_class_0 { (local : Local) (events : List Event) (w : Whole) (unit : Value) (rest : List Value) →
+        HappenAlong Direction.Left (begin true local) events w → w.begun ≡ true → w.put ≡ unit ∷ rest →
+        is_stopped Direction.Left w.tap.course ≡ false → w.tap.course.class ≡ Some Zero →
+        (takes Direction.Left unit w.tap).told.finding ≡ Finding.Kept }
 {}
 
 /// A whole called end is fair. Take any run of it, whatever classes it offers: any calls of its user, whatever units the other side
 /// sends, however many connections, memory that runs out at any time, and a tap anywhere between the two ends. Then each unit of
 /// the end that passes is right: a CC, a DR that refuses a CR, and what it puts on an open connection of either class; or it is a
 /// DC that is not judged, since a DR has passed that closed nothing. This holds as long as the other side is judged, and no
-/// connection has lost its judgement because that side broke a rule.
+/// connection has lost its judgement because that side broke a rule (`judged`). In class 0 each unit of the end is right as long as the
+/// end itself is judged: also after the other side has broken a rule, and isn't judged any more (`in_class_0`).
 pub fn a_called_end_is_fair()
-    ensures { (local : Local) (events : List Event) (w : Whole) (unit : Value) (rest : List Value) →
+    ensures judged { (local : Local) (events : List Event) (w : Whole) (unit : Value) (rest : List Value) →
         HappenAlong Direction.Right (begin false local) events w → w.begun ≡ true → w.put ≡ unit ∷ rest →
         is_stopped Direction.Left w.tap.course ≡ false → w.tap.course.loose ≡ false →
         ((takes Direction.Right unit w.tap).told.finding ≡ Finding.Kept)
         ⊎ (((takes Direction.Right unit w.tap).told.finding ≡ Finding.NotJudged) × (w.tap.course.strays ≡ true)) }
+    ensures in_class_0 { (local : Local) (events : List Event) (w : Whole) (unit : Value) (rest : List Value) →
+        HappenAlong Direction.Right (begin false local) events w → w.begun ≡ true → w.put ≡ unit ∷ rest →
+        is_stopped Direction.Right w.tap.course ≡ false → w.tap.course.loose ≡ false → w.tap.course.class ≡ Some Zero →
+        (takes Direction.Right unit w.tap).told.finding ≡ Finding.Kept }
 {}
 
 /// What a carrier does with a packet, with or without enough memory, is events of its whole end: the units of the packet arrive

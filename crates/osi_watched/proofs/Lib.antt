@@ -6,6 +6,8 @@ pub mod what_the_first_octets_are
 pub mod turns_are_taken_late
 pub mod what_the_turns_among_steps_do
 pub mod what_an_octet_does
+pub mod how_an_end_stands_to_what_has_passed
+pub mod what_follows_what_cannot_be_read
 pub mod a_capture_is_steps
 -- the first break of transport at a tap
 pub mod what_a_unit_leaves_at_a_tap
@@ -23,6 +25,10 @@ pub mod the_first_break_is_not_of_an_end
 pub mod no_unit_of_a_whole_end_is_a_break
 pub mod what_a_taker_passes_over
 pub mod sessions
--- nor any rule later, as long as all is judged
+-- nor any rule later, as long as no connection has lost its judgement
 pub mod a_break_ends_no_judging_or_all
+pub mod what_is_halted_stays_halted
+pub mod later_steps_are_events
+pub mod in_class_0_one_side_alone_is_judged
+pub mod an_end_that_is_judged_alone_stays_so
 pub mod no_unit_of_an_end_breaks_a_rule

@@ -1,12 +1,11 @@
--- A unit and what can't be read leave all that passes judged, or nothing any more; or one connection is not judged any more, or in class
--- 0 one side. And what a side sends is no break of the other one.
--- For the laws that an end is blamed nowhere.
+-- A unit that is no break leaves all that passes judged, or nothing any more; how far each other unit reaches, and what can't be read. And
+-- what a side sends is no break of the other one. For the laws that an end is blamed nowhere.
 use Rattle.std.proofs.Common.{◌≡◌, ◌∙◌, ℕ, Bool, true, false, if◌then◌else◌, Option, Some, None, is_some, refl, sym, ap, subst}
 use Rattle.std.proofs.Common.{inl, inr, ◌⊎◌}
 use Rattle.std.specs.Prelude.{◌||◌, slice_get, position}
 use Rattle.osi_tpdu.specs.Value.{Value, Connect, request, confirm, disconnect, disconnected, data0, data2, acknowledge, error}
 use Rattle.osi_class.specs.declared.terms.Class.{Class}
-use Rattle.osi_class.specs.declared.terms.Class.TheVariants.{Two, Zero}
+use Rattle.osi_class.specs.declared.terms.Class.TheVariants.{Zero}
 use Rattle.osi_judge.specs.Captures.{other}
 use Rattle.osi_judge.specs.declared.directions.Direction.{Direction as Side}
 use Rattle.osi_judge.specs.declared.directions.Direction.TheVariants as side
@@ -20,7 +19,7 @@ use Rattle.osi_rules.specs.declared.findings.Reach.{Reach}
 use Rattle.osi_rules.specs.declared.findings.Reach.TheVariants as reach
 use Rattle.osi_rules.specs.declared.routes.Route.{Route}
 use Rattle.osi_rules.specs.declared.routes.Route.TheVariants.{Asks, Named, Only, Unnamed}
-use Rattle.osi_rules.specs.Reaches.{is_applied, is_of_connection, passes_over, reach_by, reach_of, reach_past}
+use Rattle.osi_rules.specs.Reaches.{is_applied, reach_of}
 use Rattle.osi_rules.specs.Rows.{first_failed}
 use Rattle.osi_rules.specs.Sides.{is_live, is_named}
 use Rattle.osi_rules.specs.Traffic.{State, Outcome, class_for, course_after, course_after_none, found_on, unnamed, none_told, one_told}
@@ -29,6 +28,7 @@ use Rattle.osi_rules.specs.Traffic as traffic
 use Rattle.osi_rules.proofs.a_stop_is_said.{stops_are_said, stops_last}
 use Rattle.osi_fair.specs.Naming.{rubbish, unit}
 use Rattle.osi_fair.proofs.class_0_stays_selected.{zero_stays}
+use Rattle.osi_fair.proofs.the_end_is_judged_as_the_other_side_is.{side_zero}
 use Rattle.osi_tap.specs.declared.marks.Cause.{Cause}
 use Rattle.osi_tap.specs.declared.marks.Cause.TheVariants as cause
 use Rattle.osi_tap.specs.declared.marks.Mark.{Mark}
@@ -59,7 +59,7 @@ pub record Reaches (k : Option Class) (old : Bool) (o : Outcome) : Type 0 where
 abbrev pub IsReached : Direction → State → Outcome → Type 0
 IsReached d s o = Reaches (class_for d s.course) s.course.loose o
 
-reached_loose : (d : Direction) (r : Reach) (c : Judging) (old : Bool) → c.loose ≡ old → (traffic.reached d r c).loose ≡ loose_by r old
+pub reached_loose : (d : Direction) (r : Reach) (c : Judging) (old : Bool) → c.loose ≡ old → (traffic.reached d r c).loose ≡ loose_by r old
 reached_loose d reach.Nothing c old e = e
 reached_loose d reach.Connection c old e = refl
 reached_loose Left reach.Side c old e = e
@@ -159,24 +159,6 @@ if_judged false d v s r = by_route d v s r
 takes_reach : (d : Direction) (v : Value) (s : State) → IsReached d s (takes d v s)
 takes_reach d v s = if_judged (is_stopped d s.course) d v s (route d s.course v)
 
--- only in class 0 one side alone is not judged any more
-by_zero : (k : Option Class) (b : Bool) → reach_by k b ≡ reach.Side → k ≡ Some Zero
-by_zero None b e = absurd (cc)
-by_zero (Some Zero) b e = refl
-by_zero (Some Two) true e = absurd (cc)
-by_zero (Some Two) false e = absurd (cc)
-
-past_zero : (p : Bool) (k : Option Class) (b : Bool) → reach_past p (reach_by k b) ≡ reach.Side → k ≡ Some Zero
-past_zero true k b e = absurd (cc)
-past_zero false k b e = by_zero k b e
-
-side_zero : (k : Option Class) (f : Finding) → reach_of k f ≡ reach.Side → k ≡ Some Zero
-side_zero k Kept e = absurd (cc)
-side_zero k NotJudged e = absurd (cc)
-side_zero k Outside e = absurd (cc)
-side_zero k TooMany e = absurd (cc)
-side_zero k (Broke rule) e = past_zero (passes_over rule) k (is_of_connection rule) e
-
 -- what ends all judging is told
 all_caused : (k : Option Class) (f : Finding) → reach_of k f ≡ reach.Everything → (x : Cause) × (cause_of f ≡ Some x)
 all_caused k Kept e = absurd (cc)
@@ -186,17 +168,6 @@ all_caused k TooMany e = (cause.TooMany, refl)
 all_caused k (Broke rule) e = (cause.Broke rule, refl)
 
 -- ---- at the tap
-
--- one connection is not judged any more, or in class 0 this side alone
-abbrev pub IsPartly : Side → Course → Type 0
-IsPartly e c = (c.traffic.course.loose ≡ true)
-    ⊎ ((c.traffic.course.class ≡ Some Zero) × (is_stopped (way_of e) c.traffic.course ≡ true))
-
--- all that passes is judged, or nothing any more; or not all of it
-pub data Judges (e : Side) (c : Course) : Type 0 where
-  all_judged : IsJudged c → Judges e c
-  none_judged : IsOver c → Judges e c
-  part_judged : IsPartly e c → Judges e c
 
 breaks_halted : (m : Mark) (k : Marks) → (breaks m k).halted ≡ k.halted
 breaks_halted m k = by (is_break m.cause)
@@ -208,14 +179,14 @@ breaks_halted m k = by (is_break m.cause)
 breaks_no : (m : Mark) (k : Marks) → is_break m.cause ≡ false → (breaks m k).broke ≡ k.broke
 breaks_no m k h = ap (λ (b : Bool). (if b then record k { broke = earlier k.broke m } else k).broke) h
 
-halted_by : (d e : Side) (m : Mark) (c : Course) →
+pub halted_by : (d e : Side) (m : Mark) (c : Course) →
     (marks_of e (changes d (breaks m) (first_marked m c))).halted ≡ (marks_of e c).halted
 halted_by side.Left side.Left m c = breaks_halted m c.left
 halted_by side.Left side.Right m c = refl
 halted_by side.Right side.Left m c = refl
 halted_by side.Right side.Right m c = breaks_halted m c.right
 
-some_earlier : (o : Option Mark) (m : Mark) → is_some (earlier o m) ≡ true
+pub some_earlier : (o : Option Mark) (m : Mark) → is_some (earlier o m) ≡ true
 some_earlier None m = refl
 some_earlier (Some k) m = refl
 
@@ -245,17 +216,17 @@ own_marked side.Left m c h = breaks_no m c.left h
 own_marked side.Right m c h = breaks_no m c.right h
 
 module _ (d : Side) (at : ℕ) (v : Value) (c : Course) where
-  abbrev o : Outcome
+  abbrev pub o : Outcome
   o = takes (way_of d) v c.traffic
 
   -- what it comes to, before what was found is noted
-  abbrev mid : Course
+  abbrev pub mid : Course
   mid = moved (moment_of d at v o.told (taken d at v o.told.meaning o.told.place c.sessions)) (record c { traffic = o.state })
 
-  abbrev mark : Cause → Mark
+  abbrev pub mark : Cause → Mark
   mark k = record { direction = d; offset = at; unit = Some (kind_of v); connection = number_at o.told.place mid.sessions; cause = k }
 
-  mid_marks : (e : Side) → marks_of e mid ≡ marks_of e c
+  pub mid_marks : (e : Side) → marks_of e mid ≡ marks_of e c
   mid_marks side.Left = refl
   mid_marks side.Right = refl
 
@@ -279,7 +250,7 @@ module _ (d : Side) (at : ℕ) (v : Value) (c : Course) where
   abbrev next : Course
   next = unit_passes d at v c
 
-  stops_so : (r : Reach) → o.told.reach ≡ r → (e : Direction) →
+  pub stops_so : (r : Reach) → o.told.reach ≡ r → (e : Direction) →
       is_stopped e next.traffic.course ≡ (traffic.stops_by (way_of d) r e || is_stopped e c.traffic.course)
   stops_so r is e =
       ap (λ (s : State). is_stopped e s.course) (unit_knows d at v c) ∙ stops_are_said (way_of d) v c.traffic e
@@ -288,7 +259,7 @@ module _ (d : Side) (at : ℕ) (v : Value) (c : Course) where
   pub reach_so : IsReached (way_of d) c.traffic o
   reach_so = takes_reach (way_of d) v c.traffic
 
-  loose_so : (r : Reach) → o.told.reach ≡ r → next.traffic.course.loose ≡ loose_by r c.traffic.course.loose
+  pub loose_so : (r : Reach) → o.told.reach ≡ r → next.traffic.course.loose ≡ loose_by r c.traffic.course.loose
   loose_so r is =
       ap (λ (s : State). s.course.loose) (unit_knows d at v c) ∙ reach_so.loose
       ∙ ap (λ (x : Reach). loose_by x c.traffic.course.loose) is
@@ -321,7 +292,7 @@ module _ (d : Side) (at : ℕ) (v : Value) (c : Course) where
         right_halts = halts_all side.Right (cause_of o.told.finding) x caused is;
       }
 
-  side_so : o.told.reach ≡ reach.Side → IsKnownOnce c.traffic →
+  pub side_so : o.told.reach ≡ reach.Side → IsKnownOnce c.traffic →
       (next.traffic.course.class ≡ Some Zero) × (is_stopped (way_of d) next.traffic.course ≡ true)
   side_so is once =
       let k = side_zero (class_for (way_of d) c.traffic.course) o.told.finding (sym reach_so.far ∙ is) in (
@@ -330,16 +301,7 @@ module _ (d : Side) (at : ℕ) (v : Value) (c : Course) where
         stops_so reach.Side is (way_of d) ∙ own_stops d (is_stopped (way_of d) c.traffic.course),
       )
 
-  ends_by : (r : Reach) → o.told.reach ≡ r → IsJudged c → IsKnownOnce c.traffic → Judges d next
-  ends_by reach.Nothing is j once = all_judged (nothing_ends is j)
-  ends_by reach.Connection is j once = part_judged (inl (loose_so reach.Connection is))
-  ends_by reach.Side is j once = part_judged (inr (side_so is once))
-  ends_by reach.Everything is j once = none_judged (all_ends is)
-
-  pub unit_ends : IsJudged c → IsKnownOnce c.traffic → Judges d next
-  unit_ends j once = ends_by o.told.reach refl j once
-
-  far_of : (f : Finding) → o.told.finding ≡ f → o.told.reach ≡ reach_of (class_for (way_of d) c.traffic.course) f
+  pub far_of : (f : Finding) → o.told.finding ≡ f → o.told.reach ≡ reach_of (class_for (way_of d) c.traffic.course) f
   far_of f is = reach_so.far ∙ ap (reach_of (class_for (way_of d) c.traffic.course)) is
 
   none_by : (f : Finding) → o.told.finding ≡ f → IsNoBreak f → IsJudged c → IsJudged next ⊎ IsOver next
@@ -348,16 +310,6 @@ module _ (d : Side) (at : ℕ) (v : Value) (c : Course) where
   none_by TooMany is none j = inr (all_ends (far_of TooMany is))
   none_by (Broke rule) is none j = absurd none
   none_by Outside is none j = absurd none
-
-  -- one after which less is judged
-  pub hard_ends : (o.told.reach ≡ reach.Nothing → ⊥) → IsKnownOnce c.traffic → IsOver next ⊎ IsPartly d next
-  hard_ends less once = by o.told.reach refl
-    where
-      by : (r : Reach) → o.told.reach ≡ r → IsOver next ⊎ IsPartly d next
-      by reach.Nothing is = absurd (less is)
-      by reach.Connection is = inr (inl (loose_so reach.Connection is))
-      by reach.Side is = inr (inr (side_so is once))
-      by reach.Everything is = inl (all_ends is)
 
   -- one that is no break ends no judging, or all
   pub none_ends : IsNoBreak o.told.finding → IsJudged c → IsJudged next ⊎ IsOver next
@@ -411,22 +363,18 @@ reached_stops Right reach.Side c Right = refl
 reached_stops d reach.Everything c Left = refl
 reached_stops d reach.Everything c Right = refl
 
-abbrev refuses : Side → (at : ℕ) → Cause → Course → Course
+abbrev pub refuses : Side → (at : ℕ) → Cause → Course → Course
 refuses d at k c = marked (unread_mark d at k) (traffic.refused_reach (way_of d) c.traffic)
     (moved (unread_moment d at k c.sessions) (record c { traffic = traffic.refused (way_of d) c.traffic }))
 
-abbrev unread_if : Bool → Side → (at : ℕ) → Cause → Course → Course
+abbrev pub unread_if : Bool → Side → (at : ℕ) → Cause → Course → Course
 unread_if b d at k c = if b then c else refuses d at k c
 
 module _ (d : Side) (at : ℕ) (k : Cause) (c : Course) where
-  refused_traffic : (refuses d at k c).traffic ≡ traffic.refused (way_of d) c.traffic
+  pub refused_traffic : (refuses d at k c).traffic ≡ traffic.refused (way_of d) c.traffic
   refused_traffic = marked_traffic (unread_mark d at k) (traffic.refused_reach (way_of d) c.traffic) _
 
-  goes : IsJudged c → (e : Side) → is_some (marks_of e c).halted ≡ false
-  goes j side.Left = ap is_some j.left_goes
-  goes j side.Right = ap is_some j.right_goes
-
-  refused_stops : (r : Reach) → traffic.refused_reach (way_of d) c.traffic ≡ r → (e : Direction) →
+  pub refused_stops : (r : Reach) → traffic.refused_reach (way_of d) c.traffic ≡ r → (e : Direction) →
       is_stopped e (refuses d at k c).traffic.course ≡ (traffic.stops_by (way_of d) r e || is_stopped e c.traffic.course)
   refused_stops r is e =
       ap (λ (s : State). is_stopped e s.course) refused_traffic
@@ -437,7 +385,7 @@ module _ (d : Side) (at : ℕ) (k : Cause) (c : Course) where
   before_halts = changes d (breaks (unread_mark d at k)) (first_marked (unread_mark d at k)
       (moved (unread_moment d at k c.sessions) (record c { traffic = traffic.refused (way_of d) c.traffic })))
 
-  refused_over : traffic.refused_reach (way_of d) c.traffic ≡ reach.Everything → IsOver (refuses d at k c)
+  pub refused_over : traffic.refused_reach (way_of d) c.traffic ≡ reach.Everything → IsOver (refuses d at k c)
   refused_over is = record {
     left = refused_stops reach.Everything is Left;
     right = refused_stops reach.Everything is Right;
@@ -447,33 +395,13 @@ module _ (d : Side) (at : ℕ) (k : Cause) (c : Course) where
         ∙ some_earlier before_halts.right.halted (unread_mark d at k);
   }
 
-  class_kept : c.traffic.course.class ≡ Some Zero → (refuses d at k c).traffic.course.class ≡ Some Zero
+  pub class_kept : c.traffic.course.class ≡ Some Zero → (refuses d at k c).traffic.course.class ≡ Some Zero
   class_kept h = ap (λ (s : State). s.course.class) refused_traffic ∙ zero_stays (rubbish (way_of d)) c.traffic h
 
-  own_too : (e : Side) (b : Bool) → (traffic.stops_by (way_of e) reach.Side (way_of e) || b) ≡ true
-  own_too side.Left b = refl
-  own_too side.Right b = refl
-
-  known_too : (e : Side) → IsKnownOnce c.traffic → class_for (way_of e) c.traffic.course ≡ Some Zero →
+  pub known_too : (e : Side) → IsKnownOnce c.traffic → class_for (way_of e) c.traffic.course ≡ Some Zero →
       c.traffic.course.class ≡ Some Zero
   known_too side.Left once h = once h
   known_too side.Right once h = h
-
-  refused_by : (class : Option Class) → class_for (way_of d) c.traffic.course ≡ class → IsKnownOnce c.traffic →
-      IsOver (refuses d at k c) ⊎ IsPartly d (refuses d at k c)
-  refused_by None is once = inl (refused_over (ap (λ (x : Option Class). reach_by x false) is))
-  refused_by (Some Two) is once = inl (refused_over (ap (λ (x : Option Class). reach_by x false) is))
-  refused_by (Some Zero) is once =
-      inr (inr (
-        class_kept (known_too d once is),
-        refused_stops reach.Side (ap (λ (x : Option Class). reach_by x false) is) (way_of d)
-            ∙ own_too d (is_stopped (way_of d) c.traffic.course),
-      ))
-
-  pub unread_ends : IsJudged c → IsKnownOnce c.traffic → IsOver (unread d at k c) ⊎ IsPartly d (unread d at k c)
-  unread_ends j once =
-      subst (λ (b : Bool). IsOver (unread_if b d at k c) ⊎ IsPartly d (unread_if b d at k c)) (sym (goes j d))
-      (refused_by (class_for (way_of d) c.traffic.course) refl once)
 
 pub unread_unbroken : (d : Side) (at : ℕ) (k : Cause) (c : Course) → (marks_of d (unread (other d) at k c)).broke ≡ (marks_of d c).broke
 unread_unbroken d at k c = by (is_some (marks_of (other d) c).halted)
@@ -559,57 +487,9 @@ left_claim d = record {
   bad = λ e at k c h. subst (IsLeft d) (sym (unread_over e at k c h.over)) h;
 }
 
--- what is not judged is not judged later
-loose_more : (r : Reach) → loose_by r true ≡ true
+-- what has lost its judgement stays so
+pub loose_more : (r : Reach) → loose_by r true ≡ true
 loose_more reach.Nothing = refl
 loose_more reach.Connection = refl
 loose_more reach.Side = refl
 loose_more reach.Everything = refl
-
-stops_more : (b : Bool) → (b || true) ≡ true
-stops_more true = refl
-stops_more false = refl
-
-partly_begins : (e f : Side) (c : Course) → IsPartly e c → IsPartly e (packet_begins f c)
-partly_begins e side.Left c (inl h) = inl h
-partly_begins e side.Right c (inl h) = inl h
-partly_begins side.Left side.Left c (inr (zero, stop)) = inr (zero, stop)
-partly_begins side.Left side.Right c (inr (zero, stop)) = inr (zero, stop)
-partly_begins side.Right side.Left c (inr (zero, stop)) = inr (zero, stop)
-partly_begins side.Right side.Right c (inr (zero, stop)) = inr (zero, stop)
-
-partly_passes : (e f : Side) (at : ℕ) (v : Value) (c : Course) → IsPartly e c → IsPartly e (unit_passes f at v c)
-partly_passes e f at v c (inl h) =
-    let r = (takes (way_of f) v c.traffic).told.reach in
-    inl (loose_so f at v c r refl ∙ ap (loose_by r) h ∙ loose_more r)
-partly_passes e f at v c (inr (zero, stop)) =
-    let r = (takes (way_of f) v c.traffic).told.reach in
-    inr (
-      ap (λ (s : State). s.course.class) (unit_knows f at v c) ∙ zero_stays (unit (way_of f) v) c.traffic zero,
-      stops_so f at v c r refl (way_of e) ∙ ap (λ (b : Bool). traffic.stops_by (way_of f) r (way_of e) || b) stop
-          ∙ stops_more (traffic.stops_by (way_of f) r (way_of e)),
-    )
-
-partly_refused : (e f : Side) (at : ℕ) (k : Cause) (c : Course) → IsPartly e c → IsPartly e (refuses f at k c)
-partly_refused e f at k c (inl h) =
-    let r = traffic.refused_reach (way_of f) c.traffic in
-    inl (ap (λ (s : State). s.course.loose) (refused_traffic f at k c)
-    ∙ reached_loose (way_of f) r c.traffic.course true h ∙ loose_more r)
-partly_refused e f at k c (inr (zero, stop)) =
-    let r = traffic.refused_reach (way_of f) c.traffic in
-    inr (
-      class_kept f at k c zero,
-      refused_stops f at k c r refl (way_of e) ∙ ap (λ (b : Bool). traffic.stops_by (way_of f) r (way_of e) || b) stop
-          ∙ stops_more (traffic.stops_by (way_of f) r (way_of e)),
-    )
-
-partly_unread : (b : Bool) (e f : Side) (at : ℕ) (k : Cause) (c : Course) → IsPartly e c → IsPartly e (unread_if b f at k c)
-partly_unread true e f at k c h = h
-partly_unread false e f at k c h = partly_refused e f at k c h
-
-pub partly_claim : (e : Side) → IsClaim (IsPartly e)
-partly_claim e = record {
-  begins = λ f c h. partly_begins e f c h;
-  passes = λ f at v c h. partly_passes e f at v c h;
-  bad = λ f at k c h. partly_unread (is_some (marks_of f c).halted) e f at k c h;
-}

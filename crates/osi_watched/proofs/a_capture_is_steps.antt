@@ -1,12 +1,12 @@
 -- A capture of an end is steps of the end and of the tap: octet by octet, with each turn of the end as late as can be.
 -- For the law that a capture of an end is steps.
-use Rattle.osi_watched.proofs.Vocabulary.{[], ap, append_assoc, arith, Bool, Err, false, inl, inr, is_some, length, List, None, Ok, Option}
-use Rattle.osi_watched.proofs.Vocabulary.{refl, Result, Some, subst, sym, true, ℕ, ◌++◌, ◌<◌, ◌∙◌, ◌∷◌, ◌≡◌, ◌≢◌, ◌≤◌, ◌⊎◌, append-nil}
-use Rattle.osi_watched.proofs.Vocabulary.{length-append, AllByRecursion, end_no_packet, some_cut, octets_append, octets_cons, octets_left}
-use Rattle.osi_watched.proofs.Vocabulary.{octets_nil, octets_right, IsOctets, packet_of, ArePackets, Ending, EndsAt, units_of, request}
-use Rattle.osi_watched.proofs.Vocabulary.{user_data, Value, written, written_header, TpduFault, Local, packets, EndReason, Holding, Capture}
-use Rattle.osi_watched.proofs.Vocabulary.{of, other, Passed, Direction, Left, Right, over_acts, packets_joined, never_lasts, fresh_turns}
-use Rattle.osi_watched.proofs.Vocabulary.{TurnOf, TurnsOf, Known, packets_on, packets_then, CanBeWritten, read_again, all_did, Continues}
+use Rattle.osi_watched.proofs.Vocabulary.{[], ap, append_assoc, Bool, Err, false, inl, inr, List, Ok}
+use Rattle.osi_watched.proofs.Vocabulary.{refl, Result, subst, sym, true, ℕ, ◌++◌, ◌<◌, ◌∙◌, ◌∷◌, ◌≡◌, ◌≢◌, ◌⊎◌, append-nil}
+use Rattle.osi_watched.proofs.Vocabulary.{AllByRecursion}
+use Rattle.osi_watched.proofs.Vocabulary.{octets_nil, octets_right, IsOctets, packet_of, ArePackets, units_of}
+use Rattle.osi_watched.proofs.Vocabulary.{Value, written, TpduFault, Local, packets, Holding, Capture}
+use Rattle.osi_watched.proofs.Vocabulary.{of, other, Passed, Direction, Left, Right, packets_joined, fresh_turns}
+use Rattle.osi_watched.proofs.Vocabulary.{TurnOf, TurnsOf, Known, packets_on, packets_then, CanBeWritten, read_again, all_did}
 use Rattle.osi_watched.proofs.Vocabulary.{Deeds, no_deeds, all_units, IsFresh, IsSeen, Run, Takes, Turn, is_break, packet_by, packet_passes}
 use Rattle.osi_watched.proofs.Vocabulary.{units_pass, unread, advanced, faulty, Front, front_of, gathered, partial, Streamed, whole, after}
 use Rattle.osi_watched.proofs.Vocabulary.{octet_passes, stream_of, with_stream, Cause, BadPacket, BadUnit, Joint, Step, Steps, StepsAlong}
@@ -17,11 +17,19 @@ use Rattle.osi_tap.specs.Tapping.{State}
 use Rattle.osi_tap.specs.Tapping as tapping
 use Rattle.osi_watched.specs.Joint as joints
 use Rattle.osi_watched.specs.Joint.Step.{turns, begins_own, passes_own, begins_other, passes_other}
+use Rattle.osi_fair.specs.Pieces.{units_by, units_in}
+use Rattle.osi_tpkt.specs.declared.faults.TpktFault.{TpktFault}
+use Rattle.osi_watched.specs.Spoilt.{GoesOn, spoilt}
 use Rattle.osi_watched.proofs.small_facts_that_many_lemmas_use.{can_more}
+use Rattle.osi_watched.proofs.how_an_end_stands_to_what_has_passed.{OtherStands, OwnStands, begun_now, first_put, has_begun, one_octet}
+use Rattle.osi_watched.proofs.how_an_end_stands_to_what_has_passed.{rest_of, some_octets, uses}
+use Rattle.osi_watched.proofs.what_follows_what_cannot_be_read.{LaterComes, OtherEnds, OtherReads, StandsLater, later_octet, later_steps}
+use Rattle.osi_watched.proofs.what_follows_what_cannot_be_read.{other_moved as other_moved_later}
+use Rattle.osi_watched.proofs.what_is_halted_stays_halted.{unread_halts}
 use Rattle.osi_watched.proofs.turns_are_taken_late.{Follows, all_passed, other_passes, own_passes, seen_follows, turn_taken}
 use Rattle.osi_watched.proofs.what_an_octet_does.{begins, passes_so, same_course}
 use Rattle.osi_watched.proofs.what_the_turns_among_steps_do.{ComesByDoing, IsOfTap, StepsDo, TurnDoes, tap_first}
-use Rattle.osi_watched.proofs.what_the_first_octets_are.{own_front, packets_octets, used_first, whole_front, whole_packet}
+use Rattle.osi_watched.proofs.what_the_first_octets_are.{begins_none, own_front, whole_front, whole_packet}
 
 -- ---- what the rest of a capture comes to, from a state of the tap and of the end on
 
@@ -34,6 +42,14 @@ record Stops (d : Direction) (capture : Capture) (s : State) (c : Course) : Type
   bad : is_break cause ≡ true
   unreadable : (after front s).course ≡ unread (other d) at cause c
 
+-- and the steps that follow
+record Spoils (d : Direction) (capture : Capture) (s : State) (last : Joint) : Type 0 where
+  at : ℕ
+  cause : Cause
+  packets : List (List ℕ)
+  none : units_in packets ≡ []
+  later : LaterComes d capture s (spoilt d at cause packets last)
+
 -- this was done before at each connection of the end
 record Comes (d : Direction) (is_caller : Bool) (deeds : ℕ → Deeds) (capture : Capture) (s : State) (j : Joint) : Type 0 where
   steps : List Step
@@ -41,6 +57,7 @@ record Comes (d : Direction) (is_caller : Bool) (deeds : ℕ → Deeds) (capture
   along : StepsAlong d j steps last
   does : StepsDo d is_caller deeds j steps last along
   all : ((after capture s).course ≡ last.course) ⊎ Stops d capture s last.course
+  on : ((after capture s).course ≡ last.course) ⊎ Spoils d capture s last
 
 step_first : (d : Direction) (is_caller : Bool) (deeds : ℕ → Deeds) (capture : Capture) (s : State) (step : Step) → IsOfTap step →
     (j mid : Joint) → Steps d step j mid → Comes d is_caller deeds capture s mid → Comes d is_caller deeds capture s j
@@ -50,6 +67,7 @@ step_first d is_caller deeds capture s step tap j mid one c = record {
   along = (mid, one, c.along);
   does = tap_first d is_caller deeds step tap c.steps j mid c.last one c.along c.does;
   all = c.all;
+  on = c.on;
 }
 
 turn_first : (d : Direction) (is_caller : Bool) (deeds : ℕ → Deeds) (capture : Capture) (s : State) (turn : Turn) (j mid : Joint)
@@ -61,12 +79,31 @@ turn_first d is_caller deeds capture s turn j mid t does c = record {
   along = (mid, t, c.along);
   does = (does, c.does);
   all = c.all;
+  on = c.on;
 }
 
 octet_first : (d : Direction) (is_caller : Bool) (deeds : ℕ → Deeds) (o : Passed) (capture : Capture) (s : State) (j : Joint) →
     Comes d is_caller deeds capture (octet_passes o s) j → Comes d is_caller deeds (o ∷ capture) s j
-octet_first d is_caller deeds o capture s j c = record { steps = c.steps; last = c.last; along = c.along; does = c.does; all = by c.all }
+octet_first d is_caller deeds o capture s j c = record {
+  steps = c.steps;
+  last = c.last;
+  along = c.along;
+  does = c.does;
+  all = by c.all;
+  on = goes c.on;
+}
   where
+    goes : ((after capture (octet_passes o s)).course ≡ c.last.course) ⊎ Spoils d capture (octet_passes o s) c.last →
+        ((after (o ∷ capture) s).course ≡ c.last.course) ⊎ Spoils d (o ∷ capture) s c.last
+    goes (inl e) = inl e
+    goes (inr k) = inr (record {
+      at = k.at;
+      cause = k.cause;
+      packets = k.packets;
+      none = k.none;
+      later = later_octet d o capture s (spoilt d k.at k.cause k.packets c.last) k.later;
+    })
+
     by : ((after capture (octet_passes o s)).course ≡ c.last.course) ⊎ Stops d capture (octet_passes o s) c.last.course →
         ((after (o ∷ capture) s).course ≡ c.last.course) ⊎ Stops d (o ∷ capture) s c.last.course
     by (inl e) = inl e
@@ -81,24 +118,6 @@ octet_first d is_caller deeds o capture s j c = record { steps = c.steps; last =
     })
 
 -- ---- how the end stands to what has passed
-
-abbrev has_begun : List ℕ → Bool
-has_begun [] = false
-has_begun (octet ∷ held) = true
-
--- The octets of the current packet that passed, and those that are still to pass, are the packets that were put.
-record OwnStands (held still : List ℕ) (put : List Value) (begun : Bool) : Type 0 where
-  octets : IsOctets held
-  part : front_of held ≡ partial
-  all : held ++ still ≡ packets put
-  begun_so : begun ≡ has_begun held
-  can : AllByRecursion CanBeWritten put
-
--- What the end holds, and what passed and is not used, are the packets that are coming, and the octets of the current one.
-record OtherStands (held ahead : List ℕ) (h : Holding) (coming : List (List ℕ)) : Type 0 where
-  octets : IsOctets held
-  part : front_of held ≡ partial
-  cut : h.end.carrier.ended ≡ None → ArePackets coming (h.held.octets ++ ahead) held
 
 record Stands (d : Direction) (s : State) (j : Joint) (still ahead : List ℕ) : Type 0 where
   course : s.course ≡ j.course
@@ -123,33 +142,7 @@ other_moved Left g s c j still ahead course own_reads other_reads own others =
 other_moved Right g s c j still ahead course own_reads other_reads own others =
     record { course = course; own_reads = own_reads; other_reads = other_reads; own = own; others = others }
 
-one_octet : (held : List ℕ) (x : ℕ) → IsOctets held → x < 256 → IsOctets (held ++ x ∷ [])
-one_octet held x octets small = octets_append held (x ∷ []) octets (octets_cons x [] small octets_nil)
-
 -- ---- an octet of the end
-
-some_header : (v : Value) → 2 ≤ length (written_header v)
-some_header (request c) = omega arith
-some_header _ = omega arith
-
-some_octets : (v : Value) → 3 ≤ length (written v)
-some_octets v =
-    let header = some_header v in
-    let sum = length-append (written_header v) (user_data v) in
-    omega arith
-
-never_none : (held still : List ℕ) (x : ℕ) → held ++ x ∷ still ≡ [] → ⊥
-never_none [] still x e = cc
-never_none (o ∷ held) still x e = cc
-
-first_put : (held still : List ℕ) (x : ℕ) (put : List Value) → held ++ x ∷ still ≡ packets put →
-    (v : Value) × (vs : List Value) × (put ≡ v ∷ vs)
-first_put held still x [] e = absurd (never_none held still x e)
-first_put held still x (v ∷ vs) e = (v, vs, refl)
-
-begun_now : (held : List ℕ) (x : ℕ) → true ≡ has_begun (held ++ x ∷ [])
-begun_now [] x = refl
-begun_now (o ∷ held) x = refl
 
 -- the packet begins, unless some of its octets have passed
 own_begins : (d : Direction) (is_caller : Bool) (deeds : ℕ → Deeds) (capture : Capture) (s : State) (held : List ℕ) (j : Joint) →
@@ -233,7 +226,9 @@ other_begins d is_caller deeds capture s (o ∷ held) j c = c
 module _ (d : Direction) (is_caller : Bool) (deeds : ℕ → Deeds) (x : ℕ) (capture : Capture) (s : State) (j : Joint)
     (still ahead : List ℕ) (small : x < 256) (st : Stands d s j still ahead)
     (on : (s2 : State) (j2 : Joint) → j2.holding ≡ j.holding → Stands d s2 j2 still (ahead ++ x ∷ []) →
-    Comes d is_caller deeds capture s2 j2) where
+    Comes d is_caller deeds capture s2 j2)
+    (then : (s2 : State) (j2 : Joint) → j2.holding ≡ j.holding → StandsLater d s2 j2 still (ahead ++ x ∷ []) →
+    LaterComes d capture s2 j2) where
   abbrev other_held : List ℕ
   other_held = (stream_of (other d) s).held
 
@@ -264,33 +259,71 @@ module _ (d : Direction) (is_caller : Bool) (deeds : ℕ → Deeds) (x : ℕ) (c
       (on next other_joint refl (other_moved d other_now s other_course other_joint still (ahead ++ x ∷ [])
       (ap (begins (other d) other_held) st.course) st.own_reads st.other_reads st.own others)))
 
-  other_stops : (t : Streamed) (cause : Cause) → is_break cause ≡ true →
+  -- the steps up to here, and what follows
+  other_stops : (t : Streamed) (cause : Cause) (packets : List (List ℕ)) → is_break cause ≡ true → units_in packets ≡ [] →
       octet_passes (of (other d) x) s ≡ with_stream (other d) t (record s { course = unread (other d) other_now.at cause other_course }) →
-      Comes d is_caller deeds (of (other d) x ∷ capture) s other_joint
-  other_stops t cause bad is = record {
-    steps = [];
-    last = other_joint;
-    along = refl;
-    does = tt;
-    all = inr (record {
-      front = of (other d) x ∷ [];
-      back = capture;
-      parts = refl;
-      at = other_now.at;
-      cause = cause;
-      bad = bad;
-      unreadable = ap (λ (z : State). z.course) is
-          ∙ same_course (other d) t (record s { course = unread (other d) other_now.at cause other_course })
-          ∙ ap (λ (c : Course). unread (other d) other_now.at cause (begins (other d) other_held c)) st.course;
-    });
+      OtherReads t (ahead ++ x ∷ []) j.holding (j.coming ++ packets) → Comes d is_caller deeds (of (other d) x ∷ capture) s other_joint
+  other_stops t cause packets bad none is reads =
+      let course : unread (other d) other_now.at cause other_course ≡ unread (other d) other_now.at cause other_joint.course =
+      ap (λ (c : Course). unread (other d) other_now.at cause (begins (other d) other_held c)) st.course in
+      let next : State = with_stream (other d) t (record s { course = unread (other d) other_now.at cause other_course }) in
+      let now : Joint = spoilt d other_now.at cause packets other_joint in
+      record {
+        steps = [];
+        last = other_joint;
+        along = refl;
+        does = tt;
+        all = inr (record {
+          front = of (other d) x ∷ [];
+          back = capture;
+          parts = refl;
+          at = other_now.at;
+          cause = cause;
+          bad = bad;
+          unreadable = ap (λ (z : State). z.course) is
+              ∙ same_course (other d) t (record s { course = unread (other d) other_now.at cause other_course }) ∙ course;
+        });
+        on = inr (record {
+          at = other_now.at;
+          cause = cause;
+          packets = packets;
+          none = none;
+          later = later_octet d (of (other d) x) capture s now (subst (λ (z : State). LaterComes d capture z now) (sym is)
+              (then next now refl (other_moved_later d t s (unread (other d) other_now.at cause other_course) now still (ahead ++ x ∷ [])
+              course st.own_reads st.own (unread_halts (other d) other_now.at cause other_joint.course) reads)));
+        });
+      }
+
+  packet_used : (u : List ℕ) → front_of (other_held ++ x ∷ []) ≡ whole u →
+      OtherStands [] (ahead ++ x ∷ []) j.holding (j.coming ++ u ∷ [])
+  packet_used u front =
+      let packet = whole_packet other_held u x (one_octet other_held x st.others.octets small) st.others.part front in
+      record {
+        octets = octets_nil;
+        part = refl;
+        cut = λ lasts. more_passed (j.coming ++ u ∷ []) []
+            (packets_then j.coming (u ∷ []) (j.holding.held.octets ++ ahead) other_held (x ∷ []) [] (st.others.cut lasts)
+            (other_held ++ x ∷ [], [], packet, sym (append-nil (other_held ++ x ∷ [])), refl));
+      }
+
+  no_packet : (f : TpktFault) → front_of (other_held ++ x ∷ []) ≡ faulty f →
+      OtherEnds (other_held ++ x ∷ []) (ahead ++ x ∷ []) j.holding (j.coming ++ [])
+  no_packet f is = record {
+    octets = one_octet other_held x st.others.octets small;
+    never = λ more. begins_none (other_held ++ x ∷ []) more f is;
+    cut = λ lasts. subst (λ (us : List (List ℕ)). ArePackets us (j.holding.held.octets ++ (ahead ++ x ∷ [])) (other_held ++ x ∷ []))
+        (sym (append-nil j.coming)) (more_passed j.coming (other_held ++ x ∷ [])
+        (packets_on j.coming (j.holding.held.octets ++ ahead) other_held (x ∷ []) (st.others.cut lasts)));
   }
 
   other_ends : (u : List ℕ) → front_of (other_held ++ x ∷ []) ≡ whole u → (r : Result (List Value) TpduFault) → units_of u ≡ r →
       Comes d is_caller deeds (of (other d) x ∷ capture) s other_joint
   other_ends u front (Err fault) is =
-      other_stops (advanced other_now) (BadUnit fault) refl (passes_so (other d) x s (whole u) st.other_reads front
+      other_stops (advanced other_now) (BadUnit fault) (u ∷ []) refl (append-nil (units_by (units_of u)) ∙ ap units_by is)
+      (passes_so (other d) x s (whole u) st.other_reads front
       ∙ ap (λ (r : Result (List Value) TpduFault). with_stream (other d) (advanced other_now)
       (record s { course = packet_by (other d) other_now.at r other_course })) is)
+      (inl (st.other_reads, packet_used u front))
   other_ends u front (Ok units) is =
       let packet = whole_packet other_held u x (one_octet other_held x st.others.octets small) st.others.part front in
       let after_it : Course = packet_passes (other d) other_now.at u other_course in
@@ -301,13 +334,7 @@ module _ (d : Direction) (is_caller : Bool) (deeds : ℕ → Deeds) (x : ℕ) (c
       let course : after_it ≡ last.course = ap (λ (r : Result (List Value) TpduFault). packet_by (other d) other_now.at r other_course) is
       ∙ ap (λ (c : Course). units_pass (other d) other_now.at units (begins (other d) other_held c)) st.course in
       let octets : IsOctets u = octets_right (_ ∷ _ ∷ _ ∷ _ ∷ []) u (subst IsOctets packet.spelled packet.octets) in
-      let others : OtherStands [] (ahead ++ x ∷ []) j.holding (j.coming ++ u ∷ []) = record {
-        octets = octets_nil;
-        part = refl;
-        cut = λ lasts. more_passed (j.coming ++ u ∷ []) []
-            (packets_then j.coming (u ∷ []) (j.holding.held.octets ++ ahead) other_held (x ∷ []) [] (st.others.cut lasts)
-            (other_held ++ x ∷ [], [], packet, sym (append-nil (other_held ++ x ∷ [])), refl));
-      } in
+      let others = packet_used u front in
       let next : State = with_stream (other d) (advanced other_now) (record s { course = after_it }) in
       step_first d is_caller deeds (of (other d) x ∷ capture) s (passes_other other_now.at u units) tt other_joint last (octets, is, refl)
       (octet_first d is_caller deeds (of (other d) x) capture s last
@@ -322,77 +349,11 @@ module _ (d : Direction) (is_caller : Bool) (deeds : ℕ → Deeds) (x : ℕ) (c
       by : (f : Front) → front_of (other_held ++ x ∷ []) ≡ f → Comes d is_caller deeds (of (other d) x ∷ capture) s other_joint
       by partial is = other_goes_on is
       by (faulty fault) is =
-          other_stops (ended other_now) (BadPacket fault) refl (passes_so (other d) x s (faulty fault) st.other_reads is)
+          other_stops (ended other_now) (BadPacket fault) [] refl refl (passes_so (other d) x s (faulty fault) st.other_reads is)
+          (inr (refl, other_held ++ x ∷ [], no_packet fault is))
       by (whole u) is = other_ends u is (units_of u) refl
 
 -- ---- a turn
-
-none_more : (at : ℕ) (r : List ℕ) (e : Ending) → EndsAt at r e → (more : List (List ℕ)) (last : List ℕ) → ArePackets more r last → more ≡ []
-none_more at r e ends [] last h = refl
-none_more at r e ends (u ∷ more) last h = absurd (end_no_packet at r e ends u h.0 h.1 h.2 h.3)
-
--- the packets that a turn uses of those that have passed, and the others
-record Uses (held ahead : List ℕ) (coming : List (List ℕ)) (old : Holding) (turn : Turn) (new : Holding) : Type 0 where
-  used : List (List ℕ)
-  later : List (List ℕ)
-  parts : coming ≡ used ++ later
-  rest : List ℕ
-  cut : old.end.carrier.ended ≡ None → ArePackets used (old.held.octets ++ turn.used) rest
-  kept : new.end.carrier.ended ≡ None → rest ≡ new.held.octets
-  all : old.end.carrier.ended ≡ None → new.end.carrier.ended ≢ None →
-      (more : List (List ℕ)) (last : List ℕ) → ArePackets more rest last → more ≡ []
-  left : new.end.carrier.ended ≡ None → ArePackets later (new.held.octets ++ ahead) held
-
-module _ (held ahead : List ℕ) (coming : List (List ℕ)) (is_caller : Bool) (deeds : ℕ → Deeds) (old : Holding) (turn : Turn)
-    (new : Holding) (takes : Takes old turn new) (on : Continues is_caller deeds old turn new)
-    (st : OtherStands held (turn.used ++ ahead) old coming) where
-  abbrev octets_in : List ℕ
-  octets_in = old.held.octets ++ turn.used
-
-  passed : old.end.carrier.ended ≡ None → ArePackets coming (octets_in ++ ahead) held
-  passed lasts =
-      subst (λ (l : List ℕ). ArePackets coming l held) (sym (append_assoc old.held.octets turn.used ahead)) (st.cut lasts)
-
-  not_both : (o : Option EndReason) (e : EndReason) → o ≡ Some e → o ≡ None → ⊥
-  not_both o e some none = cc
-
-  uses : (was is : Option EndReason) → old.end.carrier.ended ≡ was → new.end.carrier.ended ≡ is → Uses held ahead coming old turn new
-  uses (Some e) is was now = record {
-    used = [];
-    later = coming;
-    parts = refl;
-    rest = new.held.octets;
-    cut = λ lasts. absurd (not_both old.end.carrier.ended e was lasts);
-    kept = λ lasts. refl;
-    all = λ lasts over more last h. absurd (not_both old.end.carrier.ended e was lasts);
-    left = λ lasts. absurd (never_lasts new.end.carrier.ended (over_acts turn old new (ap is_some was) takes).0 lasts);
-  }
-  uses None None was now =
-      let p = used_first on.used coming octets_in ahead on.rest held (passed was) on.cut st.part in
-      record {
-        used = on.used;
-        later = p.0;
-        parts = p.1;
-        rest = on.rest;
-        cut = λ lasts. on.cut;
-        kept = on.held;
-        all = λ lasts over more last h. absurd (over now);
-        left = λ lasts. subst (λ (l : List ℕ). ArePackets p.0 (l ++ ahead) held) (on.held lasts) p.2;
-      }
-  uses None (Some e) was now =
-      let octets = octets_left octets_in ahead (packets_octets coming (octets_in ++ ahead) held (passed was) st.octets) in
-      let k = some_cut octets_in octets in
-      let p = used_first k.0 coming octets_in ahead k.2.0 held (passed was) k.2.1 st.part in
-      record {
-        used = k.0;
-        later = p.0;
-        parts = p.1;
-        rest = k.2.0;
-        cut = λ lasts. k.2.1;
-        kept = λ lasts. absurd (not_both new.end.carrier.ended e now lasts);
-        all = λ lasts over more last h. none_more _ k.2.0 k.1 k.2.2 more last h;
-        left = λ lasts. absurd (not_both new.end.carrier.ended e now lasts);
-      }
 
 -- the end and the tap after a turn
 record Turned (d : Direction) (is_caller : Bool) (deeds : ℕ → Deeds) (s : State) (j : Joint) (turn : Turn) (new : Holding)
@@ -412,7 +373,8 @@ turned d is_caller deeds s j turn new still ahead takes at st =
     let units = all_units on.put in
     let theirs = (stream_of (other d) s).held in
     let mine = (stream_of d s).held in
-    let u = uses theirs ahead j.coming is_caller deeds j.holding turn new takes on st.others j.holding.end.carrier.ended
+    let u = uses theirs ahead j.coming is_caller deeds j.holding turn new takes on
+    (rest_of theirs (turn.used ++ ahead) j.holding j.coming st.others) j.holding.end.carrier.ended
     new.end.carrier.ended refl refl in
     let both : (mine ++ still) ++ turn.put ≡ packets j.put ++ packets units = (λ i. st.own.all i ++ on.written i) in
     record {
@@ -454,7 +416,7 @@ along_steps : (d : Direction) (is_caller : Bool) (still ahead : List ℕ) (captu
     Follows d still ahead capture turns_left → (deeds : ℕ → Deeds) (s : State) (j : Joint) (end : Holding) → AreOctets capture →
     TurnsOf is_caller deeds j.holding turns_left end → Stands d s j still ahead → Comes d is_caller deeds capture s j
 along_steps d is_caller _ _ _ _ (all_passed still ahead left) deeds s j end octets does st =
-    record { steps = []; last = j; along = refl; does = tt; all = inl st.course }
+    record { steps = []; last = j; along = refl; does = tt; all = inl st.course; on = inl st.course }
 along_steps d is_caller _ _ _ _ (own_passes x o all still ahead capture left is front more) deeds s j end octets does st =
     let small : x < 256 = subst IsOctet is octets.0 in
     subst (λ (p : Passed). Comes d is_caller deeds (p ∷ capture) s j) (sym is)
@@ -466,6 +428,8 @@ along_steps d is_caller _ _ _ _ (other_passes x o still ahead capture left is mo
     subst (λ (p : Passed). Comes d is_caller deeds (p ∷ capture) s j) (sym is)
     (other_octet d is_caller deeds x capture s j still ahead small st
     (λ s2 j2 same st2. along_steps d is_caller still (ahead ++ x ∷ []) capture left more deeds s2 j2 end octets.1
+    (subst (λ (h : Holding). TurnsOf is_caller deeds h left end) (sym same) does) st2)
+    (λ s2 j2 same st2. later_steps d is_caller still (ahead ++ x ∷ []) capture left more deeds s2 j2 end octets.1
     (subst (λ (h : Holding). TurnsOf is_caller deeds h left end) (sym same) does) st2))
 along_steps d is_caller _ _ _ _ (turn_taken turn still all ahead capture left is more) deeds s j end octets does st =
     let k = turned d is_caller deeds s j turn does.0 still ahead does.1 does.2 (subst (λ (l : List ℕ). Stands d s j still l) is st) in
@@ -496,8 +460,22 @@ capture_steps known d is_caller local first end turns_all capture fresh run octe
     let does = fresh_turns known is_caller local first end turns_all fresh run in
     let c = along_steps d is_caller [] [] capture turns_all (seen_follows d turns_all capture seen) (λ r. no_deeds) tapping.begin
     (joints.begin first) end octets does (stands_first d first fresh.held) in
-    record { steps = c.steps; last = c.last; along = c.along; does = c.does; all = by c.last.course c.all }
+    record { steps = c.steps; last = c.last; along = c.along; does = c.does; all = by c.last.course c.all; on = goes c.last c.on }
   where
+    goes : (last : Joint) → ((after capture tapping.begin).course ≡ last.course) ⊎ Spoils d capture tapping.begin last →
+        ((after capture tapping.begin).course ≡ last.course) ⊎ GoesOn d capture last
+    goes last (inl e) = inl e
+    goes last (inr k) = inr (record {
+      at = k.at;
+      cause = k.cause;
+      packets = k.packets;
+      none = k.none;
+      steps = k.later.steps;
+      end = k.later.last;
+      along = k.later.along;
+      all = k.later.all;
+    })
+
     by : (c : Course) → ((after capture tapping.begin).course ≡ c) ⊎ Stops d capture tapping.begin c →
         ((after capture tapping.begin).course ≡ c) ⊎ TurnsBad d capture c
     by c (inl e) = inl e

@@ -2,9 +2,11 @@
 -- For the law on the first break.
 use Rattle.osi_watched.proofs.Vocabulary.{false, inl, inr, subst, sym, true, ◌≡◌, ◌⊎◌, Local, Finding, Kept, NotJudged, TooMany}
 use Rattle.osi_watched.proofs.Vocabulary.{called_fair, calling_fair}
+use Rattle.osi_fair.proofs.a_called_end_is_fair_in_class_0.{called_fair_in_class_0}
+use Rattle.osi_fair.proofs.a_calling_end_is_fair.{calling_fair_in_class_0}
 use Rattle.osi_rules.specs.declared.directions.Direction.TheVariants.{Left, Right}
 use Rattle.osi_fair.specs.Wholes.{begin}
-use Rattle.osi_watched.proofs.the_first_break_is_not_of_an_end.{IsFairFrom, IsNoBreak}
+use Rattle.osi_watched.proofs.the_first_break_is_not_of_an_end.{IsFairAlone, IsFairFrom, IsNoBreak}
 
 right_or_not_judged : {A : Type 0} (f : Finding) → (f ≡ Kept) ⊎ ((f ≡ NotJudged) × A) → IsNoBreak f
 right_or_not_judged f (inl is) = subst IsNoBreak (sym is) tt
@@ -22,3 +24,12 @@ called_is_fair local = λ events w unit rest along begun put judged firm.
 pub calling_is_fair : (local : Local) → IsFairFrom Left (begin true local)
 calling_is_fair local = λ events w unit rest along begun put judged firm.
     right_or_too_many _ (calling_fair local events w unit rest along begun put judged firm)
+
+-- in class 0 each is right, as long as the end is judged itself
+pub called_is_fair_in_class_0 : (local : Local) → IsFairAlone Right (begin false local)
+called_is_fair_in_class_0 local = λ events w unit rest along begun put judged firm zero.
+    called_fair_in_class_0 local events w unit rest along begun put judged firm zero
+
+pub calling_is_fair_in_class_0 : (local : Local) → IsFairAlone Left (begin true local)
+calling_is_fair_in_class_0 local = λ events w unit rest along begun put judged firm zero.
+    calling_fair_in_class_0 local events w unit rest along begun put judged zero

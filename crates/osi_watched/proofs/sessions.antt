@@ -24,7 +24,7 @@ pub mod steps_leave_all_standing
 pub mod a_dt_of_class_0_has_one_place
 pub mod class_0_has_one_connection
 pub mod a_dt_of_class_0_leaves_all_standing
-pub mod steps_of_class_0_leave_all_standing
+pub mod a_dt_of_class_0_is_in_flight
 pub mod each_step_leaves_class_0_one_connection
 pub mod what_has_no_effect_joins_nothing
 pub mod a_unit_after_a_dr_changes_nothing

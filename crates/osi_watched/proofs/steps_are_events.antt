@@ -25,7 +25,7 @@ use Rattle.osi_watched.proofs.what_packets_and_short_tsdus_keep_a_turn_keeps.{Tr
 
 -- ---- what the rules know of a unit, and of the units of a packet
 
-turned : (d : Direction) → way_of (other d) ≡ sides.other (way_of d)
+pub turned : (d : Direction) → way_of (other d) ≡ sides.other (way_of d)
 turned Left = refl
 turned Right = refl
 
@@ -213,14 +213,15 @@ module _ (d : Direction) (first : Whole) where
             (append_assoc w.coming (v ∷ []) units) (next, (fits.0.in_range, refl), more.along);
       }
 
-  passes_other_so : (old new : Joint) (at : ℕ) (packet : List ℕ) (units : List Value) → IsOctets packet → units_of packet ≡ Ok units →
+  pub passes_other_so : (old new : Joint) (at : ℕ) (packet : List ℕ) (units : List Value) → AllByRecursion Fits units →
+      units_by (units_of packet) ≡ units →
       new ≡ record old { course = units_pass (other d) at units old.course; coming = old.coming ++ packet ∷ [] } →
       IsFollowed d first old → IsFollowed d first new
-  passes_other_so old new at packet units octets read is f =
-      let p = units_so at units f.whole old.course (units_fit units packet (units_found packet units octets read)) f.tap in
+  passes_other_so old new at packet units fits read is f =
+      let p = units_so at units f.whole old.course fits f.tap in
       let next : Whole = record f.whole { tap = (units_pass (other d) at units old.course).traffic; coming = f.whole.coming ++ units } in
       let one : units_in (packet ∷ []) ≡ units =
-      append-nil (units_by (units_of packet)) ∙ ap units_by read in
+      append-nil (units_by (units_of packet)) ∙ read in
       subst (IsFollowed d first) (sym is) (record {
         whole = next;
         events = f.events ++ p.events;
@@ -243,7 +244,7 @@ module _ (d : Direction) (first : Whole) where
       passes_own_so old new at unit (read, octets, put) begun is f
   step_followed proper begins_other old new is f = begins_other_so old new is f
   step_followed proper (passes_other at packet units) old new (octets, read, is) f =
-      passes_other_so old new at packet units octets read is f
+      passes_other_so old new at packet units (units_fit units packet (units_found packet units octets read)) (ap units_by read) is f
 
 -- ---- at the beginning
 

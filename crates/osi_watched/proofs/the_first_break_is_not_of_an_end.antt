@@ -6,6 +6,8 @@ use Rattle.osi_watched.proofs.Vocabulary.{◌⊎◌, Value, Local, Holding, is_s
 use Rattle.osi_watched.proofs.Vocabulary.{other, Direction, Left, Right, AllProper, IsFresh, unit_passes, units_pass, unread, way_of, after}
 use Rattle.osi_watched.proofs.Vocabulary.{comes_to, First, Event, HappenAlong, Whole, begins_other, begins_own, Joint, passes_other}
 use Rattle.osi_watched.proofs.Vocabulary.{passes_own, Step, Steps, StepsAlong, turns, ComesBySteps, TurnsBad}
+use Rattle.osi_class.specs.declared.terms.Class.TheVariants.{Zero}
+use Rattle.osi_rules.specs.declared.findings.Finding.TheVariants.{Kept}
 use Rattle.osi_rules.specs.Sides as sides
 use Rattle.osi_fair.specs.Wholes as wholes
 use Rattle.osi_tap.specs.Courses.{Course, packet_begins}
@@ -27,6 +29,12 @@ abbrev pub IsFairFrom : Way → Whole → Type 0
 IsFairFrom d first = (events : List Event) (w : Whole) (unit : Value) (rest : List Value) → HappenAlong d first events w →
     w.begun ≡ true → w.put ≡ unit ∷ rest → is_stopped (sides.other d) w.tap.course ≡ false → w.tap.course.loose ≡ false →
     IsNoBreak (takes d unit w.tap).told.finding
+
+-- in class 0 each is right, as long as the end is judged itself
+abbrev pub IsFairAlone : Way → Whole → Type 0
+IsFairAlone d first = (events : List Event) (w : Whole) (unit : Value) (rest : List Value) → HappenAlong d first events w →
+    w.begun ≡ true → w.put ≡ unit ∷ rest → is_stopped d w.tap.course ≡ false → w.tap.course.loose ≡ false →
+    w.tap.course.class ≡ Some Zero → (takes d unit w.tap).told.finding ≡ Kept
 
 -- ---- who broke a rule first
 

@@ -6,6 +6,8 @@ use Rattle.osi_watched.proofs.Vocabulary.{◌⊎◌, take-append_seam, eqb-true,
 use Rattle.osi_watched.proofs.Vocabulary.{length-append, take_all, take_at, octets_append, IsOctets, IsPacket, packet_of, ArePackets}
 use Rattle.osi_watched.proofs.Vocabulary.{BadLength, BadVersion, first, GoesBeyond, packets_on, second, two_readings, part_of, packet_front}
 use Rattle.osi_watched.proofs.Vocabulary.{by_version, faulty, Front, front_of, partial, sized, whole}
+use Rattle.osi_carrier.specs.Fetching.{IsNoFront}
+use Rattle.osi_tpkt.specs.declared.faults.TpktFault.{TpktFault}
 
 -- ---- the version, and the length that the header states
 
@@ -181,21 +183,58 @@ packets_octets (u ∷ us) s r h octets =
     subst IsOctets (sym h.3) (octets_append h.0 h.1 h.2.octets (packets_octets us h.1 r h.4 octets))
 
 -- no packet begins with a part of one
-part_begins_none : (u b rest held : List ℕ) → IsPacket u b → held ≡ b ++ rest → front_of held ≡ partial → ⊥
+pub part_begins_none : (u b rest held : List ℕ) → IsPacket u b → held ≡ b ++ rest → front_of held ≡ partial → ⊥
 part_begins_none u b rest held p e part =
     let all : take (length b) held ≡ b = ap (take (length b)) e ∙ take_at b rest (length b) refl in
     never_both u (sym (packet_front u held (length b) (subst (IsPacket u) (sym all) p)) ∙ part)
 
 -- Packets of the front of what passed are the first of those that passed, and the others follow.
 pub used_first : (us passed : List (List ℕ)) (s a r held : List ℕ) → ArePackets passed (s ++ a) held → ArePackets us s r →
-    front_of held ≡ partial → (more : List (List ℕ)) × (passed ≡ us ++ more) × ArePackets more (r ++ a) held
-used_first us passed s a r held cut read part = by (two_readings us passed (s ++ a) (r ++ a) held (packets_on us s r a read) cut)
+    IsNoFront held → (more : List (List ℕ)) × (passed ≡ us ++ more) × ArePackets more (r ++ a) held
+used_first us passed s a r held cut read none = by (two_readings us passed (s ++ a) (r ++ a) held (packets_on us s r a read) cut)
   where
     by_first : (more : List (List ℕ)) → us ≡ passed ++ more → ArePackets more held (r ++ a) →
         (later : List (List ℕ)) × (passed ≡ us ++ later) × ArePackets later (r ++ a) held
     by_first [] is p = ([], sym (append-nil us ∙ is ∙ append-nil passed), sym p)
-    by_first (u ∷ more) is p = absurd (part_begins_none u p.0 p.1 held p.2 p.3 part)
+    by_first (u ∷ more) is p = absurd (none u p.0 p.1 p.2 p.3)
 
     by : GoesBeyond us passed (r ++ a) held → (more : List (List ℕ)) × (passed ≡ us ++ more) × ArePackets more (r ++ a) held
     by (second more is p) = (more, is, p)
     by (first more is p) = by_first more is p
+
+-- ---- octets that begin no packet
+
+sized_faulty : (stated : ℕ) (t : List ℕ) (f : TpktFault) → sized stated t ≡ faulty f → 7 ≤ stated → ⊥
+sized_faulty stated t f e least =
+    let long : nat_lt stated 7 ≡ false = le-ltb stated 7 least in
+    tests_faulty (nat_lt stated 7) (nat_lt (length t + 4) stated) (take (stated - 4) t) f long e
+  where
+    tests_faulty : (short long : Bool) (unit : List ℕ) (f : TpktFault) → short ≡ false → by_tests short long (whole unit) ≡ faulty f → ⊥
+    tests_faulty true long unit f s e = cc s
+    tests_faulty false true unit f s e = cc e
+    tests_faulty false false unit f s e = cc e
+
+not_partial : (v : ℕ) (f : TpktFault) → v ≡ 3 → by_version v partial ≡ faulty f → ⊥
+not_partial v f three e = let no : partial ≡ faulty f = sym (right_version v partial three) ∙ e in cc no
+
+-- whatever follows them
+pub begins_none : (held more : List ℕ) (f : TpktFault) → front_of held ≡ faulty f → IsNoFront (held ++ more)
+begins_none [] more f e = λ u b rest p is. cc e
+begins_none (v ∷ []) more f e = λ u b rest p is.
+    let same : v ∷ more ≡ (3 ∷ p.reserved ∷ p.high ∷ p.low ∷ u) ++ rest = is ∙ ap (λ (l : List ℕ). l ++ rest) p.spelled in
+    let three : v ≡ 3 = cc in not_partial v f three e
+begins_none (v ∷ r ∷ []) more f e = λ u b rest p is.
+    let same : v ∷ r ∷ more ≡ (3 ∷ p.reserved ∷ p.high ∷ p.low ∷ u) ++ rest = is ∙ ap (λ (l : List ℕ). l ++ rest) p.spelled in
+    let three : v ≡ 3 = cc in not_partial v f three e
+begins_none (v ∷ r ∷ h ∷ []) more f e = λ u b rest p is.
+    let same : v ∷ r ∷ h ∷ more ≡ (3 ∷ p.reserved ∷ p.high ∷ p.low ∷ u) ++ rest = is ∙ ap (λ (l : List ℕ). l ++ rest) p.spelled in
+    let three : v ≡ 3 = cc in not_partial v f three e
+begins_none (v ∷ r ∷ h ∷ l ∷ t) more f e = λ u b rest p is.
+    let same : v ∷ r ∷ h ∷ l ∷ (t ++ more) ≡ (3 ∷ p.reserved ∷ p.high ∷ p.low ∷ u) ++ rest =
+    is ∙ ap (λ (l : List ℕ). l ++ rest) p.spelled in
+    let three : v ≡ 3 = cc in
+    let high : h ≡ p.high = cc in
+    let low : l ≡ p.low = cc in
+    let size = p.counted in
+    let least = p.at_least in
+    sized_faulty (256 * h + l) t f (sym (right_version v (sized (256 * h + l) t) three) ∙ e) (omega arith)

@@ -5,6 +5,7 @@ use Rattle.osi_watched.proofs.Vocabulary.{[], Bool, List, ℕ, ◌∷◌, ◌≡
 use Rattle.osi_watched.proofs.Vocabulary.{all_units, Turn, comes_to, begins_other, begins_own, Joint, passes_other, passes_own, Step, Steps}
 use Rattle.osi_watched.proofs.Vocabulary.{StepsAlong, TakesTurn, turns, ComesBySteps, TurnsBad}
 use Rattle.osi_watched.specs.Joint.{begin}
+use Rattle.osi_watched.specs.Spoilt.{GoesOn}
 
 -- what a turn does at each connection, at which this was done before
 pub record TurnDoes (is_caller : Bool) (deeds : ℕ → Deeds) (turn : Turn) (old new : Joint) (t : TakesTurn turn old new) : Type 0 where
@@ -41,7 +42,8 @@ pub record ComesByDoing (d : Direction) (is_caller : Bool) (capture : Capture) (
   pub along : StepsAlong d (begin first) steps last
   pub does : StepsDo d is_caller (λ r. no_deeds) (begin first) steps last along
   pub all : ((comes_to capture).course ≡ last.course) ⊎ TurnsBad d capture last.course
+  pub on : ((comes_to capture).course ≡ last.course) ⊎ GoesOn d capture last
 
 pub comes_by_steps : (d : Direction) (is_caller : Bool) (capture : Capture) (first : Holding) → ComesByDoing d is_caller capture first →
     ComesBySteps d capture first
-comes_by_steps d is_caller capture first c = record { steps = c.steps; last = c.last; along = c.along; all = c.all }
+comes_by_steps d is_caller capture first c = record { steps = c.steps; last = c.last; along = c.along; all = c.all; on = c.on }

@@ -1,6 +1,7 @@
 pub mod Bounded
 pub mod Joint
 pub mod Judging
+pub mod Spoilt
 pub mod Passing
 pub mod Shown
 pub mod ShownPlaces

@@ -8,6 +8,7 @@ use Rattle.osi_tap.specs.declared.marks.Cause.{Cause}
 use Rattle.osi_tap.specs.Courses.{Course, is_break, unread}
 use Rattle.osi_tap.specs.Tapping.{comes_to}
 use Rattle.osi_watched.specs.Joint.{Joint, Step, StepsAlong, begin}
+use Rattle.osi_watched.specs.Spoilt.{GoesOn}
 
 -- the numbers of a capture are octets
 abbrev pub IsOctet : Passed → Type 0
@@ -27,9 +28,10 @@ pub record TurnsBad (d : Direction) (capture : Capture) (c : Course) : Type 0 wh
   pub bad : is_break cause ≡ true
 
 -- What the capture comes to is what some steps of the end and the tap come to; or these are all until the other side sends what
--- can't be read.
+-- can't be read, and then it goes on by other steps.
 pub record ComesBySteps (d : Direction) (capture : Capture) (first : Holding) : Type 0 where
   pub steps : List Step
   pub last : Joint
   pub along : StepsAlong d (begin first) steps last
   pub all : ((comes_to capture).course ≡ last.course) ⊎ TurnsBad d capture last.course
+  pub on : ((comes_to capture).course ≡ last.course) ⊎ GoesOn d capture last

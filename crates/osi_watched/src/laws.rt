@@ -40,7 +40,8 @@ use osi_tap::laws::the_first_break_is_the_earliest;
 /// capture of it at a tap anywhere between the two sides ([`IsSeen`]). What the capture comes to is what these steps come to:
 /// turns of the end, and packets of either side that begin to pass and pass, one after the other. Each unit passes after it was
 /// put, in order, and each packet of the other side that the end uses has passed before. Or what the other side sends can't be
-/// read: then the steps are all that happened until then ([`ComesBySteps`]).
+/// read: then the steps are all that happened until then, and it goes on by other steps, in which a packet may have no units
+/// ([`ComesBySteps`]).
 ///
 /// [`IsSeen`]: ../../osi_honest/specs/Seeing.antt
 /// [`ComesBySteps`]: ../specs/Passing.antt
@@ -80,19 +81,17 @@ pub fn the_transport_of_an_end_is_never_blamed_first()
 }
 
 /// The transport of an end is blamed nowhere. Take any run of an end of this library from its beginning, and any capture of it, as in
-/// [`the_transport_of_an_end_is_never_blamed_first`]. As long as no break of the other side has ended the judging of a part
-/// ([`IsJudgedWhole`]), the tap has found of no unit of the end that it breaks a rule, be the end the called one (`called`) or the
-/// calling one (`calling`): not before a break of the other side that a taker passes over, not after it, and not after one with which
-/// all judging ends.
-///
-/// [`IsJudgedWhole`]: ../specs/Judging.antt
+/// [`the_transport_of_an_end_is_never_blamed_first`]. As long as no break of the other side has ended the judging of one connection
+/// alone, the tap has found of no unit of the end that it breaks a rule, be the end the called one (`called`) or the calling one
+/// (`calling`): not before a break of the other side, and not after it. So it is after a break that a taker passes over, after one with
+/// which all judging ends, and in class 0 after one with which the judging of the other side ends, or after what nobody can read.
 pub fn the_transport_of_an_end_is_blamed_nowhere()
     ensures called { (local : Local) (begin end : Holding) (turns : List Turn) (capture : Capture) →
         IsFresh false local begin → Run begin turns end → AreOctets capture → IsSeen Direction.Right turns capture →
-        IsJudgedWhole Direction.Right (comes_to capture).course → (comes_to capture).course.right.broke ≡ None }
+        (comes_to capture).course.traffic.course.loose ≡ false → (comes_to capture).course.right.broke ≡ None }
     ensures calling { (local : Local) (begin end : Holding) (turns : List Turn) (capture : Capture) →
         IsFresh true local begin → Run begin turns end → AreOctets capture → IsSeen Direction.Left turns capture →
-        IsJudgedWhole Direction.Left (comes_to capture).course → (comes_to capture).course.left.broke ≡ None }
+        (comes_to capture).course.traffic.course.loose ≡ false → (comes_to capture).course.left.broke ≡ None }
 {
     few_octets_fit();
     serial_digits();
@@ -247,10 +246,10 @@ pub fn no_session_of_an_end_is_blamed_first()
 
 /// No session of an end is to blame after breaks of the other side that a taker passes over. Take any run of an end of this library from
 /// its beginning, and any capture of it, as in [`no_session_of_an_end_is_blamed_first`]. As long as no break of the other side has ended
-/// the judging of a part ([`IsJudgedWhole`]), no session of the end is to blame for what has passed, in either class, on any of its
-/// connections, open or over, be the end the called one (`called`) or the calling one (`calling`). So it is after DTs beyond the credit or
-/// longer than the size, after a CC with a larger size, and after a DT, an AK or a second DR on a connection that its sender had closed;
-/// and unless class 0 is selected, so it is after a break with which all judging ends.
+/// the judging of a part, of one connection or in class 0 of the other side alone ([`IsJudgedWhole`]), no session of the end is to blame
+/// for what has passed, in either class, on any of its connections, open or over, be the end the called one (`called`) or the calling one
+/// (`calling`). So it is after DTs beyond the credit or longer than the size, after a CC with a larger size, and after a DT, an AK or a
+/// second DR on a connection that its sender had closed; and so it is after a break with which all judging ends.
 ///
 /// It is assumed that fewer than 2^64 units have passed.
 ///

@@ -35,7 +35,7 @@ use Rattle.osi_watched.proofs.sessions.connections_have_the_same_places.{unit_jo
 use Rattle.osi_watched.proofs.sessions.each_step_leaves_class_0_one_connection.{Sure, is_zero, sure_claim}
 use Rattle.osi_watched.proofs.sessions.no_connection_is_opened_before_a_class_is_selected.{UncalledUntil, uncalled_claim}
 use Rattle.osi_watched.proofs.sessions.nothing_is_done_before_a_cr_passes.{may_take}
-use Rattle.osi_watched.proofs.sessions.steps_of_class_0_leave_all_standing.{zero_grows}
+use Rattle.osi_watched.proofs.sessions.a_dt_of_class_0_is_in_flight.{zero_grows}
 use Rattle.osi_watched.proofs.sessions.steps_of_either_class_leave_all_standing.{IsTolerable}
 use Rattle.osi_watched.proofs.sessions.what_a_turn_puts_goes_to_its_peer.{all_of_both}
 use Rattle.osi_watched.proofs.sessions.what_is_in_flight_to_an_end.{flight_same, known_of}

@@ -56,7 +56,7 @@ use Rattle.osi_watched.proofs.sessions.each_cr_that_passes_gives_a_new_reference
 use Rattle.osi_watched.proofs.sessions.each_step_leaves_class_0_one_connection.{Sure, is_zero, sure_claim}
 use Rattle.osi_watched.proofs.sessions.nothing_is_done_before_a_cr_passes.{is_under_way, may_take}
 use Rattle.osi_watched.proofs.sessions.references_of_an_end_are_distinct.{AreDistinct, GivesNew, unit_distinct}
-use Rattle.osi_watched.proofs.sessions.steps_of_class_0_leave_all_standing.{zero_grows, zero_stays as flight_stays}
+use Rattle.osi_watched.proofs.sessions.a_dt_of_class_0_is_in_flight.{zero_grows, zero_stays as flight_stays}
 use Rattle.osi_watched.proofs.sessions.steps_of_either_class_leave_all_standing.{IsTolerable}
 use Rattle.osi_watched.proofs.sessions.units_of_class_0_come_after_its_cc.{InOrder, IsCcFor, IsLater, IsQuiet, order_more, quiet_cc}
 use Rattle.osi_watched.proofs.sessions.what_a_turn_puts_goes_to_its_peer.{all_of_both}

@@ -5,7 +5,7 @@ use Rattle.std.proofs.Common.{◌⊎◌, ℕ, inl, inr, ◌≡◌, refl, ◌^◌
 use Rattle.osi_class.specs.declared.terms.Class.{Class}
 use Rattle.osi_class.specs.declared.terms.Class.TheVariants.{Two, Zero}
 use Rattle.osi_class.specs.declared.terms.Local.{Local}
-use Rattle.osi_judge.specs.Captures.{Capture, other}
+use Rattle.osi_judge.specs.Captures.{Capture}
 use Rattle.osi_judge.specs.declared.directions.Direction.{Direction}
 use Rattle.osi_judge.specs.declared.directions.Direction.TheVariants.{Left, Right}
 use Rattle.osi_judge.proofs.honest.a_call_is_explained.{AsSent}
@@ -21,9 +21,10 @@ use Rattle.osi_tap.specs.Courses.{Course}
 use Rattle.osi_tap.specs.Tapping.{comes_to}
 use Rattle.osi_watched.specs.Judging.{IsJudgedWhole}
 use Rattle.osi_watched.specs.Passing.{AreOctets}
-use Rattle.osi_watched.proofs.a_break_ends_no_judging_or_all.{IsPartly}
 use Rattle.osi_watched.proofs.a_capture_is_steps.{capture_steps}
-use Rattle.osi_watched.proofs.no_unit_of_a_whole_end_is_a_break.{called_is_fair, calling_is_fair}
+use Rattle.osi_watched.proofs.in_class_0_one_side_alone_is_judged.{JudgesLess}
+use Rattle.osi_watched.proofs.no_unit_of_a_whole_end_is_a_break.{called_is_fair, called_is_fair_in_class_0, calling_is_fair}
+use Rattle.osi_watched.proofs.no_unit_of_a_whole_end_is_a_break.{calling_is_fair_in_class_0}
 use Rattle.osi_watched.proofs.small_facts_that_many_lemmas_use.{zero_two}
 use Rattle.osi_watched.proofs.what_the_turns_among_steps_do.{ComesByDoing}
 use Rattle.osi_watched.proofs.sessions.a_called_end_stands_until_class_2.{StandsCalledUntilTwo}
@@ -52,9 +53,9 @@ module _ (known : Known) (known_of : AsSent) (parts : AsParts) (caller : CallerL
     pub few : length course.past < 2 ^ 64
     pub whole : IsJudgedWhole d course
 
-  -- nobody is to blame, or not all is judged
+  -- nobody is to blame, or less is judged
   abbrev EndsWell : Direction → Type 0
-  EndsWell d = NoneIsToBlame d course.sessions ⊎ IsPartly (other d) course
+  EndsWell d = NoneIsToBlame d course.sessions ⊎ JudgesLess d course
 
   -- ---- in class 0, and while it is not selected
 
@@ -64,13 +65,15 @@ module _ (known : Known) (known_of : AsSent) (parts : AsParts) (caller : CallerL
       where
         in_zero : selected ≡ Some Zero → EndsWell Right
         in_zero zero =
-            ends_well known.proper Two Right local (called_is_fair local) (StandsCalledUntilTwo local known.proper)
+            ends_well known.proper Two Right local (called_is_fair local) (called_is_fair_in_class_0 local)
+            (StandsCalledUntilTwo local known.proper)
             (called_early_keeps local known.proper known_of parts caller called) begin capture fresh comes
             (record { not = λ two. zero_two selected zero two; few = few })
 
         without : (selected ≡ Some Zero → ⊥) → EndsWell Right
         without not =
-            ends_well known.proper Zero Right local (called_is_fair local) (StandsOrSelected local known.proper)
+            ends_well known.proper Zero Right local (called_is_fair local) (called_is_fair_in_class_0 local)
+            (StandsOrSelected local known.proper)
             (unless_zero Right local (StandsOrSelected local known.proper)
             (called_keeps local known.proper known_of parts caller called)) begin capture fresh comes (record { not = not; few = few })
 
@@ -79,18 +82,19 @@ module _ (known : Known) (known_of : AsSent) (parts : AsParts) (caller : CallerL
       where
         in_zero : selected ≡ Some Zero → EndsWell Left
         in_zero zero =
-            ends_well known.proper Two Left local (calling_is_fair local) (StandsUntilTwo local)
+            ends_well known.proper Two Left local (calling_is_fair local) (calling_is_fair_in_class_0 local) (StandsUntilTwo local)
             (early_keeps local known.proper known_of parts caller called) begin capture fresh comes
             (record { not = λ two. zero_two selected zero two; few = few })
 
         without : (selected ≡ Some Zero → ⊥) → (b : Bool) → local.class2 ≡ b → EndsWell Left
         without not true two =
-            ends_well known.proper Zero Left local (calling_is_fair local) (StandsQuiet local two known.proper)
+            ends_well known.proper Zero Left local (calling_is_fair local) (calling_is_fair_in_class_0 local)
+            (StandsQuiet local two known.proper)
             (unless_zero Left local (StandsQuiet local two known.proper)
             (calling_keeps local two known.proper known_of parts caller called)) begin capture fresh comes
             (record { not = not; few = few })
         without not false none =
-            ends_well known.proper Zero Left local (calling_is_fair local) (HasSaidNothing Left local)
+            ends_well known.proper Zero Left local (calling_is_fair local) (calling_is_fair_in_class_0 local) (HasSaidNothing Left local)
             (unless_zero Left local (HasSaidNothing Left local) (mute_keeps known.proper Left local (calling_puts_none local none))) begin
             capture fresh comes (record { not = not; few = few })
 

@@ -26,7 +26,7 @@ use Rattle.osi_honest.proofs.courses.what_a_run_does_to_it.{fresh_course}
 use Rattle.osi_tap.specs.declared.marks.Cause.{Cause}
 use Rattle.osi_tap.specs.Connections.{Joined, spoken}
 use Rattle.osi_tap.specs.Courses.{Course as Passed}
-use Rattle.osi_tap.specs.Courses.{unit_passes, units_pass, unread, way_of}
+use Rattle.osi_tap.specs.Courses.{unit_passes, units_pass, way_of}
 use Rattle.osi_tap.specs.Lines.{heard}
 use Rattle.osi_tap.specs.Tapping as tapping
 use Rattle.osi_tap.specs.Tapping.{after, comes_to}
@@ -34,15 +34,21 @@ use Rattle.osi_watched.specs.Joint.{Joint, Step, Steps, StepsAlong, TakesTurn, b
 use Rattle.osi_watched.specs.Joint.{turns}
 use Rattle.osi_watched.specs.Judging.{IsJudgedWhole}
 use Rattle.osi_watched.specs.Passing.{TurnsBad}
+use Rattle.osi_watched.specs.Spoilt.{GoesOn, LaterAlong, spoilt}
+use Rattle.osi_fair.specs.Pieces.{units_in}
 use Rattle.osi_watched.specs.Shown.{calls_from}
-use Rattle.osi_watched.proofs.a_break_ends_no_judging_or_all.{IsPartly, all_ends, begins_judged, hard_ends, none_ends, nothing_ends}
-use Rattle.osi_watched.proofs.a_break_ends_no_judging_or_all.{partly_claim, reach_so, still_over, unread_ends}
+use Rattle.osi_watched.proofs.a_break_ends_no_judging_or_all.{all_ends, begins_judged, none_ends, nothing_ends}
+use Rattle.osi_watched.proofs.a_break_ends_no_judging_or_all.{reach_so, still_over}
 use Rattle.osi_watched.proofs.a_break_ends_no_judging_or_all.{unread_sessions}
+use Rattle.osi_watched.proofs.an_end_that_is_judged_alone_stays_so.{StandsLess, later_kept, later_less, step_less}
+use Rattle.osi_watched.proofs.in_class_0_one_side_alone_is_judged.{AfterUnread, JudgesLess, all_over, alone, hard_less, less_others}
+use Rattle.osi_watched.proofs.in_class_0_one_side_alone_is_judged.{less_unread, unread_alone}
+use Rattle.osi_watched.proofs.later_steps_are_events.{spoilt_followed}
 use Rattle.osi_watched.proofs.steps_are_events.{IsFollowed, begin_followed, step_followed}
-use Rattle.osi_watched.proofs.the_first_break_is_not_of_an_end.{IsFairFrom}
+use Rattle.osi_watched.proofs.the_first_break_is_not_of_an_end.{IsFairAlone, IsFairFrom}
 use Rattle.osi_watched.proofs.what_a_taker_passes_over.{IsMild, Sort, is_hard, is_mild, is_shut, mild_reach, sort_of}
 use Rattle.osi_watched.proofs.what_a_unit_leaves_at_a_tap.{IsJudged, IsOver, begins_over, unread_over}
-use Rattle.osi_watched.proofs.what_passes_keeps_a_claim.{IsClaim, after_join, after_kept, step_kept, units_kept}
+use Rattle.osi_watched.proofs.what_passes_keeps_a_claim.{IsClaim, after_join, step_kept, units_kept}
 use Rattle.osi_watched.proofs.what_the_turns_among_steps_do.{ComesByDoing, IsOfTap, StepsDo, TurnDoes}
 use Rattle.osi_watched.proofs.sessions.a_unit_after_a_dr_changes_nothing.{IsAfterDr, after_dr}
 use Rattle.osi_watched.proofs.sessions.after_too_many_nobody_is_to_blame.{NoneIsToBlame, none_begins, over_joins}
@@ -86,7 +92,8 @@ not_many closed many = let no : Broke rule.Closed ≡ TooMany = sym closed ∙ m
 -- ---- the steps
 
 module _ (proper : AllProper) (barred : Class) (d : Direction) (local : Local)
-    (fair : IsFairFrom (way_of d) (wholes.begin (calls_from d) local)) (Inv : (ℕ → Deeds) → Joint → Type 0)
+    (fair : IsFairFrom (way_of d) (wholes.begin (calls_from d) local))
+    (fair_alone : IsFairAlone (way_of d) (wholes.begin (calls_from d) local)) (Inv : (ℕ → Deeds) → Joint → Type 0)
     (k : KeepsUnless barred d local Inv) where
   -- all that passes is judged
   record Goes (deeds : ℕ → Deeds) (j : Joint) : Type 0 where
@@ -100,14 +107,14 @@ module _ (proper : AllProper) (barred : Class) (d : Direction) (local : Local)
   data Stays (deeds : ℕ → Deeds) (j : Joint) : Type 0 where
     goes : Goes deeds j → Stays deeds j
     ended : IsDone d j.course → Stays deeds j
-    lost : IsPartly (other d) j.course → Stays deeds j
+    lost : StandsLess d proper (calls_from d) local fair_alone j → Stays deeds j
 
   -- ---- a packet of the other side
 
   data Passing (at : ℕ) (vs : List Value) (c : Passed) : Type 0 where
     all_taken : ArePassed barred d at vs c → IsJudged (units_pass (other d) at vs c) → Passing at vs c
     then_done : IsDone d (units_pass (other d) at vs c) → Passing at vs c
-    then_lost : IsPartly (other d) (units_pass (other d) at vs c) → Passing at vs c
+    then_lost : JudgesLess d (units_pass (other d) at vs c) → Passing at vs c
 
   module _ (deeds : ℕ → Deeds) (at : ℕ) (octets : List ℕ) (units : List Value) (old new : Joint)
       (step : Steps d (passes_other at octets units) old new) (g : Goes deeds old)
@@ -151,7 +158,7 @@ module _ (proper : AllProper) (barred : Class) (d : Direction) (local : Local)
       data One : Type 0 where
         goes_on : AllSoFar (front ++ v ∷ []) → One
         is_done : IsDone d next → One
-        is_lost : IsPartly (other d) next → One
+        is_lost : JudgesLess d next → One
 
       nobody : NoneIsToBlame d c.sessions
       nobody = blameless front (v ∷ back) is so.taken
@@ -196,7 +203,7 @@ module _ (proper : AllProper) (barred : Class) (d : Direction) (local : Local)
                 ((reach_so (other d) at v c).far ∙ ap (reach_of (class_for (way_of (other d)) c.traffic.course)) after.closed) so.judged);
           })
 
-      by_hard : is_applied found ≡ false → IsOver next ⊎ IsPartly (other d) next → One
+      by_hard : is_applied found ≡ false → IsOver next ⊎ JudgesLess d next → One
       by_hard unapplied (inl o) = is_done (record { over = o; none = none_joined unapplied })
       by_hard unapplied (inr p) = is_lost p
 
@@ -204,8 +211,8 @@ module _ (proper : AllProper) (barred : Class) (d : Direction) (local : Local)
       one_by (is_mild m) = by_mild m (many_or found)
       one_by (is_shut closed other_unit) = by_after (after_dr (other d) v c closed other_unit)
       one_by (is_hard unapplied less) =
-          by_hard unapplied (hard_ends (other d) at v c
-          (λ none. less (class_for (way_of (other d)) c.traffic.course) (sym (reach_so (other d) at v c).far ∙ none)) (is_sure.agrees Zero))
+          by_hard unapplied (hard_less d at v c so.judged (is_sure.agrees Zero)
+          (λ none. less (class_for (way_of (other d)) c.traffic.course) (sym (reach_so (other d) at v c).far ∙ none)))
 
       all_join : After units ≡ units_pass (other d) at back next
       all_join = ap After is ∙ units_join (other d) at front (v ∷ back) old.course
@@ -215,8 +222,7 @@ module _ (proper : AllProper) (barred : Class) (d : Direction) (local : Local)
       then_rest (is_done s) rest =
           then_done (subst (IsDone d) (sym all_join) (units_kept (IsDone d) (done_claim d) (other d) at back next s))
       then_rest (is_lost b) rest =
-          then_lost (subst (IsPartly (other d)) (sym all_join)
-          (units_kept (IsPartly (other d)) (partly_claim (other d)) (other d) at back next b))
+          then_lost (subst (JudgesLess d) (sym all_join) (less_others d at back next b))
 
     pass_on : (back front : List Value) → units ≡ front ++ back → AllSoFar front → Passing at units old.course
     pass_on [] front is so =
@@ -241,7 +247,10 @@ module _ (proper : AllProper) (barred : Class) (d : Direction) (local : Local)
       sure = step_kept Sure sure_claim d (passes_other at octets units) old new step g.sure;
     })
     other_by (then_done s) = ended (subst (IsDone d) (sym same) s)
-    other_by (then_lost b) = lost (subst (IsPartly (other d)) (sym same) b)
+    other_by (then_lost b) = lost (record {
+      followed = step_followed d (wholes.begin (calls_from d) local) proper (passes_other at octets units) old new step g.followed;
+      less = subst (JudgesLess d) (sym same) b;
+    })
 
   -- ---- a unit of the end
 
@@ -334,7 +343,7 @@ module _ (proper : AllProper) (barred : Class) (d : Direction) (local : Local)
   step_stays step deeds then_deeds old new does on (goes g) = on g
   step_stays step deeds then_deeds old new does on (ended s) = ended (step_kept (IsDone d) (done_claim d) d step old new does s)
   step_stays step deeds then_deeds old new does on (lost b) =
-      lost (step_kept (IsPartly (other d)) (partly_claim (other d)) d step old new does b)
+      lost (step_less d proper (calls_from d) local fair_alone step old new does b)
 
   tap_stays : (step : Step) → IsOfTap step → (deeds : ℕ → Deeds) (old new : Joint) → Steps d step old new → IsWithout barred new.course →
       Stays deeds old → Stays deeds new
@@ -380,41 +389,43 @@ module _ (proper : AllProper) (barred : Class) (d : Direction) (local : Local)
     sure = fresh_sure;
   })
 
-  -- nobody is to blame, or not all is judged
+  -- nobody is to blame, or less is judged
   abbrev pub EndsWell : Passed → Type 0
-  EndsWell c = NoneIsToBlame d c.sessions ⊎ IsPartly (other d) c
+  EndsWell c = NoneIsToBlame d c.sessions ⊎ JudgesLess d c
 
   ends_so : (j : Joint) → Stood j → EndsWell j.course
   ends_so j (deeds, goes g) = inl (k.none deeds j g.courses g.holds)
   ends_so j (deeds, ended s) = inl s.none
-  ends_so j (deeds, lost b) = inr b
+  ends_so j (deeds, lost b) = inr b.less
 
   -- the other side sends what can't be read, and then anything passes
-  module _ (at : ℕ) (cause_is : Cause) (j : Joint) where
-    abbrev bad : Passed
-    bad = unread (other d) at cause_is j.course
+  module _ (at : ℕ) (cause_is : Cause) (packets : List (List ℕ)) (none_in : units_in packets ≡ []) (j : Joint) where
+    abbrev bad : Joint
+    bad = spoilt d at cause_is packets j
 
-    unread_by : NoneIsToBlame d j.course.sessions → IsOver bad ⊎ IsPartly (other d) bad → IsDone d bad ⊎ IsPartly (other d) bad
-    unread_by none (inl o) =
+    abbrev Worse : Type 0
+    Worse = IsDone d bad.course ⊎ StandsLess d proper (calls_from d) local fair_alone bad
+
+    lost_so : IsFollowed d (wholes.begin (calls_from d) local) j → JudgesLess d bad.course → Worse
+    lost_so f less = inr (record {
+      followed = spoilt_followed d (wholes.begin (calls_from d) local) at cause_is packets none_in j f;
+      less = less;
+    })
+
+    unread_by : NoneIsToBlame d j.course.sessions → IsFollowed d (wholes.begin (calls_from d) local) j → AfterUnread d bad.course → Worse
+    unread_by none f (all_over o) =
         inl (record { over = o; none = subst (NoneIsToBlame d) (sym (unread_sessions (other d) at cause_is j.course)) none })
-    unread_by none (inr p) = inr p
+    unread_by none f (alone a) = lost_so f (inr a)
 
-    unread_so : Stood j → IsDone d bad ⊎ IsPartly (other d) bad
+    unread_so : Stood j → Worse
     unread_so (deeds, goes g) =
-        unread_by (k.none deeds j g.courses g.holds) (unread_ends (other d) at cause_is j.course g.judged (g.sure.agrees Zero))
+        unread_by (k.none deeds j g.courses g.holds) g.followed (unread_alone d at cause_is j.course g.judged (g.sure.agrees Zero))
     unread_so (deeds, ended s) = inl ((done_claim d).bad (other d) at cause_is j.course s)
-    unread_so (deeds, lost b) = inr ((partly_claim (other d)).bad (other d) at cause_is j.course b)
+    unread_so (deeds, lost b) = lost_so b.followed (less_unread d at cause_is j.course b.less)
 
-  after_bad : (capture : Capture) (s : tapping.State) → IsDone d s.course ⊎ IsPartly (other d) s.course → EndsWell (after capture s).course
-  after_bad capture s (inl h) = let last = after_kept (IsDone d) (done_claim d) capture s h in inl last.none
-  after_bad capture s (inr b) = inr (after_kept (IsPartly (other d)) (partly_claim (other d)) capture s b)
-
-  bad_so : (capture : Capture) (j : Joint) → TurnsBad d capture j.course → Stood j → EndsWell (comes_to capture).course
-  bad_so capture j t stays =
-      let join = ap (λ (x : Capture). comes_to x) t.parts ∙ after_join t.front t.back tapping.begin in
-      subst (λ (s : tapping.State). EndsWell s.course) (sym join)
-      (after_bad t.back (comes_to t.front)
-      (subst (λ (c : Passed). IsDone d c ⊎ IsPartly (other d) c) (sym t.unreadable) (unread_so t.at t.cause j stays)))
+    after_bad : (steps : List Step) (end : Joint) → LaterAlong d bad steps end → Worse → EndsWell end.course
+    after_bad steps end along (inl h) = let last = later_kept (IsDone d) (done_claim d) d steps bad end along h in inl last.none
+    after_bad steps end along (inr b) = inr (later_less d proper (calls_from d) local fair_alone steps bad end along b).less
 
   bad_within : (capture : Capture) (c : Passed) → TurnsBad d capture c → IsWithout barred (comes_to capture).course → IsWithout barred c
   bad_within capture c t h =
@@ -424,24 +435,31 @@ module _ (proper : AllProper) (barred : Class) (d : Direction) (local : Local)
 
   pub ends_well : (h : Holding) (capture : Capture) → IsFresh (calls_from d) local h → ComesByDoing d (calls_from d) capture h →
       IsWithout barred (comes_to capture).course → EndsWell (comes_to capture).course
-  ends_well h capture fresh comes within = by comes.all
+  ends_well h capture fresh comes within = by comes.on
     where
-      at_last : IsWithout barred comes.last.course → Stood comes.last
-      at_last w = along_so comes.steps (λ r. no_deeds) (begin h) comes.last comes.along comes.does w (stays_first h fresh)
+      last_within : ((comes_to capture).course ≡ comes.last.course) ⊎ TurnsBad d capture comes.last.course →
+          IsWithout barred comes.last.course
+      last_within (inl is) = subst (IsWithout barred) is within
+      last_within (inr bad) = bad_within capture comes.last.course bad within
 
-      by : ((comes_to capture).course ≡ comes.last.course) ⊎ TurnsBad d capture comes.last.course → EndsWell (comes_to capture).course
-      by (inl is) = subst EndsWell (sym is) (ends_so comes.last (at_last (subst (IsWithout barred) is within)))
-      by (inr bad) = bad_so capture comes.last bad (at_last (bad_within capture comes.last.course bad within))
+      at_last : Stood comes.last
+      at_last =
+          along_so comes.steps (λ r. no_deeds) (begin h) comes.last comes.along comes.does (last_within comes.all) (stays_first h fresh)
+
+      by : ((comes_to capture).course ≡ comes.last.course) ⊎ GoesOn d capture comes.last → EndsWell (comes_to capture).course
+      by (inl is) = subst EndsWell (sym is) (ends_so comes.last at_last)
+      by (inr g) = subst EndsWell (sym g.all)
+          (after_bad g.at g.cause g.packets g.none comes.last g.steps g.end g.along
+          (unread_so g.at g.cause g.packets g.none comes.last at_last))
 
 -- ---- in the end
 
 differ : {A : Type 0} (b : Bool) → b ≡ true → b ≡ false → A
 differ b h k = absurd (cc)
 
--- all is judged, or nothing any more
-pub nobody_of_well : (d : Direction) (c : Passed) → NoneIsToBlame d c.sessions ⊎ IsPartly (other d) c → IsJudgedWhole d c →
+-- no side alone is judged in class 0, and each connection is, or nothing any more
+pub nobody_of_well : (d : Direction) (c : Passed) → NoneIsToBlame d c.sessions ⊎ JudgesLess d c → IsJudgedWhole d c →
     NoneIsToBlame d c.sessions
 nobody_of_well d c (inl none) whole = none
 nobody_of_well d c (inr (inl loose)) whole = differ c.traffic.course.loose loose whole.firm
-nobody_of_well d c (inr (inr (zero, stop))) whole =
-    differ (is_stopped (way_of (other d)) c.traffic.course) stop (whole.both zero)
+nobody_of_well d c (inr (inr a)) whole = differ (is_stopped (way_of d) c.traffic.course) (whole.both a.zero a.stopped) a.own

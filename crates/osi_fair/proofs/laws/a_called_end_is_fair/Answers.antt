@@ -1,5 +1,9 @@
 use Rattle.osi_fair.proofs.a_called_end_is_fair.{called_fair}
+use Rattle.osi_fair.proofs.a_called_end_is_fair_in_class_0.{called_fair_in_class_0}
 use Rattle.osi_fair.proofs.laws.a_called_end_is_fair.Goals as goal
 
-pub returns : goal.returns
-returns c = called_fair
+pub returns-clause-judged : goal.returns-clause-judged
+returns-clause-judged c = called_fair
+
+pub returns-clause-in_class_0 : goal.returns-clause-in_class_0
+returns-clause-in_class_0 c = called_fair_in_class_0

@@ -1,0 +1,219 @@
+-- In class 0 a break of the other side leaves an end judged alone, and whatever passes leaves that so, as long as each unit of the end is
+-- right. For the law that the transport of an end is blamed nowhere.
+use Rattle.std.proofs.Common.{◌≡◌, ◌∙◌, ◌⊎◌, inl, inr, ℕ, Bool, true, false, List, [], ◌∷◌, Option, Some, None, refl, sym, ap, subst}
+use Rattle.std.specs.Prelude.{◌||◌, is_some}
+use Rattle.osi_tpdu.specs.Value.{Value}
+use Rattle.osi_class.specs.declared.terms.Class.{Class}
+use Rattle.osi_class.specs.declared.terms.Class.TheVariants.{Two, Zero}
+use Rattle.osi_judge.specs.Captures.{other}
+use Rattle.osi_judge.specs.declared.directions.Direction.{Direction}
+use Rattle.osi_judge.specs.declared.directions.Direction.TheVariants.{Left, Right}
+use Rattle.osi_rules.specs.Reaches.{reach_by, reach_of}
+use Rattle.osi_rules.specs.Traffic as traffic
+use Rattle.osi_rules.specs.Traffic.{State, Outcome, class_for, is_stopped}
+use Rattle.osi_rules.specs.declared.findings.Finding.{Finding}
+use Rattle.osi_rules.specs.declared.findings.Finding.TheVariants.{Kept, Broke, Outside, TooMany, NotJudged}
+use Rattle.osi_rules.specs.declared.findings.Reach.{Reach}
+use Rattle.osi_rules.specs.declared.findings.Reach.TheVariants as reach
+use Rattle.osi_rules.proofs.a_stop_is_said.{stops_last}
+use Rattle.osi_fair.specs.Naming.{unit}
+use Rattle.osi_fair.proofs.class_0_stays_selected.{zero_stays}
+use Rattle.osi_tap.specs.declared.marks.Cause.{Cause}
+use Rattle.osi_tap.specs.declared.marks.Cause.TheVariants as cause
+use Rattle.osi_tap.specs.Connections.{taken}
+use Rattle.osi_tap.specs.Courses.{Course, cause_of, marked, marks_of, moment_of, moved, noted_by, packet_begins, unit_passes}
+use Rattle.osi_tap.specs.Courses.{units_pass, unread, way_of}
+use Rattle.osi_watched.proofs.a_break_ends_no_judging_or_all.{all_ends, class_kept, far_of, known_too, loose_by}
+use Rattle.osi_watched.proofs.a_break_ends_no_judging_or_all.{loose_more, loose_so, mark, mid, o}
+use Rattle.osi_watched.proofs.a_break_ends_no_judging_or_all.{reached_loose, reach_so, refused_over}
+use Rattle.osi_watched.proofs.a_break_ends_no_judging_or_all.{refused_stops, refused_traffic, refuses, side_so, stops_so, unread_if}
+use Rattle.osi_watched.proofs.what_a_unit_leaves_at_a_tap.{IsJudged, IsOver}
+use Rattle.osi_watched.proofs.what_is_halted_stays_halted.{IsHalted, halted_claim, side_halts, unread_halts, unread_same}
+use Rattle.osi_watched.proofs.what_passes_keeps_a_claim.{IsClaim}
+use Rattle.osi_watched.proofs.sessions.class_0_is_known_once_it_is_selected.{IsKnownOnce}
+use Rattle.osi_watched.proofs.sessions.connections_have_the_same_places.{unit_knows}
+
+-- ---- a connection has lost its judgement
+
+abbrev pub IsLoose : Course → Type 0
+IsLoose c = c.traffic.course.loose ≡ true
+
+loose_begins : (e : Direction) (c : Course) → IsLoose c → IsLoose (packet_begins e c)
+loose_begins Left c h = h
+loose_begins Right c h = h
+
+loose_unread : (b : Bool) (e : Direction) (at : ℕ) (k : Cause) (c : Course) → IsLoose c → IsLoose (unread_if b e at k c)
+loose_unread true e at k c h = h
+loose_unread false e at k c h =
+    let r = traffic.refused_reach (way_of e) c.traffic in
+    ap (λ (s : State). s.course.loose) (refused_traffic e at k c) ∙ reached_loose (way_of e) r c.traffic.course true h ∙ loose_more r
+
+pub loose_claim : IsClaim IsLoose
+loose_claim = record {
+  begins = λ e c h. loose_begins e c h;
+  passes = λ e at v c h.
+      let r = (traffic.takes (way_of e) v c.traffic).told.reach in loose_so e at v c r refl ∙ ap (loose_by r) h ∙ loose_more r;
+  bad = λ e at k c h. loose_unread (is_some (marks_of e c).halted) e at k c h;
+}
+
+-- ---- the end alone is judged
+
+-- class 0 is selected; this side is judged, and the other side is not judged any more
+pub record IsAlone (d : Direction) (c : Course) : Type 0 where
+  pub zero : c.traffic.course.class ≡ Some Zero
+  pub firm : c.traffic.course.loose ≡ false
+  pub own : is_stopped (way_of d) c.traffic.course ≡ false
+  pub stopped : is_stopped (way_of (other d)) c.traffic.course ≡ true
+  pub halted : IsHalted (other d) c
+
+pub alone_begins : (d e : Direction) (c : Course) → IsAlone d c → IsAlone d (packet_begins e c)
+alone_begins Left Left c a =
+    record { zero = a.zero; firm = a.firm; own = a.own; stopped = a.stopped; halted = a.halted }
+alone_begins Left Right c a =
+    record { zero = a.zero; firm = a.firm; own = a.own; stopped = a.stopped; halted = a.halted }
+alone_begins Right Left c a =
+    record { zero = a.zero; firm = a.firm; own = a.own; stopped = a.stopped; halted = a.halted }
+alone_begins Right Right c a =
+    record { zero = a.zero; firm = a.firm; own = a.own; stopped = a.stopped; halted = a.halted }
+
+pub alone_unread : (d : Direction) (at : ℕ) (k : Cause) (c : Course) → IsAlone d c → IsAlone d (unread (other d) at k c)
+alone_unread d at k c a = subst (IsAlone d) (sym (unread_same (other d) at k c a.halted)) a
+
+-- what is told of a unit of the other side changes nothing
+abbrev passed : Direction → (at : ℕ) → Value → Outcome → Course → Course
+passed e at v x c = noted_by e at v x.told (cause_of x.told.finding)
+    (moved (moment_of e at v x.told (taken e at v x.told.meaning x.told.place c.sessions)) (record c { traffic = x.state }))
+
+pub alone_other : (d : Direction) (at : ℕ) (v : Value) (c : Course) → IsAlone d c → IsAlone d (unit_passes (other d) at v c)
+alone_other d at v c a =
+    subst (λ (x : Outcome). IsAlone d (passed (other d) at v x c)) (sym (stops_last (way_of (other d)) v c.traffic a.stopped)) (by d a)
+  where
+    by : (e : Direction) → IsAlone e c →
+        IsAlone e (passed (other e) at v (traffic.none_told (way_of (other e)) NotJudged c.traffic) c)
+    by Left b = record { zero = b.zero; firm = b.firm; own = b.own; stopped = b.stopped; halted = b.halted }
+    by Right b = record { zero = b.zero; firm = b.firm; own = b.own; stopped = b.stopped; halted = b.halted }
+
+pub alone_own : (d : Direction) (at : ℕ) (v : Value) (c : Course) → (traffic.takes (way_of d) v c.traffic).told.finding ≡ Kept →
+    IsAlone d c → IsAlone d (unit_passes d at v c)
+alone_own d at v c kept a =
+    let is : (o d at v c).told.reach ≡ reach.Nothing = far_of d at v c Kept kept in
+    record {
+      zero = ap (λ (s : State). s.course.class) (unit_knows d at v c) ∙ zero_stays (unit (way_of d) v) c.traffic a.zero;
+      firm = loose_so d at v c reach.Nothing is ∙ a.firm;
+      own = stops_so d at v c reach.Nothing is (way_of d) ∙ a.own;
+      stopped = stops_so d at v c reach.Nothing is (way_of (other d)) ∙ a.stopped;
+      halted = (halted_claim (other d)).passes d at v c a.halted;
+    }
+
+-- ---- how it comes to that
+
+side_caused : (k : Option Class) (f : Finding) → reach_of k f ≡ reach.Side → (x : Cause) × (cause_of f ≡ Some x)
+side_caused k Kept e = absurd (cc)
+side_caused k NotJudged e = absurd (cc)
+side_caused k Outside e = absurd (cc)
+side_caused k TooMany e = absurd (cc)
+side_caused k (Broke rule) e = (cause.Broke rule, refl)
+
+judged_own : (d : Direction) (c : Course) → IsJudged c → is_stopped (way_of d) c.traffic.course ≡ false
+judged_own Left c j = j.left
+judged_own Right c j = j.right
+
+goes_on : (d : Direction) (c : Course) → IsJudged c → is_some (marks_of d c).halted ≡ false
+goes_on Left c j = ap is_some j.left_goes
+goes_on Right c j = ap is_some j.right_goes
+
+other_apart : (d : Direction) (b : Bool) → (traffic.stops_by (way_of (other d)) reach.Side (way_of d) || b) ≡ b
+other_apart Left b = refl
+other_apart Right b = refl
+
+side_stops : (d : Direction) (b : Bool) → (traffic.stops_by (way_of d) reach.Side (way_of d) || b) ≡ true
+side_stops Left b = refl
+side_stops Right b = refl
+
+-- a unit of the other side
+pub unit_alone : (d : Direction) (at : ℕ) (v : Value) (c : Course) → IsJudged c → IsKnownOnce c.traffic →
+    (traffic.takes (way_of (other d)) v c.traffic).told.reach ≡ reach.Side → IsAlone d (unit_passes (other d) at v c)
+unit_alone d at v c j once is =
+    let e = other d in
+    let (zero, stopped) = side_so e at v c is once in
+    let (x, caused) = side_caused (class_for (way_of e) c.traffic.course) (o e at v c).told.finding (sym (reach_so e at v c).far ∙ is) in
+    record {
+      zero = zero;
+      firm = loose_so e at v c reach.Side is ∙ j.firm;
+      own = stops_so e at v c reach.Side is (way_of d) ∙ other_apart d (is_stopped (way_of d) c.traffic.course) ∙ judged_own d c j;
+      stopped = stopped;
+      halted = ap (λ (y : Option Cause). is_some (marks_of e (noted_by e at v (o e at v c).told y (mid e at v c))).halted) caused
+          ∙ ap (λ (r : Reach). is_some (marks_of e (marked (mark e at v c x) r (mid e at v c))).halted) is
+          ∙ side_halts e (mark e at v c x) _;
+    }
+
+-- and what can't be read of it
+pub data AfterUnread (d : Direction) (c : Course) : Type 0 where
+  all_over : IsOver c → AfterUnread d c
+  alone : IsAlone d c → AfterUnread d c
+
+module _ (d : Direction) (at : ℕ) (k : Cause) (c : Course) (j : IsJudged c) (once : IsKnownOnce c.traffic) where
+  abbrev e : Direction
+  e = other d
+
+  unread_is : unread e at k c ≡ refuses e at k c
+  unread_is = ap (λ (b : Bool). unread_if b e at k c) (goes_on e c j)
+
+  refused_alone : class_for (way_of e) c.traffic.course ≡ Some Zero → IsAlone d (unread e at k c)
+  refused_alone zero =
+      let is : traffic.refused_reach (way_of e) c.traffic ≡ reach.Side = ap (λ (x : Option Class). reach_by x false) zero in
+      record {
+        zero = ap (λ (x : Course). x.traffic.course.class) unread_is ∙ class_kept e at k c (known_too e at k c e once zero);
+        firm = ap (λ (x : Course). x.traffic.course.loose) unread_is ∙ ap (λ (s : State). s.course.loose) (refused_traffic e at k c)
+            ∙ ap (λ (r : Reach). (traffic.reached (way_of e) r c.traffic.course).loose) is
+            ∙ reached_loose (way_of e) reach.Side c.traffic.course false j.firm;
+        own = ap (λ (x : Course). is_stopped (way_of d) x.traffic.course) unread_is ∙ refused_stops e at k c reach.Side is (way_of d)
+            ∙ other_apart d (is_stopped (way_of d) c.traffic.course) ∙ judged_own d c j;
+        stopped = ap (λ (x : Course). is_stopped (way_of e) x.traffic.course) unread_is ∙ refused_stops e at k c reach.Side is (way_of e)
+            ∙ side_stops e (is_stopped (way_of e) c.traffic.course);
+        halted = unread_halts e at k c;
+      }
+
+  refused_over_so : traffic.refused_reach (way_of e) c.traffic ≡ reach.Everything → IsOver (unread e at k c)
+  refused_over_so is = subst IsOver (sym unread_is) (refused_over e at k c is)
+
+  by_class : (x : Option Class) → class_for (way_of e) c.traffic.course ≡ x → AfterUnread d (unread e at k c)
+  by_class None is = all_over (refused_over_so (ap (λ (x : Option Class). reach_by x false) is))
+  by_class (Some Two) is = all_over (refused_over_so (ap (λ (x : Option Class). reach_by x false) is))
+  by_class (Some Zero) is = alone (refused_alone is)
+
+  pub unread_alone : AfterUnread d (unread e at k c)
+  unread_alone = by_class (class_for (way_of e) c.traffic.course) refl
+
+-- ---- less than all is judged
+
+-- a connection has lost its judgement, or in class 0 this side alone is judged
+abbrev pub JudgesLess : Direction → Course → Type 0
+JudgesLess d c = IsLoose c ⊎ IsAlone d c
+
+pub less_begins : (d e : Direction) (c : Course) → JudgesLess d c → JudgesLess d (packet_begins e c)
+less_begins d e c (inl h) = inl (loose_claim.begins e c h)
+less_begins d e c (inr a) = inr (alone_begins d e c a)
+
+pub less_others : (d : Direction) (at : ℕ) (vs : List Value) (c : Course) → JudgesLess d c → JudgesLess d (units_pass (other d) at vs c)
+less_others d at [] c h = h
+less_others d at (v ∷ vs) c (inl h) = less_others d at vs (unit_passes (other d) at v c) (inl (loose_claim.passes (other d) at v c h))
+less_others d at (v ∷ vs) c (inr a) = less_others d at vs (unit_passes (other d) at v c) (inr (alone_other d at v c a))
+
+pub less_unread : (d : Direction) (at : ℕ) (k : Cause) (c : Course) → JudgesLess d c → JudgesLess d (unread (other d) at k c)
+less_unread d at k c (inl h) = inl (loose_claim.bad (other d) at k c h)
+less_unread d at k c (inr a) = inr (alone_unread d at k c a)
+
+-- after a unit of the other side with which some judging ends, nothing is judged any more, or less
+less_by : (d : Direction) (at : ℕ) (v : Value) (c : Course) → IsJudged c → IsKnownOnce c.traffic → (r : Reach) →
+    (traffic.takes (way_of (other d)) v c.traffic).told.reach ≡ r → (r ≡ reach.Nothing → ⊥) →
+    IsOver (unit_passes (other d) at v c) ⊎ JudgesLess d (unit_passes (other d) at v c)
+less_by d at v c j once reach.Nothing is less = absurd (less refl)
+less_by d at v c j once reach.Connection is less = inr (inl (loose_so (other d) at v c reach.Connection is))
+less_by d at v c j once reach.Side is less = inr (inr (unit_alone d at v c j once is))
+less_by d at v c j once reach.Everything is less = inl (all_ends (other d) at v c is)
+
+pub hard_less : (d : Direction) (at : ℕ) (v : Value) (c : Course) → IsJudged c → IsKnownOnce c.traffic →
+    ((traffic.takes (way_of (other d)) v c.traffic).told.reach ≡ reach.Nothing → ⊥) →
+    IsOver (unit_passes (other d) at v c) ⊎ JudgesLess d (unit_passes (other d) at v c)
+hard_less d at v c j once less = less_by d at v c j once (traffic.takes (way_of (other d)) v c.traffic).told.reach refl less

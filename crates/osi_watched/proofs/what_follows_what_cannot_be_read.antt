@@ -1,0 +1,379 @@
+-- What follows what the other side sends and nobody can read is steps too: of the end and of the tap, which reads of that side what it can.
+-- For the law that a capture of an end is steps.
+use Rattle.osi_watched.proofs.Vocabulary.{[], ap, append_assoc, Bool, false, if◌then◌else◌, inl, inr, List, None}
+use Rattle.osi_watched.proofs.Vocabulary.{refl, Result, subst, sym, true, ℕ, ◌++◌, ◌<◌, ◌∙◌, ◌∷◌, ◌≡◌, ◌≢◌, ◌⊎◌, append-nil}
+use Rattle.osi_watched.proofs.Vocabulary.{AllByRecursion, octets_nil, octets_right, IsOctets, packet_of, ArePackets, units_of}
+use Rattle.osi_watched.proofs.Vocabulary.{Value, written, TpduFault, packets, Holding, Capture}
+use Rattle.osi_watched.proofs.Vocabulary.{of, other, Passed, Direction, Left, Right, packets_joined}
+use Rattle.osi_watched.proofs.Vocabulary.{TurnOf, TurnsOf, packets_on, packets_then, CanBeWritten, read_again, all_did}
+use Rattle.osi_watched.proofs.Vocabulary.{Deeds, all_units, Takes, Turn, packet_by, packet_passes}
+use Rattle.osi_watched.proofs.Vocabulary.{units_pass, unread, advanced, counted, faulty, Front, front_of, gathered, looks, partial}
+use Rattle.osi_watched.proofs.Vocabulary.{Streamed}
+use Rattle.osi_watched.proofs.Vocabulary.{whole, after, begun, octet_passes, stream_of, with_stream, BadPacket, Joint, Step}
+use Rattle.osi_watched.proofs.Vocabulary.{TakesTurn, AreOctets, IsOctet}
+use Rattle.osi_carrier.specs.Fetching.{IsNoFront}
+use Rattle.osi_tpkt.specs.declared.faults.TpktFault.{TpktFault}
+use Rattle.osi_fair.specs.Pieces.{units_by}
+use Rattle.osi_tap.specs.Courses.{Course}
+use Rattle.osi_tap.specs.Streams.{ended}
+use Rattle.osi_tap.specs.Tapping.{State}
+use Rattle.osi_watched.specs.Joint.Step.{turns, begins_own, passes_own, begins_other, passes_other}
+use Rattle.osi_watched.specs.Spoilt.{LaterAlong, LaterSteps}
+use Rattle.osi_watched.proofs.small_facts_that_many_lemmas_use.{can_more}
+use Rattle.osi_watched.proofs.how_an_end_stands_to_what_has_passed.{OtherRest, OtherStands, OwnStands, begun_now, first_put, has_begun}
+use Rattle.osi_watched.proofs.how_an_end_stands_to_what_has_passed.{one_octet, rest_of, some_octets, uses}
+use Rattle.osi_watched.proofs.turns_are_taken_late.{Follows, all_passed, other_passes, own_passes, turn_taken}
+use Rattle.osi_watched.proofs.what_an_octet_does.{begins, passes_so}
+use Rattle.osi_watched.proofs.what_is_halted_stays_halted.{IsHalted, begins_halted, halted_claim, read_same, unread_same}
+use Rattle.osi_watched.proofs.what_passes_keeps_a_claim.{units_kept}
+use Rattle.osi_watched.proofs.what_the_first_octets_are.{begins_none, own_front, whole_front, whole_packet}
+
+-- ---- what the rest of a capture comes to
+
+pub record LaterComes (d : Direction) (capture : Capture) (s : State) (j : Joint) : Type 0 where
+  pub steps : List Step
+  pub last : Joint
+  pub along : LaterAlong d j steps last
+  pub all : (after capture s).course ≡ last.course
+
+later_first : (d : Direction) (capture : Capture) (s : State) (step : Step) (j mid : Joint) → LaterSteps d step j mid →
+    LaterComes d capture s mid → LaterComes d capture s j
+later_first d capture s step j mid one c = record { steps = step ∷ c.steps; last = c.last; along = (mid, one, c.along); all = c.all }
+
+pub later_octet : (d : Direction) (o : Passed) (capture : Capture) (s : State) (j : Joint) → LaterComes d capture (octet_passes o s) j →
+    LaterComes d (o ∷ capture) s j
+later_octet d o capture s j c = record { steps = c.steps; last = c.last; along = c.along; all = c.all }
+
+-- ---- how the end stands to what has passed
+
+-- no packet begins any more in the direction of the other side
+pub record OtherEnds (rest ahead : List ℕ) (h : Holding) (coming : List (List ℕ)) : Type 0 where
+  pub octets : IsOctets rest
+  pub never : (more : List ℕ) → IsNoFront (rest ++ more)
+  pub cut : h.end.carrier.ended ≡ None → ArePackets coming (h.held.octets ++ ahead) rest
+
+abbrev pub OtherReads : Streamed → List ℕ → Holding → List (List ℕ) → Type 0
+OtherReads t ahead h coming = ((t.spent ≡ false) × OtherStands t.held ahead h coming)
+    ⊎ ((t.spent ≡ true) × (rest : List ℕ) × OtherEnds rest ahead h coming)
+
+ends_rest : (rest ahead : List ℕ) (h : Holding) (coming : List (List ℕ)) → OtherEnds rest ahead h coming → OtherRest rest ahead h coming
+ends_rest rest ahead h coming e =
+    record { octets = e.octets; none = subst IsNoFront (append-nil rest) (e.never []); cut = e.cut }
+
+-- nothing more of the other side is judged
+pub record StandsLater (d : Direction) (s : State) (j : Joint) (still ahead : List ℕ) : Type 0 where
+  pub course : s.course ≡ j.course
+  pub own_reads : (stream_of d s).spent ≡ false
+  pub own : OwnStands (stream_of d s).held still j.put j.begun
+  pub halted : IsHalted (other d) j.course
+  pub others : OtherReads (stream_of (other d) s) ahead j.holding j.coming
+
+own_moved : (d : Direction) (g : Streamed) (s : State) (c : Course) (j : Joint) (still ahead : List ℕ) → c ≡ j.course → g.spent ≡ false →
+    OwnStands g.held still j.put j.begun → IsHalted (other d) j.course → OtherReads (stream_of (other d) s) ahead j.holding j.coming →
+    StandsLater d (with_stream d g (record s { course = c })) j still ahead
+own_moved Left g s c j still ahead course own_reads own halted others =
+    record { course = course; own_reads = own_reads; own = own; halted = halted; others = others }
+own_moved Right g s c j still ahead course own_reads own halted others =
+    record { course = course; own_reads = own_reads; own = own; halted = halted; others = others }
+
+pub other_moved : (d : Direction) (g : Streamed) (s : State) (c : Course) (j : Joint) (still ahead : List ℕ) → c ≡ j.course →
+    (stream_of d s).spent ≡ false → OwnStands (stream_of d s).held still j.put j.begun → IsHalted (other d) j.course →
+    OtherReads g ahead j.holding j.coming → StandsLater d (with_stream (other d) g (record s { course = c })) j still ahead
+other_moved Left g s c j still ahead course own_reads own halted others =
+    record { course = course; own_reads = own_reads; own = own; halted = halted; others = others }
+other_moved Right g s c j still ahead course own_reads own halted others =
+    record { course = course; own_reads = own_reads; own = own; halted = halted; others = others }
+
+-- ---- an octet of the end
+
+own_begins : (d : Direction) (capture : Capture) (s : State) (held : List ℕ) (j : Joint) → j.begun ≡ has_begun held → j.put ≢ [] →
+    LaterComes d capture s (record j { begun = true; course = begins d held j.course }) → LaterComes d capture s j
+own_begins d capture s [] j is some c =
+    later_first d capture s begins_own j (record j { begun = true; course = begins d [] j.course }) (some, is, refl) c
+own_begins d capture s (o ∷ held) j is some c = subst (λ (b : Bool). LaterComes d capture s (record j { begun = b })) (sym is) c
+
+module _ (d : Direction) (x : ℕ) (capture : Capture) (s : State) (j : Joint) (still ahead : List ℕ) (small : x < 256)
+    (st : StandsLater d s j (x ∷ still) ahead)
+    (on : (s2 : State) (j2 : Joint) → j2.holding ≡ j.holding → StandsLater d s2 j2 still ahead → LaterComes d capture s2 j2) where
+  abbrev own_held : List ℕ
+  own_held = (stream_of d s).held
+
+  abbrev own_now : Streamed
+  own_now = gathered (x ∷ []) (stream_of d s)
+
+  abbrev own_joint : Joint
+  own_joint = record j { begun = true; course = begins d own_held j.course }
+
+  abbrev own_course : Course
+  own_course = begins d own_held s.course
+
+  own_halted : IsHalted (other d) own_joint.course
+  own_halted = begins_halted (other d) d own_held j.course st.halted
+
+  own_goes_on : front_of (own_held ++ x ∷ []) ≡ partial → LaterComes d (of d x ∷ capture) s own_joint
+  own_goes_on part =
+      let next : State = with_stream d own_now (record s { course = own_course }) in
+      let own : OwnStands (own_held ++ x ∷ []) still j.put true = record {
+        octets = one_octet own_held x st.own.octets small;
+        part = part;
+        all = append_assoc own_held (x ∷ []) still ∙ st.own.all;
+        begun_so = begun_now own_held x;
+        can = st.own.can;
+      } in
+      later_octet d (of d x) capture s own_joint
+      (subst (λ (t : State). LaterComes d capture t own_joint) (sym (passes_so d x s partial st.own_reads part))
+      (on next own_joint refl (own_moved d own_now s own_course own_joint still ahead (ap (begins d own_held) st.course) st.own_reads
+      own own_halted st.others)))
+
+  own_ends : (v : Value) (vs : List Value) → j.put ≡ v ∷ vs → own_held ++ x ∷ [] ≡ packet_of (written v) → still ≡ packets vs →
+      LaterComes d (of d x ∷ capture) s own_joint
+  own_ends v vs is same rest =
+      let can = subst (AllByRecursion CanBeWritten) is st.own.can in
+      let octets : IsOctets (written v) = octets_right (3 ∷ 0 ∷ _ ∷ _ ∷ []) (written v)
+      (subst IsOctets same (one_octet own_held x st.own.octets small)) in
+      let read = read_again v can.0 octets in
+      let front : front_of (own_held ++ x ∷ []) ≡ whole (written v) = ap front_of (same ∙ sym (append-nil (packet_of (written v))))
+      ∙ whole_front (written v) [] (some_octets v) in
+      let at = own_now.at in
+      let after_it : Course = packet_passes d at (written v) own_course in
+      let last : Joint = record own_joint { put = vs; begun = false; course = units_pass d at (v ∷ []) own_joint.course } in
+      let course : after_it ≡ last.course = ap (λ (r : Result (List Value) TpduFault). packet_by d at r own_course) read
+      ∙ ap (λ (c : Course). units_pass d at (v ∷ []) (begins d own_held c)) st.course in
+      let own : OwnStands [] still vs false =
+      record { octets = octets_nil; part = refl; all = rest; begun_so = refl; can = can.1 } in
+      let next : State = with_stream d (advanced own_now) (record s { course = after_it }) in
+      later_first d (of d x ∷ capture) s (passes_own at v) own_joint last (read, octets, is, refl, refl)
+      (later_octet d (of d x) capture s last
+      (subst (λ (t : State). LaterComes d capture t last) (sym (passes_so d x s (whole (written v)) st.own_reads front))
+      (on next last refl (own_moved d (advanced own_now) s after_it last still ahead course st.own_reads own
+      (units_kept (IsHalted (other d)) (halted_claim (other d)) d at (v ∷ []) own_joint.course own_halted) st.others))))
+
+  own_octet : LaterComes d (of d x ∷ capture) s j
+  own_octet =
+      let p = first_put own_held still x j.put st.own.all in
+      own_begins d (of d x ∷ capture) s own_held j st.own.begun_so
+      (λ none. let both : p.0 ∷ p.1 ≡ [] = sym p.2 ∙ none in cc)
+      (elim (own_front own_held (written p.0) (packets p.1) still x st.own.part (st.own.all ∙ ap packets p.2) (some_octets p.0)) [
+        | inl part ↦ own_goes_on part
+        | inr k ↦ own_ends p.0 p.1 p.2 k.0 k.1
+      ])
+
+-- ---- an octet of the other side
+
+other_begins : (d : Direction) (capture : Capture) (s : State) (held : List ℕ) (j : Joint) →
+    LaterComes d capture s (record j { course = begins (other d) held j.course }) → LaterComes d capture s j
+other_begins d capture s [] j c =
+    later_first d capture s begins_other j (record j { course = begins (other d) [] j.course }) refl c
+other_begins d capture s (o ∷ held) j c = c
+
+spent_passes : (d : Direction) (x : ℕ) (s : State) → (stream_of d s).spent ≡ true →
+    octet_passes (of d x) s ≡ with_stream d (counted 1 (stream_of d s)) s
+spent_passes d x s spent =
+    ap (λ (b : Bool). if b then with_stream d (counted 1 (stream_of d s)) s
+    else looks d (gathered (x ∷ []) (stream_of d s)) (begun d (stream_of d s).held s)) spent
+
+module _ (d : Direction) (x : ℕ) (capture : Capture) (s : State) (j : Joint) (still ahead : List ℕ) (small : x < 256)
+    (st : StandsLater d s j still ahead)
+    (on : (s2 : State) (j2 : Joint) → j2.holding ≡ j.holding → StandsLater d s2 j2 still (ahead ++ x ∷ []) →
+    LaterComes d capture s2 j2) where
+  more_passed : (us : List (List ℕ)) (r : List ℕ) → ArePackets us ((j.holding.held.octets ++ ahead) ++ x ∷ []) r →
+      ArePackets us (j.holding.held.octets ++ (ahead ++ x ∷ [])) r
+  more_passed us r p = subst (λ (l : List ℕ). ArePackets us l r) (append_assoc j.holding.held.octets ahead (x ∷ [])) p
+
+  module _ (spent : (stream_of (other d) s).spent ≡ true) (rest : List ℕ) (e : OtherEnds rest ahead j.holding j.coming) where
+    ends_now : OtherEnds (rest ++ x ∷ []) (ahead ++ x ∷ []) j.holding j.coming
+    ends_now = record {
+      octets = one_octet rest x e.octets small;
+      never = λ more. subst IsNoFront (sym (append_assoc rest (x ∷ []) more)) (e.never (x ∷ more));
+      cut = λ lasts. more_passed j.coming (rest ++ x ∷ [])
+          (packets_on j.coming (j.holding.held.octets ++ ahead) rest (x ∷ []) (e.cut lasts));
+    }
+
+    spent_octet : LaterComes d (of (other d) x ∷ capture) s j
+    spent_octet =
+        let t = counted 1 (stream_of (other d) s) in
+        later_octet d (of (other d) x) capture s j
+        (subst (λ (z : State). LaterComes d capture z j) (sym (spent_passes (other d) x s spent))
+        (on (with_stream (other d) t s) j refl (other_moved d t s s.course j still (ahead ++ x ∷ []) st.course st.own_reads st.own st.halted
+        (inr (spent, rest ++ x ∷ [], ends_now)))))
+
+  module _ (reads : (stream_of (other d) s).spent ≡ false) (os : OtherStands (stream_of (other d) s).held ahead j.holding j.coming) where
+    abbrev other_held : List ℕ
+    other_held = (stream_of (other d) s).held
+
+    abbrev other_now : Streamed
+    other_now = gathered (x ∷ []) (stream_of (other d) s)
+
+    abbrev other_joint : Joint
+    other_joint = record j { course = begins (other d) other_held j.course }
+
+    abbrev other_course : Course
+    other_course = begins (other d) other_held s.course
+
+    other_halted : IsHalted (other d) other_joint.course
+    other_halted = begins_halted (other d) (other d) other_held j.course st.halted
+
+    same_course : other_course ≡ other_joint.course
+    same_course = ap (begins (other d) other_held) st.course
+
+    cut_now : j.holding.end.carrier.ended ≡ None →
+        ArePackets j.coming (j.holding.held.octets ++ (ahead ++ x ∷ [])) (other_held ++ x ∷ [])
+    cut_now lasts = more_passed j.coming (other_held ++ x ∷ [])
+        (packets_on j.coming (j.holding.held.octets ++ ahead) other_held (x ∷ []) (os.cut lasts))
+
+    other_goes_on : front_of (other_held ++ x ∷ []) ≡ partial → LaterComes d (of (other d) x ∷ capture) s other_joint
+    other_goes_on part =
+        let next : State = with_stream (other d) other_now (record s { course = other_course }) in
+        later_octet d (of (other d) x) capture s other_joint
+        (subst (λ (t : State). LaterComes d capture t other_joint) (sym (passes_so (other d) x s partial reads part))
+        (on next other_joint refl (other_moved d other_now s other_course other_joint still (ahead ++ x ∷ []) same_course st.own_reads
+        st.own other_halted
+        (inl (reads, record { octets = one_octet other_held x os.octets small; part = part; cut = cut_now })))))
+
+    -- no packet begins here
+    other_faults : (f : TpktFault) → front_of (other_held ++ x ∷ []) ≡ faulty f → LaterComes d (of (other d) x ∷ capture) s other_joint
+    other_faults f is =
+        let after_it : Course = unread (other d) other_now.at (BadPacket f) other_course in
+        let next : State = with_stream (other d) (ended other_now) (record s { course = after_it }) in
+        let course : after_it ≡ other_joint.course = ap (unread (other d) other_now.at (BadPacket f)) same_course
+        ∙ unread_same (other d) other_now.at (BadPacket f) other_joint.course other_halted in
+        later_octet d (of (other d) x) capture s other_joint
+        (subst (λ (t : State). LaterComes d capture t other_joint) (sym (passes_so (other d) x s (faulty f) reads is))
+        (on next other_joint refl (other_moved d (ended other_now) s after_it other_joint still (ahead ++ x ∷ []) course st.own_reads st.own
+        other_halted
+        (inr (
+          refl,
+          other_held ++ x ∷ [],
+          record {
+            octets = one_octet other_held x os.octets small;
+            never = λ more. begins_none (other_held ++ x ∷ []) more f is;
+            cut = cut_now;
+          },
+        )))))
+
+    other_ends : (u : List ℕ) → front_of (other_held ++ x ∷ []) ≡ whole u → LaterComes d (of (other d) x ∷ capture) s other_joint
+    other_ends u front =
+        let packet = whole_packet other_held u x (one_octet other_held x os.octets small) os.part front in
+        let after_it : Course = packet_passes (other d) other_now.at u other_course in
+        let units = units_by (units_of u) in
+        let last : Joint = record other_joint {
+          course = units_pass (other d) other_now.at units other_joint.course;
+          coming = j.coming ++ u ∷ [];
+        } in
+        let course : after_it ≡ last.course = ap (packet_by (other d) other_now.at (units_of u)) same_course
+        ∙ read_same (other d) other_now.at (units_of u) other_joint.course other_halted in
+        let octets : IsOctets u = octets_right (_ ∷ _ ∷ _ ∷ _ ∷ []) u (subst IsOctets packet.spelled packet.octets) in
+        let others : OtherStands [] (ahead ++ x ∷ []) j.holding (j.coming ++ u ∷ []) = record {
+          octets = octets_nil;
+          part = refl;
+          cut = λ lasts. more_passed (j.coming ++ u ∷ []) []
+              (packets_then j.coming (u ∷ []) (j.holding.held.octets ++ ahead) other_held (x ∷ []) [] (os.cut lasts)
+              (other_held ++ x ∷ [], [], packet, sym (append-nil (other_held ++ x ∷ [])), refl));
+        } in
+        let next : State = with_stream (other d) (advanced other_now) (record s { course = after_it }) in
+        later_first d (of (other d) x ∷ capture) s (passes_other other_now.at u units) other_joint last (octets, refl, refl)
+        (later_octet d (of (other d) x) capture s last
+        (subst (λ (t : State). LaterComes d capture t last) (sym (passes_so (other d) x s (whole u) reads front))
+        (on next last refl (other_moved d (advanced other_now) s after_it last still (ahead ++ x ∷ []) course st.own_reads st.own
+        (units_kept (IsHalted (other d)) (halted_claim (other d)) (other d) other_now.at units other_joint.course other_halted)
+        (inl (reads, others))))))
+
+    reads_octet : LaterComes d (of (other d) x ∷ capture) s j
+    reads_octet = other_begins d (of (other d) x ∷ capture) s other_held j (by (front_of (other_held ++ x ∷ [])) refl)
+      where
+        by : (f : Front) → front_of (other_held ++ x ∷ []) ≡ f → LaterComes d (of (other d) x ∷ capture) s other_joint
+        by partial is = other_goes_on is
+        by (faulty fault) is = other_faults fault is
+        by (whole u) is = other_ends u is
+
+  other_octet : OtherReads (stream_of (other d) s) ahead j.holding j.coming → LaterComes d (of (other d) x ∷ capture) s j
+  other_octet (inl (reads, os)) = reads_octet reads os
+  other_octet (inr (spent, rest, e)) = spent_octet spent rest e
+
+-- ---- a turn
+
+-- the end and the tap after a turn
+record Turned (d : Direction) (s : State) (j : Joint) (turn : Turn) (new : Holding) (still ahead : List ℕ) : Type 0 where
+  later : Joint
+  takes : TakesTurn turn j later
+  holding : later.holding ≡ new
+  stands : StandsLater d s later (still ++ turn.put) ahead
+
+module _ (d : Direction) (is_caller : Bool) (deeds : ℕ → Deeds) (s : State) (j : Joint) (turn : Turn) (new : Holding)
+    (still ahead : List ℕ) (takes : Takes j.holding turn new) (at : TurnOf is_caller deeds turn j.holding new)
+    (st : StandsLater d s j still (turn.used ++ ahead)) where
+  turned_by : (rest : List ℕ) → OtherRest rest (turn.used ++ ahead) j.holding j.coming →
+      ((later : List (List ℕ)) → (new.end.carrier.ended ≡ None → ArePackets later (new.held.octets ++ ahead) rest) →
+      OtherReads (stream_of (other d) s) ahead new later) → Turned d s j turn new still ahead
+  turned_by rest e reads =
+      let on = at.on in
+      let units = all_units on.put in
+      let mine = (stream_of d s).held in
+      let u = uses rest ahead j.coming is_caller deeds j.holding turn new takes on e j.holding.end.carrier.ended
+      new.end.carrier.ended refl refl in
+      let both : (mine ++ still) ++ turn.put ≡ packets j.put ++ packets units = (λ i. st.own.all i ++ on.written i) in
+      record {
+        later = record j { holding = new; put = j.put ++ units; coming = u.later };
+        takes = record {
+          takes = takes;
+          units = units;
+          written = on.written;
+          put = refl;
+          used = u.used;
+          coming = u.parts;
+          rest = u.rest;
+          cut = u.cut;
+          held = u.kept;
+          all = u.all;
+          begun = refl;
+          course = refl;
+        };
+        holding = refl;
+        stands = record {
+          course = st.course;
+          own_reads = st.own_reads;
+          own = record {
+            octets = st.own.octets;
+            part = st.own.part;
+            all = sym (append_assoc mine still turn.put) ∙ both ∙ sym (packets_joined j.put units);
+            begun_so = st.own.begun_so;
+            can = can_more j.put units st.own.can on.can;
+          };
+          halted = st.halted;
+          others = reads u.later u.left;
+        };
+      }
+
+  turned : OtherReads (stream_of (other d) s) (turn.used ++ ahead) j.holding j.coming → Turned d s j turn new still ahead
+  turned (inl (reads, os)) =
+      turned_by (stream_of (other d) s).held (rest_of (stream_of (other d) s).held (turn.used ++ ahead) j.holding j.coming os)
+      (λ later left. inl (reads, record { octets = os.octets; part = os.part; cut = left }))
+  turned (inr (spent, rest, e)) =
+      turned_by rest (ends_rest rest (turn.used ++ ahead) j.holding j.coming e)
+      (λ later left. inr (spent, rest, record { octets = e.octets; never = e.never; cut = left }))
+
+-- ---- all of the rest
+
+pub later_steps : (d : Direction) (is_caller : Bool) (still ahead : List ℕ) (capture : Capture) (turns_left : List Turn) →
+    Follows d still ahead capture turns_left → (deeds : ℕ → Deeds) (s : State) (j : Joint) (end : Holding) → AreOctets capture →
+    TurnsOf is_caller deeds j.holding turns_left end → StandsLater d s j still ahead → LaterComes d capture s j
+later_steps d is_caller _ _ _ _ (all_passed still ahead left) deeds s j end octets does st =
+    record { steps = []; last = j; along = refl; all = st.course }
+later_steps d is_caller _ _ _ _ (own_passes x o all still ahead capture left is front more) deeds s j end octets does st =
+    let small : x < 256 = subst IsOctet is octets.0 in
+    subst (λ (p : Passed). LaterComes d (p ∷ capture) s j) (sym is)
+    (own_octet d x capture s j still ahead small (subst (λ (l : List ℕ). StandsLater d s j l ahead) front st)
+    (λ s2 j2 same st2. later_steps d is_caller still ahead capture left more deeds s2 j2 end octets.1
+    (subst (λ (h : Holding). TurnsOf is_caller deeds h left end) (sym same) does) st2))
+later_steps d is_caller _ _ _ _ (other_passes x o still ahead capture left is more) deeds s j end octets does st =
+    let small : x < 256 = subst IsOctet is octets.0 in
+    subst (λ (p : Passed). LaterComes d (p ∷ capture) s j) (sym is)
+    (other_octet d x capture s j still ahead small st
+    (λ s2 j2 same st2. later_steps d is_caller still (ahead ++ x ∷ []) capture left more deeds s2 j2 end octets.1
+    (subst (λ (h : Holding). TurnsOf is_caller deeds h left end) (sym same) does) st2) st.others)
+later_steps d is_caller _ _ _ _ (turn_taken turn still all ahead capture left is more) deeds s j end octets does st =
+    let here = subst (λ (l : List ℕ). StandsLater d s j still l) is st in
+    let k = turned d is_caller deeds s j turn does.0 still ahead does.1 does.2 here here.others in
+    later_first d capture s (turns turn) j k.later k.takes
+    (later_steps d is_caller (still ++ turn.put) ahead capture left more (all_did deeds does.2.on.more) s k.later end octets
+    (subst (λ (h : Holding). TurnsOf is_caller (all_did deeds does.2.on.more) h left end) (sym k.holding) does.3) k.stands)

@@ -1,0 +1,41 @@
+-- How an end and a tap go on after the other side has sent what can't be read.
+use Rattle.std.specs.Prelude.{◌≡◌, ℕ, List, [], ◌∷◌, ◌++◌}
+use Rattle.osi_tpkt.specs.Octets.{IsOctets}
+use Rattle.osi_tpdu.specs.Packet.{units_of}
+use Rattle.osi_judge.specs.declared.directions.Direction.{Direction}
+use Rattle.osi_judge.specs.Captures.{Capture, other}
+use Rattle.osi_fair.specs.Pieces.{units_by, units_in}
+use Rattle.osi_tap.specs.declared.marks.Cause.{Cause}
+use Rattle.osi_tap.specs.Courses.{units_pass, unread}
+use Rattle.osi_tap.specs.Tapping.{comes_to}
+use Rattle.osi_watched.specs.Joint.{Joint, Step, Steps, begins_other, begins_own, passes_other, passes_own, turns}
+
+-- What the other side sends at this offset can't be read. These are its packets: one whose units can't be read, or none if no packet
+-- begins there.
+abbrev pub spoilt : Direction → (at : ℕ) → Cause → List (List ℕ) → Joint → Joint
+spoilt d at cause packets j = record j { course = unread (other d) at cause j.course; coming = j.coming ++ packets }
+
+-- The effect of a step after that: a packet of the other side whose units can't be read passes without any.
+abbrev pub LaterSteps : Direction → Step → Joint → Joint → Type 0
+LaterSteps d (turns turn) old new = Steps d (turns turn) old new
+LaterSteps d begins_own old new = Steps d begins_own old new
+LaterSteps d (passes_own at unit) old new = Steps d (passes_own at unit) old new
+LaterSteps d begins_other old new = Steps d begins_other old new
+LaterSteps d (passes_other at packet units) old new = IsOctets packet × (units_by (units_of packet) ≡ units)
+    × (new ≡ record old { course = units_pass (other d) at units old.course; coming = old.coming ++ packet ∷ [] })
+
+-- one after the other
+abbrev pub LaterAlong : Direction → Joint → List Step → Joint → Type 0
+LaterAlong d old [] new = new ≡ old
+LaterAlong d old (step ∷ steps) new = (mid : Joint) × LaterSteps d step old mid × LaterAlong d mid steps new
+
+-- After this the other side sends what can't be read, and then the capture comes to what these steps come to.
+pub record GoesOn (d : Direction) (capture : Capture) (last : Joint) : Type 0 where
+  pub at : ℕ
+  pub cause : Cause
+  pub packets : List (List ℕ)
+  pub none : units_in packets ≡ []
+  pub steps : List Step
+  pub end : Joint
+  pub along : LaterAlong d (spoilt d at cause packets last) steps end
+  pub all : (comes_to capture).course ≡ end.course
