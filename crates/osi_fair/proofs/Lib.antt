@@ -22,6 +22,7 @@ pub mod what_holds_of_one_item
 pub mod when_a_connection_has_a_name
 pub mod what_keeps_names_apart
 pub mod a_reference_names_one_connection
+pub mod names_stay_apart_though_one_is_lost
 pub mod a_right_unit_is_not_blamed
 pub mod what_a_side_knows_stays
 pub mod all_are_judged_unless_one_broke
@@ -34,6 +35,7 @@ pub mod a_refused_request_waits_no_more
 pub mod what_a_carrier_puts
 pub mod while_no_class_is_selected
 pub mod what_lasts_at_the_tap
+pub mod a_connection_is_lost_in_class_2_alone
 pub mod which_requests_are_put
 pub mod a_request_of_a_whole_end_is_new
 pub mod left_selects_no_class
@@ -75,6 +77,7 @@ pub mod what_is_live_at_a_called_end
 pub mod each_connection_of_a_called_end
 pub mod what_a_called_end_closes_is_to_pass
 pub mod how_a_unit_of_right_passes
+pub mod what_a_line_keeps_though_it_is_lost
 pub mod a_unit_of_a_called_end_passes
 pub mod what_a_called_end_does_to_its_lines
 pub mod what_a_called_end_leaves_alone

@@ -2,7 +2,7 @@
 -- For the law of that name.
 use Rattle.osi_fair.proofs.Vocabulary.{[], ap, arith, false, inl, inr, List, None, Option, refl, Some, subst, sym, true, ℕ, ◌++◌, ◌∙◌, ◌∷◌}
 use Rattle.osi_fair.proofs.Vocabulary.{◌≡◌, ◌≢◌, ◌⊎◌, slice_get, HasFieldsInRange, Value, Local, orderly_fresh, react, user_does, UserCall}
-use Rattle.osi_fair.proofs.Vocabulary.{is_live, fresh, is_stopped, packet_begins, Traffic, takes, Connection, Left, Right, Kept, NotJudged}
+use Rattle.osi_fair.proofs.Vocabulary.{Class, Two, Zero, is_live, fresh, is_stopped, packet_begins, Traffic, takes, Connection, Left, Right}
 use Rattle.osi_fair.proofs.Vocabulary.{all_passed, HoldsOfOne, packet, passes, Passing, rubbish, unit as passing, put_by, put_for, arrives}
 use Rattle.osi_fair.proofs.Vocabulary.{begin, calls, Event, HappenAlong, Happens, MayCall, passes_rubbish, Whole}
 use Rattle.osi_fair.specs.Wholes.{begins_other, begins_own, passes_other, passes_own}
@@ -10,14 +10,16 @@ use Rattle.osi_fair.proofs.a_called_end_selects_class_zero.{Selected, Selecting,
 use Rattle.osi_fair.proofs.a_called_end_selects_class_zero.{selecting_begins, selecting_calls, selecting_takes}
 use Rattle.osi_fair.proofs.a_unit_of_an_end_of_class_zero_passes.{selected_passes, selecting_passes}
 use Rattle.osi_fair.proofs.what_comes_to_an_end_of_class_zero.{selected_comes, selecting_comes}
-use Rattle.osi_fair.proofs.a_called_end_takes_a_unit.{SelectsZero, selects_zero, takes_so}
+use Rattle.osi_fair.proofs.a_called_end_takes_a_unit.{SelectsZero, class_none, selects_zero, takes_so}
 use Rattle.osi_fair.proofs.one_request_waits.{one_waits}
 use Rattle.osi_fair.proofs.a_called_end_is_judged_as_the_other_side_is.{IsNotBlamed, other_judged, own_judged, rubbish_judged}
 use Rattle.osi_fair.proofs.a_called_end_makes_a_call.{makes_so}
 use Rattle.osi_fair.proofs.what_becomes_of_a_called_end.{IsCalled}
 use Rattle.osi_fair.proofs.a_dc_for_what_is_gone_passes.{stray_passes}
 use Rattle.osi_fair.proofs.a_reference_names_one_connection.{fresh_apart, no_item, passes_apart}
-use Rattle.osi_fair.proofs.a_unit_of_a_called_end_passes.{one_passes}
+use Rattle.osi_fair.proofs.a_unit_of_a_called_end_passes.{IsFineAt, one_passes}
+use Rattle.osi_fair.proofs.names_stay_apart_though_one_is_lost.{AreNamedApart, left_begins, right_begins}
+use Rattle.osi_fair.proofs.a_connection_is_lost_in_class_2_alone.{IsOfTwo, firm_unless_two, still_two}
 use Rattle.osi_fair.proofs.how_a_unit_of_right_passes.{head_of, no_list}
 use Rattle.osi_fair.proofs.all_are_judged_unless_one_broke.{AreJudged, IsJudged, still_judged}
 use Rattle.osi_fair.proofs.each_connection_of_a_called_end.{Called, other_begins as lines_begin, own_begins as line_begins}
@@ -30,15 +32,12 @@ use Rattle.osi_fair.proofs.which_unit_comes_to_a_called_end.{IsCalm, by_reach, c
 
 -- ---- a unit of the end
 
-abbrev pub IsFine : Whole → Value → Type 0
-IsFine w v = ((takes Right v w.tap).told.finding ≡ Kept) ⊎ (((takes Right v w.tap).told.finding ≡ NotJudged)
-    × (w.tap.course.strays ≡ true))
-
-module _ (local : Local) (w : Whole) (f : Called local w) (apart : AreApart w.tap.connections)
-    (judged : HoldsOfEach IsJudged w.tap.connections) (right : w.tap.course.right_stopped ≡ false) (v : Value) (rest : List Value)
+module _ (local : Local) (w : Whole) (f : Called local w) (apart : AreApart w.tap.connections) (named : AreNamedApart w.tap.connections)
+    (judged : AreJudged w.tap) (right : w.tap.course.right_stopped ≡ false) (v : Value) (rest : List Value)
     (begun : w.begun ≡ true) where
   abbrev Passed : Type 0
-  Passed = IsFine w v × Called local (record w { put = rest; begun = false; tap = (takes Right v w.tap).state })
+  Passed = IsFineAt v w.tap × Called local (record w { put = rest; begun = false; tap = (takes Right v w.tap).state })
+      × AreNamedApart (takes Right v w.tap).state.connections
 
   at_place : (p : ℕ) (later : List Placed) → f.tagged ≡ (Some p, v) ∷ later → rest ≡ values later → (o : Option Connection) →
       slice_get w.tap.connections p ≡ o → Passed
@@ -46,24 +45,26 @@ module _ (local : Local) (w : Whole) (f : Called local w) (apart : AreApart w.ta
       no_list v (units_at p later) (units_at p f.tagged) (ap (λ (l : List Placed). units_at p l) tagged ∙ at_first p v later)
       (f.beyond p e).0
   at_place p later tagged rest_are (Some c) e =
-      one_passes local w f apart judged right v rest begun p later tagged rest_are c e (f.stands p c e)
+      one_passes local w f apart named judged right v rest begun p later tagged rest_are c e (f.stands p c e)
 
   by_tag : (o : Option ℕ) (later : List Placed) → f.tagged ≡ (o, v) ∷ later → rest ≡ values later → Passed
-  by_tag None later tagged rest_are = stray_passes local w f judged right v rest later tagged rest_are
+  by_tag None later tagged rest_are =
+      let (fine, after, same) = stray_passes local w f right v rest later tagged rest_are in
+      (fine, after, subst AreNamedApart (sym same) named)
   by_tag (Some p) later tagged rest_are = at_place p later tagged rest_are (slice_get w.tap.connections p) refl
 
   own_passes : w.put ≡ v ∷ rest → Passed
   own_passes e = let h = head_of v rest f.tagged (sym e ∙ f.put) in by_tag h.o h.later h.is h.values_are
 
-pub mild : (w : Whole) (v : Value) → IsFine w v → IsNotBlamed (takes Right v w.tap).told.finding
+pub mild : (w : Whole) (v : Value) → IsFineAt v w.tap → IsNotBlamed (takes Right v w.tap).told.finding
 mild w v (inl e) = inl e
-mild w v (inr (e, strays)) = inr e
+mild w v (inr (e, why)) = inr e
 
 -- ---- all that holds
 
 -- no class is selected, or class 2; class 0 is selected, and the CC is to pass, or has passed
 pub data Stage (local : Local) (w : Whole) : Type 0 where
-  lines : Called local w → IsCalled local w.end → Stage local w
+  lines : Called local w → IsCalled local w.end → AreNamedApart w.tap.connections → Stage local w
   selecting : Selecting local w → Stage local w
   selected : Selected w → Stage local w
 
@@ -72,9 +73,10 @@ pub record Joined (local : Local) (w : Whole) : Type 0 where
   pub judged : AreJudged w.tap
   pub passings : List Passing
   pub tap : w.tap ≡ all_passed passings fresh
+  pub two : IsOfTwo w.tap.course
   pub stage : IsCalm w.tap.course → Stage local w
   -- as long as the other side is judged, this one is
-  pub right : w.tap.course.left_stopped ≡ false → w.tap.course.loose ≡ false → w.tap.course.right_stopped ≡ false
+  pub right : w.tap.course.left_stopped ≡ false → w.tap.course.right_stopped ≡ false
 
 calm_was : (p : Passing) (w : Whole) → IsCalm (passes p w.tap).course → IsCalm w.tap.course
 calm_was p w h = calm_before w.tap.course (passes p w.tap).course (lasts_passing p w.tap) h
@@ -92,52 +94,63 @@ one_so local w j none = subst (λ (s : Traffic). HoldsOfOne (is_live Left) s.con
     (one_waits j.passings (ap (λ (s : Traffic). s.course.class) (sym j.tap) ∙ none))
 
 module _ (local : Local) (w : Whole) (j : Joined local w) where
+  -- a connection is lost in class 2 alone
+  firm_in : (k : Option Class) → w.tap.course.class ≡ k → (k ≡ Some Two → ⊥) → HoldsOfEach IsJudged w.tap.connections
+  firm_in k is none = j.judged (firm_unless_two w.tap.course j.two (λ e. none (sym is ∙ e)))
+
   taken_by : (u : Value) (later : List Value) (f : Called local w) (c : IsCalled local w.end) (come : w.coming ≡ u ∷ later) →
-      IsCalm w.tap.course → (Called local (record w { end = react u w.end; put = w.put ++ put_for u w.end; coming = later })
+      AreNamedApart w.tap.connections → (Called local (record w { end = react u w.end; put = w.put ++ put_for u w.end; coming = later })
       × IsCalled local (react u w.end)) ⊎ SelectsZero local w f c u later come →
       Stage local (record w { end = react u w.end; put = w.put ++ put_for u w.end; coming = later })
-  taken_by u later f c come calm (inl (a, b)) = lines a b
-  taken_by u later f c come calm (inr z) =
-      selecting (selects_zero local w f c u later come z (one_so local w j) (j.judged calm.firm))
+  taken_by u later f c come named (inl (a, b)) = lines a b named
+  taken_by u later f c come named (inr z) =
+      selecting (selects_zero local w f c u later come z (one_so local w j)
+      (firm_in None (class_none local w f c u later come z) (λ e. cc e)))
 
   takes_stage : (u : Value) (later : List Value) → w.coming ≡ u ∷ later → IsCalm w.tap.course → Stage local w →
       Stage local (record w { end = react u w.end; put = w.put ++ put_for u w.end; coming = later })
-  takes_stage u later come calm (lines f c) = taken_by u later f c come calm (takes_so local w f c u later come)
+  takes_stage u later come calm (lines f c named) = taken_by u later f c come named (takes_so local w f c u later come)
   takes_stage u later come calm (selecting f) = selecting (selecting_takes local w u later f)
   takes_stage u later come calm (selected f) = selected (selected_takes w u later f)
 
   calls_stage : (call : UserCall) → MayCall call w.end → Stage local w →
       Stage local (record w { end = user_does call w.end; put = w.put ++ put_by call w.end })
-  calls_stage call may (lines f c) = let (a, b) = makes_so local w f c call may in lines a b
+  calls_stage call may (lines f c named) = let (a, b) = makes_so local w f c call may in lines a b named
   calls_stage call may (selecting f) = selecting (selecting_calls local w call may f)
   calls_stage call may (selected f) = selected (selected_calls w call may f)
 
   own_stage : w.begun ≡ false → w.put ≢ [] → Stage local w → Stage local (record w { begun = true; tap = packet_begins Right w.tap })
-  own_stage e some (lines f c) = lines (line_begins local w f e some) c
+  own_stage e some (lines f c named) = lines (line_begins local w f e some) c (right_begins w.tap.connections j.apart named)
   own_stage e some (selecting f) = selecting (selecting_begins local Right w true (λ c h k. refl) f)
   own_stage e some (selected f) = selected (selected_begins Right w true f)
 
   other_stage : Stage local w → Stage local (record w { tap = packet_begins Left w.tap })
-  other_stage (lines f c) = lines (lines_begin local w f) c
+  other_stage (lines f c named) = lines (lines_begin local w f) c (left_begins w.tap.connections j.apart named)
   other_stage (selecting f) = selecting (selecting_begins local Left w w.begun (λ c h k. h k) f)
   other_stage (selected f) = selected (selected_begins Left w w.begun f)
 
   abbrev pub Passes : Value → List Value → Type 0
-  Passes v rest = IsFine w v × Stage local (record w { put = rest; begun = false; tap = (takes Right v w.tap).state })
+  Passes v rest = IsFineAt v w.tap × Stage local (record w { put = rest; begun = false; tap = (takes Right v w.tap).state })
 
-  pub passes_stage : (v : Value) (rest : List Value) → w.put ≡ v ∷ rest → w.begun ≡ true → IsCalm w.tap.course → Stage local w → Passes v rest
-  passes_stage v rest e begun calm (lines f c) =
-      let (fine, after) = own_passes local w f j.apart (j.judged calm.firm) calm.right v rest begun e in (fine, lines after c)
+  pub passes_stage : (v : Value) (rest : List Value) → w.put ≡ v ∷ rest → w.begun ≡ true → IsCalm w.tap.course → Stage local w →
+      Passes v rest
+  passes_stage v rest e begun calm (lines f c named) =
+      let (fine, after, still) = own_passes local w f j.apart named j.judged calm.right v rest begun e in (fine, lines after c still)
   passes_stage v rest e begun calm (selecting f) =
-      let (fine, after) = selecting_passes local w j.apart (j.judged calm.firm) calm.right v rest begun e f in (inl fine, selected after)
+      let all = firm_in None f.class (λ no. cc no) in
+      let (fine, after) = selecting_passes local w j.apart all calm.right v rest begun e f in (inl fine, selected after)
   passes_stage v rest e begun calm (selected f) =
-      let (fine, after) = selected_passes local w j.apart (j.judged calm.firm) calm.right v rest begun e f in (inl fine, selected after)
+      let all = firm_in (Some Zero) f.class (λ no. cc no) in
+      let (fine, after) = selected_passes local w j.apart all calm.right v rest begun e f in (inl fine, selected after)
 
   comes_stage : (v : Value) → HasFieldsInRange v → IsCalm w.tap.course → IsCalm (takes Left v w.tap).state.course → Stage local w →
       Stage local (record w { tap = (takes Left v w.tap).state; coming = w.coming ++ v ∷ [] })
-  comes_stage v ranges calm calm_after (lines f c) = lines (comes_so local w f j.apart (j.judged calm.firm) v ranges calm_after) c
-  comes_stage v ranges calm calm_after (selecting f) = selecting (selecting_comes w j.apart (j.judged calm.firm) v calm_after local f)
-  comes_stage v ranges calm calm_after (selected f) = selected (selected_comes w j.apart (j.judged calm.firm) v calm_after f)
+  comes_stage v ranges calm calm_after (lines f c named) =
+      let (after, still) = comes_so local w f j.apart named v ranges calm_after in lines after c still
+  comes_stage v ranges calm calm_after (selecting f) =
+      selecting (selecting_comes w j.apart (firm_in None f.class (λ no. cc no)) v calm_after local f)
+  comes_stage v ranges calm calm_after (selected f) =
+      selected (selected_comes w j.apart (firm_in (Some Zero) f.class (λ no. cc no)) v calm_after f)
 
 pub next_joined : (local : Local) (event : Event) (w new : Whole) → Happens Right event w new → Joined local w → Joined local new
 next_joined local arrives w new (u, coming, is) j = subst (Joined local) (sym is) (record {
@@ -145,6 +158,7 @@ next_joined local arrives w new (u, coming, is) j = subst (Joined local) (sym is
   judged = j.judged;
   passings = j.passings;
   tap = j.tap;
+  two = j.two;
   stage = λ calm. takes_stage local w j u new.coming coming calm (j.stage calm);
   right = j.right;
 })
@@ -153,6 +167,7 @@ next_joined local (calls call) w new (may, is) j = subst (Joined local) (sym is)
   judged = j.judged;
   passings = j.passings;
   tap = j.tap;
+  two = j.two;
   stage = λ calm. calls_stage local w j call may (j.stage calm);
   right = j.right;
 })
@@ -161,6 +176,7 @@ next_joined local begins_own w new (some, not_begun, is) j = subst (Joined local
   judged = still_judged (packet Right) w.tap j.judged;
   passings = j.passings ++ packet Right ∷ [];
   tap = tap_next local w (packet Right) j;
+  two = still_two (packet Right) w.tap j.two;
   stage = λ calm. own_stage local w j not_begun some (j.stage (calm_was (packet Right) w calm));
   right = j.right;
 })
@@ -169,13 +185,13 @@ next_joined local passes_own w new (v, put, begun, is) j = subst (Joined local) 
   judged = still_judged (passing Right v) w.tap j.judged;
   passings = j.passings ++ passing Right v ∷ [];
   tap = tap_next local w (passing Right v) j;
+  two = still_two (passing Right v) w.tap j.two;
   stage = λ calm.
       let before = calm_was (passing Right v) w calm in
       (passes_stage local w j v new.put put begun before (j.stage before)).1;
-  right = λ left firm.
+  right = λ left.
       let l = lasts_passing (passing Right v) w.tap in
-      let before : IsCalm w.tap.course =
-      record { firm = l.firm firm; left = l.left left; right = j.right (l.left left) (l.firm firm) } in
+      let before : IsCalm w.tap.course = record { left = l.left left; right = j.right (l.left left) } in
       own_judged v w.tap (mild w v (passes_stage local w j v new.put put begun before (j.stage before)).0) before.right;
 })
 next_joined local begins_other w new is j = subst (Joined local) (sym is) (record {
@@ -183,6 +199,7 @@ next_joined local begins_other w new is j = subst (Joined local) (sym is) (recor
   judged = still_judged (packet Left) w.tap j.judged;
   passings = j.passings ++ packet Left ∷ [];
   tap = tap_next local w (packet Left) j;
+  two = still_two (packet Left) w.tap j.two;
   stage = λ calm. other_stage local w j (j.stage (calm_was (packet Left) w calm));
   right = j.right;
 })
@@ -191,19 +208,21 @@ next_joined local (passes_other v) w new (ranges, is) j = subst (Joined local) (
   judged = still_judged (passing Left v) w.tap j.judged;
   passings = j.passings ++ passing Left v ∷ [];
   tap = tap_next local w (passing Left v) j;
+  two = still_two (passing Left v) w.tap j.two;
   stage = λ calm.
       let before = calm_was (passing Left v) w calm in comes_stage local w j v ranges before calm (j.stage before);
-  right = λ left firm.
-      let l = lasts_passing (passing Left v) w.tap in other_judged v w.tap (j.right (l.left left) (l.firm firm)) left;
+  right = λ left.
+      let l = lasts_passing (passing Left v) w.tap in other_judged v w.tap (j.right (l.left left)) left;
 })
 next_joined local passes_rubbish w new is j = subst (Joined local) (sym is) (record {
   apart = passes_apart (rubbish Left) w.tap j.apart;
   judged = still_judged (rubbish Left) w.tap j.judged;
   passings = j.passings ++ rubbish Left ∷ [];
   tap = tap_next local w (rubbish Left) j;
-  stage = λ calm. by_reach w.tap.course.class_seen false w.tap.course calm;
-  right = λ left firm.
-      let l = lasts_passing (rubbish Left) w.tap in rubbish_judged w.tap (j.right (l.left left) (l.firm firm)) left;
+  two = still_two (rubbish Left) w.tap j.two;
+  stage = λ calm. by_reach w.tap.course.class_seen w.tap.course calm;
+  right = λ left.
+      let l = lasts_passing (rubbish Left) w.tap in rubbish_judged w.tap (j.right (l.left left)) left;
 })
 
 pub all_joined : (local : Local) (events : List Event) (w new : Whole) → HappenAlong Right w events new → Joined local w →
@@ -218,7 +237,8 @@ first_joined local = record {
   judged = λ firm i c at. no_item i c at;
   passings = [];
   tap = refl;
-  right = λ left firm. refl;
+  two = record { lost = λ e. absurd (cc e); seen = λ e. absurd (cc e) };
+  right = λ left. refl;
   stage = λ calm. lines (record {
     tagged = [];
     put = refl;
@@ -254,13 +274,14 @@ first_joined local = record {
     none = λ m h. cc h;
     two = λ m q l h. absurd (cc h);
     none_given = λ h. refl;
-  });
+  })
+      (record { lost = λ i c at. no_item i c at; used = λ n i k c e at. no_item i c at; known = λ n i k c e at. no_item i c at });
 }
 
 pub called_fair : (local : Local) (events : List Event) (w : Whole) (v : Value) (rest : List Value) →
     HappenAlong Right (begin false local) events w → w.begun ≡ true → w.put ≡ v ∷ rest →
-    is_stopped Left w.tap.course ≡ false → w.tap.course.loose ≡ false → IsFine w v
-called_fair local events w v rest along begun e left firm =
+    is_stopped Left w.tap.course ≡ false → IsFineAt v w.tap
+called_fair local events w v rest along begun e left =
     let j = all_joined local events (begin false local) w along (first_joined local) in
-    let calm : IsCalm w.tap.course = record { firm = firm; left = left; right = j.right left firm } in
+    let calm : IsCalm w.tap.course = record { left = left; right = j.right left } in
     (passes_stage local w j v rest e begun calm (j.stage calm)).0

@@ -123,18 +123,18 @@ seen_none k e zero = absurd (cc (sym e ∙ zero))
 
 -- in class 0 the CC has passed
 by_class : (local : Local) (w : Whole) → w.tap.course.class ≡ Some Zero → Stage local w → Selected w
-by_class local w zero (lines f c) = class_none w.tap.course.class f.class zero
+by_class local w zero (lines f c named) = class_none w.tap.course.class f.class zero
 by_class local w zero (selecting f) = seen_none w.tap.course.class f.class zero
 by_class local w zero (selected f) = f
 
 by_seen_class : (local : Local) (w : Whole) → w.tap.course.class_seen ≡ Some Zero → Stage local w → Selected w
-by_seen_class local w zero (lines f c) = class_none w.tap.course.class_seen f.class_seen zero
+by_seen_class local w zero (lines f c named) = class_none w.tap.course.class_seen f.class_seen zero
 by_seen_class local w zero (selecting f) = seen_none w.tap.course.class_seen f.class_seen zero
 by_seen_class local w zero (selected f) = f
 
 module _ (local : Local) (w : Whole) (j : Joined local w) (a : Alone w) where
   calm_so : w.tap.course.loose ≡ false → w.tap.course.right_stopped ≡ false → w.tap.course.left_stopped ≡ false → IsCalm w.tap.course
-  calm_so firm right left = record { firm = firm; left = left; right = right }
+  calm_so firm right left = record { left = left; right = right }
 
   own_so : (v : Value) (rest : List Value) → w.put ≡ v ∷ rest → w.begun ≡ true → (b : Bool) → w.tap.course.left_stopped ≡ b →
       w.tap.course.loose ≡ false → w.tap.course.right_stopped ≡ false → (takes Right v w.tap).state.course.left_stopped ≡ true →

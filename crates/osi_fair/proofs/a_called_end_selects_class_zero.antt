@@ -146,8 +146,10 @@ mapped d (x ∷ cs) zero c h = ap (λ (e : Connection). Some (begins d e)) (item
 mapped d (x ∷ cs) (suc p) c h = mapped d cs p c h
 
 asked_begins : (d : Direction) (x : Connect) (c : Connection) → Asked x c → Asked x (begins d c)
-asked_begins Left x c a = record { range = a.range; offer = a.offer; left = a.left; right = a.right; known = a.right }
-asked_begins Right x c a = record { range = a.range; offer = a.offer; left = a.left; right = a.right; known = a.known }
+asked_begins Left x c a =
+    record { range = a.range; offer = a.offer; left = a.left; right = a.right; known = a.right; judged = a.judged }
+asked_begins Right x c a =
+    record { range = a.range; offer = a.offer; left = a.left; right = a.right; known = a.known; judged = a.judged }
 
 pub selecting_begins : (local : Local) (d : Direction) (w : Whole) (b : Bool) →
     ((c : Connection) → (w.begun ≡ true → c.seen_by_right ≡ c.left) →

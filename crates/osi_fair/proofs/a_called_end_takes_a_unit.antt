@@ -477,6 +477,9 @@ module _ (local : Local) (w : Whole) (f : Called local w) (c : IsCalled local w.
 
   -- ---- class 0 is selected
 
+  pub class_none : SelectsZero → w.tap.course.class ≡ None
+  class_none z = grind (arith, either_none)
+
   module _ (z : SelectsZero) (one : w.tap.course.class ≡ None → HoldsOfOne (is_live Left) w.tap.connections)
       (judged : HoldsOfEach IsJudged w.tap.connections) where
     no_ref : {A : Type 0} (i r : ℕ) → f.refs i ≡ Some r → A
@@ -486,11 +489,8 @@ module _ (local : Local) (w : Whole) (f : Called local w) (c : IsCalled local w.
         let up = (f.homes i r e).1 in
         absurd (omega arith)
 
-    class_none : w.tap.course.class ≡ None
-    class_none = grind (arith, either_none)
-
     seen_none : w.tap.course.class_seen ≡ None
-    seen_none = either_none w.tap.course.class_seen f.class_seen (λ two. absurd (cc (sym class_none ∙ f.seen_two two)))
+    seen_none = either_none w.tap.course.class_seen f.class_seen (λ two. absurd (cc (sym (class_none z) ∙ f.seen_two two)))
 
     asked_live : (y : Connect) (e : Connection) → Asked y e → is_live Left e ≡ true
     asked_live y e a = grind (arith, and_false)
@@ -500,7 +500,7 @@ module _ (local : Local) (w : Whole) (f : Called local w) (c : IsCalled local w.
       here = place local w f z.was p z.x head.later came later head.values_are few_all.1
 
       one_asked : (i : ℕ) (e : Connection) (y : Connect) → slice_get w.tap.connections i ≡ Some e → Asked y e → i ≡ p
-      one_asked i e y at a = one class_none i p e here.c at here.at (judged i e at) (judged p here.c here.at) (asked_live y e a)
+      one_asked i e y at a = one (class_none z) i p e here.c at here.at (judged i e at) (judged p here.c here.at) (asked_live y e a)
           (asked_live z.x here.c here.asked)
 
       other_one : (i : ℕ) (e : Connection) → slice_get w.tap.connections i ≡ Some e → (i ≡ p → ⊥) →
@@ -511,7 +511,7 @@ module _ (local : Local) (w : Whole) (f : Called local w) (c : IsCalled local w.
       other_one i e at other (answers h none) = no_ref i h.r h.index
       other_one i e at other (runs g none) = no_ref i g.r g.index
       other_one i e at other (past silent up none ask un (inl (ref, answered))) = no_ref i e.right.reference ref
-      other_one i e at other (past silent up none ask un (inr (refused, seen))) = refused
+      other_one i e at other (past silent up none ask un (inr (refused, seen, judged))) = refused
 
       none_at : (q : ℕ) (v : Value) (ts : List Placed) → f.tagged ≡ (Some q, v) ∷ ts → (e : Connection) → slice_get w.tap.connections
           q ≡ Some e →
@@ -561,7 +561,7 @@ module _ (local : Local) (w : Whole) (f : Called local w) (c : IsCalled local w.
         more = [];
         put = ap (λ (l : List Value). l ++ put_for u s) (f.put ∙ none_put) ∙ z.puts;
         seen = λ b. absurd (f.some b none_put);
-        class = class_none;
+        class = class_none z;
         class_seen = seen_none;
         unused = λ i e at same.
             let top = f.tops i e at in

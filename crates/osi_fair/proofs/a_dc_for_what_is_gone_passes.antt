@@ -1,21 +1,22 @@
 -- A DC with which a whole called end answers a DR for what is gone passes: it answers nothing at the tap, and changes nothing.
 -- For the law on a whole called end.
 use Rattle.osi_fair.proofs.Vocabulary.{arith}
-use Rattle.osi_fair.proofs.Vocabulary.{[], ap, Bool, false, if◌then◌else◌, inr, List, None, Option, refl, Some, subst, sym, true, ℕ}
-use Rattle.osi_fair.proofs.Vocabulary.{◌∙◌, ◌∷◌, ◌≡◌, ◌⊎◌, eqb-true, AllByRecursion, not, position, slice_get, ◌&&◌, ◌==◌, ◌||◌, Connect}
+use Rattle.osi_fair.proofs.Vocabulary.{[], ap, Bool, false, if◌then◌else◌, inl, inr, List, None, Option, refl, Some, subst, sym, true, ℕ}
+use Rattle.osi_fair.proofs.Vocabulary.{◌∙◌, ◌∷◌, ◌≡◌, eqb-true, AllByRecursion, not, position, slice_get, ◌&&◌, ◌==◌, ◌||◌, Connect}
 use Rattle.osi_fair.proofs.Vocabulary.{disconnected, Value, Local, first_failed, is_due, is_closing, is_named}
 use Rattle.osi_fair.proofs.Vocabulary.{is_open, at_found, at_place, in_doubt, is_stopped, none_told}
 use Rattle.osi_fair.proofs.Vocabulary.{one_told, Outcome, route, routed, Traffic, takes, unnamed, unnamed_by, Connection, Left}
-use Rattle.osi_fair.proofs.Vocabulary.{Right, Finding, Broke, Kept, NotJudged, Half, Route, Whole}
+use Rattle.osi_fair.proofs.Vocabulary.{Right, Finding, Broke, NotJudged, Half, Route, Whole}
+use Rattle.osi_fair.proofs.Vocabulary.{class_for, connection_after, course_after, found, found_on}
+use Rattle.osi_fair.proofs.Vocabulary.{is_applied, is_silent, reach_of, reached, set}
 use Rattle.osi_rules.specs.declared.findings.Rule.TheVariants as rule
 use Rattle.osi_fair.proofs.small_facts_that_many_lemmas_use.{and_false, differ, is_false}
 use Rattle.osi_fair.proofs.how_a_unit_of_right_passes.{route_dc}
-use Rattle.osi_fair.proofs.all_are_judged_unless_one_broke.{IsJudged}
+use Rattle.osi_fair.proofs.a_unit_of_a_called_end_passes.{IsFineAt}
 use Rattle.osi_fair.proofs.each_connection_of_a_called_end.{AreAbove, AreStrays, Asked, Called, IsStray, Running, Stand, answers, comes}
 use Rattle.osi_fair.proofs.each_connection_of_a_called_end.{past, refuses, runs}
 use Rattle.osi_fair.proofs.units_by_their_place.{Placed, first_at, units_at, values}
 use Rattle.osi_fair.proofs.what_a_called_end_closes_is_to_pass.{close_waits}
-use Rattle.osi_fair.proofs.what_holds_of_one_item.{HoldsOfEach}
 use Rattle.osi_fair.proofs.what_is_live_at_a_called_end.{Answers, IsHeld}
 use Rattle.osi_fair.proofs.while_no_class_is_selected.{set_same}
 
@@ -30,8 +31,9 @@ unnamed_so : (loose strays : Bool) (m n : ℕ) → strays ≡ true →
     (if loose then in_doubt (unnamed_by strays (disconnected m n)) else unnamed_by strays (disconnected m n)) ≡ NotJudged
 unnamed_so loose strays m n h = grind arith
 
-judged_not : (j : Bool) (g : Finding) → g ≡ NotJudged → (if j then g else NotJudged) ≡ NotJudged
-judged_not j g h = grind arith
+judged_not : (j : Bool) (g : Finding) → (j ≡ true → g ≡ NotJudged) → (if j then g else NotJudged) ≡ NotJudged
+judged_not true g h = h refl
+judged_not false g h = refl
 
 -- nothing is changed
 record Spared (u : Value) (s : Traffic) (o : Outcome) : Type 0 where
@@ -43,20 +45,44 @@ module _ (m n : ℕ) (s : Traffic) (strays : s.course.strays ≡ true) where
   none_spared = subst (λ (f : Finding). Spared (disconnected m n) s (none_told Right f s))
       (sym (unnamed_so s.course.loose s.course.strays m n strays)) (record { finding = refl; state = refl })
 
-  one_spared : (q : ℕ) (c : Connection) → slice_get s.connections q ≡ Some c → is_due Right c n ≡ false →
+  -- what the unit leaves, if this is found of it
+  abbrev one_by : Finding → ℕ → Connection → Outcome
+  one_by f q c = record {
+    told = (one_told Right q c (disconnected m n) s).told;
+    state = record {
+      connections = set s.connections q (connection_after Right (disconnected m n) (is_applied f)
+          (reach_of (class_for Right s.course) f) c);
+      course = reached Right (reach_of (class_for Right s.course) f)
+          (course_after Right c (disconnected m n) (is_applied f) s.course);
+    };
+  }
+
+  one_spared : (q : ℕ) (c : Connection) → slice_get s.connections q ≡ Some c → (c.is_judged ≡ true → is_due Right c n ≡ false) →
       Spared (disconnected m n) s (one_told Right q c (disconnected m n) s)
-  one_spared q c at due = search (arith, judged_not, not_due, set_same)
+  one_spared q c at due =
+      let idle : found_on Right s c (disconnected m n) ≡ NotJudged =
+      judged_not c.is_judged (found Right s.course false c (disconnected m n)) (λ j.
+      not_due (is_due Right c n) (not (is_silent c.right.phase)) s.course.strays (due j) strays) in
+      record {
+        finding = idle;
+        state = ap (λ (f : Finding). (one_by f q c).state) idle
+            ∙ ap (λ (l : List Connection). record { connections = l; course = s.course }) (set_same s.connections q c at);
+      }
 
   found_spared : (q : ℕ) (o : Option Connection) → slice_get s.connections q ≡ o →
-      ((c : Connection) → slice_get s.connections q ≡ Some c → is_due Right c n ≡ false) →
+      ((c : Connection) → slice_get s.connections q ≡ Some c → c.is_judged ≡ true → is_due Right c n ≡ false) →
       Spared (disconnected m n) s (at_found Right (disconnected m n) s q o)
-  found_spared q o e h = grind (arith, none_spared, one_spared)
+  found_spared q None e h = none_spared
+  found_spared q (Some c) e h = one_spared q c e (h c e)
 
-  place_spared : (o : Option ℕ) → ((q : ℕ) (c : Connection) → slice_get s.connections q ≡ Some c → is_due Right c n ≡ false) →
+  place_spared : (o : Option ℕ) → ((q : ℕ) (c : Connection) → slice_get s.connections q ≡ Some c →
+      c.is_judged ≡ true → is_due Right c n ≡ false) →
       Spared (disconnected m n) s (at_place Right (disconnected m n) s o)
-  place_spared o h = grind (arith, none_spared, found_spared)
+  place_spared None h = none_spared
+  place_spared (Some q) h = found_spared q (slice_get s.connections q) refl (h q)
 
-  spared : s.course.right_stopped ≡ false → ((q : ℕ) (c : Connection) → slice_get s.connections q ≡ Some c → is_due Right c n ≡ false) →
+  spared : s.course.right_stopped ≡ false → ((q : ℕ) (c : Connection) → slice_get s.connections q ≡ Some c →
+      c.is_judged ≡ true → is_due Right c n ≡ false) →
       Spared (disconnected m n) s (takes Right (disconnected m n) s)
   spared right h = subst (λ (o : Outcome). Spared (disconnected m n) s o)
       (sym (ap (λ (b : Bool). if b then none_told Right NotJudged s else routed Right (disconnected m n) s
@@ -65,9 +91,8 @@ module _ (m n : ℕ) (s : Traffic) (strays : s.course.strays ≡ true) where
       (route_dc s.course.class (is_stopped Left s.course) m n)))
       (place_spared (position (is_named Right m) s.connections) h)
 
-module _ (local : Local) (w : Whole) (f : Called local w) (judged : HoldsOfEach IsJudged w.tap.connections)
-    (right : w.tap.course.right_stopped ≡ false) (u : Value) (rest : List Value) (later : List Placed)
-    (tagged : f.tagged ≡ (None, u) ∷ later) (rest_are : rest ≡ values later) where
+module _ (local : Local) (w : Whole) (f : Called local w) (right : w.tap.course.right_stopped ≡ false) (u : Value) (rest : List Value)
+    (later : List Placed) (tagged : f.tagged ≡ (None, u) ∷ later) (rest_are : rest ≡ values later) where
   abbrev after : Traffic → Whole
   after t = record w { put = rest; begun = false; tap = t }
 
@@ -87,26 +112,29 @@ module _ (local : Local) (w : Whole) (f : Called local w) (judged : HoldsOfEach 
   silent_not : {A : Type 0} (x : Connect) (c : Connection) → Asked x c → is_open c.right.phase ≡ true → A
   silent_not x c a up = differ (is_open c.right.phase) up (ap (λ (h : Half). is_open h.phase) a.right)
 
-  run_not : {A : Type 0} (q : ℕ) (c : Connection) → slice_get w.tap.connections q ≡ Some c → stray.n ≡ c.right.reference →
+  run_not : {A : Type 0} (q : ℕ) (c : Connection) → slice_get w.tap.connections q ≡ Some c → c.is_judged ≡ true →
+      stray.n ≡ c.right.reference →
       Running f.shut w.end w.coming (units_at q f.tagged) (w.begun && first_at q f.tagged) (f.refs q) c → A
-  run_not q c at same g = grind (arith, stray, close_waits, mine_is)
+  run_not q c at judged same g = grind (arith, stray, close_waits, mine_is)
 
-  due_not : {A : Type 0} (q : ℕ) (c : Connection) → slice_get w.tap.connections q ≡ Some c → is_open c.right.phase ≡ true →
+  due_not : {A : Type 0} (q : ℕ) (c : Connection) → slice_get w.tap.connections q ≡ Some c → c.is_judged ≡ true →
+      is_open c.right.phase ≡ true →
       stray.n ≡ c.right.reference →
       Stand local f.shut w.end w.coming (units_at q f.tagged) (units_at q f.came) (w.begun && first_at q f.tagged) (f.refs q) c → A
-  due_not q c at up same (comes x a none ask i) = silent_not x c a up
-  due_not q c at up same (refuses x a reason is none i seen) = silent_not x c a up
-  due_not q c at up same (answers h none) = silent_not h.x c h.asked up
-  due_not q c at up same (runs g none) = run_not q c at same g
-  due_not q c at up same (past silent not_up none asks un off) = differ (is_open c.right.phase) up not_up
+  due_not q c at judged up same (comes x a none ask i) = silent_not x c a up
+  due_not q c at judged up same (refuses x a reason is none i seen) = silent_not x c a up
+  due_not q c at judged up same (answers h none) = silent_not h.x c h.asked up
+  due_not q c at judged up same (runs g none) = run_not q c at judged same g
+  due_not q c at judged up same (past silent not_up none asks un off) = differ (is_open c.right.phase) up not_up
 
-  no_due : (q : ℕ) (c : Connection) → slice_get w.tap.connections q ≡ Some c → is_due Right c stray.n ≡ false
-  no_due q c at = is_false (is_due Right c stray.n) (λ h.
+  no_due : (q : ℕ) (c : Connection) → slice_get w.tap.connections q ≡ Some c → c.is_judged ≡ true → is_due Right c stray.n ≡ false
+  no_due q c at judged = is_false (is_due Right c stray.n) (λ h.
       let (a, b) = due_parts (is_open c.right.phase) (is_closing c.seen_by_right.phase) (stray.n == c.right.reference) h in
-      due_not q c at a (eqb-true stray.n c.right.reference b) (f.stands q c at))
+      due_not q c at judged a (eqb-true stray.n c.right.reference b) (f.stands q c at))
 
   all_spared : Spared u w.tap (takes Right u w.tap)
-  all_spared = grind (arith, stray, spared, no_due)
+  all_spared = subst (λ (v : Value). Spared v w.tap (takes Right v w.tap)) (sym stray.is)
+      (spared stray.m stray.n w.tap stray.strays_is right no_due)
 
   stays : Called local (after w.tap)
   stays = record {
@@ -150,7 +178,10 @@ module _ (local : Local) (w : Whole) (f : Called local w) (judged : HoldsOfEach 
         };
   }
 
-  pub stray_passes : (((takes Right u w.tap).told.finding ≡ Kept) ⊎ (((takes Right u w.tap).told.finding ≡ NotJudged)
-      × (w.tap.course.strays ≡ true)))
-      × Called local (after (takes Right u w.tap).state)
-  stray_passes = (inr (all_spared.finding, stray.strays_is), subst (λ (t : Traffic). Called local (after t)) (sym all_spared.state) stays)
+  pub stray_passes : IsFineAt u w.tap × Called local (after (takes Right u w.tap).state)
+      × ((takes Right u w.tap).state.connections ≡ w.tap.connections)
+  stray_passes = (
+    inr (all_spared.finding, inl stray.strays_is),
+    subst (λ (t : Traffic). Called local (after t)) (sym all_spared.state) stays,
+    ap (λ (t : Traffic). t.connections) all_spared.state,
+  )

@@ -76,7 +76,7 @@ module _ (course : Course) (in_use : Bool) (c : Connection) where
   left_effect : (v : Value) → is_applied (found Left course in_use c v) ≡ true → Effect c.left c.seen_by_left (half_after v c.left)
   left_effect v h = grind (arith, closes_so, one_test, answers_so, due_test, refuses_so, form_test, same_phase)
 
-  left_sent : (v : Value) → is_applied (found Left course in_use c v) ≡ true → c.is_judged ≡ true → Sound c →
+  pub left_sent : (v : Value) → is_applied (found Left course in_use c v) ≡ true → c.is_judged ≡ true → Sound c →
       is_over_by c.left c.seen_by_left ≡ false → Lessens c (sent_on Left v c)
   left_sent (request x) h j s live = cc
   left_sent (confirm destination x) h j s live = cc

@@ -5,7 +5,7 @@ use Rattle.osi_fair.proofs.Vocabulary.{true, ℕ, ◌++◌, ◌<◌, ◌∙◌, 
 use Rattle.osi_fair.proofs.Vocabulary.{slice_get, ◌&&◌, ◌==◌, ◌||◌, acknowledge, confirm, Connect, data0, data2, destination_of, disconnect}
 use Rattle.osi_fair.proofs.Vocabulary.{disconnected, error, HasFieldsInRange, request, Value, Standing, Class, Two, Local, is_applied}
 use Rattle.osi_fair.proofs.Vocabulary.{reach_of, first_failed, is_due, is_closed, is_closing, is_named, is_open, is_over, is_over_by}
-use Rattle.osi_fair.proofs.Vocabulary.{is_refused, is_silent, connection_after, course_after, found, found_on, is_stray}
+use Rattle.osi_fair.proofs.Vocabulary.{is_refused, is_silent, connection_after, course_after, found, found_on, half_after, is_stray}
 use Rattle.osi_fair.proofs.Vocabulary.{one_told, Outcome, reached, Traffic, takes, uses_source, Connection, Course, Left, Right, Finding}
 use Rattle.osi_fair.proofs.Vocabulary.{Broke, NotJudged, Reach, Half, Phase, after_finding, finding_of, Line}
 use Rattle.osi_fair.proofs.Vocabulary.{unit as passing, Whole}
@@ -15,21 +15,22 @@ use Rattle.osi_fair.specs.Lines.{passes_other}
 use Rattle.osi_fair.proofs.small_facts_that_many_lemmas_use.{all_add, both as is_both, closing_shuts, differ, judged_same, not_not}
 use Rattle.osi_fair.proofs.small_facts_that_many_lemmas_use.{number_is, or_left, or_right, same_cc, seen_after, set_none}
 use Rattle.osi_fair.proofs.how_a_unit_of_right_passes.{strays_more}
-use Rattle.osi_fair.proofs.all_are_judged_unless_one_broke.{IsJudged}
+use Rattle.osi_fair.proofs.names_stay_apart_though_one_is_lost.{AreNamedApart, each_sound, left_set}
+use Rattle.osi_fair.proofs.a_reference_names_one_connection.{applied_judged}
+use Rattle.osi_fair.proofs.what_a_called_end_closes_is_to_pass.{other_was}
 use Rattle.osi_fair.proofs.each_connection_of_a_called_end.{stands_at, Among, AreAbove, Asked, Called, IsDc, IsFor, Row, Running, Stand}
 use Rattle.osi_fair.proofs.each_connection_of_a_called_end.{Untagged, among_more, among_skip, answers, closes, comes, over, past, refuses}
 use Rattle.osi_fair.proofs.each_connection_of_a_called_end.{runs, talks}
 use Rattle.osi_fair.proofs.left_selects_no_class.{left_class}
 use Rattle.osi_fair.proofs.units_by_their_place.{Placed, at_join, first_at, units_at, values, values_join}
-use Rattle.osi_fair.proofs.what_holds_of_one_item.{HoldsOfEach}
 use Rattle.osi_fair.proofs.what_is_live_at_a_called_end.{Answers, IsHeld, Timely, dr_for, shuts_of, timely_closes, timely_comes}
 use Rattle.osi_fair.proofs.what_is_put_before_the_cc_passes.{acts_join}
 use Rattle.osi_fair.proofs.what_keeps_names_apart.{AreApart, Sound}
 use Rattle.osi_fair.proofs.what_lasts_at_the_tap.{Lasts, lasts_passing}
-use Rattle.osi_fair.proofs.what_stays_of_each_connection.{own_stays, right_then}
+use Rattle.osi_fair.proofs.what_stays_of_each_connection.{left_judged, left_own, own_stays, right_then}
 use Rattle.osi_fair.proofs.which_units_are_for_a_connection.{first_left, named_not, named_so, names, one_more, those, those_join}
 use Rattle.osi_fair.proofs.while_no_class_is_selected.{after_change}
-use Rattle.osi_fair.proofs.which_unit_comes_to_a_called_end.{IsCalm, calm_before, calm_reach}
+use Rattle.osi_fair.proofs.which_unit_comes_to_a_called_end.{IsCalm, IsNear, calm_before, calm_near}
 
 -- ---- small facts
 
@@ -52,25 +53,36 @@ closed_not : (p mine : Phase) → is_silent p ≡ false → is_open p ≡ false 
     (is_closed p ≡ true → is_closing mine ≡ true) → is_open mine ≡ true → ⊥
 closed_not p mine a b c d k h = grind arith
 
-connection_not : {A : Type 0} → reach.Nothing ≡ reach.Connection → A
-connection_not e = absurd (cc e)
-
-everything_not : {A : Type 0} → reach.Nothing ≡ reach.Everything → A
-everything_not e = absurd (cc e)
-
 -- a DC that answers nothing is not passed over
 dc_applied : (due told strays : Bool) → strays ≡ false → (g : Finding) →
     g ≡ first_failed ((due || not strays, NotJudged) ∷ (told, Broke rule.UnknownReference) ∷ (due, Broke rule.NothingToAnswer) ∷ []) →
-    reach_of (Some Two) g ≡ reach.Nothing →
-    is_applied g ≡ true
-dc_applied due told strays h g e k = grind (arith, connection_not, everything_not)
+    (reach_of (Some Two) g ≡ reach.Connection → ⊥) → (reach_of (Some Two) g ≡ reach.Everything → ⊥) → is_applied g ≡ true
+dc_applied true told strays h g e one all = grind arith
+dc_applied false true false h g e one all = absurd (one (ap (reach_of (Some Two)) e))
+dc_applied false false false h g e one all = absurd (all (ap (reach_of (Some Two)) e))
+dc_applied false told true h g e one all = absurd (cc h)
+
+reached_seen : (r : Reach) (c : Course) → (reached Left r c).class_seen ≡ c.class_seen
+reached_seen r c = grind arith
+
+reached_strays : (r : Reach) (c : Course) → (reached Left r c).strays ≡ c.strays
+reached_strays r c = grind arith
+
+lost_so : (v : Value) (applied : Bool) (c : Connection) → (connection_after Left v applied reach.Connection c).is_judged ≡ false
+lost_so v true c = refl
+lost_so v false c = refl
 
 pub cc_not_applied : {A : Type 0} (j : Bool) → is_applied (if j then Broke rule.WrongForm else NotJudged) ≡ true → A
 cc_not_applied j h = grind arith
 
-open_by : (s : Traffic) (c : Connection) (v : Value) (applied : Bool) → is_applied (found_on Left s c v) ≡ applied →
-    is_open (connection_after Left v applied reach.Nothing c).left.phase ≡ true → is_open c.left.phase ≡ true
-open_by s c v applied e h = grind (arith, cc_not_applied, differ, closing_shuts)
+open_half : (s : Traffic) (c : Connection) (v : Value) → is_applied (found_on Left s c v) ≡ true →
+    is_open (half_after v c.left).phase ≡ true → is_open c.left.phase ≡ true
+open_half s c v e h = grind (arith, cc_not_applied, differ, closing_shuts)
+
+open_by : (s : Traffic) (c : Connection) (v : Value) (applied : Bool) (r : Reach) → is_applied (found_on Left s c v) ≡ applied →
+    is_open (connection_after Left v applied r c).left.phase ≡ true → is_open c.left.phase ≡ true
+open_by s c v true r e h = open_half s c v e (ap (λ (x : Half). is_open x.phase) (sym (left_own v r c)) ∙ h)
+open_by s c v false r e h = ap (λ (x : Half). is_open x.phase) (sym (left_judged r c)) ∙ h
 
 above_not : (last n a b : ℕ) → n ≤ last → last < a → a ≡ b → b ≡ n → ⊥
 above_not last n a b up above e same = omega arith
@@ -95,13 +107,10 @@ answers_above given last n (data2 destination number end user ∷ vs) up h = (λ
 answers_above given last n (acknowledge credit destination number ∷ vs) up h = (λ m y e. absurd (cc e), answers_above given last n vs up h)
 answers_above given last n (error destination cause ∷ vs) up h = (λ m y e. absurd (cc e), answers_above given last n vs up h)
 
-nothing_not : reach.Nothing ≡ reach.Everything → ⊥
-nothing_not e = cc
-
 -- ---- all connections
 
 module _ (local : Local) (w : Whole) (f : Called local w) (apart : AreApart w.tap.connections)
-    (judged : HoldsOfEach IsJudged w.tap.connections) (v : Value) (ranges : HasFieldsInRange v)
+    (named : AreNamedApart w.tap.connections) (v : Value) (ranges : HasFieldsInRange v)
     (calm_after : IsCalm (takes Left v w.tap).state.course) where
   abbrev cs : List Connection
   cs = w.tap.connections
@@ -206,29 +215,34 @@ module _ (local : Local) (w : Whole) (f : Called local w) (apart : AreApart w.ta
 
   -- ---- a unit for a connection
 
-  module _ (n q : ℕ) (c : Connection) (dest : destination_of v ≡ Some n) (at : slice_get cs q ≡ Some c) (named : is_named Left n c ≡ true)
+  module _ (n q : ℕ) (c : Connection) (dest : destination_of v ≡ Some n) (at : slice_get cs q ≡ Some c) (name : is_named Left n c ≡ true)
       (is : takes Left v w.tap ≡ one_told Left q c v w.tap) where
     abbrev found_so : Finding
     found_so = found_on Left w.tap c v
 
+    abbrev far : Reach
+    far = reach_of (Some Two) found_so
+
     abbrev next : Connection
-    next = connection_after Left v (is_applied found_so) reach.Nothing c
+    next = connection_after Left v (is_applied found_so) far c
 
     course_is : (takes Left v w.tap).state.course
         ≡ reached Left (reach_of w.tap.course.class_seen found_so) (course_after Left c v (is_applied found_so) w.tap.course)
     course_is = ap (λ (o : Outcome). o.state.course) is
 
-    no_reach : (j : Option Class) → reach_of j found_so ≡ reach.Nothing
-    no_reach j = grind (arith, calm_reach, course_is)
+    near : IsNear w.tap.course.class_seen found_so
+    near = calm_near w.tap.course.class_seen found_so (course_after Left c v (is_applied found_so) w.tap.course)
+        (subst IsCalm course_is calm_after)
 
     conns : (takes Left v w.tap).state.connections ≡ set cs q next
-    conns = grind (arith, no_reach)
+    conns = ap (λ (o : Outcome). o.state.connections) is
+        ∙ ap (λ (r : Reach). set cs q (connection_after Left v (is_applied found_so) r c)) near.two
 
     sound : Sound c
-    sound = apart.sound q c at (judged q c at)
+    sound = each_sound cs apart named q c at
 
     parts : (is_over Left c ≡ false) × (is_silent c.seen_by_left.phase ≡ false) × ((c.seen_by_left.reference == n) ≡ true)
-    parts = named_parts (is_over Left c) (is_silent c.seen_by_left.phase) (c.seen_by_left.reference == n) named
+    parts = named_parts (is_over Left c) (is_silent c.seen_by_left.phase) (c.seen_by_left.reference == n) name
 
     started : is_silent c.right.phase ≡ false
     started = sound.left_knows.there parts.1
@@ -237,10 +251,10 @@ module _ (local : Local) (w : Whole) (f : Called local w) (apart : AreApart w.ta
     name_is = sym (sound.left_knows.reference parts.1) ∙ eqb-true c.seen_by_left.reference n parts.2
 
     next_right : next.right ≡ c.right
-    next_right = right_then v (is_applied found_so) reach.Nothing c
+    next_right = right_then v (is_applied found_so) far c
 
     next_left : next.left.reference ≡ c.left.reference
-    next_left = (own_stays (is_applied found_so) w.tap v reach.Nothing c refl).reference
+    next_left = (own_stays (is_applied found_so) w.tap v far c refl).reference
 
     not_cr : (x : Connect) → v ≡ request x → ⊥
     not_cr x e = cc (sym dest ∙ ap destination_of e)
@@ -267,11 +281,9 @@ module _ (local : Local) (w : Whole) (f : Called local w) (apart : AreApart w.ta
           coming = g.line.coming ++ v ∷ [];
         } in
         let tap : line.tap ≡ next =
-        ap (λ (x : Connection). after_finding Left (finding_of Left w.tap.course in_use x v) v x) g.tap
-        ∙ ap (λ (r : Reach). connection_after Left v (is_applied found_so) r c) (no_reach (Some Two)) in
+        ap (λ (x : Connection). after_finding Left (finding_of Left w.tap.course in_use x v) v x) g.tap in
         let some : reach_of (Some Two) (finding_of Left w.tap.course in_use g.line.tap v) ≢ reach.Everything = λ e.
-        nothing_not (sym (no_reach (Some Two))
-        ∙ ap (λ (x : Connection). reach_of (Some Two) (finding_of Left w.tap.course in_use x v)) (sym g.tap) ∙ e) in
+        near.part (ap (λ (x : Connection). reach_of (Some Two) (finding_of Left w.tap.course in_use x v)) (sym g.tap) ∙ e) in
         record {
           ref = g.index ∙ ap (λ (i : ℕ). Some i) (sym r_is);
           stand = runs (record {
@@ -309,8 +321,8 @@ module _ (local : Local) (w : Whole) (f : Called local w) (apart : AreApart w.ta
             ap (λ (h : Half). is_refused h.phase) next_right ∙ answered,
           ));
     }
-    here_by (past silent up none ask un (inr (refused, seen))) =
-        differ (is_over Left c) (is_both c.is_judged (is_over_by c.left c.seen_by_left) (judged q c at)
+    here_by (past silent up none ask un (inr (refused, seen, judged))) =
+        differ (is_over Left c) (is_both c.is_judged (is_over_by c.left c.seen_by_left) judged
         (refused_over c.left c.seen_by_left.phase
         (off_over (is_silent c.seen_by_left.phase) (is_refused c.seen_by_left.phase) seen parts.1))) parts.0
 
@@ -342,54 +354,62 @@ module _ (local : Local) (w : Whole) (f : Called local w) (apart : AreApart w.ta
 
     course_same : ((takes Left v w.tap).state.course.class ≡ w.tap.course.class)
         × ((takes Left v w.tap).state.course.class_seen ≡ w.tap.course.class_seen)
-    course_same =
-        let so = course_is ∙ ap (λ (r : Reach). reached Left r (course_after Left c v (is_applied found_so) w.tap.course))
-        (no_reach w.tap.course.class_seen) in (
-          left_class v w.tap,
-          ap (λ (k : Course). k.class_seen) so ∙ seen_after c v (is_applied found_so) w.tap.course,
-        )
+    course_same = (
+      left_class v w.tap,
+      ap (λ (k : Course). k.class_seen) course_is
+          ∙ reached_seen (reach_of w.tap.course.class_seen found_so) (course_after Left c v (is_applied found_so) w.tap.course)
+          ∙ seen_after c v (is_applied found_so) w.tap.course,
+    )
 
     -- ---- what it closes
 
     abbrev TimelyNow : Type 0
     TimelyNow = Timely w.end more (takes Left v w.tap).state.connections (values f.tagged)
 
-    -- a side that is open was open before
+    -- a side that is open was open before, and a connection that is judged was
     open_was : is_open next.left.phase ≡ true → is_open c.left.phase ≡ true
-    open_was h = open_by w.tap c v (is_applied found_so) refl h
+    open_was h = open_by w.tap c v (is_applied found_so) far refl h
+
+    judged_was : next.is_judged ≡ true → c.is_judged ≡ true
+    judged_was h = other_was v (is_applied found_so) far c h
 
     held_at : Timely w.end w.coming cs (values f.tagged) → (i : ℕ) (x : Connection) →
-        ((i ≡ q) × (x ≡ next)) ⊎ ((i ≡ q → ⊥) × (slice_get cs i ≡ Some x)) → is_open x.left.phase ≡ true → is_open x.right.phase ≡ true →
-        IsHeld w.end w.coming x.right.reference
-    held_at h i x (inl (same, so)) a b =
+        ((i ≡ q) × (x ≡ next)) ⊎ ((i ≡ q → ⊥) × (slice_get cs i ≡ Some x)) → x.is_judged ≡ true → is_open x.left.phase ≡ true →
+        is_open x.right.phase ≡ true → IsHeld w.end w.coming x.right.reference
+    held_at h i x (inl (same, so)) j a b =
         subst (λ (k : Half). IsHeld w.end w.coming k.reference) (sym (ap (λ (y : Connection). y.right) so ∙ next_right))
-        (h.taps q c at (open_was (ap (λ (y : Connection). is_open y.left.phase) (sym so) ∙ a))
+        (h.taps q c at (judged_was (ap (λ (y : Connection). y.is_judged) (sym so) ∙ j))
+        (open_was (ap (λ (y : Connection). is_open y.left.phase) (sym so) ∙ a))
         (ap (λ (k : Half). is_open k.phase) (sym (ap (λ (y : Connection). y.right) so ∙ next_right)) ∙ b))
-    held_at h i x (inr (other, there)) a b = h.taps i x there a b
+    held_at h i x (inr (other, there)) j a b = h.taps i x there j a b
+
+    -- left has it open no more, or it is judged no more
+    abbrev IsShut : Type 0
+    IsShut = next.is_judged ≡ true → is_open next.left.phase ≡ true → ⊥
 
     run_ref : (i : ℕ) (x : Connection) (o : Option ℕ) (mine asks : List Value) (begun : Bool) → is_open x.right.phase ≡ true →
         Stand local f.shut w.end w.coming mine asks begun o x → o ≡ Some x.right.reference
     run_ref i x o mine asks begun up k = grind (arith, differ)
 
     other_ref : (i : ℕ) (x : Connection) → ((i ≡ q) × (x ≡ next)) ⊎ ((i ≡ q → ⊥) × (slice_get cs i ≡ Some x)) →
-        is_open next.left.phase ≡ false → is_open x.left.phase ≡ true → is_open x.right.phase ≡ true → x.right.reference ≡ n → ⊥
-    other_ref i x (inl (same, so)) shut a b e = differ (is_open next.left.phase) (ap (λ (y : Connection). is_open y.left.phase) (sym so)
-        ∙ a) shut
-    other_ref i x (inr (other, there)) shut a b e =
+        IsShut → x.is_judged ≡ true → is_open x.left.phase ≡ true → is_open x.right.phase ≡ true → x.right.reference ≡ n → ⊥
+    other_ref i x (inl (same, so)) shut j a b e =
+        shut (ap (λ (y : Connection). y.is_judged) (sym so) ∙ j) (ap (λ (y : Connection). is_open y.left.phase) (sym so) ∙ a)
+    other_ref i x (inr (other, there)) shut j a b e =
         let ref = run_ref i x (f.refs i) (units_at i f.tagged) (units_at i f.came) (w.begun && first_at i f.tagged) b
         (f.stands i x there) in
         other (sym (f.homes i n (ref ∙ ap (λ (j : ℕ). Some j) e)).0 ∙ (f.homes q n here.ref).0)
 
     timely_nothing : Timely w.end w.coming cs (values f.tagged) → shuts_of v ≡ None → dr_for v ≡ None → TimelyNow
     timely_nothing h none no_dr = timely_comes w.end w.coming cs (takes Left v w.tap).state.connections (values f.tagged) v none no_dr
-        (λ i x there a b. held_at h i x (item i x there) a b) h
+        (λ i x there j a b. held_at h i x (item i x there) j a b) h
 
     timely_one : Timely w.end w.coming cs (values f.tagged) → shuts_of v ≡ Some n → ((m : ℕ) → dr_for v ≡ Some m → IsHeld w.end w.coming
         m) →
-        is_open next.left.phase ≡ false → TimelyNow
+        IsShut → TimelyNow
     timely_one h shuts dr shut =
         timely_closes w.end w.coming cs (takes Left v w.tap).state.connections (values f.tagged) v n shuts dr (f.homes q n here.ref).1
-        (λ i x there a b. (held_at h i x (item i x there) a b, other_ref i x (item i x there) shut a b))
+        (λ i x there j a b. (held_at h i x (item i x there) j a b, other_ref i x (item i x there) shut j a b))
         (answers_above w.end.given f.last n (values f.tagged) (subst (λ (i : ℕ). i ≤ f.last) name_is (f.tops q c at)) f.above) h
 
     dest_is : (m : ℕ) → destination_of v ≡ Some m → m ≡ n
@@ -404,8 +424,8 @@ module _ (local : Local) (w : Whole) (f : Called local w) (apart : AreApart w.ta
     open_by_stand a b (runs g none) k = k g.there
     open_by_stand a b (past silent up none ask un (inl (ref, answered))) k =
         absurd (closed_not c.right.phase c.left.phase silent up answered b sound.right_closed a)
-    open_by_stand a b (past silent up none ask un (inr (refused, seen))) k =
-        differ (is_over Left c) (is_both c.is_judged (is_over_by c.left c.seen_by_left) (judged q c at)
+    open_by_stand a b (past silent up none ask un (inr (refused, seen, judged))) k =
+        differ (is_over Left c) (is_both c.is_judged (is_over_by c.left c.seen_by_left) judged
         (refused_over c.left c.seen_by_left.phase
         (off_over (is_silent c.seen_by_left.phase) (is_refused c.seen_by_left.phase) seen parts.1))) parts.0
 
@@ -413,12 +433,12 @@ module _ (local : Local) (w : Whole) (f : Called local w) (apart : AreApart w.ta
         (user : List ℕ) → v ≡ disconnect destination source reason user → TimelyNow
     dr_so none h destination source reason user e =
         let strays : (w.tap.course.strays || (not (is_applied found_so) || is_stray Left c source)) ≡ false =
-        sym (ap (λ (k : Course). k.strays) (course_is
-        ∙ ap (λ (r : Reach). reached Left r (course_after Left c v (is_applied found_so) w.tap.course))
-        (no_reach w.tap.course.class_seen)
-        ∙ ap (λ (u : Value). course_after Left c u (is_applied found_so) w.tap.course) e)) ∙ none in
+        sym (ap (λ (k : Course). k.strays) course_is
+        ∙ reached_strays (reach_of w.tap.course.class_seen found_so) (course_after Left c v (is_applied found_so) w.tap.course)
+        ∙ ap (λ (u : Value). (course_after Left c u (is_applied found_so) w.tap.course).strays) e) ∙ none in
         let both = or_right w.tap.course.strays (not (is_applied found_so) || is_stray Left c source) strays in
         let applied = not_not (is_applied found_so) (or_left (not (is_applied found_so)) (is_stray Left c source) both) in
+        let judged = applied_judged c.is_judged (found Left w.tap.course (uses_source Left cs v) c v) applied in
         let stray = or_right (not (is_applied found_so)) (is_stray Left c source) both in
         let opened = not_not (is_open c.left.phase) (or_left (not (is_open c.left.phase)) (not (source == c.left.reference)
         || is_closing c.right.phase) stray) in
@@ -427,22 +447,33 @@ module _ (local : Local) (w : Whole) (f : Called local w) (apart : AreApart w.ta
         open_by_stand opened first (f.stands q c at) (λ up.
         timely_one h (ap shuts_of e ∙ (sym (ap destination_of e) ∙ dest))
         (λ m k. subst (λ (i : ℕ). IsHeld w.end w.coming i) (name_is ∙ sym (dest_is m (ap destination_of e ∙ (sym (ap dr_for e) ∙ k))))
-        (h.taps q c at opened up))
-        (ap (λ (b : Bool). is_open (connection_after Left v b reach.Nothing c).left.phase) applied
-        ∙ ap (λ (u : Value). is_open (connection_after Left u true reach.Nothing c).left.phase) e
-        ∙ closing_shuts (is_silent c.left.phase) c.left))
+        (h.taps q c at judged opened up))
+        (λ j a. differ (is_open next.left.phase) a
+        (ap (λ (b : Bool). is_open (connection_after Left v b far c).left.phase) applied
+        ∙ ap (λ (u : Value). is_open (connection_after Left u true far c).left.phase) e
+        ∙ ap (λ (x : Half). is_open x.phase) (left_own (disconnect destination source reason user) far c)
+        ∙ closing_shuts (is_silent c.left.phase) c.left)))
+
+    still_near : next.is_judged ≡ true → far ≡ reach.Connection → ⊥
+    still_near j e = differ (connection_after Left v (is_applied found_so) reach.Connection c).is_judged
+        (ap (λ (r : Reach). (connection_after Left v (is_applied found_so) r c).is_judged) (sym e) ∙ j)
+        (lost_so v (is_applied found_so) c)
 
     dc_so : (takes Left v w.tap).state.course.strays ≡ false → Timely w.end w.coming cs (values f.tagged) → (destination source : ℕ) →
         v ≡ disconnected destination source → TimelyNow
     dc_so none h destination source e =
-        let found_is : found_so ≡ found Left w.tap.course (uses_source Left cs v) c (disconnected destination source) =
-        judged_same c.is_judged (found Left w.tap.course (uses_source Left cs v) c v) (judged q c at)
-        ∙ ap (λ (u : Value). found Left w.tap.course (uses_source Left cs v) c u) e in
-        let applied = dc_applied (is_due Left c source) (not (is_silent c.left.phase)) w.tap.course.strays
-        (lasts.strays none) found_so found_is (no_reach (Some Two)) in
         timely_one h (ap shuts_of e ∙ (sym (ap destination_of e) ∙ dest)) (λ m k. absurd (cc (sym (ap dr_for e) ∙ k)))
-        (ap (λ (b : Bool). is_open (connection_after Left v b reach.Nothing c).left.phase) applied
-        ∙ ap (λ (u : Value). is_open (connection_after Left u true reach.Nothing c).left.phase) e)
+        (λ j a.
+        let was = judged_was j in
+        let found_is : found_so ≡ found Left w.tap.course (uses_source Left cs v) c (disconnected destination source) =
+        judged_same c.is_judged (found Left w.tap.course (uses_source Left cs v) c v) was
+        ∙ ap (λ (u : Value). found Left w.tap.course (uses_source Left cs v) c u) e in
+        let applied = dc_applied (is_due Left c source) (not (is_silent c.left.phase)) w.tap.course.strays (lasts.strays none) found_so
+        found_is (still_near j) near.part in
+        differ (is_open next.left.phase) a
+        (ap (λ (b : Bool). is_open (connection_after Left v b far c).left.phase) applied
+        ∙ ap (λ (u : Value). is_open (connection_after Left u true far c).left.phase) e
+        ∙ ap (λ (x : Half). is_open x.phase) (left_own (disconnected destination source) far c)))
 
     timely_so : (takes Left v w.tap).state.course.strays ≡ false → Timely w.end w.coming cs (values f.tagged) → (u : Value) → v ≡ u →
         TimelyNow
@@ -482,3 +513,6 @@ module _ (local : Local) (w : Whole) (f : Called local w) (apart : AreApart w.ta
       untagged = all_add Untagged f.came (None, v) f.untagged (λ h. not_cr);
       timely = λ none last. timely_so none (f.timely (lasts.strays none) last) v refl;
     }
+
+    pub names_after : AreNamedApart (takes Left v w.tap).state.connections
+    names_after = subst AreNamedApart (sym conns) (left_set cs apart named q c at w.tap v (Some Two) parts.0)

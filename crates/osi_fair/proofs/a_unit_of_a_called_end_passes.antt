@@ -8,12 +8,15 @@ use Rattle.osi_fair.proofs.Vocabulary.{is_named, is_open, is_over, is_refused, i
 use Rattle.osi_fair.proofs.Vocabulary.{found_on, half_after, is_stopped, route, sent_on, silent_half, takes, uses_source, Connection}
 use Rattle.osi_fair.proofs.Vocabulary.{Course, Left, Right, Kept, NotJudged, Half, Refused, Named, ActsAlong, after_finding}
 use Rattle.osi_fair.proofs.Vocabulary.{finding_of, IsRight, IsRightNow, Line, opened_half, opened_line, unit as passing, Whole}
+use Rattle.osi_fair.proofs.Vocabulary.{acknowledge, Broke, class_for, connection_after, data0, data2, disconnected, Finding, first_failed}
+use Rattle.osi_fair.proofs.Vocabulary.{if◌then◌else◌, is_applied, is_over_by, not, one_told, Outcome, reach_of, reached, request, Traffic}
 use Rattle.osi_rules.specs.declared.findings.Reach.TheVariants as reach
+use Rattle.osi_rules.specs.declared.findings.Rule.TheVariants as rule
 use Rattle.osi_fair.specs.Lines.{passes_own}
 use Rattle.osi_fair.proofs.small_facts_that_many_lemmas_use.{and_false, any_none, both as is_both, differ, first_is, judged_so, name_so}
 use Rattle.osi_fair.proofs.small_facts_that_many_lemmas_use.{number_is, rest_is, set_none, unequal}
 use Rattle.osi_fair.proofs.a_right_unit_is_not_blamed.{first_there, is_first, named_of}
-use Rattle.osi_fair.proofs.all_are_judged_unless_one_broke.{IsJudged}
+use Rattle.osi_fair.proofs.all_are_judged_unless_one_broke.{AreJudged}
 use Rattle.osi_fair.proofs.an_end_closes_last.{right_holds as run_holds, waits_open}
 use Rattle.osi_fair.proofs.an_open_end_is_fair.{open_is_fair, turned_line}
 use Rattle.osi_fair.proofs.each_connection_of_a_called_end.{AreAbove, AreStrays, Answering, Asked, Called, IsUnlinked, Row, Running, Stand}
@@ -21,24 +24,58 @@ use Rattle.osi_fair.proofs.each_connection_of_a_called_end.{line_of, answers, pa
 use Rattle.osi_fair.proofs.how_a_connection_opens.{called_opens, two_right}
 use Rattle.osi_fair.proofs.units_by_their_place.{Placed, at_elsewhere, at_first, at_here, at_other, first_at, units_at, values}
 use Rattle.osi_fair.proofs.what_a_called_end_closes_is_to_pass.{sent_judged}
-use Rattle.osi_fair.proofs.what_holds_of_one_item.{HoldsOfEach, first_true}
+use Rattle.osi_fair.proofs.what_holds_of_one_item.{first_true}
+use Rattle.osi_fair.proofs.names_stay_apart_though_one_is_lost.{AreNamedApart, only_named, right_set}
+use Rattle.osi_fair.proofs.what_a_line_keeps_though_it_is_lost.{Keeps, line_keeps, own_seen_after}
+use Rattle.osi_fair.proofs.a_reference_names_one_connection.{not_first}
 use Rattle.osi_fair.proofs.what_is_live_at_a_called_end.{Answers, IsHeld, Timely}
 use Rattle.osi_fair.proofs.what_is_put_before_the_cc_passes.{acts_join}
 use Rattle.osi_fair.proofs.what_keeps_names_apart.{AreApart}
 use Rattle.osi_fair.proofs.what_lasts_at_the_tap.{Lasts, lasts_passing}
 use Rattle.osi_fair.proofs.what_stays_of_each_connection.{left_then, right_own}
 use Rattle.osi_fair.proofs.which_units_are_for_a_connection.{AllNamed, line_named, names_in as is_at}
-use Rattle.osi_fair.proofs.while_no_class_is_selected.{after_change}
+use Rattle.osi_fair.proofs.while_no_class_is_selected.{after_change, set_same}
 use Rattle.osi_fair.proofs.how_a_unit_of_right_passes.{no_list, use_so, route_confirm, route_dr, route_two_so, class_seen_same, strays_more}
 use Rattle.osi_fair.proofs.how_a_unit_of_right_passes.{above_next, half_keeps, half_started, open_started, half_not_refused, wrong_form}
-use Rattle.osi_fair.proofs.how_a_unit_of_right_passes.{there_not, finding_kept, conns_kept, course_kept}
+use Rattle.osi_fair.proofs.how_a_unit_of_right_passes.{there_not, finding_kept, conns_kept, course_kept, takes_so}
 use Rattle.osi_fair.proofs.a_unit_of_a_whole_end_passes.{put_open as open_of}
+
+-- ---- small facts
+
+live_of : (n : ℕ) (c : Connection) → is_named Right n c ≡ true → is_over Right c ≡ false
+live_of n c h = not_first (is_over Right c) (not (is_silent c.seen_by_right.phase) && (c.seen_by_right.reference == n)) h
+
+own_knows : (u : Value) (c : Connection) → (sent_on Right u c).seen_by_left ≡ c.seen_by_left
+own_knows u c = grind arith
+
+idle_seen : (c : Connection) (u : Value) (course : Course) → (course_after Right c u false course).class_seen ≡ course.class_seen
+idle_seen c u course = grind arith
+
+above_down : (given n m : ℕ) (vs : List Value) → n < m → AreAbove given m vs → AreAbove given n vs
+above_down given n m [] less h = omega arith
+above_down given n m (confirm destination x ∷ vs) less (more, h) = (omega arith, h)
+above_down given n m (request x ∷ vs) less h = above_down given n m vs less h
+above_down given n m (disconnect destination source reason user ∷ vs) less h = above_down given n m vs less h
+above_down given n m (disconnected destination source ∷ vs) less h = above_down given n m vs less h
+above_down given n m (data0 end user ∷ vs) less h = above_down given n m vs less h
+above_down given n m (data2 destination number end user ∷ vs) less h = above_down given n m vs less h
+above_down given n m (acknowledge credit destination number ∷ vs) less h = above_down given n m vs less h
+above_down given n m (error destination cause ∷ vs) less h = above_down given n m vs less h
+
+above_less : (given n : ℕ) (v : Value) (vs : List Value) → AreAbove given n (v ∷ vs) → AreAbove given n vs
+above_less given n (confirm destination x) vs (less, h) = above_down given n x.source vs less h
+above_less given n v vs h = h
+
+-- It is right, or not judged: a DR has passed that closed nothing, or a connection has lost its judgement.
+abbrev pub IsFineAt : Value → Traffic → Type 0
+IsFineAt u s = ((takes Right u s).told.finding ≡ Kept) ⊎ (((takes Right u s).told.finding ≡ NotJudged)
+    × ((s.course.strays ≡ true) ⊎ (s.course.loose ≡ true)))
 
 -- ---- the first unit passes
 
 module _ (local : Local) (w : Whole) (f : Called local w) (apart : AreApart w.tap.connections)
-    (judged : HoldsOfEach IsJudged w.tap.connections) (right : w.tap.course.right_stopped ≡ false) (u : Value) (rest : List Value)
-    (begun : w.begun ≡ true) where
+    (named : AreNamedApart w.tap.connections) (judged : AreJudged w.tap) (right : w.tap.course.right_stopped ≡ false) (u : Value)
+    (rest : List Value) (begun : w.begun ≡ true) where
   abbrev cs : List Connection
   cs = w.tap.connections
 
@@ -47,19 +84,18 @@ module _ (local : Local) (w : Whole) (f : Called local w) (apart : AreApart w.ta
 
   -- it is right, or not judged, and all holds after it
   abbrev Passed : Type 0
-  Passed = (((takes Right u w.tap).told.finding ≡ Kept) ⊎ (((takes Right u w.tap).told.finding ≡ NotJudged)
-      × (w.tap.course.strays ≡ true))) × Called local after
+  Passed = IsFineAt u w.tap × Called local after × AreNamedApart after.tap.connections
 
   lasts : Lasts w.tap.course (takes Right u w.tap).state.course
   lasts = lasts_passing (passing Right u) w.tap
 
   name_first : (n p : ℕ) (c : Connection) → slice_get cs p ≡ Some c → is_named Right n c ≡ true → position (is_named Right n) cs ≡ Some p
-  name_first n p c at named =
+  name_first n p c at is =
       let q = position_or_len (is_named Right n) cs in
-      let first = is_first (is_named Right n) cs p c at named in
+      let first = is_first (is_named Right n) cs p c at is in
       let (e, there) = first_there (is_named Right n) cs p q c first in
       let so = first_true (is_named Right n) cs q e first there in
-      let same : p ≡ q = apart.named_right n p q c e at there (judged p c at) (judged q e there) named so in
+      let same : p ≡ q = only_named cs n named p q c e at there is so in
       first ∙ ap (λ (i : ℕ). Some i) (sym same)
 
   module _ (p : ℕ) (later : List Placed) (tagged : f.tagged ≡ (Some p, u) ∷ later) (rest_are : rest ≡ values later) (c : Connection)
@@ -91,8 +127,8 @@ module _ (local : Local) (w : Whole) (f : Called local w) (apart : AreApart w.ta
         (seen : (takes Right u w.tap).state.course.class_seen ≡ w.tap.course.class_seen) (top : ℕ) (more : f.last ≤ top)
         (next_top : next.right.reference ≤ top) (above : AreAbove w.end.given top (values later))
         (past_two : (takes Right u w.tap).state.course.class ≡ Some Two → 1 ≤ w.end.given)
-        (held : Timely w.end w.coming cs (values f.tagged) → is_open next.left.phase ≡ true → is_open next.right.phase ≡ true →
-        IsHeld w.end w.coming next.right.reference) where
+        (held : Timely w.end w.coming cs (values f.tagged) → next.is_judged ≡ true → is_open next.left.phase ≡ true →
+        is_open next.right.phase ≡ true → IsHeld w.end w.coming next.right.reference) where
       item : (i : ℕ) (x : Connection) → slice_get (takes Right u w.tap).state.connections i ≡ Some x →
           ((i ≡ p) × (x ≡ next)) ⊎ ((i ≡ p → ⊥) × (slice_get cs i ≡ Some x))
       item i x h = after_change cs p i next x (ap (λ (l : List Connection). slice_get l i) (sym conns) ∙ h)
@@ -120,10 +156,10 @@ module _ (local : Local) (w : Whole) (f : Called local w) (apart : AreApart w.ta
           (sym (other_mine i (λ e. there_not (slice_get cs p) c at (ap (λ (j : ℕ). slice_get cs j) (sym e) ∙ none))) ∙ a, b, d)
 
       held_by : Timely w.end w.coming cs (values f.tagged) → (i : ℕ) (x : Connection) →
-          ((i ≡ p) × (x ≡ next)) ⊎ ((i ≡ p → ⊥) × (slice_get cs i ≡ Some x)) → is_open x.left.phase ≡ true → is_open x.right.phase ≡ true →
-          IsHeld w.end w.coming x.right.reference
-      held_by h i x (inl (same, is)) a b = grind arith
-      held_by h i x (inr (not_p, there)) a b = h.taps i x there a b
+          ((i ≡ p) × (x ≡ next)) ⊎ ((i ≡ p → ⊥) × (slice_get cs i ≡ Some x)) → x.is_judged ≡ true → is_open x.left.phase ≡ true →
+          is_open x.right.phase ≡ true → IsHeld w.end w.coming x.right.reference
+      held_by h i x (inl (same, is)) j a b = grind arith
+      held_by h i x (inr (not_p, there)) j a b = h.taps i x there j a b
 
       passed : Called local after
       passed = record {
@@ -156,7 +192,7 @@ module _ (local : Local) (w : Whole) (f : Called local w) (apart : AreApart w.ta
         timely = λ none last.
             let h = f.timely (lasts.strays none) last in
             record {
-              taps = λ i x there a b. held_by h i x (item i x there) a b;
+              taps = λ i x there j a b. held_by h i x (item i x there) j a b;
               answers = (subst (λ (l : List Placed). AllByRecursion (Answers (IsHeld w.end w.coming)) (values l)) tagged h.answers).1;
               firsts = h.firsts;
               known = h.known;
@@ -193,7 +229,7 @@ module _ (local : Local) (w : Whole) (f : Called local w) (apart : AreApart w.ta
 
       cc_kept : found_on Right w.tap c u ≡ Kept
       cc_kept = ap (λ (v : Value). found_on Right w.tap c v) u_cc
-          ∙ judged_so c.is_judged (found Right w.tap.course (uses_source Right cs cc_is) c cc_is) Kept (judged p c at)
+          ∙ judged_so c.is_judged (found Right w.tap.course (uses_source Right cs cc_is) c cc_is) Kept h.asked.judged
           (ap (λ (b : Bool). found Right w.tap.course b c cc_is) unused
           ∙ two_right local h.x h.size h.r c w.tap.course h.selected h.asked.offer h.asked.right)
 
@@ -242,8 +278,10 @@ module _ (local : Local) (w : Whole) (f : Called local w) (apart : AreApart w.ta
         passed cc_next cc_conns cc_stand (inr cc_two) (λ up. cc_two)
             (ap (λ (k : Course). k.class_seen) cc_course) h.r (let less = above_cc.0 in omega arith) (omega arith) above_cc.1
             (λ k. let up = (f.homes p h.r h.index).1 in let one = f.positive p h.r h.index in omega arith)
-            (λ k a b. (subst (λ (l : List Placed). AllByRecursion (Answers (IsHeld w.end w.coming)) (values l)) tagged k.answers).0 n
+            (λ k j a b. (subst (λ (l : List Placed). AllByRecursion (Answers (IsHeld w.end w.coming)) (values l)) tagged k.answers).0 n
             (acceptance Two h.size h.x local h.r) u_cc),
+        subst AreNamedApart (sym cc_conns) (right_set cs apart named p c at cc_next (live_of n c cc_named) h.asked.judged h.asked.judged
+            refl refl refl),
       )
 
     -- ---- a DR that refuses a CR
@@ -263,8 +301,12 @@ module _ (local : Local) (w : Whole) (f : Called local w) (apart : AreApart w.ta
       dr_named : is_named Right x.source c ≡ true
       dr_named = grind (arith, name_so, dr_half, and_false, eq-eqb)
 
+      dr_found : found Right w.tap.course false c dr ≡ Kept
+      dr_found = ap (λ (h : Half). first_failed ((is_silent h.phase || is_open h.phase, Broke rule.Closed) ∷ [])) a.right
+
       dr_kept : found_on Right w.tap c u ≡ Kept
-      dr_kept = grind (arith, u_dr, judged_so)
+      dr_kept = ap (λ (v : Value). found_on Right w.tap c v) u_dr
+          ∙ judged_so c.is_judged (found Right w.tap.course false c dr) Kept a.judged dr_found
 
       dr_route : route Right w.tap.course u ≡ Named x.source
       dr_route = grind (arith, u_dr, route_dr)
@@ -287,7 +329,11 @@ module _ (local : Local) (w : Whole) (f : Called local w) (apart : AreApart w.ta
       dr_stand : StandAfter p dr_next
       dr_stand = past (ap (λ (h : Half). is_silent h.phase) dr_right) (ap (λ (h : Half). is_open h.phase) dr_right)
           (rest_is u dr (units_at p later) [] (sym mine_is ∙ is)) asks (λ r e. absurd (cc (sym o ∙ e)))
-          (inr (ap (λ (h : Half). is_refused h.phase) dr_right, ap (λ (h : Half). is_silent h.phase || is_refused h.phase) a.known))
+          (inr (
+            ap (λ (h : Half). is_refused h.phase) dr_right,
+            ap (λ (h : Half). is_silent h.phase || is_refused h.phase) a.known,
+            a.judged,
+          ))
 
       dr_not : {A : Type 0} → is_open dr_next.right.phase ≡ true → A
       dr_not h = differ (is_open dr_next.right.phase) h (ap (λ (x : Half). is_open x.phase) dr_right)
@@ -300,13 +346,15 @@ module _ (local : Local) (w : Whole) (f : Called local w) (apart : AreApart w.ta
             (λ up. dr_not up) (ap (λ (k : Course). k.class_seen) dr_course) f.last (omega arith)
             (subst (λ (h : Half). h.reference ≤ f.last) (sym dr_right) (omega arith))
             (subst (λ (v : Value). AreAbove w.end.given f.last (v ∷ values later)) u_dr above_all)
-            (λ k. f.past_two (sym (ap (λ (c : Course). c.class) dr_course) ∙ k)) (λ k a b. dr_not b),
+            (λ k. f.past_two (sym (ap (λ (c : Course). c.class) dr_course) ∙ k)) (λ k j a b. dr_not b),
+        subst AreNamedApart (sym dr_conns) (right_set cs apart named p c at dr_next (live_of x.source c dr_named) a.judged a.judged
+            refl refl refl),
       )
 
     -- ---- a unit of an open connection
 
     module _ (g : Running f.shut w.end w.coming (units_at p f.tagged) (w.begun && first_at p f.tagged) (f.refs p) c)
-        (asks : units_at p f.came ≡ []) where
+        (asks : units_at p f.came ≡ []) (is_judged : c.is_judged ≡ true) where
       line_begun : g.line.begun ≡ true
       line_begun = g.begun_is ∙ begins
 
@@ -314,7 +362,7 @@ module _ (local : Local) (w : Whole) (f : Called local w) (apart : AreApart w.ta
       first_put = g.put ∙ mine_is
 
       line_judged : g.line.tap.is_judged ≡ true
-      line_judged = ap (λ (x : Connection). x.is_judged) g.tap ∙ judged p c at
+      line_judged = ap (λ (x : Connection). x.is_judged) g.tap ∙ is_judged
 
       is_right : IsRight Right c u
       is_right = subst (λ (x : Connection). IsRight Right x u) g.tap (subst (IsRightNow Right g.line.tap) first_put
@@ -334,7 +382,7 @@ module _ (local : Local) (w : Whole) (f : Called local w) (apart : AreApart w.ta
       in_use = uses_source Right cs u
 
       run_kept : found_on Right w.tap c u ≡ Kept
-      run_kept = judged_so c.is_judged (found Right w.tap.course in_use c u) Kept (judged p c at) (is_right.kept w.tap.course in_use)
+      run_kept = judged_so c.is_judged (found Right w.tap.course in_use c u) Kept (is_judged) (is_right.kept w.tap.course in_use)
 
       no_cc : (m : ℕ) (x : Connect) → u ≡ confirm m x → ⊥
       no_cc m x e = wrong_form (is_silent c.right.phase) (drop 1 (confirm_tests c w.tap.course.class in_use w.tap.course.loose x))
@@ -378,7 +426,7 @@ module _ (local : Local) (w : Whole) (f : Called local w) (apart : AreApart w.ta
           (line, (u, first_put, line_begun, refl), refl)
 
       next_judged : line.tap.is_judged ≡ true
-      next_judged = ap (λ (x : Connection). x.is_judged) tap_is ∙ sent_judged u c ∙ judged p c at
+      next_judged = ap (λ (x : Connection). x.is_judged) tap_is ∙ sent_judged u c ∙ is_judged
 
       tap_open : is_open line.tap.right.phase ≡ is_open next.right.phase
       tap_open = ap (λ (x : Connection). is_open x.right.phase) tap_is
@@ -433,9 +481,112 @@ module _ (local : Local) (w : Whole) (f : Called local w) (apart : AreApart w.ta
             (subst (λ (i : ℕ). i ≤ f.last) (sym next_reference) (f.tops p c at)) (above_next w.end.given f.last u (values later) no_cc
             above_all)
             (λ k. f.past_two (f.two p c at g.there))
-            (λ k a b. subst (λ (i : ℕ). IsHeld w.end w.coming i) (sym next_reference)
-            (k.taps p c at (ap (λ (h : Half). is_open h.phase) (sym next_left) ∙ a) g.there)),
+            (λ k j a b. subst (λ (i : ℕ). IsHeld w.end w.coming i) (sym next_reference)
+            (k.taps p c at is_judged (ap (λ (h : Half). is_open h.phase) (sym next_left) ∙ a) g.there)),
+        subst AreNamedApart (sym run_conns) (right_set cs apart named p c at next
+            (live_of g.peer c (named_of (destination_of u) g.peer Right c dest is_right.named)) (sent_judged u c ∙ is_judged) is_judged
+            next_left (own_knows u c) (own_seen_after u true reach.Nothing c)),
       )
+
+    -- ---- a unit of a connection that has lost its judgement
+
+    module _ (g : Running f.shut w.end w.coming (units_at p f.tagged) (w.begun && first_at p f.tagged) (f.refs p) c)
+        (asks : units_at p f.came ≡ []) (is_lost : c.is_judged ≡ false) where
+      keeps : Keeps g.peer g.line
+      keeps = line_keeps g.r g.peer g.first g.line g.acts g.opened g.along
+
+      lost_begun : g.line.begun ≡ true
+      lost_begun = g.begun_is ∙ begins
+
+      lost_put : g.line.put ≡ u ∷ units_at p later
+      lost_put = g.put ∙ mine_is
+
+      lost_dest : destination_of u ≡ Some g.peer
+      lost_dest = (subst (AllNamed g.peer) lost_put keeps.named).0
+
+      lost_named : is_named Right g.peer c ≡ true
+      lost_named =
+          let (there, is) = subst (λ (x : Connection). (is_silent x.seen_by_right.phase ≡ false) × (x.seen_by_right.reference ≡ g.peer))
+          g.tap (keeps.seen lost_begun) in
+          name_so (is_over Right c) (is_silent c.seen_by_right.phase) (c.seen_by_right.reference == g.peer)
+          (ap (λ (b : Bool). b && is_over_by c.right c.seen_by_right) is_lost) there (eq-eqb c.seen_by_right.reference g.peer is)
+
+      lost_route : route Right w.tap.course u ≡ Named g.peer
+      lost_route = route_two_so w.tap.course.class (is_stopped Left w.tap.course) u g.peer (f.two p c at g.there) lost_dest
+
+      lost_takes : takes Right u w.tap ≡ one_told Right p c u w.tap
+      lost_takes = takes_so u w.tap g.peer p c right lost_route (name_first g.peer p c at lost_named) at
+
+      lost_found : found_on Right w.tap c u ≡ NotJudged
+      lost_found = ap (λ (b : Bool). if b then found Right w.tap.course (uses_source Right cs u) c u else NotJudged) is_lost
+
+      lost_conns : (takes Right u w.tap).state.connections ≡ set cs p c
+      lost_conns = ap (λ (o : Outcome). o.state.connections) lost_takes ∙ ap (λ (k : Finding). set cs p (connection_after Right u
+          (is_applied k) (reach_of (class_for Right w.tap.course) k) c)) lost_found
+
+      lost_course : (takes Right u w.tap).state.course ≡ course_after Right c u false w.tap.course
+      lost_course = ap (λ (o : Outcome). o.state.course) lost_takes ∙ ap (λ (k : Finding). reached Right
+          (reach_of (class_for Right w.tap.course) k) (course_after Right c u (is_applied k) w.tap.course)) lost_found
+
+      lost_finding : (takes Right u w.tap).told.finding ≡ NotJudged
+      lost_finding = ap (λ (o : Outcome). o.told.finding) lost_takes ∙ lost_found
+
+      is_loose : (b : Bool) → w.tap.course.loose ≡ b → b ≡ true
+      is_loose true e = refl
+      is_loose false e = differ c.is_judged (judged e p c at) is_lost
+
+      abbrev lost_line : Line
+      lost_line = record g.line {
+        put = units_at p later;
+        begun = false;
+        tap = after_finding Right (finding_of Right w.tap.course false g.line.tap u) u g.line.tap;
+      }
+
+      lost_tap : lost_line.tap ≡ c
+      lost_tap =
+          ap (λ (x : Connection). after_finding Right (finding_of Right w.tap.course false x u) u x) g.tap
+          ∙ ap (λ (b : Bool). after_finding Right (if b then found Right w.tap.course false c u else NotJudged) u c) is_lost
+
+      lost_stand : StandAfter p c
+      lost_stand = runs (record {
+        r = g.r;
+        peer = g.peer;
+        index = g.index;
+        line = lost_line;
+        tap = lost_tap;
+        put = refl;
+        begun_is = refl;
+        first = g.first;
+        acts = g.acts ++ passes_own w.tap.course false ∷ [];
+        opened = g.opened;
+        along = acts_join Right g.r g.peer g.acts (passes_own w.tap.course false ∷ []) g.first g.line lost_line g.along
+            (lost_line, (u, lost_put, lost_begun, refl), refl);
+        there = g.there;
+        right = g.right;
+        left = g.left;
+        row = g.row;
+        shut_is = g.shut_is;
+      }) asks
+
+      lost_above : AreAbove w.end.given f.last (values later)
+      lost_above = above_less w.end.given f.last u (values later) above_all
+
+      pub lost_passes : Passed
+      lost_passes = (
+        inr (lost_finding, inr (is_loose w.tap.course.loose refl)),
+        passed c lost_conns lost_stand (inr (lasts.two (f.two p c at g.there)))
+            (λ up. lasts.two (f.two p c at g.there))
+            (ap (λ (k : Course). k.class_seen) lost_course ∙ idle_seen c u w.tap.course) f.last (omega arith)
+            (f.tops p c at) lost_above
+            (λ k. f.past_two (f.two p c at g.there))
+            (λ k j a b. k.taps p c at j a b),
+        subst AreNamedApart (sym (lost_conns ∙ set_same cs p c at)) named,
+      )
+
+    run_by : (g : Running f.shut w.end w.coming (units_at p f.tagged) (w.begun && first_at p f.tagged) (f.refs p) c) →
+        units_at p f.came ≡ [] → (b : Bool) → c.is_judged ≡ b → Passed
+    run_by g none true is = run_passes g none is
+    run_by g none false is = lost_passes g none is
 
     -- ---- by what the connection is
 
@@ -445,5 +596,5 @@ module _ (local : Local) (w : Whole) (f : Called local w) (apart : AreApart w.ta
     one_passes (comes x a none ask i) = no_list u (units_at p later) (units_at p f.tagged) mine_is none
     one_passes (refuses x a reason is none i seen) = dr_passes x a reason is none i seen
     one_passes (answers h none) = cc_passes h none
-    one_passes (runs g none) = run_passes g none
+    one_passes (runs g none) = run_by g none c.is_judged refl
     one_passes (past silent up none asks un off) = no_list u (units_at p later) (units_at p f.tagged) mine_is none

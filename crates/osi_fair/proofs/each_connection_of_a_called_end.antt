@@ -10,7 +10,7 @@ use Rattle.osi_fair.proofs.Vocabulary.{Traffic, Connection, Direction, Left, Rig
 use Rattle.osi_fair.proofs.Vocabulary.{opened_half, opened_line, Whole}
 use Rattle.osi_carrier.specs.State.{State}
 use Rattle.osi_fair.specs.Lines.{begins_other, begins_own}
-use Rattle.osi_fair.proofs.small_facts_that_many_lemmas_use.{begun_left, begun_right, course_class, no_list, or_last}
+use Rattle.osi_fair.proofs.small_facts_that_many_lemmas_use.{begins_judged, begun_left, begun_right, course_class, no_list, or_last}
 use Rattle.osi_fair.proofs.units_by_their_place.{Placed, first_at, units_at, values}
 use Rattle.osi_fair.proofs.what_holds_of_one_item.{after_map}
 use Rattle.osi_fair.proofs.what_is_live_at_a_called_end.{IsHeld, Timely}
@@ -47,6 +47,7 @@ pub record Asked (x : Connect) (c : Connection) : Type 0 where
   pub left : c.left ≡ opened_half x.source x.credit
   pub right : c.right ≡ silent_half
   pub known : c.seen_by_left ≡ silent_half
+  pub judged : c.is_judged ≡ true
 
 -- the end does not have this connection open
 abbrev pub IsUnlinked : State → ℕ → Type 0
@@ -102,9 +103,10 @@ pub record Running (shut : ℕ → Bool) (end : State) (coming mine : List Value
   pub row : Row end coming r peer line.link line.coming
   pub shut_is : shut r ≡ true → line.link ≡ None
 
--- right has refused it, and left knows nothing else of right
+-- right has refused it, and left knows nothing else of right; it is judged, since left could break no rule of it
 abbrev pub IsOff : Connection → Type 0
 IsOff c = (is_refused c.right.phase ≡ true) × ((is_silent c.seen_by_left.phase || is_refused c.seen_by_left.phase) ≡ true)
+    × (c.is_judged ≡ true)
 
 -- right has closed it, which has this reference; or it has refused it
 abbrev pub IsPast : Option ℕ → Connection → Type 0
@@ -279,8 +281,10 @@ module _ (local : Local) (shut : ℕ → Bool) (end : State) (coming mine asks :
   }
 
   asked_begins : (d : Direction) (x : Connect) (c : Connection) → Asked x c → Asked x (begins d c)
-  asked_begins Left x c a = record { range = a.range; offer = a.offer; left = a.left; right = a.right; known = a.right }
-  asked_begins Right x c a = record { range = a.range; offer = a.offer; left = a.left; right = a.right; known = a.known }
+  asked_begins Left x c a =
+      record { range = a.range; offer = a.offer; left = a.left; right = a.right; known = a.right; judged = a.judged }
+  asked_begins Right x c a =
+      record { range = a.range; offer = a.offer; left = a.left; right = a.right; known = a.known; judged = a.judged }
 
   answer_begins : (d : Direction) (b was : Bool) (c : Connection) → Answering local shut end coming mine was o c →
       (b ≡ true → (begins d c).seen_by_right ≡ (begins d c).left) → Answering local shut end coming mine b o (begins d c)
@@ -406,11 +410,12 @@ module _ (local : Local) (w : Whole) (f : Called local w) where
     timely = λ none lasts.
         let h = f.timely (sym (course_strays d w.tap) ∙ none) lasts in
         record {
-          taps = λ p c at left right.
+          taps = λ p c at judged left right.
               let (x, was, is) = after_map (begins d) w.tap.connections p c at in
               let same = ap (λ (e : Connection). e.right) is ∙ begun_right d x in
               subst (λ (k : Half). IsHeld w.end w.coming k.reference) (sym same)
-              (h.taps p x was (sym (ap (λ (e : Connection). is_open e.left.phase) is ∙ ap (λ (k : Half). is_open k.phase)
+              (h.taps p x was (sym (ap (λ (e : Connection). e.is_judged) is ∙ begins_judged d x) ∙ judged)
+              (sym (ap (λ (e : Connection). is_open e.left.phase) is ∙ ap (λ (k : Half). is_open k.phase)
               (begun_left d x)) ∙ left)
               (ap (λ (k : Half). is_open k.phase) (sym same) ∙ right));
           answers = h.answers;

@@ -41,7 +41,7 @@ own_was : (v : Value) (applied : Bool) (r : Reach) (c : Connection) → (connect
     c.is_judged ≡ true
 own_was v applied r c h = grind (arith, sent_judged, on_judged)
 
-other_was : (v : Value) (applied : Bool) (r : Reach) (c : Connection) → (connection_after Left v applied r c).is_judged ≡ true →
+pub other_was : (v : Value) (applied : Bool) (r : Reach) (c : Connection) → (connection_after Left v applied r c).is_judged ≡ true →
     c.is_judged ≡ true
 other_was v applied r c h = grind (arith, other_judged, on_judged)
 

@@ -5,21 +5,23 @@ use Rattle.osi_fair.proofs.Vocabulary.{subst, suc, sym, true, zero, ℕ, ◌++�
 use Rattle.osi_fair.proofs.Vocabulary.{slice_get, ◌&&◌, ◌==◌, ◌||◌, Connect, destination_of, HasFieldsInRange, request, Value, Standing}
 use Rattle.osi_fair.proofs.Vocabulary.{Class, Two, Zero, Local, value_at, linked, is_closed, is_closing, is_free, is_open, is_over}
 use Rattle.osi_fair.proofs.Vocabulary.{is_over_by, is_refused, asked_by, asks_kept, Outcome, placed, takes, Connection, Course, Left, Right}
-use Rattle.osi_fair.proofs.Vocabulary.{Phase, Whole}
+use Rattle.osi_fair.proofs.Vocabulary.{first_failed, Kept, list_any, Phase, request_tests, Traffic, uses, Whole}
 use Rattle.osi_fair.proofs.small_facts_that_many_lemmas_use.{all_add, and_first, and_second, differ, no_number, set_none}
 use Rattle.osi_fair.proofs.how_a_unit_of_right_passes.{strays_more}
 use Rattle.osi_fair.proofs.a_right_unit_is_not_blamed.{first_there}
-use Rattle.osi_fair.proofs.all_are_judged_unless_one_broke.{IsJudged}
+use Rattle.osi_fair.proofs.names_stay_apart_though_one_is_lost.{AreNamedApart, asked_set}
+use Rattle.osi_fair.proofs.a_reference_names_one_connection.{not_true}
+use Rattle.osi_fair.proofs.what_is_right_passes_each_test.{passes_each}
 use Rattle.osi_fair.proofs.each_connection_of_a_called_end.{AreStrays, Asked, Called, IsFor, IsUnlinked, Running, Stand, Untagged, answers}
 use Rattle.osi_fair.proofs.each_connection_of_a_called_end.{comes, past, refuses, runs}
 use Rattle.osi_fair.proofs.units_by_their_place.{Placed, at_first, at_join, at_other, first_at, units_at, values, values_join}
 use Rattle.osi_fair.proofs.what_holds_of_a_line.{is_there}
-use Rattle.osi_fair.proofs.what_holds_of_one_item.{HoldsOfEach, after_add, first_true}
+use Rattle.osi_fair.proofs.what_holds_of_one_item.{after_add, first_true}
 use Rattle.osi_fair.proofs.what_is_live_at_a_called_end.{IsHeld, Timely, dr_for, shuts_of, timely_comes}
 use Rattle.osi_fair.proofs.what_keeps_names_apart.{AreApart}
 use Rattle.osi_fair.proofs.which_units_are_for_a_connection.{names}
 use Rattle.osi_fair.proofs.while_no_class_is_selected.{added_there, after_change, set_there}
-use Rattle.osi_fair.proofs.a_unit_comes_to_a_called_end.{calm, for_one_so, is_lost, lasts, row_other, stand_on}
+use Rattle.osi_fair.proofs.a_unit_comes_to_a_called_end.{calm, for_one_so, is_lost, lasts, names_after, row_other, stand_on}
 use Rattle.osi_fair.proofs.which_unit_comes_to_a_called_end.{Came, IsCalm, asks_so, came_so, for_one, lost, only}
 use Rattle.osi_fair.proofs.a_dt_of_class_zero_passes.{unlike}
 use Rattle.osi_fair.proofs.an_end_closes_last.{right_holds as run_holds}
@@ -51,7 +53,7 @@ not_zero k l h = grind arith
 -- ---- a CR
 
 module _ (local : Local) (w : Whole) (f : Called local w) (apart : AreApart w.tap.connections)
-    (judged : HoldsOfEach IsJudged w.tap.connections) (v : Value) (ranges : HasFieldsInRange v)
+    (named : AreNamedApart w.tap.connections) (v : Value) (ranges : HasFieldsInRange v)
     (calm_after : IsCalm (takes Left v w.tap).state.course) where
   abbrev cs : List Connection
   cs = w.tap.connections
@@ -83,9 +85,9 @@ module _ (local : Local) (w : Whole) (f : Called local w) (apart : AreApart w.ta
     busy_open : {A : Type 0} (p : ℕ) (c : Connection) → slice_get cs p ≡ Some c →
         (g : Running f.shut w.end w.coming (units_at p f.tagged) (w.begun && first_at p f.tagged) (f.refs p) c) → is_over Left c ≡ true → A
     busy_open p c at g h =
-        let s = apart.sound p c at (judged p c at) in
-        let held = run_holds g.r g.peer g.first g.line g.acts g.opened g.along (ap (λ (y : Connection). y.is_judged) g.tap ∙ judged p c
-        at) in
+        let judged = and_first c.is_judged (is_over_by c.left c.seen_by_left) h in
+        let s = apart.sound p c at judged in
+        let held = run_holds g.r g.peer g.first g.line g.acts g.opened g.along (ap (λ (y : Connection). y.is_judged) g.tap ∙ judged) in
         absurd (open_over c.left.phase c.seen_by_left.phase c.right.phase g.there
         (ap (λ (y : Connection). is_there y.left.phase) (sym g.tap) ∙ held.taps.there) s.left_knows.refused s.left_knows.closing
         s.left_knows.closed s.left_closed (and_second c.is_judged (is_over_by c.left c.seen_by_left) h))
@@ -174,8 +176,8 @@ module _ (local : Local) (w : Whole) (f : Called local w) (apart : AreApart w.ta
       stand_case i c false e (inl (same, so)) = absurd (unlike i p e same)
       stand_case i c false e (inr (other, there)) =
           subst (λ (o : Option ℕ). StandFree i o c) (sym (refs_other i e))
-          (stand_on local w f apart judged v ranges calm_after (f.refs i) (λ j. units_at j came_at) (λ r peer link line k row. row_other
-          local w f apart judged v ranges calm_after r peer link line (no_name r) row) i c
+          (stand_on local w f apart named v ranges calm_after (f.refs i) (λ j. units_at j came_at) (λ r peer link line k row. row_other
+          local w f apart named v ranges calm_after r peer link line (no_name r) row) i c
           (units_at i f.tagged) (units_at i f.came) (w.begun && first_at i f.tagged) (asks_other i other) (f.stands i c there))
 
       old_ref : (i r : ℕ) (b : Bool) → (i == p) ≡ b → refs i ≡ Some r → f.refs i ≡ Some r
@@ -215,10 +217,10 @@ module _ (local : Local) (w : Whole) (f : Called local w) (apart : AreApart w.ta
       strays_case ((Some i, u) ∷ ts) (one, rest) = (tt, strays_case ts rest)
 
       held_case : Timely w.end w.coming cs (values f.tagged) → (i : ℕ) (c : Connection) →
-          ((i ≡ p) × (c ≡ asked_by x)) ⊎ ((i ≡ p → ⊥) × (slice_get cs i ≡ Some c)) → is_open c.left.phase ≡ true →
+          ((i ≡ p) × (c ≡ asked_by x)) ⊎ ((i ≡ p → ⊥) × (slice_get cs i ≡ Some c)) → c.is_judged ≡ true → is_open c.left.phase ≡ true →
           is_open c.right.phase ≡ true → IsHeld w.end w.coming c.right.reference
-      held_case h i c (inl (same, so)) a b = absurd (cc (sym (ap (λ (y : Connection). is_open y.right.phase) so) ∙ b))
-      held_case h i c (inr (other, there)) a b = h.taps i c there a b
+      held_case h i c (inl (same, so)) j a b = absurd (cc (sym (ap (λ (y : Connection). is_open y.right.phase) so) ∙ b))
+      held_case h i c (inr (other, there)) j a b = h.taps i c there j a b
 
       at_free : Called local after
       at_free = record {
@@ -239,7 +241,7 @@ module _ (local : Local) (w : Whole) (f : Called local w) (apart : AreApart w.ta
         linked_at = λ lasts r peer l there. linked_case r peer l lasts there (f.home r == p) refl;
         shut_given = f.shut_given;
         strays = strays_more f.shut w.end (λ i. refs i) f.home w.tap.course.strays (takes Left v w.tap).state.course.strays f.tagged
-            (lasts local w f apart judged v ranges calm_after).strays
+            (lasts local w f apart named v ranges calm_after).strays
             (strays_case f.tagged f.strays);
         last = f.last;
         tops = λ i c at. top_case i c (free.item i c (ap (λ (l : List Connection). slice_get l i) (sym free.conns) ∙ at));
@@ -254,9 +256,9 @@ module _ (local : Local) (w : Whole) (f : Called local w) (apart : AreApart w.ta
         few = all_add (IsFor w.end.given) w.coming v f.few (λ m e. absurd (cc (sym (ap destination_of v_is) ∙ e)));
         untagged = all_add Untagged f.came (Some p, v) f.untagged (λ h. absurd (cc h));
         timely = λ none last.
-            let h = f.timely ((lasts local w f apart judged v ranges calm_after).strays none) last in
+            let h = f.timely ((lasts local w f apart named v ranges calm_after).strays none) last in
             timely_comes w.end w.coming cs (takes Left v w.tap).state.connections (values f.tagged) v (ap shuts_of v_is) (ap dr_for v_is)
-            (λ i c at a b. held_case h i c (free.item i c (ap (λ (l : List Connection). slice_get l i) (sym free.conns) ∙ at)) a b) h;
+            (λ i c at j a b. held_case h i c (free.item i c (ap (λ (l : List Connection). slice_get l i) (sym free.conns) ∙ at)) j a b) h;
       }
 
     by_place : (o : Option ℕ) → position is_free cs ≡ o → Called local after
@@ -264,15 +266,30 @@ module _ (local : Local) (w : Whole) (f : Called local w) (apart : AreApart w.ta
     by_place (Some p) e =
         let (c, at) = first_there is_free cs p p (asked_by x) e in at_free p (set cs p (asked_by x)) (free_at p c at e)
 
+    names_asked : first_failed (request_tests w.tap x) ≡ Kept → AreNamedApart (takes Left v w.tap).state.connections
+    names_asked kept =
+        let t = passes_each (request_tests w.tap x) refl kept in
+        subst (λ (o : Outcome). AreNamedApart o.state.connections) (sym is)
+        (asked_set cs x (position is_free cs) (not_true (list_any (λ (e : Connection). uses Left x.source e) cs) t.1.1.0) named)
+
   -- ---- any unit
 
-  by_came : Came v w.tap (takes Left v w.tap) → Called local after
-  by_came (asks_so x e class kept is) = by_place x e is (position is_free cs) refl
-  by_came (for_one n q c dest at named is) = for_one_so local w f apart judged v ranges calm_after n q c dest at named is
-  by_came (only q c at class is) = not_zero w.tap.course.class_seen f.class_seen class
-  by_came (lost dc strays same) = is_lost local w f apart judged v ranges calm_after dc strays same
+  abbrev AllAfter : Type 0
+  AllAfter = Called local after × AreNamedApart after.tap.connections
 
-  pub comes_so : Called local after
+  by_came : Came v w.tap (takes Left v w.tap) → AllAfter
+  by_came (asks_so x e class kept is) = (by_place x e is (position is_free cs) refl, names_asked x e is kept)
+  by_came (for_one n q c dest at name is) = (
+    for_one_so local w f apart named v ranges calm_after n q c dest at name is,
+    names_after local w f apart named v ranges calm_after n q c dest at name is,
+  )
+  by_came (only q c at class is) = not_zero w.tap.course.class_seen f.class_seen class
+  by_came (lost dc strays same) = (
+    is_lost local w f apart named v ranges calm_after dc strays same,
+    subst (λ (s : Traffic). AreNamedApart s.connections) (sym same) named,
+  )
+
+  pub comes_so : AllAfter
   comes_so =
-      let before = calm local w f apart judged v ranges calm_after in
-      by_came (came_so v w.tap judged before.left before.firm before.right calm_after)
+      let before = calm local w f apart named v ranges calm_after in
+      by_came (came_so v w.tap before.left before.right calm_after)

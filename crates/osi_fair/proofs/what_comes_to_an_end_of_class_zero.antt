@@ -295,8 +295,8 @@ module _ (w : Whole) (apart : AreApart w.tap.connections) (judged : HoldsOfEach 
 
   pub selecting_comes : IsCalm (takes Left v w.tap).state.course → (local : Local) → Selecting local w → Selecting local after
   selecting_comes after_it local f =
-      let was = calm after_it in selecting_by local f (came_so v w.tap judged was.left was.firm was.right after_it)
+      let was = calm after_it in selecting_by local f (came_so v w.tap was.left was.right after_it)
 
   pub selected_comes : IsCalm (takes Left v w.tap).state.course → Selected w → Selected after
   selected_comes after_it f =
-      let was = calm after_it in selected_by_came f (came_so v w.tap judged was.left was.firm was.right after_it)
+      let was = calm after_it in selected_by_came f (came_so v w.tap was.left was.right after_it)

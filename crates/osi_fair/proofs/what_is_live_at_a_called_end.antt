@@ -40,8 +40,8 @@ abbrev pub IsKnown : ℕ → Value → Type 0
 IsKnown given v = (m : ℕ) → shuts_of v ≡ Some m → m ≤ given
 
 pub record Timely (end : State) (coming : List Value) (cs : List Connection) (put : List Value) : Type 0 where
-  pub taps : (p : ℕ) (c : Connection) → slice_get cs p ≡ Some c → is_open c.left.phase ≡ true → is_open c.right.phase ≡ true →
-      IsHeld end coming c.right.reference
+  pub taps : (p : ℕ) (c : Connection) → slice_get cs p ≡ Some c → c.is_judged ≡ true → is_open c.left.phase ≡ true →
+      is_open c.right.phase ≡ true → IsHeld end coming c.right.reference
   pub answers : AllByRecursion (Answers (IsHeld end coming)) put
   pub firsts : Firsts (IsLive end) coming
   pub known : AllByRecursion (IsKnown end.given) coming
@@ -106,7 +106,7 @@ pub timely_takes : (s t : State) (u : Value) (later : List Value) (cs : List Con
 timely_takes s t u later cs put given lives h =
     let keeps : (m : ℕ) → IsHeld s (u ∷ later) m → IsHeld t later m = λ m k. (lives m k.0 k.1.0, k.1.1) in
     record {
-      taps = λ p c at left right. keeps c.right.reference (h.taps p c at left right);
+      taps = λ p c at judged left right. keeps c.right.reference (h.taps p c at judged left right);
       answers = answers_more (IsHeld s (u ∷ later)) (IsHeld t later) put keeps h.answers;
       firsts = firsts_more (λ m. IsLive s m × (shuts_of u ≡ Some m → ⊥)) (IsLive t) later (λ m k. lives m k.0 k.1) h.firsts.1;
       known = known_more s.given t.given later given h.known.1;
@@ -118,7 +118,7 @@ pub timely_calls : (s t : State) (coming : List Value) (cs : List Connection) (p
 timely_calls s t coming cs put given lives h =
     let keeps : (m : ℕ) → IsHeld s coming m → IsHeld t coming m = λ m k. (lives m k.0, k.1) in
     record {
-      taps = λ p c at left right. keeps c.right.reference (h.taps p c at left right);
+      taps = λ p c at judged left right. keeps c.right.reference (h.taps p c at judged left right);
       answers = answers_more (IsHeld s coming) (IsHeld t coming) put keeps h.answers;
       firsts = firsts_more (IsLive s) (IsLive t) coming lives h.firsts;
       known = known_more s.given t.given coming given h.known;
@@ -139,15 +139,15 @@ timely_answers s end coming cs put m x live above known h = search (arith, all_a
 -- a unit of the other side passes that closes nothing
 pub timely_comes : (end : State) (coming : List Value) (cs after : List Connection) (put : List Value) (v : Value) → shuts_of v ≡ None →
     dr_for v ≡ None →
-    ((p : ℕ) (c : Connection) → slice_get after p ≡ Some c → is_open c.left.phase ≡ true → is_open c.right.phase ≡ true →
-    IsHeld end coming c.right.reference) → Timely end coming cs put → Timely end (coming ++ v ∷ []) after put
+    ((p : ℕ) (c : Connection) → slice_get after p ≡ Some c → c.is_judged ≡ true → is_open c.left.phase ≡ true →
+    is_open c.right.phase ≡ true → IsHeld end coming c.right.reference) → Timely end coming cs put → Timely end (coming ++ v ∷ []) after put
 timely_comes end coming cs after put v none no_dr taps h =
     let keeps : (m : ℕ) → IsHeld end coming m → IsHeld end (coming ++ v ∷ []) m = λ m k. (
       k.0,
       none_add m coming v k.1 (λ e. cc (sym none ∙ e)),
     ) in
     record {
-      taps = λ p c at left right. keeps c.right.reference (taps p c at left right);
+      taps = λ p c at judged left right. keeps c.right.reference (taps p c at judged left right);
       answers = answers_more (IsHeld end coming) (IsHeld end (coming ++ v ∷ [])) put keeps h.answers;
       firsts = firsts_add (IsLive end) coming v h.firsts (λ n e. absurd (cc (sym no_dr ∙ e)));
       known = all_add (IsKnown end.given) coming v h.known (λ m e. absurd (cc (sym none ∙ e)));
@@ -157,8 +157,9 @@ timely_comes end coming cs after put v none no_dr taps h =
 pub timely_closes : (end : State) (coming : List Value) (cs after : List Connection) (put : List Value) (v : Value) (n : ℕ) →
     shuts_of v ≡ Some n →
     ((m : ℕ) → dr_for v ≡ Some m → IsHeld end coming m) → n ≤ end.given →
-    ((p : ℕ) (c : Connection) → slice_get after p ≡ Some c → is_open c.left.phase ≡ true → is_open c.right.phase ≡ true →
-    IsHeld end coming c.right.reference × (c.right.reference ≡ n → ⊥)) → AllByRecursion (Answers (λ m. m ≡ n → ⊥)) put →
+    ((p : ℕ) (c : Connection) → slice_get after p ≡ Some c → c.is_judged ≡ true → is_open c.left.phase ≡ true →
+    is_open c.right.phase ≡ true → IsHeld end coming c.right.reference × (c.right.reference ≡ n → ⊥)) →
+    AllByRecursion (Answers (λ m. m ≡ n → ⊥)) put →
     Timely end coming cs put → Timely end (coming ++ v ∷ []) after put
 timely_closes end coming cs after put v n shuts dr given taps others h =
     let keeps : (m : ℕ) → IsHeld end coming m → (m ≡ n → ⊥) → IsHeld end (coming ++ v ∷ []) m = λ m k other. (
@@ -166,8 +167,8 @@ timely_closes end coming cs after put v n shuts dr given taps others h =
       none_add m coming v k.1 (λ e. other (same_number (shuts_of v) m n e shuts)),
     ) in
     record {
-      taps = λ p c at left right.
-          let (held, other) = taps p c at left right in keeps c.right.reference held other;
+      taps = λ p c at judged left right.
+          let (held, other) = taps p c at judged left right in keeps c.right.reference held other;
       answers = answers_both (IsHeld end coming) (λ m. m ≡ n → ⊥) (IsHeld end (coming ++ v ∷ [])) put keeps h.answers others;
       firsts = firsts_add (IsLive end) coming v h.firsts (λ m e. dr m e);
       known = all_add (IsKnown end.given) coming v h.known

@@ -29,7 +29,7 @@ right_sized : (v : Value) (c : Connection) → (sized v c).right ≡ c.right
 right_sized v c = grind arith
 
 -- of left, after a unit of left
-left_own : (v : Value) (r : Reach) (c : Connection) → (connection_after Left v true r c).left ≡ half_after v c.left
+pub left_own : (v : Value) (r : Reach) (c : Connection) → (connection_after Left v true r c).left ≡ half_after v c.left
 left_own v r c = left_judged r (sent_on Left v c) ∙ left_sized v (sends Left (half_after v c.left) c)
 
 pub right_then : (v : Value) (applied : Bool) (r : Reach) (c : Connection) → (connection_after Left v applied r c).right ≡ c.right

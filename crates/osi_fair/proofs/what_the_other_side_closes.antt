@@ -81,7 +81,7 @@ bad k r c e h = not_firm k r c e (firm_of (reached Right (reach_of k (Broke r)) 
 
 -- a unit for no connection
 none_rule : (v : Value) → (r : Rule) × (unnamed_by false v ≡ Broke r) × (passes_over r ≡ false)
-none_rule (disconnected destination source) = (rule.NothingToAnswer, refl, refl)
+none_rule (disconnected destination source) = (rule.UnknownReference, refl, refl)
 none_rule _ = (rule.UnknownReference, refl, refl)
 
 none_bad : (v : Value) (s : State) → s.course.loose ≡ false → s.course.strays ≡ false →

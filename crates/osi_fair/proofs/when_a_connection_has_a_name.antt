@@ -34,7 +34,7 @@ over_closing : (p q : Phase) → is_closing p ≡ true → (is_closing q || is_c
 over_closing p q h k = grind (arith, over_closed)
 
 -- a connection that is not over for a side which knows all of the other is not over for the other
-over_other : (p q k : Phase) → over_phase p q ≡ false → (is_refused k ≡ true → is_refused p ≡ true) →
+pub over_other : (p q k : Phase) → over_phase p q ≡ false → (is_refused k ≡ true → is_refused p ≡ true) →
     (is_closing k ≡ true → is_closing p ≡ true) → (is_closed k ≡ true → is_closed p ≡ true) →
     (is_closed q ≡ true → is_closing p ≡ true) → over_phase q k ≡ false
 over_other p v k h a b c d = grind (arith, differ, over_known, over_closing, over_refused, over_closed)

@@ -2,50 +2,81 @@
 -- for a connection, or a DC that answers nothing. For the law on a whole called end.
 use Rattle.osi_fair.proofs.Vocabulary.{arith}
 use Rattle.osi_fair.proofs.Vocabulary.{[], ap, Bool, false, if◌then◌else◌, inl, inr, is_some, None, Option, refl, Some, subst, sym, true, ℕ}
-use Rattle.osi_fair.proofs.Vocabulary.{◌∙◌, ◌∷◌, ◌≡◌, ◌⊎◌, list_all, list_any, not, position, slice_get, ◌&&◌, ◌==◌, ◌||◌, acknowledge}
+use Rattle.osi_fair.proofs.Vocabulary.{◌∙◌, ◌∷◌, ◌≡◌, ◌⊎◌, list_all, list_any, not, position, slice_get, ◌||◌, acknowledge}
 use Rattle.osi_fair.proofs.Vocabulary.{confirm, Connect, data0, data2, destination_of, disconnect, disconnected, error, request, Value}
 use Rattle.osi_fair.proofs.Vocabulary.{Class, Two, Zero, is_of_connection, passes_over, reach_by, reach_of, reach_past, first_failed}
 use Rattle.osi_fair.proofs.Vocabulary.{is_free, is_live, is_named, is_over, uses, asks_by, asks_kept, asks_of, at_found, at_place}
-use Rattle.osi_fair.proofs.Vocabulary.{has_place, is_not_judged, is_stopped, none_told, one_told, Outcome, reached}
+use Rattle.osi_fair.proofs.Vocabulary.{class_for, course_after_none, has_place, in_doubt, is_not_judged}
+use Rattle.osi_fair.proofs.Vocabulary.{is_stopped, none_told, one_told, Outcome, reached}
 use Rattle.osi_fair.proofs.Vocabulary.{request_tests, route, route_in, routed, Traffic, takes, unnamed_by, unnamed_told}
-use Rattle.osi_fair.proofs.Vocabulary.{Connection, Course, Left, Right, Finding, Broke, Kept, NotJudged, TooMany, Rule}
+use Rattle.osi_fair.proofs.Vocabulary.{Connection, Course, Left, Right, Finding, Broke, Kept, NotJudged, Outside, TooMany, Rule}
 use Rattle.osi_rules.specs.declared.findings.Reach.TheVariants as reach
 use Rattle.osi_rules.specs.declared.findings.Rule.TheVariants as rule
-use Rattle.osi_fair.proofs.small_facts_that_many_lemmas_use.{any_none, differ}
-use Rattle.osi_fair.proofs.all_are_judged_unless_one_broke.{IsJudged}
+use Rattle.osi_fair.proofs.small_facts_that_many_lemmas_use.{differ}
 use Rattle.osi_fair.proofs.each_connection_of_a_called_end.{IsDc}
-use Rattle.osi_fair.proofs.what_holds_of_one_item.{HoldsOfEach, first_true}
+use Rattle.osi_fair.proofs.what_holds_of_one_item.{first_true}
 use Rattle.osi_fair.proofs.what_lasts_at_the_tap.{Lasts}
-
--- ---- small facts
-
-not_judged_not : (b c : Bool) → b ≡ true → (not b && c) ≡ false
-not_judged_not b c h = grind arith
 
 -- ---- what is wrong is not calm
 
--- both sides are judged, and no connection has lost its judgement
+-- both sides are judged; a connection may have lost its judgement
 pub record IsCalm (c : Course) : Type 0 where
-  pub firm : c.loose ≡ false
   pub left : c.left_stopped ≡ false
   pub right : c.right_stopped ≡ false
 
 pub calm_before : (a b : Course) → Lasts a b → IsCalm b → IsCalm a
-calm_before a b l h = record { firm = l.firm h.firm; left = l.left h.left; right = l.right h.right }
+calm_before a b l h = record { left = l.left h.left; right = l.right h.right }
 
-pub by_reach : {A : Type 0} (k : Option Class) (b : Bool) (c : Course) → IsCalm (reached Left (reach_by k b) c) → A
-by_reach k b c h = grind (arith, differ)
+pub by_reach : {A : Type 0} (k : Option Class) (c : Course) → IsCalm (reached Left (reach_by k false) c) → A
+by_reach None c h = differ true refl h.left
+by_reach (Some Zero) c h = differ true refl h.left
+by_reach (Some Two) c h = differ true refl h.left
 
-bad : {A : Type 0} (k : Option Class) (r : Rule) (c : Course) → passes_over r ≡ false → IsCalm (reached Left (reach_of k (Broke r)) c) → A
-bad k r c e h = grind (arith, by_reach)
+-- a break that is not of one connection, and that no taker passes over
+abbrev IsHard : Rule → Type 0
+IsHard r = (passes_over r ≡ false) × (is_of_connection r ≡ false)
 
-past_by : (b : Bool) (j k : Option Class) (r : Rule) (c : Course) → passes_over r ≡ b →
-    IsCalm (reached Left (reach_past b (reach_by k (is_of_connection r))) c) → reach_of j (Broke r) ≡ reach.Nothing
-past_by b j k r c e h = grind (arith, by_reach)
+bad_by : {A : Type 0} (k : Option Class) (past one : Bool) (c : Course) → past ≡ false → one ≡ false →
+    IsCalm (reached Left (reach_past past (reach_by k one)) c) → A
+bad_by k true one c e f h = differ true refl e
+bad_by k false true c e f h = differ true refl f
+bad_by k false false c e f h = by_reach k c h
 
--- so nothing is left out after it, in whatever class
-pub calm_reach : (j k : Option Class) (f : Finding) (c : Course) → IsCalm (reached Left (reach_of k f) c) → reach_of j f ≡ reach.Nothing
-calm_reach j k f c h = grind (arith, differ, past_by)
+bad : {A : Type 0} (k : Option Class) (r : Rule) (c : Course) → IsHard r → IsCalm (reached Left (reach_of k (Broke r)) c) → A
+bad k r c (e, f) h = bad_by k (passes_over r) (is_of_connection r) c e f h
+
+side_bad : {A : Type 0} (past one : Bool) (c : Course) → past ≡ false →
+    IsCalm (reached Left (reach_past past (reach_by (Some Zero) one)) c) → A
+side_bad true one c e h = differ true refl e
+side_bad false one c e h = differ true refl h.left
+
+-- How far it reaches is known then: as in class 2, and not to all.
+pub record IsNear (k : Option Class) (f : Finding) : Type 0 where
+  pub two : reach_of k f ≡ reach_of (Some Two) f
+  pub part : reach_of (Some Two) f ≡ reach.Everything → ⊥
+
+nothing_not : reach.Nothing ≡ reach.Everything → ⊥
+nothing_not e = cc
+
+connection_not : reach.Connection ≡ reach.Everything → ⊥
+connection_not e = cc
+
+near_by : (k : Option Class) (past one : Bool) (c : Course) → IsCalm (reached Left (reach_past past (reach_by k one)) c) →
+    (reach_past past (reach_by k one) ≡ reach_past past (reach_by (Some Two) one))
+    × (reach_past past (reach_by (Some Two) one) ≡ reach.Everything → ⊥)
+near_by k true one c h = (refl, nothing_not)
+near_by None false one c h = differ true refl h.left
+near_by (Some Zero) false one c h = differ true refl h.left
+near_by (Some Two) false true c h = (refl, connection_not)
+near_by (Some Two) false false c h = differ true refl h.left
+
+pub calm_near : (k : Option Class) (f : Finding) (c : Course) → IsCalm (reached Left (reach_of k f) c) → IsNear k f
+calm_near k Kept c h = record { two = refl; part = nothing_not }
+calm_near k NotJudged c h = record { two = refl; part = nothing_not }
+calm_near k Outside c h = differ true refl h.left
+calm_near k TooMany c h = differ true refl h.left
+calm_near k (Broke r) c h =
+    let n = near_by k (passes_over r) (is_of_connection r) c h in record { two = n.0; part = n.1 }
 
 -- ---- which unit it is
 
@@ -60,16 +91,15 @@ pub data Came (v : Value) (s : Traffic) (o : Outcome) : Type 0 where
   lost : IsDc v → s.course.strays ≡ true → o.state ≡ s → Came v s o
 
 -- the tests of a CR
-request_by : (a b c d : Bool) → b ≡ true → (f : Finding) →
+request_by : (a b c d : Bool) (f : Finding) →
     first_failed ((a, Broke rule.Negotiating) ∷ (b, TooMany) ∷ (c, Broke rule.ReferenceInUse) ∷ (d, TooMany) ∷ []) ≡ f →
     (f ≡ Kept) ⊎ (((k : Option Class) (course : Course) → IsCalm (reached Left (reach_of k f) course) → ⊥) × (f ≡ NotJudged → ⊥))
-request_by a b c d h f e = grind (arith, bad, differ)
+request_by a b c d f e = grind (arith, bad, differ)
 
 not_kept : (x : Connect) (s : Traffic) (f : Finding) → (f ≡ Kept → ⊥) → asks_by Left f x s ≡ none_told Left f s
 not_kept x s f h = grind arith
 
-module _ (v : Value) (s : Traffic) (judged : HoldsOfEach IsJudged s.connections) (left : s.course.left_stopped ≡ false)
-    (firm : s.course.loose ≡ false) (right : s.course.right_stopped ≡ false) where
+module _ (v : Value) (s : Traffic) (left : s.course.left_stopped ≡ false) (right : s.course.right_stopped ≡ false) where
   abbrev Comes : Outcome → Type 0
   Comes o = IsCalm o.state.course → Came v s o
 
@@ -86,16 +116,22 @@ module _ (v : Value) (s : Traffic) (judged : HoldsOfEach IsJudged s.connections)
   asks_came : (x : Connect) → v ≡ request x → (s.course.class_seen ≡ Some Zero → ⊥) →
       Comes (asks_by Left (first_failed (request_tests s x)) x s)
   asks_came x e class h =
-      let b : not (list_any (is_not_judged x.source) s.connections) ≡ true = ap not (any_none (is_not_judged x.source) s.connections
-      (λ i c at. not_judged_not c.is_judged (c.left.reference == x.source) (judged i c at))) in
       asks_by_case x e class (request_by (is_some s.course.class_seen || list_all (is_over Left) s.connections)
       (not (list_any (is_not_judged x.source) s.connections)) (not (list_any (uses Left x.source) s.connections))
-      (has_place s.connections) b
+      (has_place s.connections)
       (first_failed (request_tests s x)) refl) h
 
-  unknown_bad : {A : Type 0} (w : Value) (r : Rule) → passes_over r ≡ false → unnamed_by s.course.strays w ≡ Broke r →
+  doubt_bad : {A : Type 0} (loose : Bool) (k : Option Class) (f : Finding) (r : Rule) (c : Course) → IsHard r → f ≡ Broke r →
+      IsCalm (reached Left (reach_of k (if loose then in_doubt f else f)) c) → A
+  doubt_bad true k f r c hard is h =
+      differ true refl (subst (λ (g : Finding). IsCalm (reached Left (reach_of k (in_doubt g)) c)) is h).left
+  doubt_bad false k f r c hard is h = bad k r c hard (subst (λ (g : Finding). IsCalm (reached Left (reach_of k g) c)) is h)
+
+  unknown_bad : {A : Type 0} (w : Value) → unnamed_by s.course.strays w ≡ Broke rule.UnknownReference →
       IsCalm (unnamed_told Left w s).state.course → A
-  unknown_bad w r past_not is h = search (arith, bad)
+  unknown_bad w is h =
+      let mid = course_after_none w s.course in
+      doubt_bad s.course.loose (class_for Left mid) (unnamed_by s.course.strays w) rule.UnknownReference mid (refl, refl) is h
 
   -- a DC for no connection
   dc_none : (m n : ℕ) → v ≡ disconnected m n → (b : Bool) → s.course.strays ≡ b → Comes (unnamed_told Left (disconnected m n) s)
@@ -120,7 +156,7 @@ module _ (v : Value) (s : Traffic) (judged : HoldsOfEach IsJudged s.connections)
   at_name n None e d h = unnamed_came h
   at_name n (Some q) e d h = at_item n q (slice_get s.connections q) refl e d h
 
-  wrong : (r : Rule) → passes_over r ≡ false → Comes (none_told Left (Broke r) s)
+  wrong : (r : Rule) → IsHard r → Comes (none_told Left (Broke r) s)
   wrong r e h = bad s.course.class_seen r s.course e h
 
   at_live : (q : ℕ) (o : Option Connection) → slice_get s.connections q ≡ o → s.course.class_seen ≡ Some Zero →
@@ -132,22 +168,27 @@ module _ (v : Value) (s : Traffic) (judged : HoldsOfEach IsJudged s.connections)
   at_only None zero h = unnamed_came h
   at_only (Some q) zero h = at_live q (slice_get s.connections q) refl zero h
 
-  error_wrong : (destination cause : ℕ) → Comes (routed Left v s (route_in (Some Zero) Left (is_stopped Right s.course)
+  zero_wrong : (r : Rule) → passes_over r ≡ false → s.course.class_seen ≡ Some Zero → Comes (none_told Left (Broke r) s)
+  zero_wrong r e zero h = side_bad (passes_over r) (is_of_connection r) s.course e
+      (subst (λ (k : Option Class). IsCalm (reached Left (reach_of k (Broke r)) s.course)) zero h)
+
+  error_wrong : (destination cause : ℕ) → s.course.class_seen ≡ Some Zero →
+      Comes (routed Left v s (route_in (Some Zero) Left (is_stopped Right s.course)
       (error destination cause)))
-  error_wrong destination cause = grind (arith, wrong)
+  error_wrong destination cause zero = grind (arith, zero_wrong)
 
   routes : (k : Option Class) → s.course.class_seen ≡ k → (w : Value) → v ≡ w →
       Comes (routed Left v s (route_in k Left (is_stopped Right s.course) w))
-  routes (Some Zero) h (request x) e = wrong rule.OneConnection refl
+  routes (Some Zero) h (request x) e = wrong rule.OneConnection (refl, refl)
   routes (Some Zero) h (disconnected destination source) e =
       at_name destination (position (is_named Left destination) s.connections) refl (ap destination_of e)
   routes (Some Zero) h (data0 end user) e = at_only (position (is_live Left) s.connections) h
-  routes (Some Zero) h (error destination cause) e = error_wrong destination cause
-  routes (Some Zero) h _ e = wrong rule.WrongForm refl
+  routes (Some Zero) h (error destination cause) e = error_wrong destination cause h
+  routes (Some Zero) h _ e = zero_wrong rule.WrongForm refl h
   routes None h (request x) e = subst (λ (u : Value). Comes (asks_of Left u s)) (sym e) (asks_came x e (λ zero. cc (sym h ∙ zero)))
   routes None h (disconnected destination source) e =
       at_name destination (position (is_named Left destination) s.connections) refl (ap destination_of e)
-  routes None h _ e = wrong rule.UnexpectedUnit refl
+  routes None h _ e = wrong rule.UnexpectedUnit (refl, refl)
   routes (Some Two) h (request x) e = subst (λ (u : Value). Comes (asks_of Left u s)) (sym e) (asks_came x e (λ zero. cc (sym h ∙ zero)))
   routes (Some Two) h (confirm destination x) e =
       at_name destination (position (is_named Left destination) s.connections) refl (ap destination_of e)
@@ -155,7 +196,7 @@ module _ (v : Value) (s : Traffic) (judged : HoldsOfEach IsJudged s.connections)
       at_name destination (position (is_named Left destination) s.connections) refl (ap destination_of e)
   routes (Some Two) h (disconnected destination source) e =
       at_name destination (position (is_named Left destination) s.connections) refl (ap destination_of e)
-  routes (Some Two) h (data0 end user) e = wrong rule.UnexpectedUnit refl
+  routes (Some Two) h (data0 end user) e = wrong rule.UnexpectedUnit (refl, refl)
   routes (Some Two) h (data2 destination number end user) e =
       at_name destination (position (is_named Left destination) s.connections) refl (ap destination_of e)
   routes (Some Two) h (acknowledge credit destination number) e =

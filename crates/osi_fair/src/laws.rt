@@ -289,16 +289,18 @@ pub fn a_calling_end_is_fair()
 
 /// A whole called end is fair. Take any run of it, whatever classes it offers: any calls of its user, whatever units the other side
 /// sends, however many connections, memory that runs out at any time, and a tap anywhere between the two ends. Then each unit of
-/// the end that passes is right: a CC, a DR that refuses a CR, and what it puts on an open connection of either class; or it is a
-/// DC that is not judged, since a DR has passed that closed nothing. This holds as long as the other side is judged, and no
-/// connection has lost its judgement because that side broke a rule (`judged`). In class 0 each unit of the end is right as long as the
-/// end itself is judged: also after the other side has broken a rule, and isn't judged any more (`in_class_0`).
+/// the end that passes is right: a CC, a DR that refuses a CR, and what it puts on an open connection of either class; or it is not
+/// judged, since a DR has passed that closed nothing, or a connection has lost its judgement because the other side broke a rule.
+/// This holds as long as the other side is judged, however many connections have lost their judgement (`judged`). In class 0 each unit of
+/// the end is right as long as the end itself is judged: also after the other side has broken a rule, and isn't judged any more
+/// (`in_class_0`).
 pub fn a_called_end_is_fair()
     ensures judged { (local : Local) (events : List Event) (w : Whole) (unit : Value) (rest : List Value) →
         HappenAlong Direction.Right (begin false local) events w → w.begun ≡ true → w.put ≡ unit ∷ rest →
-        is_stopped Direction.Left w.tap.course ≡ false → w.tap.course.loose ≡ false →
+        is_stopped Direction.Left w.tap.course ≡ false →
         ((takes Direction.Right unit w.tap).told.finding ≡ Finding.Kept)
-        ⊎ (((takes Direction.Right unit w.tap).told.finding ≡ Finding.NotJudged) × (w.tap.course.strays ≡ true)) }
+        ⊎ (((takes Direction.Right unit w.tap).told.finding ≡ Finding.NotJudged)
+        × ((w.tap.course.strays ≡ true) ⊎ (w.tap.course.loose ≡ true))) }
     ensures in_class_0 { (local : Local) (events : List Event) (w : Whole) (unit : Value) (rest : List Value) →
         HappenAlong Direction.Right (begin false local) events w → w.begun ≡ true → w.put ≡ unit ∷ rest →
         is_stopped Direction.Right w.tap.course ≡ false → w.tap.course.loose ≡ false → w.tap.course.class ≡ Some Zero →

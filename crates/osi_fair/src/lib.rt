@@ -51,7 +51,9 @@
 //! - **A whole called end** is fair, whatever classes it offers and whatever DRs pass: [`laws::a_called_end_is_fair`]. Each unit that
 //!   it puts in class 2 has the place of a connection at the tap, whose CR it answers or whose line it is of. A DC for a DR that
 //!   closed nothing has none, and is not taken for the answer on another connection: its SRC-REF is a reference that the end has
-//!   closed, and the unit which closed that one passes first. After a CC for class 0 it puts DTs alone.
+//!   closed, and the unit which closed that one passes first. After a CC for class 0 it puts DTs alone. If the other side breaks a
+//!   rule of one connection, this is not judged any more; it keeps its references, so what the end puts for it names it, and what
+//!   the end puts for another names that one.
 //!
 //! What is not here: what the tap reads of the octets that an end writes. So the theorem on the octets of a whole end, as
 //! `osi_honest` has it for sessions of class 0, doesn't follow yet.

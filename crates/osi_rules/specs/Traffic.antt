@@ -236,7 +236,6 @@ one_told d place c v s =
 -- a unit for a reference of no connection
 abbrev pub unnamed_by : (strays : Bool) → Value → Finding
 unnamed_by true (disconnected destination source) = NotJudged
-unnamed_by false (disconnected destination source) = Broke rule.NothingToAnswer
 unnamed_by strays v = Broke rule.UnknownReference
 
 -- it breaks no rule if a connection that is not judged any more has got the reference since

@@ -100,7 +100,7 @@ fn unnamed_by(strays: bool, unit: &Tpdu<'_>) -> Finding
             if strays {
                 return Finding::NotJudged;
             }
-            Finding::Broke(Rule::NothingToAnswer)
+            Finding::Broke(Rule::UnknownReference)
         }
         _ => Finding::Broke(Rule::UnknownReference),
     }

@@ -235,7 +235,7 @@ pub use Rattle.osi_fair.proofs.what_lasts_at_the_tap.{lasts_passing}
 pub use Rattle.osi_fair.proofs.what_stays_of_each_connection.{left_then, own_stays, right_passes}
 pub use Rattle.osi_fair.proofs.what_the_other_side_closes.{is_name, IsClear, IsFirm}
 pub use Rattle.osi_fair.proofs.which_requests_are_put.{asked_among, call_asks, unit_asks}
-pub use Rattle.osi_fair.proofs.which_unit_comes_to_a_called_end.{asks_so, calm_before, calm_reach, Came, came_so, for_one, IsCalm, lost}
+pub use Rattle.osi_fair.proofs.which_unit_comes_to_a_called_end.{asks_so, Came, came_so, for_one, IsCalm, lost}
 pub use Rattle.osi_fair.proofs.which_unit_comes_to_a_called_end.{only}
 pub use Rattle.osi_fair.proofs.which_units_are_for_a_connection.{each_picked, first_kept, first_left, is_dc, IsDc, keep, leads, names}
 pub use Rattle.osi_fair.proofs.which_units_are_for_a_connection.{picked, picked_each, picked_first, picked_join, picked_more, picked_other}

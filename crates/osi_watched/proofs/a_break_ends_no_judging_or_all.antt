@@ -169,6 +169,13 @@ all_caused k (Broke rule) e = (cause.Broke rule, refl)
 
 -- ---- at the tap
 
+-- both sides are judged; a connection may have lost its judgement
+pub record IsGoing (c : Course) : Type 0 where
+  pub left : c.traffic.course.left_stopped ≡ false
+  pub right : c.traffic.course.right_stopped ≡ false
+  pub left_goes : c.left.halted ≡ None
+  pub right_goes : c.right.halted ≡ None
+
 breaks_halted : (m : Mark) (k : Marks) → (breaks m k).halted ≡ k.halted
 breaks_halted m k = by (is_break m.cause)
   where
@@ -237,6 +244,13 @@ module _ (d : Side) (at : ℕ) (v : Value) (c : Course) where
       ap (λ (r : Reach). (marks_of e (marked (mark k) r mid)).halted) is ∙ halted_by d e (mark k) mid
       ∙ ap (λ (m : Marks). m.halted) (mid_marks e)
 
+  halts_part : (e : Side) (k : Option Cause) → o.told.reach ≡ reach.Connection →
+      (marks_of e (noted_by d at v o.told k mid)).halted ≡ (marks_of e c).halted
+  halts_part e None is = ap (λ (m : Marks). m.halted) (mid_marks e)
+  halts_part e (Some k) is =
+      ap (λ (r : Reach). (marks_of e (marked (mark k) r mid)).halted) is ∙ halted_by d e (mark k) mid
+      ∙ ap (λ (m : Marks). m.halted) (mid_marks e)
+
   halts_by : (e : Side) (k : Cause) → is_some (marks_of e (marked (mark k) reach.Everything mid)).halted ≡ true
   halts_by side.Left k = some_earlier (changes d (breaks (mark k)) (first_marked (mark k) mid)).left.halted (mark k)
   halts_by side.Right k = some_earlier (changes d (breaks (mark k)) (first_marked (mark k) mid)).right.halted (mark k)
@@ -301,6 +315,27 @@ module _ (d : Side) (at : ℕ) (v : Value) (c : Course) where
         stops_so reach.Side is (way_of d) ∙ own_stops d (is_stopped (way_of d) c.traffic.course),
       )
 
+  pub nothing_goes : o.told.reach ≡ reach.Nothing → IsGoing c → IsGoing next
+  nothing_goes is j = record {
+    left = stops_so reach.Nothing is Left ∙ j.left;
+    right = stops_so reach.Nothing is Right ∙ j.right;
+    left_goes = halts_none side.Left (cause_of o.told.finding) is ∙ j.left_goes;
+    right_goes = halts_none side.Right (cause_of o.told.finding) is ∙ j.right_goes;
+  }
+
+  pub part_goes : o.told.reach ≡ reach.Connection → IsGoing c → IsGoing next
+  part_goes is j = record {
+    left = stops_so reach.Connection is Left ∙ j.left;
+    right = stops_so reach.Connection is Right ∙ j.right;
+    left_goes = halts_part side.Left (cause_of o.told.finding) is ∙ j.left_goes;
+    right_goes = halts_part side.Right (cause_of o.told.finding) is ∙ j.right_goes;
+  }
+
+  -- in class 0
+  pub side_known : o.told.reach ≡ reach.Side → IsKnownOnce c.traffic → c.traffic.course.class ≡ Some Zero
+  side_known is once =
+      zero_known d once (side_zero (class_for (way_of d) c.traffic.course) o.told.finding (sym reach_so.far ∙ is))
+
   pub far_of : (f : Finding) → o.told.finding ≡ f → o.told.reach ≡ reach_of (class_for (way_of d) c.traffic.course) f
   far_of f is = reach_so.far ∙ ap (reach_of (class_for (way_of d) c.traffic.course)) is
 
@@ -314,6 +349,14 @@ module _ (d : Side) (at : ℕ) (v : Value) (c : Course) where
   -- one that is no break ends no judging, or all
   pub none_ends : IsNoBreak o.told.finding → IsJudged c → IsJudged next ⊎ IsOver next
   none_ends none j = none_by o.told.finding refl none j
+
+  -- how far it reaches then
+  pub mild_reach : (f : Finding) → o.told.finding ≡ f → IsNoBreak f → (o.told.reach ≡ reach.Nothing) ⊎ (o.told.reach ≡ reach.Everything)
+  mild_reach Kept is none = inl (far_of Kept is)
+  mild_reach NotJudged is none = inl (far_of NotJudged is)
+  mild_reach TooMany is none = inr (far_of TooMany is)
+  mild_reach (Broke rule) is none = absurd none
+  mild_reach Outside is none = absurd none
 
   -- a unit that is no break of its side leaves it without one
   own_by : (f : Finding) → IsNoBreak f → (marks_of d (noted_by d at v o.told (cause_of f) mid)).broke ≡ (marks_of d c).broke
@@ -348,6 +391,10 @@ begins_judged side.Left c j =
     record { left = j.left; right = j.right; firm = j.firm; left_goes = j.left_goes; right_goes = j.right_goes }
 begins_judged side.Right c j =
     record { left = j.left; right = j.right; firm = j.firm; left_goes = j.left_goes; right_goes = j.right_goes }
+
+pub begins_going : (e : Side) (c : Course) → IsGoing c → IsGoing (packet_begins e c)
+begins_going side.Left c j = record { left = j.left; right = j.right; left_goes = j.left_goes; right_goes = j.right_goes }
+begins_going side.Right c j = record { left = j.left; right = j.right; left_goes = j.left_goes; right_goes = j.right_goes }
 
 -- ---- what can't be read
 

@@ -6,7 +6,7 @@ use Rattle.osi_fair.proofs.a_called_end_is_fair_in_class_0.{called_fair_in_class
 use Rattle.osi_fair.proofs.a_calling_end_is_fair.{calling_fair_in_class_0}
 use Rattle.osi_rules.specs.declared.directions.Direction.TheVariants.{Left, Right}
 use Rattle.osi_fair.specs.Wholes.{begin}
-use Rattle.osi_watched.proofs.the_first_break_is_not_of_an_end.{IsFairAlone, IsFairFrom, IsNoBreak}
+use Rattle.osi_watched.proofs.the_first_break_is_not_of_an_end.{IsFairAlone, IsFairFrom, IsFairThroughout, IsNoBreak}
 
 right_or_not_judged : {A : Type 0} (f : Finding) → (f ≡ Kept) ⊎ ((f ≡ NotJudged) × A) → IsNoBreak f
 right_or_not_judged f (inl is) = subst IsNoBreak (sym is) tt
@@ -17,9 +17,13 @@ right_or_too_many f (inl is) = subst IsNoBreak (sym is) tt
 right_or_too_many f (inr (inl is)) = subst IsNoBreak (sym is) tt
 right_or_too_many f (inr (inr (is, strays))) = subst IsNoBreak (sym is) tt
 
+pub called_is_fair_throughout : (local : Local) → IsFairThroughout Right (begin false local)
+called_is_fair_throughout local = λ events w unit rest along begun put judged.
+    right_or_not_judged _ (called_fair local events w unit rest along begun put judged)
+
 pub called_is_fair : (local : Local) → IsFairFrom Right (begin false local)
 called_is_fair local = λ events w unit rest along begun put judged firm.
-    right_or_not_judged _ (called_fair local events w unit rest along begun put judged firm)
+    called_is_fair_throughout local events w unit rest along begun put judged
 
 pub calling_is_fair : (local : Local) → IsFairFrom Left (begin true local)
 calling_is_fair local = λ events w unit rest along begun put judged firm.

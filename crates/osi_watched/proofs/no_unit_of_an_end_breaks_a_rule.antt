@@ -1,6 +1,6 @@
 -- A tap finds of no unit of an end that it breaks a rule of transport, as long as no break of the other side has ended the judging of
 -- one connection alone. For the law that the transport of an end is blamed nowhere.
-use Rattle.std.proofs.Common.{◌≡◌, ◌∙◌, ℕ, Bool, true, false, List, [], ◌∷◌, None, inl, inr, ◌⊎◌}
+use Rattle.std.proofs.Common.{◌≡◌, ◌∙◌, ℕ, Bool, true, false, List, [], ◌∷◌, None, Some, inl, inr, ◌⊎◌}
 use Rattle.std.proofs.Common.{refl, sym, ap, subst}
 use Rattle.osi_tpdu.specs.Value.{Value}
 use Rattle.osi_class.specs.declared.terms.Local.{Local}
@@ -9,10 +9,21 @@ use Rattle.osi_judge.specs.declared.directions.Direction.{Direction}
 use Rattle.osi_judge.specs.declared.directions.Direction.TheVariants.{Left, Right}
 use Rattle.osi_rules.specs.declared.findings.Reach.{Reach}
 use Rattle.osi_rules.specs.declared.findings.Reach.TheVariants as reach
+use Rattle.std.specs.Prelude.{Option, is_some}
+use Rattle.osi_class.specs.declared.terms.Class.{Class}
+use Rattle.osi_rules.specs.Reaches.{reach_by}
 use Rattle.osi_rules.specs.Sides as sides
+use Rattle.osi_rules.specs.Traffic as traffic
+use Rattle.osi_rules.specs.Traffic.{class_for}
+use Rattle.osi_watched.proofs.what_a_unit_leaves_at_a_tap.{IsJudged, IsOver}
 use Rattle.osi_rules.specs.Traffic.{State as Traffic, is_stopped, takes}
 use Rattle.osi_fair.specs.Pieces.{units_in}
+use Rattle.osi_fair.specs.Naming.{packet as packet_passing, unit as unit_passing}
 use Rattle.osi_fair.specs.Wholes as wholes
+use Rattle.osi_fair.proofs.a_connection_is_lost_in_class_2_alone.{IsOfTwo, firm_unless_two, still_two}
+use Rattle.osi_class.specs.declared.terms.Class.TheVariants.{Two, Zero}
+use Rattle.osi_rules.specs.declared.courses.Course.{Course as Judging}
+use Rattle.osi_rules.specs.declared.directions.Direction.TheVariants as way
 use Rattle.osi_stack.specs.State.{Holding}
 use Rattle.osi_honest.specs.Seeing.{IsFresh}
 use Rattle.osi_honest.proofs.class_0.what_a_packet_does_in_class_0.{AllProper}
@@ -22,33 +33,28 @@ use Rattle.osi_tap.specs.Tapping.{comes_to}
 use Rattle.osi_watched.specs.Joint.{Joint, Step, Steps, StepsAlong, begin, begins_other, begins_own, passes_other, passes_own, turns}
 use Rattle.osi_watched.specs.Passing.{ComesBySteps}
 use Rattle.osi_watched.specs.Spoilt.{GoesOn, LaterAlong, LaterSteps, spoilt}
-use Rattle.osi_watched.proofs.a_break_ends_no_judging_or_all.{IsLeft, all_ends, begins_judged, left_claim, loose_so, none_ends}
-use Rattle.osi_watched.proofs.a_break_ends_no_judging_or_all.{nothing_ends}
+use Rattle.osi_watched.proofs.a_break_ends_no_judging_or_all.{IsGoing, IsLeft, all_ends, begins_going, left_claim, loose_so}
+use Rattle.osi_watched.proofs.a_break_ends_no_judging_or_all.{known_too, mild_reach, nothing_goes, part_goes, refused_over, side_known, unread_if}
 use Rattle.osi_watched.proofs.a_break_ends_no_judging_or_all.{other_unbroken, own_unbroken, unread_unbroken}
 use Rattle.osi_watched.proofs.an_end_that_is_judged_alone_stays_so.{own_alone}
-use Rattle.osi_watched.proofs.in_class_0_one_side_alone_is_judged.{AfterUnread, IsAlone, IsLoose, all_over, alone, alone_begins}
+use Rattle.osi_watched.proofs.in_class_0_one_side_alone_is_judged.{AfterUnread, IsAlone, IsLoose}
+use Rattle.osi_watched.proofs.in_class_0_one_side_alone_is_judged.{all_over, alone, alone_begins}
 use Rattle.osi_watched.proofs.in_class_0_one_side_alone_is_judged.{alone_other}
 use Rattle.osi_watched.proofs.in_class_0_one_side_alone_is_judged.{alone_own, alone_unread, loose_claim, unit_alone, unread_alone}
 use Rattle.osi_watched.proofs.later_steps_are_events.{later_followed, spoilt_followed}
 use Rattle.osi_watched.proofs.steps_are_events.{IsFollowed, begin_followed, own_first, step_followed}
-use Rattle.osi_watched.proofs.the_first_break_is_not_of_an_end.{IsFairAlone, IsFairFrom, IsNoBreak}
-use Rattle.osi_watched.proofs.what_a_unit_leaves_at_a_tap.{IsJudged, IsOver}
+use Rattle.osi_watched.proofs.the_first_break_is_not_of_an_end.{IsFairAlone, IsFairFrom, IsFairIf, IsFairThroughout, IsNoBreak}
 use Rattle.osi_watched.proofs.sessions.class_0_is_known_once_it_is_selected.{IsKnownOnce, joint_known_once, unit_known_once}
 use Rattle.osi_watched.proofs.sessions.connections_have_the_same_places.{unit_knows}
 
--- all that passes is judged, and this side has broken no rule
-pub record IsWhole (d : Direction) (c : Course) : Type 0 where
-  pub judged : IsJudged c
-  pub unbroken : (marks_of d c).broke ≡ None
+-- What is asked of a tap for the fairness of an end (`Asks`): nothing, or that no connection has lost its judgement. If that is asked, the
+-- end may be blamed after a loss (`May`).
+pub record IsAsked (Asks : Judging → Type 0) (May : Type 0) : Type 0 where
+  pub same : (a b : Judging) → b.loose ≡ a.loose → Asks a → Asks b
+  pub lost : (c : Judging) → Asks c ⊎ May
+  pub fresh : Asks (fresh.traffic.course)
 
--- or nothing is judged any more; or in class 0 this side alone; or a connection has lost its judgement
-pub data IsBlamedNowhere (d : Direction) (c : Course) : Type 0 where
-  is_whole : IsWhole d c → IsBlamedNowhere d c
-  is_left : IsLeft d c → IsBlamedNowhere d c
-  is_alone : IsAlone d c → (marks_of d c).broke ≡ None → IsBlamedNowhere d c
-  is_loose : IsLoose c → IsBlamedNowhere d c
-
-other_goes : (d : Direction) (c : Course) → IsJudged c → is_stopped (sides.other (way_of d)) c.traffic.course ≡ false
+other_goes : (d : Direction) (c : Course) → IsGoing c → is_stopped (sides.other (way_of d)) c.traffic.course ≡ false
 other_goes Left c j = j.right
 other_goes Right c j = j.left
 
@@ -56,99 +62,166 @@ begins_marks : (d e : Direction) (c : Course) → (marks_of d (packet_begins e c
 begins_marks Left e c = refl
 begins_marks Right e c = refl
 
-module _ (d : Direction) where
+begins_two : (e : Direction) (c : Course) → IsOfTwo c.traffic.course → IsOfTwo (packet_begins e c).traffic.course
+begins_two Left c h = still_two (packet_passing way.Left) c.traffic h
+begins_two Right c h = still_two (packet_passing way.Right) c.traffic h
+
+begins_loose : (e : Direction) (c : Course) → (packet_begins e c).traffic.course.loose ≡ c.traffic.course.loose
+begins_loose Left c = refl
+begins_loose Right c = refl
+
+zero_not : Some Zero ≡ Some Two → ⊥
+zero_not e = cc e
+
+goes_on : (e : Direction) (c : Course) → IsGoing c → is_some (marks_of e c).halted ≡ false
+goes_on Left c j = ap is_some j.left_goes
+goes_on Right c j = ap is_some j.right_goes
+
+judged_of : (c : Course) → IsGoing c → c.traffic.course.loose ≡ false → IsJudged c
+judged_of c j firm = record { left = j.left; right = j.right; firm = firm; left_goes = j.left_goes; right_goes = j.right_goes }
+
+-- a connection is lost in class 2 alone
+firm_in_zero : (c : Course) → IsOfTwo c.traffic.course → c.traffic.course.class ≡ Some Zero → c.traffic.course.loose ≡ false
+firm_in_zero c h zero = firm_unless_two c.traffic.course h (λ e. zero_not (sym zero ∙ e))
+
+module _ (d : Direction) (Asks : Judging → Type 0) (May : Type 0) (asked : IsAsked Asks May) where
+  -- both sides are judged, and this side has broken no rule
+  pub record IsWhole (c : Course) : Type 0 where
+    pub going : IsGoing c
+    pub two : IsOfTwo c.traffic.course
+    pub asks : Asks c.traffic.course
+    pub unbroken : (marks_of d c).broke ≡ None
+
+  -- or nothing is judged any more; or in class 0 this side alone; or a connection has lost its judgement
+  pub data IsBlamedNowhere (c : Course) : Type 0 where
+    is_whole : IsWhole c → IsBlamedNowhere c
+    is_left : IsLeft d c → IsBlamedNowhere c
+    is_alone : IsAlone d c → (marks_of d c).broke ≡ None → IsBlamedNowhere c
+    is_loose : May → IsLoose c → IsBlamedNowhere c
+
   -- what stays, whatever passes
-  begins_so : (e : Direction) (c : Course) → IsBlamedNowhere d c → IsBlamedNowhere d (packet_begins e c)
-  begins_so e c (is_whole w) = is_whole (record { judged = begins_judged e c w.judged; unbroken = begins_marks d e c ∙ w.unbroken })
+  begins_so : (e : Direction) (c : Course) → IsBlamedNowhere c → IsBlamedNowhere (packet_begins e c)
+  begins_so e c (is_whole w) = is_whole (record {
+    going = begins_going e c w.going;
+    two = begins_two e c w.two;
+    asks = asked.same c.traffic.course (packet_begins e c).traffic.course (begins_loose e c) w.asks;
+    unbroken = begins_marks d e c ∙ w.unbroken;
+  })
   begins_so e c (is_left l) = is_left ((left_claim d).begins e c l)
   begins_so e c (is_alone a none) = is_alone (alone_begins d e c a) (begins_marks d e c ∙ none)
-  begins_so e c (is_loose p) = is_loose (loose_claim.begins e c p)
+  begins_so e c (is_loose may p) = is_loose may (loose_claim.begins e c p)
 
-  other_by : (at : ℕ) (v : Value) (c : Course) → IsKnownOnce c.traffic → IsWhole d c → (r : Reach) →
-      (takes (way_of (other d)) v c.traffic).told.reach ≡ r → IsBlamedNowhere d (unit_passes (other d) at v c)
-  other_by at v c once w reach.Nothing is =
-      is_whole (record { judged = nothing_ends (other d) at v c is w.judged; unbroken = other_unbroken d at v c ∙ w.unbroken })
-  other_by at v c once w reach.Connection is = is_loose (loose_so (other d) at v c reach.Connection is)
-  other_by at v c once w reach.Side is = is_alone (unit_alone d at v c w.judged once is) (other_unbroken d at v c ∙ w.unbroken)
+  unit_two : (e : Direction) (at : ℕ) (v : Value) (c : Course) → IsOfTwo c.traffic.course → IsOfTwo (unit_passes e at v c).traffic.course
+  unit_two e at v c h = subst (λ (s : Traffic). IsOfTwo s.course) (sym (unit_knows e at v c))
+      (still_two (unit_passing (way_of e) v) c.traffic h)
+
+  other_lost : (at : ℕ) (v : Value) (c : Course) → IsWhole c → (takes (way_of (other d)) v c.traffic).told.reach ≡ reach.Connection →
+      Asks (unit_passes (other d) at v c).traffic.course ⊎ May → IsBlamedNowhere (unit_passes (other d) at v c)
+  other_lost at v c w is (inl asks) = is_whole (record {
+    going = part_goes (other d) at v c is w.going;
+    two = unit_two (other d) at v c w.two;
+    asks = asks;
+    unbroken = other_unbroken d at v c ∙ w.unbroken;
+  })
+  other_lost at v c w is (inr may) = is_loose may (loose_so (other d) at v c reach.Connection is)
+
+  other_by : (at : ℕ) (v : Value) (c : Course) → IsKnownOnce c.traffic → IsWhole c → (r : Reach) →
+      (takes (way_of (other d)) v c.traffic).told.reach ≡ r → IsBlamedNowhere (unit_passes (other d) at v c)
+  other_by at v c once w reach.Nothing is = is_whole (record {
+    going = nothing_goes (other d) at v c is w.going;
+    two = unit_two (other d) at v c w.two;
+    asks = asked.same c.traffic.course (unit_passes (other d) at v c).traffic.course (loose_so (other d) at v c reach.Nothing is) w.asks;
+    unbroken = other_unbroken d at v c ∙ w.unbroken;
+  })
+  other_by at v c once w reach.Connection is = other_lost at v c w is (asked.lost (unit_passes (other d) at v c).traffic.course)
+  other_by at v c once w reach.Side is =
+      is_alone (unit_alone d at v c (judged_of c w.going (firm_in_zero c w.two (side_known (other d) at v c is once))) once is)
+      (other_unbroken d at v c ∙ w.unbroken)
   other_by at v c once w reach.Everything is =
       is_left (record { over = all_ends (other d) at v c is; unbroken = other_unbroken d at v c ∙ w.unbroken })
 
-  others_pass : (at : ℕ) (units : List Value) (c : Course) → IsKnownOnce c.traffic → IsBlamedNowhere d c →
-      IsBlamedNowhere d (units_pass (other d) at units c)
+  others_pass : (at : ℕ) (units : List Value) (c : Course) → IsKnownOnce c.traffic → IsBlamedNowhere c →
+      IsBlamedNowhere (units_pass (other d) at units c)
   others_pass at [] c once h = h
   others_pass at (v ∷ units) c once h =
       others_pass at units (unit_passes (other d) at v c)
       (subst IsKnownOnce (sym (unit_knows (other d) at v c)) (unit_known_once (way_of (other d)) v c.traffic once)) (by h)
     where
-      by : IsBlamedNowhere d c → IsBlamedNowhere d (unit_passes (other d) at v c)
+      by : IsBlamedNowhere c → IsBlamedNowhere (unit_passes (other d) at v c)
       by (is_whole w) = other_by at v c once w (takes (way_of (other d)) v c.traffic).told.reach refl
       by (is_left l) = is_left ((left_claim d).passes (other d) at v c l)
       by (is_alone a none) = is_alone (alone_other d at v c a) (other_unbroken d at v c ∙ none)
-      by (is_loose p) = is_loose (loose_claim.passes (other d) at v c p)
+      by (is_loose may p) = is_loose may (loose_claim.passes (other d) at v c p)
 
-  module _ (proper : AllProper) (is_caller : Bool) (local : Local) (fair : IsFairFrom (way_of d) (wholes.begin is_caller local))
+  module _ (proper : AllProper) (is_caller : Bool) (local : Local) (fair : IsFairIf Asks (way_of d) (wholes.begin is_caller local))
       (fair_alone : IsFairAlone (way_of d) (wholes.begin is_caller local)) where
     abbrev first : wholes.Whole
     first = wholes.begin is_caller local
 
     -- a unit of the end is no break: it is fair
-    own_none : (at : ℕ) (v : Value) (old new : Joint) → Steps d (passes_own at v) old new → IsFollowed d first old → IsJudged old.course →
+    own_none : (at : ℕ) (v : Value) (old new : Joint) → Steps d (passes_own at v) old new → IsFollowed d first old → IsWhole old.course →
         IsNoBreak (takes (way_of d) v old.course.traffic).told.finding
-    own_none at v old new (read, octets, put, begun, is) f j =
+    own_none at v old new (read, octets, put, begun, is) f w =
         let s = own_first d first old new v (read, octets, put) f in
         subst (λ (t : Traffic). IsNoBreak (takes (way_of d) v t).told.finding) f.tap
         (fair f.events f.whole v s.rest f.along (f.begun ∙ begun) s.is
-        (ap (λ (t : Traffic). is_stopped (sides.other (way_of d)) t.course) f.tap ∙ other_goes d old.course j)
-        (ap (λ (t : Traffic). t.course.loose) f.tap ∙ j.firm))
+        (ap (λ (t : Traffic). is_stopped (sides.other (way_of d)) t.course) f.tap ∙ other_goes d old.course w.going)
+        (subst (λ (t : Traffic). Asks t.course) (sym f.tap) w.asks))
 
     own_passes_so : (at : ℕ) (v : Value) (old new : Joint) → Steps d (passes_own at v) old new → IsFollowed d first old →
-        IsBlamedNowhere d old.course → IsBlamedNowhere d (unit_passes d at v old.course)
+        IsBlamedNowhere old.course → IsBlamedNowhere (unit_passes d at v old.course)
     own_passes_so at v old new step f (is_left l) = is_left ((left_claim d).passes d at v old.course l)
     own_passes_so at v old new step f (is_alone a none) =
         let kept = own_alone d proper is_caller local fair_alone at v old new step f a in
         is_alone (alone_own d at v old.course kept a) (own_unbroken d at v old.course (subst IsNoBreak (sym kept) tt) ∙ none)
-    own_passes_so at v old new step f (is_loose p) = is_loose (loose_claim.passes d at v old.course p)
-    own_passes_so at v old new step f (is_whole w) = by (none_ends d at v old.course none w.judged)
+    own_passes_so at v old new step f (is_loose may p) = is_loose may (loose_claim.passes d at v old.course p)
+    own_passes_so at v old new step f (is_whole w) = by (mild_reach d at v old.course _ refl none)
       where
         none : IsNoBreak (takes (way_of d) v old.course.traffic).told.finding
-        none = own_none at v old new step f w.judged
+        none = own_none at v old new step f w
 
         unbroken : (marks_of d (unit_passes d at v old.course)).broke ≡ None
         unbroken = own_unbroken d at v old.course none ∙ w.unbroken
 
-        by : IsJudged (unit_passes d at v old.course) ⊎ IsOver (unit_passes d at v old.course) →
-            IsBlamedNowhere d (unit_passes d at v old.course)
-        by (inl j) = is_whole (record { judged = j; unbroken = unbroken })
-        by (inr o) = is_left (record { over = o; unbroken = unbroken })
+        by : ((takes (way_of d) v old.course.traffic).told.reach ≡ reach.Nothing)
+            ⊎ ((takes (way_of d) v old.course.traffic).told.reach ≡ reach.Everything) → IsBlamedNowhere (unit_passes d at v old.course)
+        by (inl is) = is_whole (record {
+          going = nothing_goes d at v old.course is w.going;
+          two = unit_two d at v old.course w.two;
+          asks = asked.same old.course.traffic.course (unit_passes d at v old.course).traffic.course
+              (loose_so d at v old.course reach.Nothing is) w.asks;
+          unbroken = unbroken;
+        })
+        by (inr is) = is_left (record { over = all_ends d at v old.course is; unbroken = unbroken })
 
-    step_so : (step : Step) (old new : Joint) → Steps d step old new → IsFollowed d first old → IsBlamedNowhere d old.course →
-        IsBlamedNowhere d new.course
-    step_so (turns turn) old new t f h = subst (IsBlamedNowhere d) (sym t.course) h
+    step_so : (step : Step) (old new : Joint) → Steps d step old new → IsFollowed d first old → IsBlamedNowhere old.course →
+        IsBlamedNowhere new.course
+    step_so (turns turn) old new t f h = subst IsBlamedNowhere (sym t.course) h
     step_so begins_own old new step f h =
-        subst (λ (j : Joint). IsBlamedNowhere d j.course) (sym step.2) (begins_so d old.course h)
+        subst (λ (j : Joint). IsBlamedNowhere j.course) (sym step.2) (begins_so d old.course h)
     step_so (passes_own at v) old new step f h =
-        subst (λ (j : Joint). IsBlamedNowhere d j.course) (sym step.4) (own_passes_so at v old new step f h)
+        subst (λ (j : Joint). IsBlamedNowhere j.course) (sym step.4) (own_passes_so at v old new step f h)
     step_so begins_other old new step f h =
-        subst (λ (j : Joint). IsBlamedNowhere d j.course) (sym step) (begins_so (other d) old.course h)
+        subst (λ (j : Joint). IsBlamedNowhere j.course) (sym step) (begins_so (other d) old.course h)
     step_so (passes_other at packet units) old new step f h =
-        subst (λ (j : Joint). IsBlamedNowhere d j.course) (sym step.2)
+        subst (λ (j : Joint). IsBlamedNowhere j.course) (sym step.2)
         (others_pass at units old.course (joint_known_once d is_caller local old f) h)
 
     -- and after what can't be read
-    later_so : (step : Step) (old new : Joint) → LaterSteps d step old new → IsFollowed d first old → IsBlamedNowhere d old.course →
-        IsBlamedNowhere d new.course
+    later_so : (step : Step) (old new : Joint) → LaterSteps d step old new → IsFollowed d first old → IsBlamedNowhere old.course →
+        IsBlamedNowhere new.course
     later_so (turns turn) old new t f h = step_so (turns turn) old new t f h
     later_so begins_own old new step f h = step_so begins_own old new step f h
     later_so (passes_own at v) old new step f h = step_so (passes_own at v) old new step f h
     later_so begins_other old new step f h = step_so begins_other old new step f h
     later_so (passes_other at packet units) old new step f h =
-        subst (λ (j : Joint). IsBlamedNowhere d j.course) (sym step.2)
+        subst (λ (j : Joint). IsBlamedNowhere j.course) (sym step.2)
         (others_pass at units old.course (joint_known_once d is_caller local old f) h)
 
     -- the end and the tap, and whether this side is blamed
     record Stood (j : Joint) : Type 0 where
       followed : IsFollowed d first j
-      nowhere : IsBlamedNowhere d j.course
+      nowhere : IsBlamedNowhere j.course
 
     along_so : (steps : List Step) (old new : Joint) → StepsAlong d old steps new → Stood old → Stood new
     along_so [] old new is h = subst Stood (sym is) h
@@ -171,15 +244,25 @@ module _ (d : Direction) where
       abbrev bad : Course
       bad = unread (other d) at cause c
 
-      unread_by : (marks_of d c).broke ≡ None → AfterUnread d bad → IsBlamedNowhere d bad
+      over_so : IsWhole c → traffic.refused_reach (way_of (other d)) c.traffic ≡ reach.Everything → IsOver bad
+      over_so w is = subst IsOver (sym (ap (λ (b : Bool). unread_if b (other d) at cause c) (goes_on (other d) c w.going)))
+          (refused_over (other d) at cause c is)
+
+      unread_whole : IsWhole c → (k : Option Class) → class_for (way_of (other d)) c.traffic.course ≡ k → AfterUnread d bad
+      unread_whole w None is = all_over (over_so w (ap (λ (x : Option Class). reach_by x false) is))
+      unread_whole w (Some Two) is = all_over (over_so w (ap (λ (x : Option Class). reach_by x false) is))
+      unread_whole w (Some Zero) is =
+          unread_alone d at cause c (judged_of c w.going (firm_in_zero c w.two (known_too (other d) at cause c (other d) once is))) once
+
+      unread_by : (marks_of d c).broke ≡ None → AfterUnread d bad → IsBlamedNowhere bad
       unread_by none (all_over o) = is_left (record { over = o; unbroken = unread_unbroken d at cause c ∙ none })
       unread_by none (alone a) = is_alone a (unread_unbroken d at cause c ∙ none)
 
-      unread_so : IsBlamedNowhere d c → IsBlamedNowhere d bad
-      unread_so (is_whole w) = unread_by w.unbroken (unread_alone d at cause c w.judged once)
+      unread_so : IsBlamedNowhere c → IsBlamedNowhere bad
+      unread_so (is_whole w) = unread_by w.unbroken (unread_whole w (class_for (way_of (other d)) c.traffic.course) refl)
       unread_so (is_left l) = is_left ((left_claim d).bad (other d) at cause c l)
       unread_so (is_alone a none) = is_alone (alone_unread d at cause c a) (unread_unbroken d at cause c ∙ none)
-      unread_so (is_loose p) = is_loose (loose_claim.bad (other d) at cause c p)
+      unread_so (is_loose may p) = is_loose may (loose_claim.bad (other d) at cause c p)
 
     spoilt_so : (at : ℕ) (cause : Cause) (packets : List (List ℕ)) → units_in packets ≡ [] → (j : Joint) → Stood j →
         Stood (spoilt d at cause packets j)
@@ -195,37 +278,57 @@ module _ (d : Direction) where
   nothing Right = refl
 
   pub never_blamed : AllProper → (is_caller : Bool) (local : Local) (h : Holding) (capture : Capture) → IsFresh is_caller local h →
-      IsFairFrom (way_of d) (wholes.begin is_caller local) → IsFairAlone (way_of d) (wholes.begin is_caller local) →
-      ComesBySteps d capture h → IsBlamedNowhere d (comes_to capture).course
+      IsFairIf Asks (way_of d) (wholes.begin is_caller local) → IsFairAlone (way_of d) (wholes.begin is_caller local) →
+      ComesBySteps d capture h → IsBlamedNowhere (comes_to capture).course
   never_blamed proper is_caller local h capture anew fair fair_alone comes = by comes.on
     where
       last : Stood proper is_caller local fair fair_alone comes.last
       last = along_so proper is_caller local fair fair_alone comes.steps (begin h) comes.last comes.along (record {
         followed = begin_followed d is_caller local h anew;
         nowhere = is_whole (record {
-          judged = record { left = refl; right = refl; firm = refl; left_goes = refl; right_goes = refl };
+          going = record { left = refl; right = refl; left_goes = refl; right_goes = refl };
+          two = record { lost = λ e. absurd (cc e); seen = λ e. absurd (cc e) };
+          asks = asked.fresh;
           unbroken = nothing d;
         });
       })
 
-      by : ((comes_to capture).course ≡ comes.last.course) ⊎ GoesOn d capture comes.last → IsBlamedNowhere d (comes_to capture).course
-      by (inl is) = subst (IsBlamedNowhere d) (sym is) last.nowhere
-      by (inr g) = subst (IsBlamedNowhere d) (sym g.all)
+      by : ((comes_to capture).course ≡ comes.last.course) ⊎ GoesOn d capture comes.last → IsBlamedNowhere (comes_to capture).course
+      by (inl is) = subst IsBlamedNowhere (sym is) last.nowhere
+      by (inr g) = subst IsBlamedNowhere (sym g.all)
           (later_along_so proper is_caller local fair fair_alone g.steps (spoilt d g.at g.cause g.packets comes.last) g.end g.along
           (spoilt_so proper is_caller local fair fair_alone g.at g.cause g.packets g.none comes.last last)).nowhere
 
   differ : {A : Type 0} (b : Bool) → b ≡ true → b ≡ false → A
   differ b h k = absurd (cc)
 
-  unbroken_by : (c : Course) → c.traffic.course.loose ≡ false → IsBlamedNowhere d c → (marks_of d c).broke ≡ None
+  unbroken_by : (c : Course) → (May → c.traffic.course.loose ≡ false) → IsBlamedNowhere c → (marks_of d c).broke ≡ None
   unbroken_by c firm (is_whole w) = w.unbroken
   unbroken_by c firm (is_left l) = l.unbroken
   unbroken_by c firm (is_alone a none) = none
-  unbroken_by c firm (is_loose loose) = differ c.traffic.course.loose loose firm
+  unbroken_by c firm (is_loose may loose) = differ c.traffic.course.loose loose (firm may)
 
-  pub firm_unbroken : AllProper → (is_caller : Bool) (local : Local) (h : Holding) (capture : Capture) → IsFresh is_caller local h →
-      IsFairFrom (way_of d) (wholes.begin is_caller local) → IsFairAlone (way_of d) (wholes.begin is_caller local) →
-      ComesBySteps d capture h → (comes_to capture).course.traffic.course.loose ≡ false →
+  asked_unbroken : AllProper → (is_caller : Bool) (local : Local) (h : Holding) (capture : Capture) → IsFresh is_caller local h →
+      IsFairIf Asks (way_of d) (wholes.begin is_caller local) → IsFairAlone (way_of d) (wholes.begin is_caller local) →
+      ComesBySteps d capture h → (May → (comes_to capture).course.traffic.course.loose ≡ false) →
       (marks_of d (comes_to capture).course).broke ≡ None
-  firm_unbroken proper is_caller local h capture anew fair fair_alone comes firm =
+  asked_unbroken proper is_caller local h capture anew fair fair_alone comes firm =
       unbroken_by (comes_to capture).course firm (never_blamed proper is_caller local h capture anew fair fair_alone comes)
+
+-- whatever connections have lost their judgement
+pub always_unbroken : (d : Direction) → AllProper → (is_caller : Bool) (local : Local) (h : Holding) (capture : Capture) →
+    IsFresh is_caller local h → IsFairThroughout (way_of d) (wholes.begin is_caller local) →
+    IsFairAlone (way_of d) (wholes.begin is_caller local) → ComesBySteps d capture h → (marks_of d (comes_to capture).course).broke ≡ None
+always_unbroken d proper is_caller local h capture anew fair fair_alone comes =
+    asked_unbroken d (λ c. Unit {0}) ⊥ (record { same = λ a b e k. tt; lost = λ c. inl tt; fresh = tt }) proper is_caller local h capture
+    anew (λ events w unit rest along begun put judged asks. fair events w unit rest along begun put judged) fair_alone comes
+    (λ may. absurd may)
+
+-- as long as none has
+pub firm_unbroken : (d : Direction) → AllProper → (is_caller : Bool) (local : Local) (h : Holding) (capture : Capture) →
+    IsFresh is_caller local h → IsFairFrom (way_of d) (wholes.begin is_caller local) →
+    IsFairAlone (way_of d) (wholes.begin is_caller local) → ComesBySteps d capture h →
+    (comes_to capture).course.traffic.course.loose ≡ false → (marks_of d (comes_to capture).course).broke ≡ None
+firm_unbroken d proper is_caller local h capture anew fair fair_alone comes firm =
+    asked_unbroken d (λ c. c.loose ≡ false) (Unit {0}) (record { same = λ a b e k. e ∙ k; lost = λ c. inr tt; fresh = refl }) proper
+    is_caller local h capture anew fair fair_alone comes (λ may. firm)

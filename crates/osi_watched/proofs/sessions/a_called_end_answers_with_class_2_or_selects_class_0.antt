@@ -18,7 +18,7 @@ module _ (local : Local) (j : Joint) (f : IsFollowed side.Right (begin false loc
   tap_clear = subst (λ (s : Traffic). IsClear s.course) (sym f.tap) clear
 
   by_stage : Stage local f.whole → AllByRecursion AnswersTwo j.put ⊎ Selecting local f.whole
-  by_stage (lines h c) =
+  by_stage (lines h c named) =
       inl (two_alike f.whole.put j.put (record { same = f.put; can = f.can; can_too = can })
       (put_answers_two local f.whole j.course.sessions h (called_joined local j f).apart
       ((called_joined local j f).judged tap_clear.sure.firm)

@@ -38,7 +38,7 @@ use Rattle.osi_watched.specs.Shown.{parts_of}
 use Rattle.osi_watched.specs.ShownPlaces.{HaveSamePlaces}
 use Rattle.osi_watched.proofs.a_carrier_does_events.{none_of}
 use Rattle.osi_watched.proofs.steps_are_events.{IsFollowed, begin_followed}
-use Rattle.osi_watched.proofs.sessions.a_called_end_of_class_2_has_its_lines.{HasLines, calm_of, has_lines}
+use Rattle.osi_watched.proofs.sessions.a_called_end_of_class_2_has_its_lines.{HasLines, has_lines}
 use Rattle.osi_watched.proofs.sessions.a_called_end_of_class_2_puts_no_dt_of_class_0.{called_turn_two}
 use Rattle.osi_watched.proofs.sessions.a_turn_does_what_its_deeds_say.{turn_leaves, turn_uses, units_join}
 use Rattle.osi_watched.proofs.sessions.a_unit_is_joined_where_it_is_named.{joined_named}
@@ -408,7 +408,7 @@ module _ (local : Local) where
       where
         by : (o : Option EndReason) → carrier.ended ≡ o → AllByRecursion (IsMarked Right old.course.traffic old.course.sessions) on.put
         by None lasts =
-            called_marked local deeds turn old new t on f (calm_of old.course.traffic.course clear) (two_so lasts) places news
+            called_marked local deeds turn old new t on f clear.sure (two_so lasts) places news
             (called_turn_two local deeds turn old new t on g.ahead.followed after.called)
         by (Some reason) gone =
             let done = over_acts turn old.holding new.holding (subst IsSome (sym gone) refl) t.takes in

@@ -12,7 +12,7 @@ use Rattle.osi_watched.proofs.sessions.a_called_end_has_its_lines.{called_joined
 use Rattle.osi_watched.proofs.sessions.units_written_alike_have_the_same_ccs.{AnswersTwo, AreAlike, first_not_zero}
 
 pub calm_of : (c : Course) → IsClear c → IsCalm c
-calm_of c h = record { firm = h.sure.firm; left = h.sure.left; right = h.sure.right }
+calm_of c h = record { left = h.sure.left; right = h.sure.right }
 
 -- with what keeps references apart at the tap
 pub record HasLines (local : Local) (w : Whole) : Type 0 where
@@ -27,7 +27,7 @@ module _ (local : Local) (j : Joint) (f : IsFollowed side.Right (begin false loc
   tap_clear = subst (λ (s : Traffic). IsClear s.course) (sym f.tap) clear
 
   by_stage : Stage local f.whole → HasLines local f.whole
-  by_stage (lines h c) = record {
+  by_stage (lines h c named) = record {
     called = h;
     end = c;
     apart = (called_joined local j f).apart;

@@ -39,7 +39,7 @@ class_by k h (inr e) = zero_two k h e
 
 -- all DTs
 pub dts_of : (local : Local) (w : Whole) → Stage local w → w.tap.course.class ≡ Some Zero → AllByRecursion IsDt0 w.put
-dts_of local w (lines h c) zero_is = class_by w.tap.course.class zero_is h.class
+dts_of local w (lines h c named) zero_is = class_by w.tap.course.class zero_is h.class
 dts_of local w (selecting z) zero_is = none_some w.tap.course.class Zero z.class zero_is
 dts_of local w (selected z) zero_is = all_data z.limit z.c.right.begun w.put (zero_puts z.limit w.end z.c.right.begun w.put z.end)
 
@@ -115,7 +115,6 @@ module _ (local : Local) where
   pub stage_of : (j : Joint) (f : IsFollowed Right first j) → IsFirm j.course.traffic.course → Stage local f.whole
   stage_of j f sure =
       (called_joined local j f).stage (record {
-        firm = ap (λ (s : State). s.course.loose) f.tap ∙ sure.firm;
         left = ap (λ (s : State). s.course.left_stopped) f.tap ∙ sure.left;
         right = ap (λ (s : State). s.course.right_stopped) f.tap ∙ sure.right;
       })

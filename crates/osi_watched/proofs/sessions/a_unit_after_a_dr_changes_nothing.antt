@@ -14,7 +14,8 @@ use Rattle.osi_watched.proofs.Vocabulary.{unnamed_by, Traffic as State, Connecti
 use Rattle.osi_watched.proofs.Vocabulary.{Phase, Closed, Closing, Open, Refused, Silent, Route, Asks, Named, Only, Unnamed, other}
 use Rattle.osi_watched.proofs.Vocabulary.{Direction, AreJudged, Joined, reference_of, unit_passes, way_of, HaveSamePlaces}
 use Rattle.osi_watched.proofs.Vocabulary.{IsOneOf}
-use Rattle.osi_rules.specs.Rows.{confirm_tests, disconnected_tests, error_tests}
+use Rattle.osi_rules.specs.Rows.{confirm_tests, disconnected_tests, error_tests, given_again}
+use Rattle.osi_rules.specs.Traffic.{in_doubt}
 use Rattle.osi_rules.specs.Sides as sides
 use Rattle.osi_rules.specs.Traffic as traffic
 use Rattle.osi_rules.specs.declared.directions.Direction.TheVariants as way
@@ -59,6 +60,10 @@ pub data MayFollow (v : Value) : Type 0 where
   a_link : (n : ℕ) → IsLink v n → MayFollow v
   a_dr : IsDr v → MayFollow v
 
+given_not : (loose : Bool) → IsFound (given_again loose) → ⊥
+given_not true h = cc
+given_not false h = cc
+
 found_follows : (d : Way) (course : Rules) (in_use : Bool) (c : Connection) (v : Value) → IsFound (found d course in_use c v) → MayFollow v
 found_follows d course in_use c (data2 n number end user) h = a_link n (dt number end user refl)
 found_follows d course in_use c (acknowledge credit n number) h = a_link n (ak credit number refl)
@@ -67,11 +72,12 @@ found_follows way.Left course in_use c (request x) h = absurd (cc)
 found_follows way.Right course in_use c (request x) h = absurd (cc)
 found_follows way.Left course in_use c (confirm n x) h = absurd (cc)
 found_follows way.Right course in_use c (confirm n x) h =
-    absurd (first_other (confirm_tests c course.class in_use x) (λ e. cc e, (λ e. cc e, (λ e. cc e, (λ e. cc e, (λ e. cc e, tt))))) h)
+    absurd (first_other (confirm_tests c course.class in_use course.loose x)
+    (λ e. cc e, (λ e. cc e, (λ e. cc e, (given_not course.loose, (λ e. cc e, tt))))) h)
 found_follows way.Left course in_use c (disconnected n source) h =
-    absurd (first_other (disconnected_tests way.Left c source course.strays) (λ e. cc e, (λ e. cc e, tt)) h)
+    absurd (first_other (disconnected_tests way.Left c source course.strays) (λ e. cc e, (λ e. cc e, (λ e. cc e, tt))) h)
 found_follows way.Right course in_use c (disconnected n source) h =
-    absurd (first_other (disconnected_tests way.Right c source course.strays) (λ e. cc e, (λ e. cc e, tt)) h)
+    absurd (first_other (disconnected_tests way.Right c source course.strays) (λ e. cc e, (λ e. cc e, (λ e. cc e, tt))) h)
 found_follows way.Left course in_use c (data0 end user) h =
     absurd (first_other (data0_tests way.Left c (length user)) (λ e. cc e, (λ e. cc e, tt)) h)
 found_follows way.Right course in_use c (data0 end user) h =
@@ -112,8 +118,12 @@ route_other (Some Two) way.Right b (request x) = λ e. cc e
 route_other (Some Two) way.Right b (data0 end user) = λ e. cc e
 route_other (Some Two) way.Right b _ = tt
 
-unnamed_not : (loose strays : Bool) (v : Value) → IsFound (if loose then NotJudged else unnamed_by strays v) → ⊥
-unnamed_not true strays v h = cc
+unnamed_not : (loose strays : Bool) (v : Value) →
+    IsFound (if loose then in_doubt (unnamed_by strays v) else unnamed_by strays v) → ⊥
+unnamed_not true true (disconnected n source) h = cc
+unnamed_not true false (disconnected n source) h = cc
+unnamed_not true true _ h = cc
+unnamed_not true false _ h = cc
 unnamed_not false true (disconnected n source) h = cc
 unnamed_not false false (disconnected n source) h = cc
 unnamed_not false true _ h = cc

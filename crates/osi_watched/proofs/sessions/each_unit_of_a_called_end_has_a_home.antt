@@ -7,7 +7,7 @@ use Rattle.osi_watched.proofs.Vocabulary.{disconnect, request, Value, Standing, 
 use Rattle.osi_watched.proofs.Vocabulary.{is_refused, is_silent, uses, silent_half, Traffic as State, Connection, Half, Phase, Open}
 use Rattle.osi_watched.proofs.Vocabulary.{Refused, Silent, Left, Right, Answers, Begins, is_shut, Opens, opens, Continues, Deeds, all_units}
 use Rattle.osi_watched.proofs.Vocabulary.{Marked, Turn, Joined, reference_of, Sessions, IsNoCc, answering as answers, Asked, Called, comes}
-use Rattle.osi_watched.proofs.Vocabulary.{refuses, runs, Stand, Untagged, at_first, at_join, first_at, Placed, values, NamesApart, IsCalm}
+use Rattle.osi_watched.proofs.Vocabulary.{refuses, runs, Stand, Untagged, at_first, at_join, first_at, Placed, values, NamesApart, IsFirm}
 use Rattle.osi_watched.proofs.Vocabulary.{opened_half, Whole, Joint, TakesTurn, HaveSamePlaces, named_by}
 use Rattle.osi_rules.specs.declared.directions.Direction.TheVariants as way
 use Rattle.osi_fair.specs.Wholes.{begin}
@@ -112,7 +112,7 @@ module _ (local : Local) (w : Whole) (t : Sessions) (f : Called local w) (apart 
       h.index ∙ ap (λ (n : ℕ). Some n) (sym h.right ∙ named_is c.right.phase c.right.reference q is)
   given_by q i c is (past silent up none asks un (inl (index, refused))) =
       index ∙ ap (λ (n : ℕ). Some n) (named_is c.right.phase c.right.reference q is)
-  given_by q i c is (past silent up none asks un (inr (refused, seen))) =
+  given_by q i c is (past silent up none asks un (inr (refused, seen, judged))) =
       absurd (refused_none c.right.phase c.right.reference q refused is)
 
   -- the CC with its reference has not passed
@@ -231,7 +231,7 @@ module _ (local : Local) (w : Whole) (t : Sessions) (f : Called local w) (apart 
 
 module _ (local : Local) (deeds : ℕ → Deeds) (turn : Turn) (old new : Joint) (step : TakesTurn turn old new)
     (on : Continues false deeds old.holding turn new.holding) (f : IsFollowed Right (begin false local) old)
-    (calm : IsCalm old.course.traffic.course) (two : old.holding.end.carrier.class ≡ Some Zero → ⊥)
+    (calm : IsFirm old.course.traffic.course) (two : old.holding.end.carrier.class ≡ Some Zero → ⊥)
     (places : HaveSamePlaces old.course.traffic.connections old.course.sessions.live)
     (news : AllByRecursion (λ (v : Value). GivesNew Right v old.course.sessions) (all_units on.put))
     (class_2 : AllByRecursion IsNotZero (all_units on.put)) where

@@ -14,7 +14,7 @@ use Rattle.osi_fair.proofs.small_facts_that_many_lemmas_use.{differ, number_is}
 use Rattle.osi_watched.proofs.small_facts_that_many_lemmas_use.{same_bool}
 use Rattle.osi_watched.proofs.steps_are_events.{IsFollowed}
 use Rattle.osi_watched.proofs.sessions.a_called_end_has_its_lines.{called_no_cc}
-use Rattle.osi_watched.proofs.sessions.a_called_end_of_class_2_has_its_lines.{HasLines, calm_of}
+use Rattle.osi_watched.proofs.sessions.a_called_end_of_class_2_has_its_lines.{HasLines}
 use Rattle.osi_watched.proofs.sessions.a_called_end_of_class_2_puts_no_dt_of_class_0.{called_turn_two}
 use Rattle.osi_watched.proofs.sessions.all_connections_stand.{one_at}
 use Rattle.osi_watched.proofs.sessions.each_cc_of_a_called_end_opens_another_connection.{none_open_for, open_there, same_destination}
@@ -107,7 +107,7 @@ module _ (local : Local) (deeds : ℕ → Deeds) (turn : Turn) (old new : Joint)
           AreApart q on.put ⊎ IsNamed q l.peer
       by (confirm n x) opening gives come =
           absurd (came Right false (begin false local) deeds turn old new step on f lasts (confirm n x) front q l come IsNoCc
-          (called_no_cc local old f (calm_of s.course clear)) n x refl)
+          (called_no_cc local old f clear.sure) n x refl)
       by (request x) opening (cc_is, source, one) come =
           let parts : on.put ≡ others ++ (0, confirm l.peer cc_is) ∷ (l.left.during ++ l.left.after) =
           l.left.is ∙ ap (λ (k : List Marked). k ++ (l.left.during ++ l.left.after)) (put ∙ ap (λ (k : List Marked). others ++ k) one)
