@@ -664,7 +664,7 @@ typedef struct osi_judge {
 #define OSI_RULE_WRONG_FORM 62u             /* a DR that refuses no CR */
 #define OSI_RULE_TSDU_TOO_LONG 63u          /* more than 1,048,576 octets */
 #define OSI_RULE_LIMIT 70u                  /* no break: more passed than a judge keeps */
-#define OSI_RULE_TOO_MANY_CONNECTIONS 71u   /* no break: more than 128 connections at once */
+#define OSI_RULE_TOO_MANY_CONNECTIONS 71u   /* no break: over 128 connections at once, or nobody can tell */
 /* 80 to 90: rules of transport (X.224), which only an osi_watch tells. */
 #define OSI_RULE_ONE_CONNECTION 80u         /* a CR in class 0, which has one connection */
 #define OSI_RULE_NEGOTIATING 81u            /* a CR while another is unanswered and the class is not known */

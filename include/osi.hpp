@@ -645,7 +645,7 @@ enum class rule : std::uint32_t {
     wrong_form = OSI_RULE_WRONG_FORM,
     tsdu_too_long = OSI_RULE_TSDU_TOO_LONG,
     limit = OSI_RULE_LIMIT,                       /* no break: more passed than a judge keeps */
-    too_many_connections = OSI_RULE_TOO_MANY_CONNECTIONS, /* no break: more than 128 connections at once */
+    too_many_connections = OSI_RULE_TOO_MANY_CONNECTIONS, /* no break: over 128 connections, or nobody can tell */
     one_connection = OSI_RULE_ONE_CONNECTION,     /* this one and the others: rules of transport, of a watch alone */
     negotiating = OSI_RULE_NEGOTIATING,
     reference_in_use = OSI_RULE_REFERENCE_IN_USE,

@@ -113,7 +113,8 @@ pub enum Rule {
     TsduTooLong = 63,
     /// No break: more passed than a judge keeps.
     Limit = 70,
-    /// No break: there are more than 128 connections at once.
+    /// No break: there are more than 128 connections at once. Or nobody can tell whether the unit is right,
+    /// since a connection is not judged any more.
     TooManyConnections = 71,
     /// A CR in class 0, which has one connection.
     OneConnection = 80,

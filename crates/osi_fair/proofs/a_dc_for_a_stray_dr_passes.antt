@@ -32,11 +32,11 @@ where_named : (cs : List Connection) (n q : ℕ) → position (is_named Left n) 
     (e : Connection) × (slice_get cs q ≡ Some e) × (is_named Left n e ≡ true)
 where_named cs n q h = grind (arith, first_there, first_true)
 
-pub not_due : (due strays : Bool) → due ≡ false → strays ≡ true →
-    first_failed ((due || not strays, NotJudged) ∷ (due, Broke rule.NothingToAnswer) ∷ []) ≡ NotJudged
-not_due false true h k = refl
-not_due true strays h k = cc
-not_due false false h k = cc
+pub not_due : (due told strays : Bool) → due ≡ false → strays ≡ true →
+    first_failed ((due || not strays, NotJudged) ∷ (told, Broke rule.UnknownReference) ∷ (due, Broke rule.NothingToAnswer) ∷ []) ≡ NotJudged
+not_due false told true h k = refl
+not_due true told strays h k = cc
+not_due false told false h k = cc
 
 module _ (m source : ℕ) (s : Traffic) (firm : s.course.loose ≡ false) (strays : s.course.strays ≡ true) where
   abbrev v : Value

@@ -4,7 +4,7 @@ use Rattle.osi_fair.proofs.Vocabulary.{arith}
 use Rattle.osi_fair.proofs.Vocabulary.{[], ap, Bool, false, if◌then◌else◌, inr, List, None, Option, refl, Some, subst, sym, true, ℕ}
 use Rattle.osi_fair.proofs.Vocabulary.{◌∙◌, ◌∷◌, ◌≡◌, ◌⊎◌, eqb-true, AllByRecursion, not, position, slice_get, ◌&&◌, ◌==◌, ◌||◌, Connect}
 use Rattle.osi_fair.proofs.Vocabulary.{disconnected, Value, Local, first_failed, is_due, is_closing, is_named}
-use Rattle.osi_fair.proofs.Vocabulary.{is_open, at_found, at_place, is_stopped, none_told}
+use Rattle.osi_fair.proofs.Vocabulary.{is_open, at_found, at_place, in_doubt, is_stopped, none_told}
 use Rattle.osi_fair.proofs.Vocabulary.{one_told, Outcome, route, routed, Traffic, takes, unnamed, unnamed_by, Connection, Left}
 use Rattle.osi_fair.proofs.Vocabulary.{Right, Finding, Broke, Kept, NotJudged, Half, Route, Whole}
 use Rattle.osi_rules.specs.declared.findings.Rule.TheVariants as rule
@@ -22,12 +22,12 @@ use Rattle.osi_fair.proofs.while_no_class_is_selected.{set_same}
 due_parts : (a b c : Bool) → (a && (b && c)) ≡ true → (a ≡ true) × (c ≡ true)
 due_parts a b c h = grind arith
 
-not_due : (due strays : Bool) → due ≡ false → strays ≡ true →
-    first_failed ((due || not strays, NotJudged) ∷ (due, Broke rule.NothingToAnswer) ∷ []) ≡ NotJudged
-not_due due strays h k = grind arith
+not_due : (due told strays : Bool) → due ≡ false → strays ≡ true →
+    first_failed ((due || not strays, NotJudged) ∷ (told, Broke rule.UnknownReference) ∷ (due, Broke rule.NothingToAnswer) ∷ []) ≡ NotJudged
+not_due due told strays h k = grind arith
 
 unnamed_so : (loose strays : Bool) (m n : ℕ) → strays ≡ true →
-    (if loose then NotJudged else unnamed_by strays (disconnected m n)) ≡ NotJudged
+    (if loose then in_doubt (unnamed_by strays (disconnected m n)) else unnamed_by strays (disconnected m n)) ≡ NotJudged
 unnamed_so loose strays m n h = grind arith
 
 judged_not : (j : Bool) (g : Finding) → g ≡ NotJudged → (if j then g else NotJudged) ≡ NotJudged

@@ -165,8 +165,8 @@ next_is_new local acts ps r rest e =
     (unused r (all_passed ps fresh) below, all_unlike r (all_passed ps fresh) below)
 
 two_left : (known place : Bool) → known ≡ true →
-    (first_failed ((known, Broke rule.Negotiating) ∷ (true, NotJudged) ∷ (true, Broke rule.ReferenceInUse) ∷ (place, TooMany) ∷ []) ≡ Kept)
-    ⊎ (first_failed ((known, Broke rule.Negotiating) ∷ (true, NotJudged) ∷ (true, Broke rule.ReferenceInUse) ∷ (place, TooMany) ∷ [])
+    (first_failed ((known, Broke rule.Negotiating) ∷ (true, TooMany) ∷ (true, Broke rule.ReferenceInUse) ∷ (place, TooMany) ∷ []) ≡ Kept)
+    ⊎ (first_failed ((known, Broke rule.Negotiating) ∷ (true, TooMany) ∷ (true, Broke rule.ReferenceInUse) ∷ (place, TooMany) ∷ [])
     ≡ TooMany)
 two_left known place h = grind arith
 
@@ -176,7 +176,7 @@ Passed f = (f ≡ Kept) ⊎ (f ≡ TooMany)
 -- the tests of a CR, by what is known of its reference
 abbrev tested : State → Bool → Bool → Finding
 tested s unlike used = first_failed ((is_some s.course.class_seen || list_all (is_over Left) s.connections, Broke rule.Negotiating)
-    ∷ (not unlike, NotJudged) ∷ (not used, Broke rule.ReferenceInUse) ∷ (has_place s.connections, TooMany) ∷ [])
+    ∷ (not unlike, TooMany) ∷ (not used, Broke rule.ReferenceInUse) ∷ (has_place s.connections, TooMany) ∷ [])
 
 pub tests_pass : (s : State) (x : Connect) → s.course.class_seen ≡ Some Two → list_any (uses Left x.source) s.connections ≡ false →
     list_any (is_not_judged x.source) s.connections ≡ false → Passed (first_failed (request_tests s x))

@@ -4,7 +4,7 @@ use Rattle.osi_fair.proofs.Vocabulary.{arith}
 use Rattle.osi_fair.proofs.Vocabulary.{[], Bool, false, if◌then◌else◌, List, None, Option, option_map, refl, Some, subst, sym}
 use Rattle.osi_fair.proofs.Vocabulary.{true, ℕ, ◌^◌, ◌∙◌, ◌∷◌, ◌≡◌, eqb-true, list_any, nat_le, not, position, slice_get, slice_set, ◌&&◌}
 use Rattle.osi_fair.proofs.Vocabulary.{◌==◌, ◌||◌, confirm, Connect, disconnect, disconnected, error, request, Value, Class, is_applied}
-use Rattle.osi_fair.proofs.Vocabulary.{reach_of, code_named, first_failed, is_inside, is_offered, is_closing, is_free}
+use Rattle.osi_fair.proofs.Vocabulary.{reach_of, code_named, first_failed, given_again, is_inside, is_offered, is_closing, is_free}
 use Rattle.osi_fair.proofs.Vocabulary.{is_named, is_open, is_over, is_over_by, is_refused, is_silent, seen, uses, asked_by}
 use Rattle.osi_fair.proofs.Vocabulary.{asks_by, asks_kept, asks_of, at_found, at_place, class_for, closing_phase, connection_after, found}
 use Rattle.osi_fair.proofs.Vocabulary.{found_on, fresh, half_after, is_stopped, judged_on, none_told, Outcome, request_tests, route, routed}
@@ -58,18 +58,19 @@ one_test b h = grind arith
 pub form_test : (b : Bool) → is_applied (first_failed ((b, Broke rule.WrongForm) ∷ [])) ≡ true → b ≡ true
 form_test b h = grind arith
 
-due_test : (due strays : Bool) →
-    is_applied (first_failed ((due || not strays, NotJudged) ∷ (due, Broke rule.NothingToAnswer) ∷ [])) ≡ true →
+due_test : (due told strays : Bool) →
+    is_applied (first_failed ((due || not strays, NotJudged) ∷ (told, Broke rule.UnknownReference) ∷ (due, Broke rule.NothingToAnswer)
+    ∷ [])) ≡ true →
     due ≡ true
-due_test due strays h = grind arith
+due_test due told strays h = grind arith
 
-confirm_test : (a b i u z : Bool) →
-    is_applied (first_failed ((a, Broke rule.WrongForm) ∷ (b, Broke rule.BadAnswer) ∷ (i, Outside) ∷ (u, Broke rule.ReferenceInUse)
+confirm_test : (a b i u loose z : Bool) →
+    is_applied (first_failed ((a, Broke rule.WrongForm) ∷ (b, Broke rule.BadAnswer) ∷ (i, Outside) ∷ (u, given_again loose)
     ∷ (z, Broke rule.LargerSize) ∷ [])) ≡ true →
     (a ≡ true) × (u ≡ true) × ((k : Option Class) →
     reach_of k (first_failed ((a, Broke rule.WrongForm) ∷ (b, Broke rule.BadAnswer) ∷ (i, Outside)
-    ∷ (u, Broke rule.ReferenceInUse) ∷ (z, Broke rule.LargerSize) ∷ [])) ≡ reach.Nothing)
-confirm_test a b i u z h = grind arith
+    ∷ (u, given_again loose) ∷ (z, Broke rule.LargerSize) ∷ [])) ≡ reach.Nothing)
+confirm_test a b i u loose z h = grind arith
 
 module _ (course : Course) (in_use : Bool) (c : Connection) where
   left_effect : (v : Value) → is_applied (found Left course in_use c v) ≡ true → Effect c.left c.seen_by_left (half_after v c.left)
@@ -103,7 +104,7 @@ right_opens : (s : State) (c : Connection) (destination : ℕ) (x : Connect) (p 
 right_opens s c destination x p a at sound live r h is =
     let in_use = list_any (λ e. uses Right x.source e) s.connections in
     let (silent, unused, nothing) = confirm_test (is_silent c.right.phase) (is_offered c.offer s.course.class x) (is_inside x) (not in_use)
-    (nat_le (code_named x.parameters.size) c.offer.size_code) h in
+    s.course.loose (nat_le (code_named x.parameters.size) c.offer.size_code) h in
     let none = not_true in_use unused in
     let after = half_after (confirm destination x) c.right in
     subst (λ (q : Reach). AreApart (slice_set s.connections p (judged_on q (sent_on Right (confirm destination x) c))))
@@ -127,7 +128,8 @@ right_sent (disconnect destination source reason user) s c p a at j sound live r
     (closes_so c.right c.seen_by_right (is_silent c.right.phase) refl (one_test (is_silent c.right.phase || is_open c.right.phase) h))
 right_sent (disconnected destination source) s c p a at j sound live r h is =
     right_by s.course false c (disconnected destination source) s.connections p r a at j sound live
-    (answers_so c.right c.seen_by_right (source == c.right.reference) (due_test (is_due Right c source) s.course.strays h))
+    (answers_so c.right c.seen_by_right (source == c.right.reference) (due_test (is_due Right c source)
+    (not (is_silent c.right.phase)) s.course.strays h))
 right_sent (error destination cause) s c p a at j sound live r h is =
     right_by s.course false c (error destination cause) s.connections p r a at j sound live
     (refuses_so c.right c.seen_by_right (form_test (is_silent c.right.phase) h))

@@ -1,9 +1,10 @@
 -- A DC of the other side passes that answers nothing: the lines of its connection may take it, and nothing else changes.
 -- For the law on a whole end.
 use Rattle.osi_fair.proofs.Vocabulary.{arith}
-use Rattle.osi_fair.proofs.Vocabulary.{[], ap, Bool, false, List, refl, Some, subst, sym, true, ◌++◌, ◌∙◌, ◌∷◌, ◌≡◌, ◌≢◌, ◌&&◌, ◌==◌}
+use Rattle.osi_fair.proofs.Vocabulary.{[], ap, Bool, false, List, not, refl, Some, subst, sym, true, ◌++◌, ◌∙◌, ◌∷◌, ◌≡◌, ◌≢◌, ◌&&◌, ◌==◌}
 use Rattle.osi_fair.proofs.Vocabulary.{Connect, destination_of, HasFieldsInRange, request, Value, Two, Local, reach_of, is_due, is_closing}
-use Rattle.osi_fair.proofs.Vocabulary.{is_open, found, Traffic, takes, Connection, Right, Finding, NotJudged, after_finding, finding_of}
+use Rattle.osi_fair.proofs.Vocabulary.{is_open, is_silent, found, Traffic, takes}
+use Rattle.osi_fair.proofs.Vocabulary.{Connection, Right, Finding, NotJudged, after_finding, finding_of}
 use Rattle.osi_fair.proofs.Vocabulary.{Line, Whole}
 use Rattle.osi_rules.specs.declared.findings.Reach.TheVariants as reach
 use Rattle.osi_fair.specs.Lines.{passes_other}
@@ -36,7 +37,8 @@ module _ (local : Local) (w : Whole) (f : Followed local w) (sane : IsSane w.tap
       (and_first (is_closing c.seen_by_right.phase) (t.source == c.right.reference)
       (and_second (is_open c.right.phase) (is_closing c.seen_by_right.phase && (t.source == c.right.reference)) h)))) in
       judged_same c.is_judged (found Right w.tap.course false c v) judged
-      ∙ ap (λ (u : Value). found Right w.tap.course false c u) t.dc ∙ not_due (is_due Right c t.source) w.tap.course.strays none t.strays
+      ∙ ap (λ (u : Value). found Right w.tap.course false c u) t.dc
+      ∙ not_due (is_due Right c t.source) (not (is_silent c.right.phase)) w.tap.course.strays none t.strays
 
   not_all : (g : Finding) → g ≡ NotJudged → reach_of (Some Two) g ≢ reach.Everything
   not_all g e h = cc (sym (ap (λ (x : Finding). reach_of (Some Two) x) e) ∙ h)

@@ -55,11 +55,15 @@ closed_not p mine a b c d k h = grind arith
 connection_not : {A : Type 0} → reach.Nothing ≡ reach.Connection → A
 connection_not e = absurd (cc e)
 
+everything_not : {A : Type 0} → reach.Nothing ≡ reach.Everything → A
+everything_not e = absurd (cc e)
+
 -- a DC that answers nothing is not passed over
-dc_applied : (due strays : Bool) → strays ≡ false → (g : Finding) →
-    g ≡ first_failed ((due || not strays, NotJudged) ∷ (due, Broke rule.NothingToAnswer) ∷ []) → reach_of (Some Two) g ≡ reach.Nothing →
+dc_applied : (due told strays : Bool) → strays ≡ false → (g : Finding) →
+    g ≡ first_failed ((due || not strays, NotJudged) ∷ (told, Broke rule.UnknownReference) ∷ (due, Broke rule.NothingToAnswer) ∷ []) →
+    reach_of (Some Two) g ≡ reach.Nothing →
     is_applied g ≡ true
-dc_applied due strays h g e k = grind (arith, connection_not)
+dc_applied due told strays h g e k = grind (arith, connection_not, everything_not)
 
 pub cc_not_applied : {A : Type 0} (j : Bool) → is_applied (if j then Broke rule.WrongForm else NotJudged) ≡ true → A
 cc_not_applied j h = grind arith
@@ -434,7 +438,8 @@ module _ (local : Local) (w : Whole) (f : Called local w) (apart : AreApart w.ta
         let found_is : found_so ≡ found Left w.tap.course (uses_source Left cs v) c (disconnected destination source) =
         judged_same c.is_judged (found Left w.tap.course (uses_source Left cs v) c v) (judged q c at)
         ∙ ap (λ (u : Value). found Left w.tap.course (uses_source Left cs v) c u) e in
-        let applied = dc_applied (is_due Left c source) w.tap.course.strays (lasts.strays none) found_so found_is (no_reach (Some Two)) in
+        let applied = dc_applied (is_due Left c source) (not (is_silent c.left.phase)) w.tap.course.strays
+        (lasts.strays none) found_so found_is (no_reach (Some Two)) in
         timely_one h (ap shuts_of e ∙ (sym (ap destination_of e) ∙ dest)) (λ m k. absurd (cc (sym (ap dr_for e) ∙ k)))
         (ap (λ (b : Bool). is_open (connection_after Left v b reach.Nothing c).left.phase) applied
         ∙ ap (λ (u : Value). is_open (connection_after Left u true reach.Nothing c).left.phase) e)

@@ -337,7 +337,7 @@ module _ (local : Local) (w : Whole) (f : Called local w) (apart : AreApart w.ta
       run_kept = judged_so c.is_judged (found Right w.tap.course in_use c u) Kept (judged p c at) (is_right.kept w.tap.course in_use)
 
       no_cc : (m : ℕ) (x : Connect) → u ≡ confirm m x → ⊥
-      no_cc m x e = wrong_form (is_silent c.right.phase) (drop 1 (confirm_tests c w.tap.course.class in_use x))
+      no_cc m x e = wrong_form (is_silent c.right.phase) (drop 1 (confirm_tests c w.tap.course.class in_use w.tap.course.loose x))
           (open_started c.right.phase g.there)
           (sym (ap (λ (v : Value). found Right w.tap.course in_use c v) e) ∙ is_right.kept w.tap.course in_use)
 

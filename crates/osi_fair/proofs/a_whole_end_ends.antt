@@ -22,7 +22,7 @@ use Rattle.osi_fair.proofs.what_a_calling_end_still_has.{OffersTwo, SelectsTwo, 
 use Rattle.osi_fair.proofs.what_the_other_side_closes.{IsDr, IsSane, closed_by}
 use Rattle.osi_fair.proofs.which_units_are_for_a_connection.{IsDc, keep, those}
 use Rattle.osi_fair.proofs.what_is_live_at_a_called_end.{IsLive}
-use Rattle.osi_fair.proofs.Vocabulary.{Connect, request, linked}
+use Rattle.osi_fair.proofs.Vocabulary.{Connect, request}
 use Rattle.osi_fair.proofs.each_connection_has_its_line.{AreSettled, IsAnswer, IsAsking}
 use Rattle.osi_fair.proofs.Vocabulary.{subst, sym}
 use Rattle.osi_fair.proofs.which_units_are_for_a_connection.{names}

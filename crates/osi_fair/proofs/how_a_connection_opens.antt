@@ -55,7 +55,7 @@ two_right local c size r t course e offer silent =
     let (proposed, same) = two_selected c local size e in
     let two : t.offer.class2 ≡ true = ap (λ (o : Offer). o.class2) offer
     ∙ or_left (proposes c 2) ((c.class == 3) || (c.class == 4)) proposed in
-    is_right (confirm_tests t course.class false (acceptance Two size c local r)) (
+    is_right (confirm_tests t course.class false course.loose (acceptance Two size c local r)) (
       ap (λ (h : Half). is_silent h.phase) silent,
       (
         both_with_true t.offer.class2 t.offer.expedited two,
@@ -69,7 +69,7 @@ pub zero_right : (local : Local) (c : Connect) (size : Option ℕ) (r : ℕ) (t 
 zero_right local c size r t course e offer silent none =
     let (proposed, same) = zero_selected c local size e in
     let zero : t.offer.class0 ≡ true = ap (λ (o : Offer). o.class0) offer ∙ or_left (proposes c 0) (proposes c 1) proposed in
-    is_right (confirm_tests t course.class false (acceptance Zero size c local r)) (
+    is_right (confirm_tests t course.class false course.loose (acceptance Zero size c local r)) (
       ap (λ (h : Half). is_silent h.phase) silent,
       (
         both t.offer.class0 (is_none course.class) zero (ap (λ (o : Option Class). is_none o) none),

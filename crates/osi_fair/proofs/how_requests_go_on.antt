@@ -5,7 +5,7 @@ use Rattle.osi_fair.proofs.Vocabulary.{Some, subst, sym, true, ℕ, ◌%◌, ◌
 use Rattle.osi_fair.proofs.Vocabulary.{list_any, not, slice_get, ◌&&◌, ◌==◌, ◌||◌, confirm, Connect, HasFieldsInRange, IsConnect, request}
 use Rattle.osi_fair.proofs.Vocabulary.{Value, Two, Zero, Local, react, Rows, user_does, UserCall, Live, first_failed, is_inside, is_offered}
 use Rattle.osi_fair.proofs.Vocabulary.{begins, is_over, uses, class_of, has_place, is_not_judged, offer_of, packet_begins}
-use Rattle.osi_fair.proofs.Vocabulary.{refused as not_read, request_tests, Traffic, takes, Connection, Offer, Left, Right, Broke, NotJudged}
+use Rattle.osi_fair.proofs.Vocabulary.{refused as not_read, request_tests, Traffic, takes, Connection, Offer, Left, Right, Broke}
 use Rattle.osi_fair.proofs.Vocabulary.{TooMany, packet, rubbish, unit as passing, put_by, put_for, arrives, calls, Event, Happens, MayCall}
 use Rattle.osi_fair.proofs.Vocabulary.{passes_rubbish, Whole}
 use Rattle.osi_carrier.specs.State.{State}
@@ -240,7 +240,7 @@ some_put : {A : Type 0} (w : Whole) (v : Value) (put : List Value) → w.put ≡
 some_put w v put e none = absurd (cc (sym e ∙ none))
 
 request_or : (a b c d : Bool) → a ≡ true → b ≡ false → c ≡ false →
-    Passed (first_failed ((a, Broke rule.Negotiating) ∷ (not b, NotJudged) ∷ (not c, Broke rule.ReferenceInUse) ∷ (d, TooMany) ∷ []))
+    Passed (first_failed ((a, Broke rule.Negotiating) ∷ (not b, TooMany) ∷ (not c, Broke rule.ReferenceInUse) ∷ (d, TooMany) ∷ []))
 request_or true false false true h k m = inl refl
 request_or true false false false h k m = inr refl
 request_or false b c d h k m = cc

@@ -5,11 +5,11 @@ use Rattle.osi_fair.proofs.Vocabulary.{[], ap, Bool, drop, false, if◌then◌el
 use Rattle.osi_fair.proofs.Vocabulary.{sym, true, ℕ, ◌∙◌, ◌∷◌, ◌≡◌, ◌⊎◌, nat_le, not, position, slice_get, ◌&&◌, ◌==◌, ◌||◌, acknowledge}
 use Rattle.osi_fair.proofs.Vocabulary.{confirm, Connect, data0, data2, destination_of, disconnect, disconnected, error, request, Value}
 use Rattle.osi_fair.proofs.Vocabulary.{Class, Two, Zero, is_applied, passes_over, reach_of, code_named, confirm_tests}
-use Rattle.osi_fair.proofs.Vocabulary.{first_failed, is_due, is_inside, is_offered, Test, is_closing, is_named, is_open}
+use Rattle.osi_fair.proofs.Vocabulary.{first_failed, given_again, is_due, is_inside, is_offered, Test, is_closing, is_named, is_open}
 use Rattle.osi_fair.proofs.Vocabulary.{is_refused, is_silent, at_found, at_place, class_for, closing_phase, connection_after, course_after}
 use Rattle.osi_fair.proofs.Vocabulary.{found, found_on, half_after, none_told, one_told, Outcome, reached, route}
 use Rattle.osi_fair.proofs.Vocabulary.{route_in, routed, Traffic, takes, unnamed_by, unnamed_told, uses_source, Connection, Course}
-use Rattle.osi_fair.proofs.Vocabulary.{Right, Finding, Broke, Kept, NotJudged, Outside, Reach, Rule, Half, Phase, Closed}
+use Rattle.osi_fair.proofs.Vocabulary.{Right, Finding, Broke, Kept, NotJudged, Outside, TooMany, Reach, Rule, Half, Phase}
 use Rattle.osi_rules.specs.declared.findings.Rule.TheVariants as rule
 use Rattle.osi_fair.proofs.small_facts_that_many_lemmas_use.{and_first, and_second, differ, judged_same, open_or_closing}
 use Rattle.osi_fair.proofs.no_two_open_connections_have_one_peer.{left_open, right_there, there_not_silent}
@@ -128,10 +128,11 @@ silent_not_open p h = grind arith
 
 -- a DC is due, or it is not judged, or it is wrong
 abbrev Fate : (due : Bool) → Finding → Type 0
-Fate due f = (due ≡ true) ⊎ ((f ≡ NotJudged) ⊎ (f ≡ Broke rule.NothingToAnswer))
+Fate due f = (due ≡ true) ⊎ ((f ≡ NotJudged) ⊎ ((f ≡ Broke rule.UnknownReference) ⊎ (f ≡ Broke rule.NothingToAnswer)))
 
-dc_or : (due strays : Bool) → Fate due (first_failed ((due || not strays, NotJudged) ∷ (due, Broke rule.NothingToAnswer) ∷ []))
-dc_or due strays = grind arith
+dc_or : (due told strays : Bool) → Fate due (first_failed ((due || not strays, NotJudged) ∷ (told, Broke rule.UnknownReference)
+    ∷ (due, Broke rule.NothingToAnswer) ∷ []))
+dc_or due told strays = grind arith
 
 er_kept : (a : Bool) → a ≡ true → first_failed ((a, Broke rule.WrongForm) ∷ []) ≡ Kept
 er_kept a h = grind arith
@@ -141,16 +142,17 @@ pub data Ruled (f : Finding) : Type 0 where
   fine : (f ≡ Kept) ⊎ (f ≡ Broke rule.LargerSize) → Ruled f
   wrong_answer : f ≡ Broke rule.BadAnswer → Ruled f
   wrong_reference : f ≡ Broke rule.ReferenceInUse → Ruled f
+  doubtful : f ≡ TooMany → Ruled f
   outside : f ≡ Outside → Ruled f
 
-ruled : (a b i u l : Bool) → a ≡ true →
-    Ruled (first_failed ((a, Broke rule.WrongForm) ∷ (b, Broke rule.BadAnswer) ∷ (i, Outside) ∷ (u, Broke rule.ReferenceInUse)
+ruled : (a b i u loose l : Bool) → a ≡ true →
+    Ruled (first_failed ((a, Broke rule.WrongForm) ∷ (b, Broke rule.BadAnswer) ∷ (i, Outside) ∷ (u, given_again loose)
     ∷ (l, Broke rule.LargerSize) ∷ []))
-ruled a b i u l h = grind arith
+ruled a b i u loose l h = grind arith
 
-unused_by : (a b i used l : Bool) → is_applied (first_failed ((a, Broke rule.WrongForm) ∷ (b, Broke rule.BadAnswer) ∷ (i, Outside)
-    ∷ (not used, Broke rule.ReferenceInUse) ∷ (l, Broke rule.LargerSize) ∷ [])) ≡ true → used ≡ false
-unused_by a b i used l h = grind arith
+unused_by : (a b i used loose l : Bool) → is_applied (first_failed ((a, Broke rule.WrongForm) ∷ (b, Broke rule.BadAnswer) ∷ (i, Outside)
+    ∷ (not used, given_again loose) ∷ (l, Broke rule.LargerSize) ∷ [])) ≡ true → used ≡ false
+unused_by a b i used loose l h = grind arith
 
 module _ (s : Traffic) (c : Connection) (judged : c.is_judged ≡ true) (sound : Sound c) where
   abbrev finding : Value → Finding
@@ -219,7 +221,8 @@ module _ (s : Traffic) (c : Connection) (judged : c.is_judged ≡ true) (sound :
   open_stays (request x) n e h p = absurd (cc e)
   open_stays (confirm destination x) n e h p =
       broke (confirm destination x) rule.WrongForm (is_found (confirm destination x) ∙ form_broke (is_silent c.right.phase)
-      (drop 1 (confirm_tests c s.course.class (uses_source Right s.connections (confirm destination x)) x)) (not_silent h)) refl p
+      (drop 1 (confirm_tests c s.course.class (uses_source Right s.connections (confirm destination x)) s.course.loose x))
+      (not_silent h)) refl p
   open_stays (disconnect destination source reason user) n e h p =
       dr_by destination source reason user (is_applied (finding (disconnect destination source reason user))) refl h
   open_stays (disconnected destination source) n e h p =
@@ -257,6 +260,9 @@ module _ (s : Traffic) (c : Connection) (judged : c.is_judged ≡ true) (sound :
   outside_not : (v : Value) → finding v ≡ Outside → IsFirm (course v) → ⊥
   outside_not v e h = grind (arith, differ)
 
+  doubtful_not : (v : Value) → finding v ≡ TooMany → IsFirm (course v) → ⊥
+  doubtful_not v e h = grind (arith, differ)
+
   -- a CC that takes effect selects class 2
   abbrev pub SelectsTwo : Value → Type 0
   SelectsTwo v = (m : ℕ) (x : Connect) → v ≡ confirm m x → is_applied (finding v) ≡ true → (x.class == 2) ≡ true
@@ -275,11 +281,12 @@ module _ (s : Traffic) (c : Connection) (judged : c.is_judged ≡ true) (sound :
       let v = confirm destination x in
       let applied = fine_applied (finding v) f in
       let unused = unused_by (is_silent c.right.phase) (is_offered c.offer s.course.class x) (is_inside x)
-      (uses_source Right s.connections v) (nat_le (code_named x.parameters.size) c.offer.size_code)
+      (uses_source Right s.connections v) s.course.loose (nat_le (code_named x.parameters.size) c.offer.size_code)
       (ap is_applied (sym (is_found v)) ∙ applied) in
       opens destination x refl f (selects destination x refl applied) unused
   cc_by destination x selects p (wrong_answer e) = broke (confirm destination x) rule.BadAnswer e refl p
   cc_by destination x selects p (wrong_reference e) = broke (confirm destination x) rule.ReferenceInUse e refl p
+  cc_by destination x selects p (doubtful e) = absurd (doubtful_not (confirm destination x) e p)
   cc_by destination x selects p (outside e) = absurd (outside_not (confirm destination x) e p)
 
   refuses : (was : Bool) (half : Half) → was ≡ true → is_refused (closing_phase was half).phase ≡ true

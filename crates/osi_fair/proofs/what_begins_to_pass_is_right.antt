@@ -100,7 +100,8 @@ module _ (r peer limit : ℕ) (x : Tally) (noted : ℕ) (tap : Connection) (o : 
       let same = eq-eqb source tap.left.reference (mine ∙ sym t.own_reference) in
       let answers = both (is_closing tap.right.phase) (source == tap.left.reference) closing same in
       let due = both (is_open tap.left.phase) (is_closing tap.right.phase && (source == tap.left.reference)) live answers in
-      is_right (disconnected_tests Left known source strays) (or_left (is_due Left known source) (not strays) due, (due, tt))
+      is_right (disconnected_tests Left known source strays)
+      (or_left (is_due Left known source) (not strays) due, (not_silent tap.left.phase live, (due, tt)))
 
   -- whether the end has closed the connection or not
   pub first_right : (closed : Bool) (e : ℕ → ℕ → Type 0) (put : List Value) → put ≢ [] →

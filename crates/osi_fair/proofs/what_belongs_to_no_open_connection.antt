@@ -2,12 +2,12 @@
 -- For the law of that name.
 use Rattle.osi_fair.proofs.Vocabulary.{arith}
 use Rattle.osi_fair.proofs.Vocabulary.{[], Bool, false, if◌then◌else◌, List, None, Option, Some, true, ℕ}
-use Rattle.osi_fair.proofs.Vocabulary.{◌∷◌, ◌≡◌, not, position, ◌||◌, Connect, disconnect, disconnected}
+use Rattle.osi_fair.proofs.Vocabulary.{◌∷◌, ◌≡◌, not, position, ◌&&◌, ◌||◌, Connect, disconnect, disconnected}
 use Rattle.osi_fair.proofs.Vocabulary.{Value, Two, reach_of, disconnect_tests, first_failed, is_named}
 use Rattle.osi_fair.proofs.Vocabulary.{is_open, is_silent, other, asks_by, asks_of, at_found, at_place, class_for, course_after}
-use Rattle.osi_fair.proofs.Vocabulary.{course_after_none, course_begins, found, is_stopped, none_told, one_told, Outcome, reached}
+use Rattle.osi_fair.proofs.Vocabulary.{course_after_none, course_begins, found, in_doubt, is_stopped, none_told, one_told, Outcome, reached}
 use Rattle.osi_fair.proofs.Vocabulary.{route_in, routed, Traffic as State, takes, unnamed_by, unnamed_told}
-use Rattle.osi_fair.proofs.Vocabulary.{Connection, Course, Direction, Right, Finding, Broke, Kept, NotJudged, Reach, Route}
+use Rattle.osi_fair.proofs.Vocabulary.{Connection, Course, Direction, Right, Finding, Broke, Kept, NotJudged, Reach, Phase, Route}
 use Rattle.osi_fair.proofs.Vocabulary.{Named, passes, Passing}
 use Rattle.osi_rules.specs.declared.findings.Rule.TheVariants as rule
 use Rattle.osi_fair.proofs.small_facts_that_many_lemmas_use.{or_first}
@@ -23,16 +23,21 @@ refusal_right c course in_use destination source reason user h =
 
 -- ---- a DC
 
-due_or_not : (due strays : Bool) → strays ≡ true →
-    IsNotBlamed (first_failed ((due || not strays, NotJudged) ∷ (due, Broke rule.NothingToAnswer) ∷ []))
-due_or_not due strays h = grind arith
+due_or_not : (due told strays : Bool) → strays ≡ true → (due ≡ true → told ≡ true) →
+    IsNotBlamed (first_failed ((due || not strays, NotJudged) ∷ (told, Broke rule.UnknownReference)
+    ∷ (due, Broke rule.NothingToAnswer) ∷ []))
+due_or_not due told strays h k = grind arith
+
+-- a DC that is due comes after an answer
+due_told : (p : Phase) (rest : Bool) → (is_open p && rest) ≡ true → not (is_silent p) ≡ true
+due_told p rest h = grind arith
 
 found_so : (d : Direction) (s : State) (c : Connection) (n source : ℕ) (judged in_use : Bool) → s.course.strays ≡ true →
     IsNotBlamed (if judged then found d s.course in_use c (disconnected n source) else NotJudged)
-found_so d s c n source judged in_use h = grind (arith, due_or_not)
+found_so d s c n source judged in_use h = grind (arith, due_or_not, due_told)
 
 unnamed_so : (loose strays : Bool) (n source : ℕ) → strays ≡ true →
-    IsNotBlamed (if loose then NotJudged else unnamed_by strays (disconnected n source))
+    IsNotBlamed (if loose then in_doubt (unnamed_by strays (disconnected n source)) else unnamed_by strays (disconnected n source))
 unnamed_so loose strays n source h = grind arith
 
 abbrev Spared : Outcome → Type 0

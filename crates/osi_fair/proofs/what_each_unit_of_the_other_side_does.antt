@@ -6,7 +6,7 @@ use Rattle.osi_fair.proofs.Vocabulary.{◌++◌, ◌+◌, ◌<◌, ◌∙◌, �
 use Rattle.osi_fair.proofs.Vocabulary.{destination_of, disconnect, disconnected, error, HasFieldsInRange, Value, Standing, Two, is_applied}
 use Rattle.osi_fair.proofs.Vocabulary.{reach_of, first_failed, fits_size, fits_tsdu, has_credit, has_passed, is_due, is_tellable}
 use Rattle.osi_fair.proofs.Vocabulary.{keeps_credit, Test, is_closing, is_open, is_silent, connection_after, found, sent_on}
-use Rattle.osi_fair.proofs.Vocabulary.{Connection, Course, Left, Right, Finding, Broke, NotJudged, Reach, Phase, Closed}
+use Rattle.osi_fair.proofs.Vocabulary.{Connection, Course, Left, Right, Finding, Broke, NotJudged, Reach, Phase}
 use Rattle.osi_fair.proofs.Vocabulary.{Acts, after_finding, finding_of, Line}
 use Rattle.osi_rules.specs.declared.findings.Reach.TheVariants as reach
 use Rattle.osi_rules.specs.declared.findings.Rule.TheVariants as rule
@@ -72,10 +72,11 @@ disconnect_fate : (phase : Phase) → is_there phase ≡ true →
     × Applies (first_failed ((is_silent phase || is_open phase, Broke rule.Closed) ∷ [])))
 disconnect_fate phase h = grind arith
 
-disconnected_fate : (due strays : Bool) →
-    (let f = first_failed ((due || not strays, NotJudged) ∷ (due, Broke rule.NothingToAnswer) ∷ []) in
+disconnected_fate : (due told strays : Bool) →
+    told ≡ true →
+    (let f = first_failed ((due || not strays, NotJudged) ∷ (told, Broke rule.UnknownReference) ∷ (due, Broke rule.NothingToAnswer) ∷ []) in
     (Leaves f) ⊎ (Loses f ⊎ ((due ≡ true) × Applies f)))
-disconnected_fate due strays = grind arith
+disconnected_fate due told strays h = grind arith
 
 first_fails : (b : Bool) (rest : Finding) → b ≡ false → (if b then rest else Broke rule.WrongForm) ≡ Broke rule.WrongForm
 first_fails b rest e = ap (λ (x : Bool). if x then rest else Broke rule.WrongForm) e
@@ -167,7 +168,8 @@ module _ (r peer limit : ℕ) (x : Tally) (noted : ℕ) (tap : Connection) (put 
       (disconnect_fate tap.right.phase t.there)
   unit_goes course in_use (disconnected destination source) range named some judged =
       disconnected_by destination source (found Right course in_use tap (disconnected destination source))
-      (disconnected_fate (is_due Right tap source) course.strays) judged
+      (disconnected_fate (is_due Right tap source) (not (is_silent tap.right.phase)) course.strays
+      (ap not (there_not_silent tap.right.phase t.there))) judged
   unit_goes course in_use (data2 destination number end user) range named some judged =
       data_by destination number end user (found Right course in_use tap (data2 destination number end user))
       (data_fate (not (is_silent tap.right.phase)) (is_open tap.right.phase) (number == tap.right.next) (is_tellable Right tap)

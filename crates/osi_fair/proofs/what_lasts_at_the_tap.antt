@@ -3,7 +3,7 @@
 use Rattle.osi_fair.proofs.Vocabulary.{arith}
 use Rattle.osi_fair.proofs.Vocabulary.{[], Bool, false, if◌then◌else◌, None, Option, Some, true, ℕ, ◌∷◌, ◌≡◌}
 use Rattle.osi_fair.proofs.Vocabulary.{◌&&◌, ◌||◌, confirm, Connect, disconnect, request, Value, Two}
-use Rattle.osi_fair.proofs.Vocabulary.{is_applied, reach_of, first_failed}
+use Rattle.osi_fair.proofs.Vocabulary.{is_applied, reach_of, first_failed, given_again}
 use Rattle.osi_fair.proofs.Vocabulary.{asks_by, asks_of, at_found, at_place, class_for, class_of, course_after, course_after_none}
 use Rattle.osi_fair.proofs.Vocabulary.{course_begins, found, found_on, none_told, Outcome, reached}
 use Rattle.osi_fair.proofs.Vocabulary.{request_tests, routed, Traffic as State, unnamed, unnamed_told, Connection}
@@ -35,13 +35,13 @@ lasts_none v o = search (arith, lasts_same)
 
 -- ---- a CC that is right selects class 2 again
 
-two_again : (silent zero two offered others other small unused within : Bool) →
+two_again : (silent zero two offered others other small unused loose within : Bool) →
     is_applied (first_failed ((silent, Broke rule.WrongForm) ∷ (
       (if zero then (offered && false) else (if two then others else other)),
       Broke rule.BadAnswer,
-    ) ∷ ((zero || (two && small)), Outside) ∷ (unused, Broke rule.ReferenceInUse) ∷ (within, Broke rule.LargerSize)
+    ) ∷ ((zero || (two && small)), Outside) ∷ (unused, given_again loose) ∷ (within, Broke rule.LargerSize)
     ∷ [])) ≡ true → two ≡ true
-two_again silent zero two offered others other small unused within h = grind arith
+two_again silent zero two offered others other small unused loose within h = grind arith
 
 selects_two : (course : Course) (c : Connection) (in_use : Bool) (destination : ℕ) (x : Connect) → course.class ≡ Some Two →
     is_applied (found Right course in_use c (confirm destination x)) ≡ true → class_of x ≡ Two

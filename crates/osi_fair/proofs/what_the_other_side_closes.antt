@@ -5,7 +5,7 @@ use Rattle.osi_fair.proofs.Vocabulary.{[], ap, Bool, drop, false, if◌then◌el
 use Rattle.osi_fair.proofs.Vocabulary.{true, ℕ, ◌∙◌, ◌∷◌, ◌≡◌, ◌⊎◌, eqb-true, not, position, slice_get, ◌&&◌, ◌==◌, ◌||◌, acknowledge}
 use Rattle.osi_fair.proofs.Vocabulary.{confirm, Connect, data0, data2, disconnect, disconnected, error, request, Value, Class, Two, Zero}
 use Rattle.osi_fair.proofs.Vocabulary.{is_applied, passes_over, reach_by, reach_of, confirm_tests}
-use Rattle.osi_fair.proofs.Vocabulary.{first_failed, is_closed, is_closing, is_named, is_open, is_refused}
+use Rattle.osi_fair.proofs.Vocabulary.{first_failed, is_due, is_closed, is_closing, is_named, is_open, is_refused}
 use Rattle.osi_fair.proofs.Vocabulary.{is_silent, at_found, at_place, class_for, connection_after, course_after, found}
 use Rattle.osi_fair.proofs.Vocabulary.{found_on, half_after, is_stray, none_told, one_told, Outcome, reached, route, route_in, routed}
 use Rattle.osi_fair.proofs.Vocabulary.{Traffic as State, takes, unnamed_by, unnamed_told, uses_source, Connection, Course, Right}
@@ -156,7 +156,7 @@ module _ (L : ℕ → Type 0) (s : State) (q : ℕ) (c : Connection) (at : slice
       (λ applied there. both (is_open c.left.phase) (is_silent c.right.phase || is_open c.right.phase)
       (and_first (is_open c.left.phase) true there)
       (or_first (is_silent c.right.phase) (is_open c.right.phase)
-      (form_first (is_silent c.right.phase) (drop 1 (confirm_tests c s.course.class (uses_source Right s.connections v) x))
+      (form_first (is_silent c.right.phase) (drop 1 (confirm_tests c s.course.class (uses_source Right s.connections v) s.course.loose x))
       (ap is_applied (sym (is_found v)) ∙ applied))))
 
   -- if it closes the connection
@@ -204,26 +204,38 @@ module _ (L : ℕ → Type 0) (s : State) (q : ℕ) (c : Connection) (at : slice
 
   -- ---- a DC
 
-  dc_by : (due strays : Bool) → strays ≡ false →
-      (is_applied (first_failed ((due || not strays, NotJudged) ∷ (due, Broke rule.NothingToAnswer) ∷ [])) ≡ true)
-      ⊎ (first_failed ((due || not strays, NotJudged) ∷ (due, Broke rule.NothingToAnswer) ∷ []) ≡ Broke rule.NothingToAnswer)
-  dc_by due strays h = grind arith
+  -- it breaks a rule, and is not passed over
+  abbrev IsBad : Finding → Type 0
+  IsBad f = (r : Rule) × (f ≡ Broke r) × (passes_over r ≡ false)
+
+  dc_by : (due told strays : Bool) → strays ≡ false →
+      (is_applied (first_failed ((due || not strays, NotJudged) ∷ (told, Broke rule.UnknownReference)
+      ∷ (due, Broke rule.NothingToAnswer) ∷ [])) ≡ true)
+      ⊎ (IsBad (first_failed ((due || not strays, NotJudged) ∷ (told, Broke rule.UnknownReference) ∷ (due, Broke rule.NothingToAnswer)
+      ∷ [])))
+  dc_by true true false h = inl refl
+  dc_by true false false h = inr (rule.UnknownReference, refl, refl)
+  dc_by false false false h = inr (rule.UnknownReference, refl, refl)
+  dc_by false true false h = inr (rule.NothingToAnswer, refl, refl)
+  dc_by due told true h = absurd (cc)
 
   answers_by : (destination source : ℕ) → c.left.reference ≡ destination →
       (is_applied (finding (disconnected destination source)) ≡ true)
-      ⊎ (finding (disconnected destination source) ≡ Broke rule.NothingToAnswer) → IsPlain (course (disconnected destination source)) →
+      ⊎ (IsBad (finding (disconnected destination source))) → IsPlain (course (disconnected destination source)) →
       Came L (disconnected destination source) s (one_told Right q c (disconnected destination source) s).state
   answers_by destination source is (inl e) h =
       closed_so (disconnected destination source) destination refl is e refl refl (λ dr. absurd dr)
-  answers_by destination source is (inr e) h =
+  answers_by destination source is (inr (r, e, past)) h =
       let v = disconnected destination source in
-      absurd (bad (class_for Right s.course) rule.NothingToAnswer (course_after Right c v (is_applied (finding v)) s.course) refl
+      absurd (bad (class_for Right s.course) r (course_after Right c v (is_applied (finding v)) s.course) past
       (subst (λ (f : Finding). IsPlain (reached Right (reach_of (class_for Right s.course) f)
       (course_after Right c v (is_applied (finding v)) s.course))) e h))
 
   dc_found : (destination source : ℕ) → (is_applied (finding (disconnected destination source)) ≡ true)
-      ⊎ (finding (disconnected destination source) ≡ Broke rule.NothingToAnswer)
-  dc_found destination source = grind (arith, is_found, dc_by)
+      ⊎ (IsBad (finding (disconnected destination source)))
+  dc_found destination source =
+      subst (λ (f : Finding). (is_applied f ≡ true) ⊎ (IsBad f)) (sym (is_found (disconnected destination source)))
+      (dc_by (is_due Right c source) (not (is_silent c.right.phase)) s.course.strays plain)
 
   -- ---- an ER
 

@@ -63,15 +63,15 @@ confirm_known : (d : Direction) (c : Connection) (later : Half) (source : ℕ) (
 confirm_known Left c later source strays h e =
     let p = passes_each (disconnected_tests Left c source strays) refl e in
     let due = due_stays (is_open c.left.phase) (is_closing c.seen_by_left.phase) (is_closing later.phase) (source == c.left.reference)
-    h.closing p.1.0 in
+    h.closing p.1.1.0 in
     is_right (disconnected_tests Left (knows Left later c) source strays)
-    (or_first (is_due Left (knows Left later c) source) (not strays) due, (due, tt))
+    (or_first (is_due Left (knows Left later c) source) (not strays) due, (p.1.0, (due, tt)))
 confirm_known Right c later source strays h e =
     let p = passes_each (disconnected_tests Right c source strays) refl e in
     let due = due_stays (is_open c.right.phase) (is_closing c.seen_by_right.phase) (is_closing later.phase) (source == c.right.reference)
-    h.closing p.1.0 in
+    h.closing p.1.1.0 in
     is_right (disconnected_tests Right (knows Right later c) source strays)
-    (or_first (is_due Right (knows Right later c) source) (not strays) due, (due, tt))
+    (or_first (is_due Right (knows Right later c) source) (not strays) due, (p.1.0, (due, tt)))
 
 -- ---- what has passed of the other side since then
 

@@ -61,7 +61,7 @@ pub data Came (v : Value) (s : Traffic) (o : Outcome) : Type 0 where
 
 -- the tests of a CR
 request_by : (a b c d : Bool) → b ≡ true → (f : Finding) →
-    first_failed ((a, Broke rule.Negotiating) ∷ (b, NotJudged) ∷ (c, Broke rule.ReferenceInUse) ∷ (d, TooMany) ∷ []) ≡ f →
+    first_failed ((a, Broke rule.Negotiating) ∷ (b, TooMany) ∷ (c, Broke rule.ReferenceInUse) ∷ (d, TooMany) ∷ []) ≡ f →
     (f ≡ Kept) ⊎ (((k : Option Class) (course : Course) → IsCalm (reached Left (reach_of k f) course) → ⊥) × (f ≡ NotJudged → ⊥))
 request_by a b c d h f e = grind (arith, bad, differ)
 

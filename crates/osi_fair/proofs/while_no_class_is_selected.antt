@@ -4,7 +4,8 @@ use Rattle.osi_fair.proofs.Vocabulary.{arith}
 use Rattle.osi_fair.proofs.Vocabulary.{[], ap, Bool, false, if◌then◌else◌, inl, inr, length, List, map, None, Option, option_map, refl, set}
 use Rattle.osi_fair.proofs.Vocabulary.{Some, subst, suc, sym, true, zero, ℕ, ◌++◌, ◌∙◌, ◌∷◌, ◌≡◌, ◌⊎◌, eq-eqb, eqb-true, slice_get-map}
 use Rattle.osi_fair.proofs.Vocabulary.{nat_le, not, position, slice_get, ◌&&◌, ◌==◌, ◌||◌, confirm, Connect, disconnect, disconnected}
-use Rattle.osi_fair.proofs.Vocabulary.{error, Value, is_applied, reach_of, code_named, first_failed, is_due, is_inside, is_offered}
+use Rattle.osi_fair.proofs.Vocabulary.{error, Value, is_applied, reach_of, code_named}
+use Rattle.osi_fair.proofs.Vocabulary.{first_failed, given_again, is_due, is_inside, is_offered}
 use Rattle.osi_fair.proofs.Vocabulary.{begins, is_closing, is_free, is_named, is_open, is_over, is_refused}
 use Rattle.osi_fair.proofs.Vocabulary.{is_silent, asked_by, asks_by, at_found, at_place, class_of, closing_phase, connection_after}
 use Rattle.osi_fair.proofs.Vocabulary.{course_after, found, found_on, offer_of, Outcome, placed, reached, sent_on, Traffic as State, takes}
@@ -199,10 +200,10 @@ abbrev Confirms : (offered inside : Bool) → Finding → Type 0
 Confirms offered inside f =
     ((is_applied f ≡ true) × (reach_of None f ≡ reach.Nothing) × (offered ≡ true) × (inside ≡ true)) ⊎ (reach_of None f ≡ reach.Everything)
 
-confirm_or : (a b i u l : Bool) →
-    Confirms b i (first_failed ((a, Broke rule.WrongForm) ∷ (b, Broke rule.BadAnswer) ∷ (i, Outside) ∷ (u, Broke rule.ReferenceInUse)
+confirm_or : (a b i u loose l : Bool) →
+    Confirms b i (first_failed ((a, Broke rule.WrongForm) ∷ (b, Broke rule.BadAnswer) ∷ (i, Outside) ∷ (u, given_again loose)
     ∷ (l, Broke rule.LargerSize) ∷ []))
-confirm_or a b i u l = grind arith
+confirm_or a b i u loose l = grind arith
 
 -- by whether it is taken, and how far it reaches
 abbrev by_reach : (p destination : ℕ) → Connect → Connection → List Connection → (strays applied : Bool) → Reach → State
@@ -234,7 +235,7 @@ module _ (r p : ℕ) (o : Offer) (cs : List Connection) (strays : Bool) (w : Wai
       Answer r p o cs strays (confirm destination x) (by_finding p c cs strays (confirm destination x) (finding (confirm destination x)))
   to_confirm destination x h =
       let tests = confirm_or (is_silent c.right.phase) (is_offered c.offer None x) (is_inside x) (not (uses_source Right cs
-      (confirm destination x))) (nat_le (code_named x.parameters.size) c.offer.size_code) in
+      (confirm destination x))) false (nat_le (code_named x.parameters.size) c.offer.size_code) in
       let is = judged_same c.is_judged (found Right (calm strays) (uses_source Right cs (confirm destination x)) c (confirm destination x))
       w.judged in
       let so = subst (λ (f : Finding). Confirms (is_offered c.offer None x) (is_inside x) f) (sym is) tests in
@@ -286,12 +287,15 @@ module _ (r p : ℕ) (o : Offer) (cs : List Connection) (strays : Bool) (w : Wai
   not_due : (source : ℕ) → is_due Right c source ≡ false
   not_due source = ap (λ (h : Phase). is_open h && (is_closing c.seen_by_right.phase && (source == c.right.reference))) w.silent
 
-  dc_found : (due st : Bool) → due ≡ false →
-      first_failed ((due || not st, NotJudged) ∷ (due, Broke rule.NothingToAnswer) ∷ [])
-      ≡ (if st then NotJudged else Broke rule.NothingToAnswer)
-  dc_found due st h = grind arith
+  not_told : not (is_silent c.right.phase) ≡ false
+  not_told = ap not silent_so
 
-  dc_after : (destination source : ℕ) (st : Bool) (f : Finding) → f ≡ (if st then NotJudged else Broke rule.NothingToAnswer) →
+  dc_found : (due told st : Bool) → due ≡ false → told ≡ false →
+      first_failed ((due || not st, NotJudged) ∷ (told, Broke rule.UnknownReference) ∷ (due, Broke rule.NothingToAnswer) ∷ [])
+      ≡ (if st then NotJudged else Broke rule.UnknownReference)
+  dc_found due told st h k = grind arith
+
+  dc_after : (destination source : ℕ) (st : Bool) (f : Finding) → f ≡ (if st then NotJudged else Broke rule.UnknownReference) →
       GoesOn (by_finding p c cs st (disconnected destination source) f) →
       by_finding p c cs st (disconnected destination source) f ≡ calm_tap cs st
   dc_after destination source st f e h = grind (arith, set_same, differ)
@@ -300,7 +304,7 @@ module _ (r p : ℕ) (o : Offer) (cs : List Connection) (strays : Bool) (w : Wai
       GoesOn (by_finding p c cs strays (disconnected destination source) (finding (disconnected destination source))) →
       Answer r p o cs strays (disconnected destination source)
       (by_finding p c cs strays (disconnected destination source) (finding (disconnected destination source)))
-  to_dc destination source h = grind (arith, judged_same, dc_after, dc_found, not_due)
+  to_dc destination source h = grind (arith, judged_same, dc_after, dc_found, not_due, not_told)
 
   abbrev Answers : Value → State → Type 0
   Answers v after = GoesOn after → Answer r p o cs strays v after

@@ -11,7 +11,7 @@ use Rattle.osi_rules.specs.declared.connections.Connection.{Connection}
 use Rattle.osi_rules.specs.declared.connections.Offer.{Offer}
 use Rattle.osi_rules.specs.declared.directions.Direction.{Direction}
 use Rattle.osi_rules.specs.declared.findings.Finding.{Finding}
-use Rattle.osi_rules.specs.declared.findings.Finding.TheVariants.{Kept, Broke, Outside, NotJudged}
+use Rattle.osi_rules.specs.declared.findings.Finding.TheVariants.{Kept, Broke, Outside, TooMany, NotJudged}
 use Rattle.osi_rules.specs.declared.findings.Rule.TheVariants as rule
 use Rattle.osi_rules.specs.Sides.{is_silent, is_open, is_closing, own, theirs, seen}
 
@@ -96,12 +96,17 @@ is_inside c = (c.class == 0) || ((c.class == 2) && (not (selects_expedited c.par
 
 -- ---- the rows
 
+-- a reference that is in use; it may be free if it is that of a connection that is not judged any more
+abbrev pub given_again : (loose : Bool) → Finding
+given_again true = TooMany
+given_again false = Broke rule.ReferenceInUse
+
 -- CC of right: its CR is not answered; it is allowed by the CR; its reference is not in use; its size is not above the CR's
 -- (X.224 section 6.5)
-abbrev pub confirm_tests : Connection → (held : Option Class) → (in_use : Bool) → Connect → List Test
-confirm_tests c held in_use confirm =
+abbrev pub confirm_tests : Connection → (held : Option Class) → (in_use loose : Bool) → Connect → List Test
+confirm_tests c held in_use loose confirm =
     (is_silent c.right.phase, Broke rule.WrongForm) ∷ (is_offered c.offer held confirm, Broke rule.BadAnswer)
-    ∷ (is_inside confirm, Outside) ∷ (not in_use, Broke rule.ReferenceInUse)
+    ∷ (is_inside confirm, Outside) ∷ (not in_use, given_again loose)
     ∷ (nat_le (code_named confirm.parameters.size) c.offer.size_code, Broke rule.LargerSize) ∷ []
 
 -- its sender has answered the CR, and has not closed the connection
@@ -131,13 +136,14 @@ abbrev pub disconnect_tests : Direction → Connection → List Test
 disconnect_tests d c = (is_silent (own d c).phase || is_open (own d c).phase, Broke rule.Closed) ∷ []
 
 -- DC: it answers a DR that closes the connection, and its SRC-REF is its sender's reference (X.224 section 6.7). A DR that
--- closed nothing may be answered by another DC.
+-- closed nothing may be answered by another DC. A connection that its sender has not answered has no DR to answer.
 abbrev pub is_due : Direction → Connection → (source : ℕ) → Bool
 is_due d c source = is_open (own d c).phase && (is_closing (seen d c).phase && (source == (own d c).reference))
 
 abbrev pub disconnected_tests : Direction → Connection → (source : ℕ) → (strays : Bool) → List Test
 disconnected_tests d c source strays =
-    (is_due d c source || not strays, NotJudged) ∷ (is_due d c source, Broke rule.NothingToAnswer) ∷ []
+    (is_due d c source || not strays, NotJudged) ∷ (not (is_silent (own d c).phase), Broke rule.UnknownReference)
+    ∷ (is_due d c source, Broke rule.NothingToAnswer) ∷ []
 
 -- ER: it refuses the CR (X.224 section 6.22)
 abbrev pub error_tests : Direction → Connection → List Test

@@ -115,7 +115,7 @@ route d c v = route_in (class_for d c) d (is_stopped (other d) c) v
 
 -- what is found of it; `in_use`: this side has given the reference of its CC to another connection
 abbrev pub found : Direction → Course → (in_use : Bool) → Connection → Value → Finding
-found Right course in_use c (confirm destination content) = first_failed (confirm_tests c course.class in_use content)
+found Right course in_use c (confirm destination content) = first_failed (confirm_tests c course.class in_use course.loose content)
 found d course in_use c (disconnect destination source reason user) = first_failed (disconnect_tests d c)
 found d course in_use c (disconnected destination source) = first_failed (disconnected_tests d c source course.strays)
 found d course in_use c (data0 end user) = first_failed (data0_tests d c (length user))
@@ -233,14 +233,19 @@ one_told d place c v s =
       };
     }
 
--- a unit for a reference of no connection, which may be one that is not judged any more
+-- a unit for a reference of no connection
 abbrev pub unnamed_by : (strays : Bool) → Value → Finding
 unnamed_by true (disconnected destination source) = NotJudged
 unnamed_by false (disconnected destination source) = Broke rule.NothingToAnswer
 unnamed_by strays v = Broke rule.UnknownReference
 
+-- it breaks no rule if a connection that is not judged any more has got the reference since
+abbrev pub in_doubt : Finding → Finding
+in_doubt (Broke rule) = TooMany
+in_doubt finding = finding
+
 abbrev pub unnamed : Course → Value → Finding
-unnamed course v = if course.loose then NotJudged else unnamed_by course.strays v
+unnamed course v = if course.loose then in_doubt (unnamed_by course.strays v) else unnamed_by course.strays v
 
 abbrev pub unnamed_told : Direction → Value → State → Outcome
 unnamed_told d v s = none_told d (unnamed s.course v) (record s { course = course_after_none v s.course })
@@ -267,11 +272,12 @@ abbrev pub needs_place : Value → List Connection → Bool
 needs_place (request c) connections = not (is_some (position is_free connections))
 needs_place v connections = false
 
--- no other CR is unanswered while the class is not known; its reference is not in use
+-- No other CR is unanswered while the class is not known; its reference is not in use. That of a connection that is not
+-- judged any more may be free.
 abbrev pub request_tests : State → Connect → List Test
 request_tests s c =
     (is_some s.course.class_seen || list_all (is_over Left) s.connections, Broke rule.Negotiating)
-    ∷ (not (list_any (is_not_judged c.source) s.connections), NotJudged)
+    ∷ (not (list_any (is_not_judged c.source) s.connections), TooMany)
     ∷ (not (list_any (uses Left c.source) s.connections), Broke rule.ReferenceInUse)
     ∷ (has_place s.connections, TooMany) ∷ []
 

@@ -199,7 +199,7 @@ impl Connection {
     {
         match direction {
             Direction::Left => Finding::Broke(Rule::WrongForm),
-            Direction::Right => confirm(self, course.class, in_use, answer),
+            Direction::Right => confirm(self, course.class, in_use, course.loose, answer),
         }
     }
 }

@@ -3,7 +3,7 @@
 ghost use Rattle.std.specs.Prelude.{◌≡◌};
 ghost use Rattle.osi_tpdu.specs.View.{value};
 ghost use Rattle.osi_rules.specs.Sides.{other};
-ghost use Rattle.osi_rules.specs.Traffic.{route_before, route_zero, route_two, route, unnamed, unnamed_by};
+ghost use Rattle.osi_rules.specs.Traffic.{route_before, route_zero, route_two, route, unnamed, unnamed_by, in_doubt};
 
 use crate::courses::Course;
 use crate::directions::Direction;
@@ -91,20 +91,38 @@ pub(crate) fn route_for(direction: Direction, course: &Course, unit: &Tpdu<'_>) 
     }
 }
 
-/// What is found of a unit for a reference of no connection.
-pub(crate) fn unnamed(course: &Course, unit: &Tpdu<'_>) -> Finding
-    ensures { result ≡ unnamed course.now (value unit.now) }
+/// What is found of a unit for a reference of no connection, as long as all connections are judged.
+fn unnamed_by(strays: bool, unit: &Tpdu<'_>) -> Finding
+    ensures { result ≡ unnamed_by strays (value unit.now) }
 {
-    if course.loose {
-        return Finding::NotJudged;
-    }
     match unit {
         Tpdu::Dc(_) => {
-            if course.strays {
+            if strays {
                 return Finding::NotJudged;
             }
             Finding::Broke(Rule::NothingToAnswer)
         }
         _ => Finding::Broke(Rule::UnknownReference),
     }
+}
+
+/// What is found in place of this if a connection is not judged any more, which may have got the reference since.
+fn in_doubt(finding: Finding) -> Finding
+    ensures { result ≡ in_doubt finding }
+{
+    match finding {
+        Finding::Broke(_) => Finding::TooMany,
+        _ => finding,
+    }
+}
+
+/// What is found of a unit for a reference of no connection.
+pub(crate) fn unnamed(course: &Course, unit: &Tpdu<'_>) -> Finding
+    ensures { result ≡ unnamed course.now (value unit.now) }
+{
+    let finding = unnamed_by(course.strays, unit);
+    if course.loose {
+        return in_doubt(finding);
+    }
+    finding
 }

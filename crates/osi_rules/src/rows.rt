@@ -4,7 +4,7 @@ ghost use Rattle.std.specs.Prelude.{◌≡◌, ◌==◌, ◌+◌, ◌%◌, optio
 ghost use Rattle.osi_tpdu.specs.Limits.{size_code};
 ghost use Rattle.osi_class.specs.Flow.{steps_before};
 ghost use Rattle.osi_tpdu.specs.View.{confirm_content};
-ghost use Rattle.osi_rules.specs.Rows.{first_failed, steps_from, has_credit, is_tellable, has_passed, keeps_credit, fits_size, fits_tsdu, code_named, selects_expedited, is_offered, is_inside, confirm_tests, data2_tests, data0_tests, acknowledge_tests, disconnect_tests, is_due, disconnected_tests, error_tests};
+ghost use Rattle.osi_rules.specs.Rows.{first_failed, steps_from, has_credit, is_tellable, has_passed, keeps_credit, fits_size, fits_tsdu, code_named, selects_expedited, is_offered, is_inside, given_again, confirm_tests, data2_tests, data0_tests, acknowledge_tests, disconnect_tests, is_due, disconnected_tests, error_tests};
 
 use crate::connections::{Connection, Offer};
 use crate::directions::Direction;
@@ -78,14 +78,25 @@ fn is_inside(confirm: &ConnectConfirm<'_>) -> bool
     class == 0 || class == 2 && !expedited && !(confirm.fields.options % 2 == 1)
 }
 
-/// CC of right. `in_use`: right has given its reference to another connection.
+/// A CC with a reference that is in use. `loose`: a connection is not judged any more, whose reference may be free.
+fn given_again(loose: bool) -> Finding
+    ensures { result ≡ given_again loose }
+{
+    if loose {
+        return Finding::TooMany;
+    }
+    Finding::Broke(Rule::ReferenceInUse)
+}
+
+/// CC of right. `in_use`: right has given its reference to another connection. `loose`: one is not judged any more.
 pub(crate) fn confirm(
     connection: &Connection,
     held: Option<Class>,
     in_use: bool,
+    loose: bool,
     confirm: &ConnectConfirm<'_>,
 ) -> Finding
-    ensures { result ≡ first_failed (confirm_tests connection.now held in_use (confirm_content confirm.now)) }
+    ensures { result ≡ first_failed (confirm_tests connection.now held in_use loose (confirm_content confirm.now)) }
 {
     if !connection.right.phase.is_silent() {
         return Finding::Broke(Rule::WrongForm);
@@ -97,7 +108,7 @@ pub(crate) fn confirm(
         return Finding::Outside;
     }
     if in_use {
-        return Finding::Broke(Rule::ReferenceInUse);
+        return given_again(loose);
     }
     if code_named(confirm.fields.parameters.size) > connection.offer.size_code {
         return Finding::Broke(Rule::LargerSize);
@@ -234,6 +245,10 @@ impl Connection {
         }
         if strays {
             return Finding::NotJudged;
+        }
+        let answered = !self.own(direction).phase.is_silent();
+        if !answered {
+            return Finding::Broke(Rule::UnknownReference);
         }
         Finding::Broke(Rule::NothingToAnswer)
     }

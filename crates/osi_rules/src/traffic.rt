@@ -228,7 +228,7 @@ impl Traffic {
             return Finding::Broke(Rule::Negotiating);
         }
         if is_not_judged(&self.connections, source) {
-            return Finding::NotJudged;
+            return Finding::TooMany;
         }
         if uses(Direction::Left, &self.connections, source) {
             return Finding::Broke(Rule::ReferenceInUse);

@@ -33,7 +33,8 @@ pub enum Cause {
     Broke(Rule),
     /// A unit that X.224 allows and this product leaves out.
     Outside,
-    /// A CR for one connection more than are looked at together.
+    /// A CR for one connection more than are looked at together. Or a unit of which nobody can tell whether it is right, since
+    /// a connection is not judged any more (`osi_rules::Finding::TooMany`).
     TooMany,
 }
 

@@ -92,12 +92,13 @@ pub use Rattle.osi_stack.specs.declared.connecting.ConnectError.{ConnectError}
 pub use Rattle.osi_rules.proofs.a_stop_is_said.{stops_are_said, stops_last}
 pub use Rattle.osi_rules.specs.Reaches.{is_applied, reach_of}
 pub use Rattle.osi_rules.specs.Rows.{acknowledge_tests, code_named, data0_tests, data2_tests, first_failed, fits_size, fits_tsdu}
-pub use Rattle.osi_rules.specs.Rows.{has_credit, has_passed, is_due, is_inside, is_offered, is_tellable, keeps_credit, Test}
+pub use Rattle.osi_rules.specs.Rows.{given_again, has_credit, has_passed, is_due, is_inside, is_offered, is_tellable, keeps_credit, Test}
 pub use Rattle.osi_rules.specs.Sides.{begins, is_closed, is_closing, is_free, is_live, is_named, is_open, is_over, is_over_by, is_refused}
 pub use Rattle.osi_rules.specs.Sides.{is_silent, own, seen, uses}
 pub use Rattle.osi_rules.specs.Traffic.{asked_by, asks_by, asks_kept, asks_of, at_found, at_place, class_for, class_of, closing_phase}
 pub use Rattle.osi_rules.specs.Traffic.{connection_after, course_after, course_after_none, course_begins, found, found_on, fresh}
-pub use Rattle.osi_rules.specs.Traffic.{half_after, is_stopped, judged_on, meaning_if, meant, none_told, one_told, Outcome, refused_reach}
+pub use Rattle.osi_rules.specs.Traffic.{half_after, in_doubt, is_stopped, judged_on, meaning_if}
+pub use Rattle.osi_rules.specs.Traffic.{meant, none_told, one_told, Outcome, refused_reach}
 pub use Rattle.osi_rules.specs.Traffic.{request_tests, route, route_in, route_zero, routed, sent_on, silent_half, State as Traffic}
 pub use Rattle.osi_rules.specs.Traffic.{stops_by, takes, unnamed, unnamed_by, unnamed_told, uses_source}
 pub use Rattle.osi_rules.specs.declared.connections.Connection.{Connection}

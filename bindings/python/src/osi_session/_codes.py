@@ -372,7 +372,8 @@ class Rule(IntEnum):
     LIMIT = 70
     """No break: more passed than a judge keeps."""
     TOO_MANY_CONNECTIONS = 71
-    """No break: there are more than 128 connections at once."""
+    """No break: there are more than 128 connections at once. Or nobody can tell whether the unit is right,
+    since a connection is not judged any more."""
     ONE_CONNECTION = 80
     """A CR in class 0, which has one connection."""
     NEGOTIATING = 81

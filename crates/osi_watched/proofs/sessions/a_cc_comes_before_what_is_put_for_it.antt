@@ -16,10 +16,10 @@ use Rattle.osi_rules.specs.declared.findings.Finding.TheVariants.{Broke, NotJudg
 use Rattle.osi_rules.specs.declared.findings.Rule.TheVariants as rule
 use Rattle.osi_rules.specs.declared.halves.Phase.{Phase}
 use Rattle.osi_rules.specs.declared.halves.Phase.TheVariants as phase
-use Rattle.osi_rules.specs.Rows.{first_failed, is_inside, is_offered}
+use Rattle.osi_rules.specs.Rows.{first_failed, given_again, is_inside, is_offered}
 use Rattle.osi_rules.specs.Sides.{is_closing, is_named, is_open, is_silent, uses}
 use Rattle.osi_rules.specs.Traffic.{Outcome, State, at_found, at_place, class_for, found, found_on, is_stopped, none_told, route, route_in}
-use Rattle.osi_rules.specs.Traffic.{routed, takes, unnamed_by, uses_source}
+use Rattle.osi_rules.specs.Traffic.{in_doubt, routed, takes, unnamed_by, uses_source}
 use Rattle.osi_fair.proofs.all_are_judged_unless_one_broke.{AreJudged}
 use Rattle.osi_fair.proofs.each_connection_has_its_line.{IsOwned, asking, is_tracked, of, stray}
 use Rattle.osi_fair.proofs.what_holds_of_one_item.{none_true}
@@ -36,14 +36,15 @@ use Rattle.osi_watched.proofs.sessions.what_stands_of_a_connection.{is_for, wait
 
 -- ---- a CC that is no break, or has too large a size
 
-first_new : (v : Value) (a b i u z : Bool) →
+first_new : (v : Value) (a b i u loose z : Bool) → loose ≡ false →
     IsMild v (first_failed ((a, Broke rule.WrongForm) ∷ (b, Broke rule.BadAnswer) ∷ (i, Outside)
-    ∷ (u, Broke rule.ReferenceInUse) ∷ (z, Broke rule.LargerSize) ∷ [])) → u ≡ true
-first_new v false b i u z h = absurd h
-first_new v true false i u z h = absurd h
-first_new v true true false u z h = absurd h
-first_new v true true true false z h = absurd h
-first_new v true true true true z h = refl
+    ∷ (u, given_again loose) ∷ (z, Broke rule.LargerSize) ∷ [])) → u ≡ true
+first_new v false b i u loose z firm h = absurd h
+first_new v true false i u loose z firm h = absurd h
+first_new v true true false u loose z firm h = absurd h
+first_new v true true true false false z firm h = absurd h
+first_new v true true true false true z firm h = absurd (cc)
+first_new v true true true true loose z firm h = refl
 
 not_so : (b : Bool) → not b ≡ true → b ≡ false
 not_so true h = absurd (cc)
@@ -63,11 +64,11 @@ module _ (n : ℕ) (x : Connect) (s : State) (firm : s.course.loose ≡ false) (
       by true h k =
           not_so (uses_source way.Right s.connections (confirm n x))
           (first_new (confirm n x) (is_silent c.right.phase) (is_offered c.offer s.course.class x) (is_inside x)
-          (not (uses_source way.Right s.connections (confirm n x))) _ k)
+          (not (uses_source way.Right s.connections (confirm n x))) s.course.loose _ firm k)
       by false h k = absurd (cc)
 
   cc_nowhere : {A : Type 0} (loose strays : Bool) → loose ≡ false →
-      IsMild (confirm n x) (if loose then NotJudged else unnamed_by strays (confirm n x)) → A
+      IsMild (confirm n x) (if loose then in_doubt (unnamed_by strays (confirm n x)) else unnamed_by strays (confirm n x)) → A
   cc_nowhere true strays h none = absurd (cc)
   cc_nowhere false true h none = absurd none
   cc_nowhere false false h none = absurd none

@@ -19,11 +19,11 @@ use Rattle.osi_rules.specs.declared.halves.Half.{Half}
 use Rattle.osi_rules.specs.declared.halves.Phase.{Phase}
 use Rattle.osi_rules.specs.declared.halves.Phase.TheVariants as phase
 use Rattle.osi_rules.specs.Reaches.{is_applied, reach_of}
-use Rattle.osi_rules.specs.Rows.{code_named, first_failed, is_inside, is_offered}
+use Rattle.osi_rules.specs.Rows.{code_named, first_failed, given_again, is_inside, is_offered}
 use Rattle.osi_rules.specs.Sides.{is_named, is_refused, is_silent}
 use Rattle.osi_rules.specs.Traffic.{Outcome, State, at_found, at_place, class_for, class_of, connection_after, course_after, found}
 use Rattle.osi_rules.specs.Traffic.{found_on, is_stopped}
-use Rattle.osi_rules.specs.Traffic.{judged_on, none_told, route, route_in, routed, sent_on, takes, unnamed_by, uses_source}
+use Rattle.osi_rules.specs.Traffic.{in_doubt, judged_on, none_told, route, route_in, routed, sent_on, takes, unnamed_by, uses_source}
 use Rattle.osi_fair.proofs.a_dt_of_class_zero_passes.{unlike}
 use Rattle.osi_fair.proofs.a_reference_names_one_connection.{applied_found}
 use Rattle.osi_fair.proofs.all_are_judged_unless_one_broke.{AreJudged}
@@ -82,22 +82,23 @@ pub record HasEffect (s : State) (k : Class) (o : Outcome) : Type 0 where
   pub class : o.state.course.class ≡ Some k
 
 unknown_breaks : {A : Type 0} (loose strays : Bool) (n : ℕ) (x : Connect) → loose ≡ false →
-    IsMild (confirm n x) (if loose then NotJudged else unnamed_by strays (confirm n x)) → A
+    IsMild (confirm n x) (if loose then in_doubt (unnamed_by strays (confirm n x)) else unnamed_by strays (confirm n x)) → A
 unknown_breaks true strays n x firm mild = absurd (cc)
 unknown_breaks false true n x firm mild = absurd mild
 unknown_breaks false false n x firm mild = absurd mild
 
-tests_applied : (v : Value) (a b i u l : Bool) →
-    IsMild v (first_failed ((a, Broke rule.WrongForm) ∷ (b, Broke rule.BadAnswer) ∷ (i, Outside) ∷ (u, Broke rule.ReferenceInUse)
+tests_applied : (v : Value) (a b i u loose l : Bool) → loose ≡ false →
+    IsMild v (first_failed ((a, Broke rule.WrongForm) ∷ (b, Broke rule.BadAnswer) ∷ (i, Outside) ∷ (u, given_again loose)
     ∷ (l, Broke rule.LargerSize) ∷ [])) →
-    is_applied (first_failed ((a, Broke rule.WrongForm) ∷ (b, Broke rule.BadAnswer) ∷ (i, Outside) ∷ (u, Broke rule.ReferenceInUse)
+    is_applied (first_failed ((a, Broke rule.WrongForm) ∷ (b, Broke rule.BadAnswer) ∷ (i, Outside) ∷ (u, given_again loose)
     ∷ (l, Broke rule.LargerSize) ∷ [])) ≡ true
-tests_applied v false b i u l mild = absurd mild
-tests_applied v true false i u l mild = absurd mild
-tests_applied v true true false u l mild = absurd mild
-tests_applied v true true true false l mild = absurd mild
-tests_applied v true true true true false mild = refl
-tests_applied v true true true true true mild = refl
+tests_applied v false b i u loose l firm mild = absurd mild
+tests_applied v true false i u loose l firm mild = absurd mild
+tests_applied v true true false u loose l firm mild = absurd mild
+tests_applied v true true true false false l firm mild = absurd mild
+tests_applied v true true true false true l firm mild = absurd (cc)
+tests_applied v true true true true loose false firm mild = refl
+tests_applied v true true true true loose true firm mild = refl
 
 judged_applied : (v : Value) (j : Bool) (f : Finding) → j ≡ true → (IsMild v f → is_applied f ≡ true) →
     IsMild v (if j then f else NotJudged) → is_applied (if j then f else NotJudged) ≡ true
@@ -114,13 +115,13 @@ module _ (n : ℕ) (x : Connect) (s : State) (goes : is_stopped Right s.course �
       let used = uses_source Right s.connections v in
       judged_applied v c.is_judged (found Right s.course used c v) j
       (tests_applied v (is_silent c.right.phase) (is_offered c.offer s.course.class x) (is_inside x) (not used)
-      (nat_le (code_named x.parameters.size) c.offer.size_code)) mild
+      s.course.loose (nat_le (code_named x.parameters.size) c.offer.size_code) firm) mild
 
   silent_so : (c : Connection) → is_applied (found_on Right s c v) ≡ true → is_silent c.right.phase ≡ true
   silent_so c h =
       let used = uses_source Right s.connections v in
       first_answer (is_silent c.right.phase) (is_offered c.offer s.course.class x) (is_inside x) (not used)
-      (nat_le (code_named x.parameters.size) c.offer.size_code) (applied_found c.is_judged (found Right s.course used c v) h)
+      s.course.loose (nat_le (code_named x.parameters.size) c.offer.size_code) (applied_found c.is_judged (found Right s.course used c v) h)
 
   found_effect : (p : ℕ) (o : Option Connection) → slice_get s.connections p ≡ o →
       IsMild v (at_found Right v s p o).told.finding → HasEffect s (class_of x) (at_found Right v s p o)

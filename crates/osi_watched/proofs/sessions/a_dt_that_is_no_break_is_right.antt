@@ -4,7 +4,8 @@ use Rattle.osi_watched.proofs.Vocabulary.{[], Bool, false, if◌then◌else◌, 
 use Rattle.osi_watched.proofs.Vocabulary.{sym, true, ℕ, ◌∷◌, ◌≡◌, ◌⊎◌, AllByRecursion, position, slice_get, data0, data2, Value, unit_parts}
 use Rattle.osi_watched.proofs.Vocabulary.{Class, Two, Zero, data0_tests, data2_tests, first_failed, Test, is_live, is_named, at_found}
 use Rattle.osi_watched.proofs.Vocabulary.{at_place, class_for, found, is_stopped, none_told, route, route_in, routed, Traffic as State}
-use Rattle.osi_watched.proofs.Vocabulary.{takes, unnamed_by, uses_source, Connection, Rules, Way, Finding, Broke, Kept, NotJudged, Rule}
+use Rattle.osi_watched.proofs.Vocabulary.{in_doubt, takes, unnamed_by, uses_source, Connection, Rules}
+use Rattle.osi_watched.proofs.Vocabulary.{Way, Finding, Broke, Kept, NotJudged, Rule}
 use Rattle.osi_watched.proofs.Vocabulary.{Capture, Direction, user_of, marked, marks_of, moved, unread_mark, unread_moment, way_of}
 use Rattle.osi_watched.proofs.Vocabulary.{comes_to, Cause, no_item, AreJudged, still_judged, packet, rubbish, unit}
 use Rattle.osi_rules.specs.declared.directions.Direction.TheVariants as way
@@ -62,7 +63,7 @@ judged_clear : (b : Bool) (f : Finding) → b ≡ true → IsClear f → IsClear
 judged_clear true f h k = k
 judged_clear false f h k = absurd (cc)
 
-loose_clear : (b : Bool) (f : Finding) → b ≡ false → IsClear f → IsClear (if b then NotJudged else f)
+loose_clear : (b : Bool) (f : Finding) → b ≡ false → IsClear f → IsClear (if b then in_doubt f else f)
 loose_clear true f h k = absurd (cc)
 loose_clear false f h k = k
 

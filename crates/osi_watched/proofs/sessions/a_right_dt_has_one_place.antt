@@ -28,7 +28,7 @@ use Rattle.osi_rules.specs.Rows.{Test, first_failed, fits_size, fits_tsdu, has_c
 use Rattle.osi_rules.specs.Sides.{is_closed, is_closing, is_live, is_named, is_open, is_over_by, is_refused, is_silent, own, uses}
 use Rattle.osi_rules.specs.Sides as sides
 use Rattle.osi_rules.specs.Traffic.{Outcome, State, at_found, at_place, class_for, found, is_stopped, meaning_if, meant, none_told}
-use Rattle.osi_rules.specs.Traffic.{route, route_in, routed, takes, unnamed_by, uses_source}
+use Rattle.osi_rules.specs.Traffic.{in_doubt, route, route_in, routed, takes, unnamed_by, uses_source}
 use Rattle.osi_rules.specs.Traffic as traffic
 use Rattle.osi_fair.specs.Naming.{packet, rubbish, unit}
 use Rattle.osi_fair.proofs.a_reference_names_one_connection.{fresh_apart, passes_apart}
@@ -62,30 +62,37 @@ judged_applied false f h = absurd (cc)
 abbrev AddsTo : Value → Bool → Type 0
 AddsTo v end = meant v ≡ Adds end
 
-never_unnamed : {A : Type 0} (loose strays : Bool) (v : Value) (end : Bool) → AddsTo v end →
-    is_applied (if loose then NotJudged else unnamed_by strays v) ≡ true → A
-never_unnamed true strays v end adds h = absurd (cc)
-never_unnamed false true (request c) end adds h = absurd (cc)
-never_unnamed false false (request c) end adds h = absurd (cc)
-never_unnamed false true (confirm n c) end adds h = absurd (cc)
-never_unnamed false false (confirm n c) end adds h = absurd (cc)
-never_unnamed false true (disconnect n source reason user) end adds h = absurd (cc)
-never_unnamed false false (disconnect n source reason user) end adds h = absurd (cc)
-never_unnamed false true (disconnected n source) end adds h = absurd (cc)
-never_unnamed false false (disconnected n source) end adds h = absurd (cc)
-never_unnamed false true (data0 e user) end adds h = absurd (cc)
-never_unnamed false false (data0 e user) end adds h = absurd (cc)
-never_unnamed false true (data2 n number e user) end adds h = absurd (cc)
-never_unnamed false false (data2 n number e user) end adds h = absurd (cc)
-never_unnamed false true (acknowledge credit n number) end adds h = absurd (cc)
-never_unnamed false false (acknowledge credit n number) end adds h = absurd (cc)
-never_unnamed false true (error n cause) end adds h = absurd (cc)
-never_unnamed false false (error n cause) end adds h = absurd (cc)
+doubt_applied : (f : Finding) → is_applied (in_doubt f) ≡ true → is_applied f ≡ true
+doubt_applied (Broke r) h = absurd (cc)
+doubt_applied f h = h
+
+never_known : {A : Type 0} (strays : Bool) (v : Value) → is_applied (unnamed_by strays v) ≡ true → A
+never_known true (request c) h = absurd (cc)
+never_known false (request c) h = absurd (cc)
+never_known true (confirm n c) h = absurd (cc)
+never_known false (confirm n c) h = absurd (cc)
+never_known true (disconnect n source reason user) h = absurd (cc)
+never_known false (disconnect n source reason user) h = absurd (cc)
+never_known true (disconnected n source) h = absurd (cc)
+never_known false (disconnected n source) h = absurd (cc)
+never_known true (data0 e user) h = absurd (cc)
+never_known false (data0 e user) h = absurd (cc)
+never_known true (data2 n number e user) h = absurd (cc)
+never_known false (data2 n number e user) h = absurd (cc)
+never_known true (acknowledge credit n number) h = absurd (cc)
+never_known false (acknowledge credit n number) h = absurd (cc)
+never_known true (error n cause) h = absurd (cc)
+never_known false (error n cause) h = absurd (cc)
+
+never_unnamed : {A : Type 0} (loose strays : Bool) (v : Value) →
+    is_applied (if loose then in_doubt (unnamed_by strays v) else unnamed_by strays v) ≡ true → A
+never_unnamed true strays v h = never_known strays v (doubt_applied (unnamed_by strays v) h)
+never_unnamed false strays v h = never_known strays v h
 
 module _ (d : Way) (v : Value) (end : Bool) (s : State) (adds : AddsTo v end) where
   placed_one : (i : ℕ) (o : Option Connection) → slice_get s.connections i ≡ o → is_applied (at_found d v s i o).told.finding ≡ true →
       IsPlaced d v end s (at_found d v s i o)
-  placed_one i None e h = never_unnamed s.course.loose s.course.strays v end adds h
+  placed_one i None e h = never_unnamed s.course.loose s.course.strays v h
   placed_one i (Some c) e h =
       let (judged, applied) = judged_applied c.is_judged (found d s.course (uses_source d s.connections v) c v) h in
       record {
@@ -99,7 +106,7 @@ module _ (d : Way) (v : Value) (end : Bool) (s : State) (adds : AddsTo v end) wh
       }
 
   placed_any : (o : Option ℕ) → is_applied (at_place d v s o).told.finding ≡ true → IsPlaced d v end s (at_place d v s o)
-  placed_any None h = never_unnamed s.course.loose s.course.strays v end adds h
+  placed_any None h = never_unnamed s.course.loose s.course.strays v h
   placed_any (Some i) h = placed_one i (slice_get s.connections i) refl h
 
   stopped_or : (b : Bool) (r : Route) → (is_applied (routed d v s r).told.finding ≡ true → IsPlaced d v end s (routed d v s r)) →

@@ -26,6 +26,8 @@ use Rattle.osi_watched.proofs.sessions.a_unit_is_joined_where_it_is_named.{named
 use Rattle.osi_watched.proofs.sessions.connections_have_the_same_places.{unit_knows}
 use Rattle.osi_watched.proofs.sessions.right_units_leave_all_standing.{IsLink, ak, dt, link_names}
 use Rattle.osi_watched.proofs.sessions.what_a_unit_does_at_its_place.{Does, asks_again, asks_more, nowhere, somewhere, unit_does}
+use Rattle.osi_rules.specs.Rows.{given_again}
+use Rattle.osi_rules.specs.Traffic.{in_doubt}
 use Rattle.osi_watched.proofs.sessions.what_has_no_effect_joins_nothing.{joins_none}
 
 -- ---- what is found of such a unit
@@ -59,6 +61,10 @@ pub data MayFollow (v : Value) : Type 0 where
   a_link : (n : ℕ) → IsLink v n → MayFollow v
   a_dr : IsDr v → MayFollow v
 
+given_not : (loose : Bool) → IsFound (given_again loose) → ⊥
+given_not true h = cc h
+given_not false h = cc h
+
 found_follows : (d : Way) (course : Rules) (in_use : Bool) (c : Connection) (v : Value) → IsFound (found d course in_use c v) → MayFollow v
 found_follows d course in_use c (data2 n number end user) h = a_link n (dt number end user refl)
 found_follows d course in_use c (acknowledge credit n number) h = a_link n (ak credit number refl)
@@ -67,11 +73,12 @@ found_follows way.Left course in_use c (request x) h = absurd (cc)
 found_follows way.Right course in_use c (request x) h = absurd (cc)
 found_follows way.Left course in_use c (confirm n x) h = absurd (cc)
 found_follows way.Right course in_use c (confirm n x) h =
-    absurd (first_other (confirm_tests c course.class in_use x) (λ e. cc e, (λ e. cc e, (λ e. cc e, (λ e. cc e, (λ e. cc e, tt))))) h)
+    absurd (first_other (confirm_tests c course.class in_use course.loose x)
+    (λ e. cc e, (λ e. cc e, (λ e. cc e, (given_not course.loose, (λ e. cc e, tt))))) h)
 found_follows way.Left course in_use c (disconnected n source) h =
-    absurd (first_other (disconnected_tests way.Left c source course.strays) (λ e. cc e, (λ e. cc e, tt)) h)
+    absurd (first_other (disconnected_tests way.Left c source course.strays) (λ e. cc e, (λ e. cc e, (λ e. cc e, tt))) h)
 found_follows way.Right course in_use c (disconnected n source) h =
-    absurd (first_other (disconnected_tests way.Right c source course.strays) (λ e. cc e, (λ e. cc e, tt)) h)
+    absurd (first_other (disconnected_tests way.Right c source course.strays) (λ e. cc e, (λ e. cc e, (λ e. cc e, tt))) h)
 found_follows way.Left course in_use c (data0 end user) h =
     absurd (first_other (data0_tests way.Left c (length user)) (λ e. cc e, (λ e. cc e, tt)) h)
 found_follows way.Right course in_use c (data0 end user) h =
@@ -112,8 +119,12 @@ route_other (Some Two) way.Right b (request x) = λ e. cc e
 route_other (Some Two) way.Right b (data0 end user) = λ e. cc e
 route_other (Some Two) way.Right b _ = tt
 
-unnamed_not : (loose strays : Bool) (v : Value) → IsFound (if loose then NotJudged else unnamed_by strays v) → ⊥
-unnamed_not true strays v h = cc
+doubt_not : (f : Finding) → IsFound (in_doubt f) → ⊥
+doubt_not (Broke r) h = cc h
+doubt_not _ h = cc h
+
+unnamed_not : (loose strays : Bool) (v : Value) → IsFound (if loose then in_doubt (unnamed_by strays v) else unnamed_by strays v) → ⊥
+unnamed_not true strays v h = doubt_not (unnamed_by strays v) h
 unnamed_not false true (disconnected n source) h = cc
 unnamed_not false false (disconnected n source) h = cc
 unnamed_not false true _ h = cc

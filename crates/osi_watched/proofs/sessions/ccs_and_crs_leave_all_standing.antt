@@ -127,7 +127,7 @@ unanswered s n x c j one h =
     let in_use = uses_source way.Right s.connections (confirm n x) in
     let f = applied_found c.is_judged (found way.Right s.course in_use c (confirm n x)) h in
     one.called ∙ none_given c.right.phase c.right.reference (first_answer (is_silent c.right.phase) (is_offered c.offer s.course.class x)
-    (is_inside x) (not in_use) (nat_le (code_named x.parameters.size) c.offer.size_code) f)
+    (is_inside x) (not in_use) s.course.loose (nat_le (code_named x.parameters.size) c.offer.size_code) f)
 
 -- of a called end: what it has put there is what waits after the CC
 pub own_cc : (deeds : ℕ → Deeds) (known : Known) (at n : ℕ) (x : Connect) (rest : List Value) (s : State) (t : Sessions) →

@@ -235,11 +235,13 @@ form_test : (b : Bool) → is_applied (first_failed ((b, Broke rule.WrongForm) �
 form_test true h = refl
 form_test false h = absurd (cc)
 
-due_test : (due strays : Bool) →
-    is_applied (first_failed ((due || not strays, NotJudged) ∷ (due, Broke rule.NothingToAnswer) ∷ [])) ≡ true → due ≡ true
-due_test true strays h = refl
-due_test false true h = absurd (cc)
-due_test false false h = absurd (cc)
+due_test : (due told strays : Bool) →
+    is_applied (first_failed ((due || not strays, NotJudged) ∷ (told, Broke rule.UnknownReference) ∷ (due, Broke rule.NothingToAnswer)
+    ∷ [])) ≡ true → due ≡ true
+due_test true told strays h = refl
+due_test false told true h = absurd (cc)
+due_test false true false h = absurd (cc)
+due_test false false false h = absurd (cc)
 
 due_closing : (a b c : Bool) → (a && (b && c)) ≡ true → b ≡ true
 due_closing true true c h = refl
@@ -282,7 +284,7 @@ module _ (s : State) (c : Connection) (in_use : Bool) (up : is_open c.left.phase
   left_fits (confirm destination x) may live h = absurd (cc)
   left_fits (disconnect destination source reason user) may live h = absurd may
   left_fits (disconnected destination source) may live h =
-      let due = due_test (is_due Left c source) s.course.strays h in
+      let due = due_test (is_due Left c source) (not (is_silent c.left.phase)) s.course.strays h in
       let closing = due_closing (is_open c.left.phase) (is_closing c.seen_by_left.phase) (source == c.left.reference) due in
       differ (is_closing c.right.phase) (sound.left_knows.closing closing) answers.closing
   left_fits (error destination cause) may live h = absurd (open_silent c.left.phase up (form_test (is_silent c.left.phase) h))
@@ -335,7 +337,7 @@ module _ (s : State) (c : Connection) (in_use : Bool) (up : is_open c.left.phase
       right_closes destination source reason user may
       (or_not (is_silent c.right.phase) (is_open c.right.phase) (one_test (is_silent c.right.phase || is_open c.right.phase) h) (none may))
   right_fits (disconnected destination source) may h =
-      let due = due_test (is_due Right c source) s.course.strays h in
+      let due = due_test (is_due Right c source) (not (is_silent c.right.phase)) s.course.strays h in
       let closing = due_closing (is_open c.right.phase) (is_closing c.seen_by_right.phase) (source == c.right.reference) due in
       absurd (open_closing c.left.phase up (sound.right_knows.closing closing))
   right_fits (error destination cause) may h =

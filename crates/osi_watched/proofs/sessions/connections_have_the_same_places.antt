@@ -4,7 +4,8 @@
 use Rattle.osi_watched.proofs.Vocabulary.{[], ap, arith, Bool, false, if◌then◌else◌, is_some, length, List, map, None, not, Option, refl}
 use Rattle.osi_watched.proofs.Vocabulary.{set, Some, subst, suc, sym, true, zero, ℕ, ◌++◌, ◌∙◌, ◌∷◌, ◌≡◌, slice_get_past, nat_le, position}
 use Rattle.osi_watched.proofs.Vocabulary.{slice_get, ◌||◌, offset_of, acknowledge, confirm, Connect, data0, data2, disconnect, disconnected}
-use Rattle.osi_watched.proofs.Vocabulary.{error, request, Value, is_applied, reach_of, code_named, first_failed, is_due, is_inside}
+use Rattle.osi_watched.proofs.Vocabulary.{error, request, Value, is_applied, reach_of}
+use Rattle.osi_watched.proofs.Vocabulary.{code_named, first_failed, given_again, is_due, is_inside}
 use Rattle.osi_watched.proofs.Vocabulary.{is_offered, begins, is_free, is_live, is_named, is_open, is_refused, is_silent, asked_by, asks_by}
 use Rattle.osi_watched.proofs.Vocabulary.{asks_kept, asks_of, at_found, at_place, class_for, closing_phase, connection_after, found}
 use Rattle.osi_watched.proofs.Vocabulary.{found_on, half_after, is_stopped, judged_on, meaning_if, meant, none_told, Outcome, request_tests}
@@ -125,12 +126,14 @@ form_test : (b : Bool) → is_applied (first_failed ((b, finding.Broke rule.Wron
 form_test true h = refl
 form_test false h = cc
 
-due_test : (due strays : Bool) →
-    is_applied (first_failed ((due || not strays, finding.NotJudged) ∷ (due, finding.Broke rule.NothingToAnswer) ∷ [])) ≡ true →
+due_test : (due told strays : Bool) →
+    is_applied (first_failed ((due || not strays, finding.NotJudged) ∷ (told, finding.Broke rule.UnknownReference)
+    ∷ (due, finding.Broke rule.NothingToAnswer) ∷ [])) ≡ true →
     due ≡ true
-due_test true strays h = refl
-due_test false true h = cc
-due_test false false h = cc
+due_test true told strays h = refl
+due_test false told true h = cc
+due_test false true false h = cc
+due_test false false false h = cc
 
 closed_so : (half : Half) (p : Phase) → half.phase ≡ p → (is_silent p || is_open p) ≡ true →
     Stays half (closing_phase (is_silent p) half)
@@ -152,11 +155,11 @@ closing_asked half phase.Silent e h = absurd (cc)
 closing_asked half _ e h = refl
 
 -- a CC is the first answer
-pub first_answer : (a b i u z : Bool) →
+pub first_answer : (a b i u loose z : Bool) →
     is_applied (first_failed ((a, finding.Broke rule.WrongForm) ∷ (b, finding.Broke rule.BadAnswer) ∷ (i, finding.Outside)
-    ∷ (u, finding.Broke rule.ReferenceInUse) ∷ (z, finding.Broke rule.LargerSize) ∷ [])) ≡ true → a ≡ true
-first_answer false b i u z h = cc
-first_answer true b i u z h = refl
+    ∷ (u, given_again loose) ∷ (z, finding.Broke rule.LargerSize) ∷ [])) ≡ true → a ≡ true
+first_answer false b i u loose z h = cc
+first_answer true b i u loose z h = refl
 
 pub none_given : (p : Phase) (r : ℕ) → is_silent p ≡ true → named_by p r ≡ None
 none_given phase.Silent r h = refl
@@ -195,7 +198,8 @@ module _ (course : Rules) (in_use : Bool) (at : ℕ) (c : Connection) (j : Joine
   right_one (request x) k = absurd (cc)
   right_one (confirm destination x) k =
       let none = h.called ∙ none_given c.right.phase c.right.reference (first_answer (is_silent c.right.phase)
-      (is_offered c.offer course.class x) (is_inside x) (not in_use) (nat_le (code_named x.parameters.size) c.offer.size_code) k) in
+      (is_offered c.offer course.class x) (is_inside x) (not in_use) course.loose (nat_le
+      (code_named x.parameters.size) c.offer.size_code) k) in
       record {
         calling = h.calling;
         called = refl;
@@ -208,7 +212,8 @@ module _ (course : Rules) (in_use : Bool) (at : ℕ) (c : Connection) (j : Joine
       (closed_so c.right c.right.phase refl (one_test (is_silent c.right.phase || is_open c.right.phase) k)) refl refl
   right_one (disconnected destination source) k =
       right_half (half_after (disconnected destination source) c.right) j (answered_so c.right c.right.phase refl
-      (and_first (is_open c.right.phase) _ (due_test (is_due way.Right c source) course.strays k))) refl refl
+      (and_first (is_open c.right.phase) _ (due_test (is_due way.Right c source) (not
+      (is_silent c.right.phase)) course.strays k))) refl refl
   right_one (data0 end user) k =
       adds_one Right at end user (sent_on way.Right (data0 end user) c) j (right_half (half_after
       (data0 end user) c.right) j refl refl refl)

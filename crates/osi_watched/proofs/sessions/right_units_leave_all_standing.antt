@@ -25,7 +25,7 @@ use Rattle.osi_rules.specs.Rows.{Test, first_failed, has_passed, keeps_credit}
 use Rattle.osi_rules.specs.Sides.{is_named, is_open, is_silent, own}
 use Rattle.osi_rules.specs.Sides as sides
 use Rattle.osi_rules.specs.Traffic.{State, at_found, at_place, class_for, connection_after, found, found_on, is_stopped, meaning_if}
-use Rattle.osi_rules.specs.Traffic.{meant, none_told, route, route_in, routed, takes, unnamed_by, uses_source}
+use Rattle.osi_rules.specs.Traffic.{in_doubt, meant, none_told, route, route_in, routed, takes, unnamed_by, uses_source}
 use Rattle.osi_honest.specs.Courses.{Deeds}
 use Rattle.osi_tap.specs.Connections.{Joined, Sessions, asked, opened, class_of, reference_of, spoken}
 use Rattle.osi_tap.specs.Connections as joined
@@ -45,8 +45,11 @@ no_place : {A : Type 0} (i : ℕ) → Some i ≡ None → A
 no_place i e = absurd (cc)
 
 ack_nowhere : {A : Type 0} (loose strays : Bool) (credit n number : ℕ) →
-    is_applied (if loose then NotJudged else unnamed_by strays (acknowledge credit n number)) ≡ true → A
-ack_nowhere true strays credit n number h = absurd (cc)
+    is_applied (if loose then in_doubt (unnamed_by strays (acknowledge credit n number)) else unnamed_by strays
+    (acknowledge credit n number))
+    ≡ true → A
+ack_nowhere true true credit n number h = absurd (cc)
+ack_nowhere true false credit n number h = absurd (cc)
 ack_nowhere false true credit n number h = absurd (cc)
 ack_nowhere false false credit n number h = absurd (cc)
 

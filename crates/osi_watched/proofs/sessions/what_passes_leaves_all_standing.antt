@@ -24,7 +24,7 @@ use Rattle.osi_rules.specs.Sides.{is_live, is_named}
 use Rattle.osi_rules.specs.Sides as sides
 use Rattle.osi_rules.specs.Traffic.{Outcome, State, at_found, at_place, class_for, found, is_stopped, none_told, route, route_in}
 use Rattle.osi_rules.specs.Traffic.{routed, takes}
-use Rattle.osi_rules.specs.Traffic.{unnamed_by, uses_source}
+use Rattle.osi_rules.specs.Traffic.{in_doubt, unnamed_by, uses_source}
 use Rattle.osi_fair.proofs.all_are_judged_unless_one_broke.{AreJudged}
 use Rattle.osi_honest.specs.Courses.{Deeds}
 use Rattle.osi_tap.specs.Connections.{Joined, Sessions}
@@ -99,7 +99,7 @@ cc_here : {A : Type 0} (n : ℕ) (x : Connect) (s : State) (i : ℕ) (o : Option
 cc_here n x s i None e firm judged none = by s.course.loose s.course.strays firm none
   where
     by : {A : Type 0} (loose strays : Bool) → loose ≡ false →
-        IsMild (confirm n x) (if loose then NotJudged else unnamed_by strays (confirm n x)) → A
+        IsMild (confirm n x) (if loose then in_doubt (unnamed_by strays (confirm n x)) else unnamed_by strays (confirm n x)) → A
     by true strays h none = absurd (cc)
     by false true h none = absurd none
     by false false h none = absurd none
@@ -114,7 +114,7 @@ cc_any : {A : Type 0} (n : ℕ) (x : Connect) (s : State) (o : Option ℕ) → s
 cc_any n x s None firm judged none = by s.course.loose s.course.strays firm none
   where
     by : {A : Type 0} (loose strays : Bool) → loose ≡ false →
-        IsMild (confirm n x) (if loose then NotJudged else unnamed_by strays (confirm n x)) → A
+        IsMild (confirm n x) (if loose then in_doubt (unnamed_by strays (confirm n x)) else unnamed_by strays (confirm n x)) → A
     by true strays h none = absurd (cc)
     by false true h none = absurd none
     by false false h none = absurd none
