@@ -1,7 +1,8 @@
 -- A whole called end is fair in class 0 as long as it is judged, also after the judging of the other side has ended.
 -- For the law on a whole called end.
 use Rattle.osi_fair.proofs.Vocabulary.{[], ap, Bool, false, inl, inr, List, None, Option, refl, Some, subst, sym, true, ℕ, ◌++◌, ◌∙◌, ◌∷◌}
-use Rattle.osi_fair.proofs.Vocabulary.{◌≡◌, ◌⊎◌, arith, position, slice_get, data0, disconnected, error, request, Value, Class, Two, Zero, Local}
+use Rattle.osi_fair.proofs.Vocabulary.{◌≡◌, ◌⊎◌, arith, position, slice_get, data0, disconnected, error, request, Value, Class, Two, Zero}
+use Rattle.osi_fair.proofs.Vocabulary.{Local}
 use Rattle.osi_fair.proofs.Vocabulary.{is_live, is_named, is_stopped, reach_of, refused, refused_reach, route_in, routed, unnamed}
 use Rattle.osi_fair.proofs.Vocabulary.{at_found, at_place, course_after_none, if◌then◌else◌, none_told, Outcome, takes, Traffic}
 use Rattle.osi_fair.proofs.Vocabulary.{unnamed_told, Connection, Course, Left, Right, Finding, Broke, Kept, NotJudged, rubbish}

@@ -1,7 +1,8 @@
 -- As long as the other side is judged, a called end is: what is right stops nothing, and what stops the end stops both sides.
 -- For the law on a whole called end.
 use Rattle.osi_fair.proofs.Vocabulary.{arith}
-use Rattle.osi_fair.proofs.Vocabulary.{ap, false, inl, inr, Option, refl, Some, sym, true, Zero, ◌∙◌, ◌≡◌, ◌⊎◌, ◌||◌, Value, Class, stops_are_said}
+use Rattle.osi_fair.proofs.Vocabulary.{ap, false, inl, inr, Option, refl, Some, sym, true, Zero, ◌∙◌, ◌≡◌, ◌⊎◌, ◌||◌, Value, Class}
+use Rattle.osi_fair.proofs.Vocabulary.{stops_are_said}
 use Rattle.osi_fair.proofs.Vocabulary.{reach_by, reach_of, class_for, reached, refused, Traffic as State, stops_by, takes, Left, Right}
 use Rattle.osi_fair.proofs.Vocabulary.{Course, Finding, Kept, NotJudged, Reach}
 use Rattle.osi_rules.specs.declared.findings.Reach.TheVariants as reach

@@ -1,6 +1,7 @@
 -- A whole calling end is fair as long as the other side has broken no rule, whatever classes it offers: by its stages.
 -- For the law of that name.
-use Rattle.osi_fair.proofs.Vocabulary.{[], ap, Bool, Connection, Traffic, Zero, false, inl, List, refl, Some, subst, sym, true, ◌∙◌, ◌∷◌, ◌≡◌, ◌⊎◌, AllByRecursion, request}
+use Rattle.osi_fair.proofs.Vocabulary.{[], ap, Bool, Connection, Traffic, Zero, false, inl, List, refl, Some, subst, sym, true, ◌∙◌, ◌∷◌}
+use Rattle.osi_fair.proofs.Vocabulary.{◌≡◌, ◌⊎◌, AllByRecursion, request}
 use Rattle.osi_fair.proofs.Vocabulary.{Value, Two, Local, is_stopped, takes, Course, Left, Right, Kept, NotJudged, TooMany, passes, rubbish}
 use Rattle.osi_fair.proofs.Vocabulary.{unit as passing, arrives, begin, calls, Event, HappenAlong, Happens, passes_rubbish, Whole}
 use Rattle.osi_fair.specs.Wholes.{begins_other, begins_own, passes_other, passes_own}

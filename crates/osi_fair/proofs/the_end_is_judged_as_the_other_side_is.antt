@@ -1,11 +1,13 @@
 -- As long as the other side is judged, an end is: what is right stops nothing, and what stops the end stops both sides.
 -- For the law on a whole end.
 use Rattle.osi_fair.proofs.Vocabulary.{arith}
-use Rattle.osi_fair.proofs.Vocabulary.{Zero, ap, Bool, false, if◌then◌else◌, inl, inr, None, Option, refl, Some, true, ℕ, ◌∙◌, ◌≡◌, ◌⊎◌, position}
+use Rattle.osi_fair.proofs.Vocabulary.{Zero, ap, Bool, false, if◌then◌else◌, inl, inr, None, Option, refl, Some, true, ℕ, ◌∙◌, ◌≡◌, ◌⊎◌}
+use Rattle.osi_fair.proofs.Vocabulary.{position}
 use Rattle.osi_fair.proofs.Vocabulary.{slice_get, ◌||◌, Connect, request, Value, Class, stops_are_said, reach_by, reach_of, reach_past}
 use Rattle.osi_fair.proofs.Vocabulary.{first_failed, is_live, is_named, asks_by, asks_of, at_found, at_place, class_for, course_after_none}
 use Rattle.osi_fair.proofs.Vocabulary.{is_stopped, none_told, one_told, Outcome, reached, refused, request_tests, route, routed}
-use Rattle.osi_fair.proofs.Vocabulary.{Traffic as State, stops_by, takes, unnamed, unnamed_told, Connection, Course, Direction, Left, Right, Finding, Kept}
+use Rattle.osi_fair.proofs.Vocabulary.{Traffic as State, stops_by, takes, unnamed, unnamed_told, Connection, Course, Direction, Left, Right}
+use Rattle.osi_fair.proofs.Vocabulary.{Finding, Kept}
 use Rattle.osi_fair.proofs.Vocabulary.{NotJudged, TooMany, Reach, Route, Asks, Named, Only, Unnamed}
 use Rattle.osi_rules.specs.declared.findings.Reach.TheVariants as reach
 use Rattle.osi_fair.proofs.small_facts_that_many_lemmas_use.{differ}
@@ -49,7 +51,8 @@ by_route d v s (Named n) = at_any d v s (position (is_named d n) s.connections)
 by_route d v s Only = at_any d v s (position (is_live d) s.connections)
 by_route d v s (Unnamed finding) = to_none d finding s
 
-if_judged : (b : Bool) (d : Direction) (v : Value) (s : State) (r : Route) → IsBy d s (if b then none_told d NotJudged s else routed d v s r)
+if_judged : (b : Bool) (d : Direction) (v : Value) (s : State) (r : Route) →
+    IsBy d s (if b then none_told d NotJudged s else routed d v s r)
 if_judged true d v s r = to_none d NotJudged s
 if_judged false d v s r = by_route d v s r
 

@@ -163,7 +163,8 @@ module _ (limit : ℕ) (s : State) (begun : ℕ) (units : List Value) (z : IsInZ
     by_end u false = subst (λ (k : Option Class). Goes (in_class k u s) (put_in k u s)) (sym class) (in_zero_goes s.is_caller u)
     by_end u true = same_so s [] refl refl
 
-  by_row : (u : Value) → IsInZero limit s begun units → Goes (react_by (is_some s.ended) u s) (if is_some s.ended then [] else put_in s.class
+  by_row : (u : Value) → IsInZero limit s begun units →
+      Goes (react_by (is_some s.ended) u s) (if is_some s.ended then [] else put_in s.class
       u s)
   by_row u (talks r peer link class live plain puts) = by_end r peer link class live plain puts u (is_some s.ended)
   by_row u (over gone puts) =

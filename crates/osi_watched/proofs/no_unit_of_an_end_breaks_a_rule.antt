@@ -34,7 +34,8 @@ use Rattle.osi_watched.specs.Joint.{Joint, Step, Steps, StepsAlong, begin, begin
 use Rattle.osi_watched.specs.Passing.{ComesBySteps}
 use Rattle.osi_watched.specs.Spoilt.{GoesOn, LaterAlong, LaterSteps, spoilt}
 use Rattle.osi_watched.proofs.a_break_ends_no_judging_or_all.{IsGoing, IsLeft, all_ends, begins_going, left_claim, loose_so}
-use Rattle.osi_watched.proofs.a_break_ends_no_judging_or_all.{known_too, mild_reach, nothing_goes, part_goes, refused_over, side_known, unread_if}
+use Rattle.osi_watched.proofs.a_break_ends_no_judging_or_all.{known_too, mild_reach, nothing_goes, part_goes, refused_over, side_known}
+use Rattle.osi_watched.proofs.a_break_ends_no_judging_or_all.{unread_if}
 use Rattle.osi_watched.proofs.a_break_ends_no_judging_or_all.{other_unbroken, own_unbroken, unread_unbroken}
 use Rattle.osi_watched.proofs.an_end_that_is_judged_alone_stays_so.{own_alone}
 use Rattle.osi_watched.proofs.in_class_0_one_side_alone_is_judged.{AfterUnread, IsAlone, IsLoose}

@@ -165,7 +165,8 @@ module _ (d : Direction) (at : ℕ) (end : Bool) (octets : List ℕ) (j w : Join
 
 -- ---- a unit for a connection
 
-pub meant_so : (d : Direction) (at : ℕ) (v : Value) (m : Meaning) (j w : Joined) → IsJudgedOf j w → IsJudgedOf (meant d at v m j) (meant d at v m w)
+pub meant_so : (d : Direction) (at : ℕ) (v : Value) (m : Meaning) (j w : Joined) → IsJudgedOf j w →
+    IsJudgedOf (meant d at v m j) (meant d at v m w)
 meant_so d at v meaning.Opens j w h = record {
   number = h.number;
   calling = h.calling;
