@@ -4,6 +4,7 @@ pub mod Directions
 pub mod Ends
 pub mod Flow
 pub mod Giving
+pub mod Handing
 pub mod Joining
 pub mod Limits
 pub mod Link

@@ -1,6 +1,7 @@
 //! A link of class 2: numbers, credit and acknowledgements.
 
 use crate::faults::LinkFault;
+use crate::handing::Handed;
 use crate::flow::{ReceivingFlow, SendingFlow};
 use crate::joining::Begun;
 use crate::limits::Credit;
@@ -123,17 +124,17 @@ impl Link for Class2 {
 
     #[inline(always)]
     #[tactic(auto, using(crate::proofs::bounds::what_a_queue_hands_out::handed, crate::proofs::bounds::what_a_queue_hands_out::none_handed))]
-    fn receive(&mut self, unit: &Tpdu<'_>) -> Result<Option<Vec<u8>>, LinkFault> {
+    fn receive(&mut self, unit: &Tpdu<'_>) -> Result<Handed, LinkFault> {
         let Tpdu::Dt2(data) = unit else {
             self.take(unit)?;
-            return Ok(self.next_tsdu());
+            return Ok(Handed::of(self.next_tsdu()));
         };
         let Some(after) = self.receiving.after(data.number) else {
             return Err(LinkFault::OutOfSequence);
         };
-        let tsdu = self.begun.join_out(data.end, data.user, &mut self.whole)?;
+        let handed = self.begun.join_out(data.end, data.user, &mut self.whole)?;
         self.receiving = after;
-        Ok(tsdu)
+        Ok(handed)
     }
 
     #[inline(always)]

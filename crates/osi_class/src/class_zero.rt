@@ -1,6 +1,7 @@
 //! A link of class 0: parts without numbers.
 
 use crate::faults::LinkFault;
+use crate::handing::Handed;
 use crate::joining::Begun;
 use crate::links::Link;
 use crate::queue::Queue;
@@ -98,7 +99,7 @@ impl Link for Class0 {
     }
 
     #[inline(always)]
-    fn receive(&mut self, unit: &Tpdu<'_>) -> Result<Option<Vec<u8>>, LinkFault> {
+    fn receive(&mut self, unit: &Tpdu<'_>) -> Result<Handed, LinkFault> {
         let Tpdu::Dt0(data) = unit else {
             return Err(LinkFault::WrongForm);
         };

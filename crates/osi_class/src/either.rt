@@ -3,6 +3,7 @@
 use crate::class_two::Class2;
 use crate::class_zero::Class0;
 use crate::faults::LinkFault;
+use crate::handing::Handed;
 use crate::links::Link;
 use crate::units::{Out, Room, Slot};
 use osi_tpdu::Tpdu;
@@ -67,7 +68,7 @@ impl Link for AnyLink {
     }
 
     #[inline(always)]
-    fn receive(&mut self, unit: &Tpdu<'_>) -> Result<Option<Vec<u8>>, LinkFault> {
+    fn receive(&mut self, unit: &Tpdu<'_>) -> Result<Handed, LinkFault> {
         match self {
             AnyLink::Zero(link) => link.receive(unit),
             AnyLink::Two(link) => link.receive(unit),

@@ -1,13 +1,15 @@
 //! Joining TSDUs from parts.
 
-ghost use Rattle.std.specs.Prelude.{◌≡◌, ◌<◌, ◌≤◌, ◌+◌, ◌++◌, [], true, length, map, max, option_map, Ok, IfOk, IfNone, OnOk, OnErr};
+ghost use Rattle.std.specs.Prelude.{◌≡◌, ◌<◌, ◌≤◌, ◌+◌, ◌++◌, ◌≢◌, [], true, length, map, max, Err, Ok, IfOk, IfNone, OnOk, OnErr};
 ghost use Rattle.std.specs.Vec.{vec_capacity};
+ghost use Rattle.osi_class.specs.Handing.{tsdu_handed, IsLent};
 ghost use Rattle.osi_class.specs.Joining.{joined, joining, before_handing};
 ghost use Rattle.osi_class.specs.Limits.{longest_tsdu};
 ghost use Rattle.osi_class.specs.Link.{part_needs_memory};
 ghost use Rattle.osi_class.specs.Taking.{TakesUnit};
 
 use crate::faults::LinkFault;
+use crate::handing::Handed;
 use crate::limits::LONGEST_TSDU;
 use crate::queue::Queue;
 use std::alloc::{AllocError, Global};
@@ -89,7 +91,7 @@ impl Begun {
     }
 
     /// Takes a part of the TSDU as [`Begun::join`] does, and then hands out the first of the complete ones. If none of
-    /// them waits, a TSDU of one part is not queued.
+    /// them waits, the octets of a part that is a whole TSDU are not copied, and no memory is needed.
     #[inline(always)]
     #[tactic(auto, using(crate::proofs::bounds::what_a_queue_hands_out::popped, crate::proofs::bounds::what_a_queue_hands_out::none_popped))]
     pub fn join_out(
@@ -97,10 +99,11 @@ impl Begun {
         last: bool,
         octets: &[u8],
         whole: &mut Queue<Vec<u8>>,
-    ) -> Result<Option<Vec<u8>>, LinkFault>
-        ensures taken { IfOk result (λ tsdu. joined (joining self.old (map (λ v. v.items) whole.old.items)) last octets.now
-            ≡ Ok (before_handing (option_map (λ v. v.items) tsdu) (joining self.new (map (λ v. v.items) whole.new.items)))) }
-        ensures none { IfOk result (λ tsdu. IfNone tsdu (whole.new.items ≡ [])) }
+    ) -> Result<Handed, LinkFault>
+        ensures taken { IfOk result (λ handed. joined (joining self.old (map (λ v. v.items) whole.old.items)) last octets.now
+            ≡ Ok (before_handing (tsdu_handed octets.now handed) (joining self.new (map (λ v. v.items) whole.new.items)))) }
+        ensures none { IfOk result (λ handed. IfNone (tsdu_handed octets.now handed) (whole.new.items ≡ [])) }
+        ensures alone { self.old ≡ [] → whole.old.items ≡ [] → last ≡ true → IsLent result }
         ensures refused { OnErr
             result (TakesUnit result (part_needs_memory last octets.now) (joined (joining self.old (map (λ v. v.items) whole.old.items))
             last octets.now) (joining self.old (map (λ v. v.items) whole.old.items)) (joining
@@ -114,16 +117,13 @@ impl Begun {
             if self.add(octets).is_err() {
                 return Err(LinkFault::OutOfMemory);
             }
-            return Ok(whole.pop());
+            return Ok(Handed::of(whole.pop()));
         }
         if self.octets.is_empty() && whole.is_empty() {
-            return match Vec::from_slice(self.alloc, octets) {
-                Ok(tsdu) => Ok(Some(tsdu)),
-                Err(_) => Err(LinkFault::OutOfMemory),
-            };
+            return Ok(Handed::Whole);
         }
         self.finish(octets, whole)?;
-        Ok(whole.pop())
+        Ok(Handed::of(whole.pop()))
     }
 
     /// Takes a part that does not end its TSDU. Memory is needed only if it has an octet.

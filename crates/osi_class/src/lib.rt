@@ -10,7 +10,7 @@
 //! while let Some(unit) = link.next_out() { .. }  // the units that may be sent now; in class 2, Acks come first
 //! link.take(&unit)?;                             // a unit that was received; Err: the first fault, and nothing changed
 //! while let Some(tsdu) = link.next_tsdu() { .. } // the TSDUs that are complete
-//! let tsdu = link.receive(&unit)?;               // both at once: the first TSDU that is complete, if there is one
+//! let handed = link.receive(&unit)?;             // both at once: the first TSDU that is complete, if there is one
 //! ```
 //!
 //! The laws ([`mod@laws`]) say that what comes out of one link is a prefix of what went into the other, and all of it
@@ -22,6 +22,7 @@ mod class_zero;
 mod either;
 mod faults;
 mod flow;
+mod handing;
 mod joining;
 pub mod laws;
 mod limits;
@@ -37,6 +38,7 @@ pub use class_two::Class2;
 pub use class_zero::Class0;
 pub use either::AnyLink;
 pub use faults::LinkFault;
+pub use handing::Handed;
 pub use limits::{Credit, LONGEST_TSDU};
 pub use links::Link;
 pub use negotiation::answer;

@@ -1,6 +1,7 @@
 //! What both classes of links promise.
 
 use crate::faults::LinkFault;
+use crate::handing::Handed;
 use crate::units::{Out, Room, Slot};
 use osi_tpdu::Tpdu;
 use std::alloc::AllocError;
@@ -18,6 +19,7 @@ pub trait Link {
     ghost use Rattle.std.specs.Io.BufRead.{Rests};
     ghost use Rattle.osi_tpdu.specs.View.{value};
     ghost use Rattle.osi_class.specs.Giving.{all_given, octets_in, most_given, AllGoAtOnce, GoesAtOnce, GivesSlot, IsNumbered};
+    ghost use Rattle.osi_class.specs.Handing.{tsdu_handed, user_of, IsAlone, IsLent};
     ghost use Rattle.osi_class.specs.Limits.{longest_tsdu};
     ghost use Rattle.osi_class.specs.Link.{Standing, with_tsdu, with_tsdus, unsent_octets, given, taken, needs_memory, next, with_handed};
     ghost use Rattle.osi_class.specs.Link.{Gives, Hands, FitsAUnit};
@@ -83,11 +85,14 @@ pub trait Link {
         ensures limit { (standing self.new).ends.limit ≡ (standing self.old).ends.limit };
 
     /// Takes a unit as [`Link::take`] does, and then hands out the first complete TSDU as [`Link::next_tsdu`] does. If no
-    /// other TSDU waits, one that this unit ends is not queued. A fault is one of [`Link::take`], and changes nothing.
-    fn receive(&mut self, unit: &Tpdu<'_>) -> Result<Option<Vec<u8>>, LinkFault>
-        ensures taken { IfOk result (λ tsdu. taken (standing self.old) (value unit.now)
-            ≡ Ok (with_handed (option_map (λ v. v.items) tsdu) (standing self.new))) }
-        ensures none { IfOk result (λ tsdu. IfNone tsdu ((standing self.new).ends.joining.whole ≡ [])) }
+    /// other TSDU is begun or waits, a unit that is a whole TSDU is [`Handed::Whole`]: its octets are not copied, and no
+    /// memory is needed. A fault is one of [`Link::take`], and changes nothing.
+    fn receive(&mut self, unit: &Tpdu<'_>) -> Result<Handed, LinkFault>
+        ensures taken { IfOk result (λ handed. taken (standing self.old) (value unit.now)
+            ≡ Ok (with_handed (tsdu_handed (user_of (value unit.now)) handed) (standing self.new))) }
+        ensures none { IfOk result (λ handed.
+            IfNone (tsdu_handed (user_of (value unit.now)) handed) ((standing self.new).ends.joining.whole ≡ [])) }
+        ensures alone { IsAlone (standing self.old) (value unit.now) → IsLent result }
         ensures refused { OnErr
             result (TakesUnit result (needs_memory (value unit.now)) (taken (standing self.old) (value unit.now)) (standing
             self.old) (standing self.new)) }

@@ -27,7 +27,6 @@ pub none_handed : {T : Type 0} (f : T → List ℕ) (tsdu : Option T) (old new :
 none_handed f None old new h = ap (λ (s : Standing). s.ends.joining.whole) h.1 ∙ h.0
 none_handed f (Some tsdu) old new h = tt
 
-pub handing : {T : Type 0} (f : T → List ℕ) (tsdu : Option T) (new : Standing) → IfNone tsdu (new.ends.joining.whole ≡ []) →
-    Hands (option_map f tsdu) (with_handed (option_map f tsdu) new) new
-handing f None new h = (h, refl)
-handing f (Some tsdu) new h = refl
+pub handing : (tsdu : Option (List ℕ)) (new : Standing) → IfNone tsdu (new.ends.joining.whole ≡ []) → Hands tsdu (with_handed tsdu new) new
+handing None new h = (h, refl)
+handing (Some tsdu) new h = refl
