@@ -1,14 +1,16 @@
 -- The effect of one look at the stream, up to the end of the first complete packet.
-use Rattle.std.specs.Prelude.{◌≡◌, ◌≢◌, ℕ, ◌+◌, ◌<◌, ◌≤◌, List, [], ◌++◌, length, take, ◌⊎◌}
+use Rattle.std.specs.Prelude.{◌≡◌, ◌≢◌, ℕ, ◌+◌, ◌<◌, ◌≤◌, Bool, true, List, [], ◌++◌, length, take, Some, None, ◌⊎◌}
 use Rattle.osi_tpkt.specs.Packet.{IsPacket, IsPartial, IsFaultOf}
 use Rattle.osi_tpkt.specs.Stream.{offset_of}
 use Rattle.osi_tpkt.specs.declared.faults.TpktFault.{TpktFault}
+use Rattle.osi_carrier.specs.Lending.{carrying_lent}
 use Rattle.osi_carrier.specs.Packets.{Carrying, IsReading, HasToHold, Acts}
 use Rattle.osi_carrier.specs.State.{ends, fails}
 use Rattle.osi_carrier.specs.declared.carrier.feeding.Fetched.{Fetched}
-use Rattle.osi_carrier.specs.declared.carrier.feeding.Fetched.TheVariants.{Packet, Part, Over}
+use Rattle.osi_carrier.specs.declared.carrier.feeding.Fetched.TheVariants.{Packet, Lent, Part, Over}
 use Rattle.osi_carrier.specs.declared.ends.CarrierFault.TheVariants.{Tpkt}
 use Rattle.osi_carrier.specs.declared.ends.EndReason.TheVariants.{NoMemory}
+use Rattle.osi_carrier.specs.declared.lending.Lent.{Lent as Tsdu}
 
 -- this many octets completed a packet, which took effect and was dropped
 pub record PacketActs (old : Carrying) (octets : List ℕ) (used : ℕ) (new : Carrying) : Type 0 where
@@ -21,6 +23,13 @@ pub record PacketActs (old : Carrying) (octets : List ℕ) (used : ℕ) (new : C
   pub reading : IsReading new.held
   pub offset : new.held.offset ≡ offset_of (old.held.offset + length (old.held.octets ++ take used octets))
   pub room : old.held.room ≤ new.held.room
+
+-- the same, if the packet was a TSDU that the caller wants to have lent: its event is queued nowhere
+pub record PacketLent (wanted : Bool) (old : Carrying) (octets : List ℕ) (used : ℕ) (lent : Tsdu) (new : Carrying) : Type 0 where
+  pub asked : wanted ≡ true
+  pub acts : PacketActs old octets used (carrying_lent (Some lent) new)
+  pub alone : new.state.events ≡ []
+  pub lasts : new.state.ended ≡ None
 
 -- the octets are held, and the packet is unfinished
 pub record PartHeld (old : Carrying) (octets : List ℕ) (new : Carrying) : Type 0 where
@@ -46,10 +55,11 @@ pub record EndsOver (old : Carrying) (octets : List ℕ) (new : Carrying) : Type
   pub how : Faults old octets new ⊎ LacksRoom old octets new
   pub held : new.held.octets ≡ []
 
-abbrev pub Fetches : Carrying → List ℕ → Fetched → Carrying → Type 0
-Fetches old octets (Packet used) new = PacketActs old octets used new
-Fetches old octets Part new = PartHeld old octets new
-Fetches old octets Over new = EndsOver old octets new
+abbrev pub Fetches : Bool → Carrying → List ℕ → Fetched → Carrying → Type 0
+Fetches wanted old octets (Packet used) new = PacketActs old octets used new
+Fetches wanted old octets (Lent used lent) new = PacketLent wanted old octets used lent new
+Fetches wanted old octets Part new = PartHeld old octets new
+Fetches wanted old octets Over new = EndsOver old octets new
 
 -- there is no complete packet at the front of these octets
 abbrev pub IsNoFront : List ℕ → Type 0

@@ -13,6 +13,7 @@ pub mod Feeding
 pub mod Calls
 pub mod Growth
 pub mod Packets
+pub mod Lending
 pub mod Fetching
 pub mod Orderly
 pub mod Coming

@@ -1,6 +1,7 @@
 -- The effect of a unit on the link that takes it.
-use Rattle.std.specs.Prelude.{◌≡◌, ℕ, Bool, true, ◌||◌, List, [], length, nat_lt, take, Some, None, Result, Ok, Err, IsOk, is_some, option_map, option_to_list}
+use Rattle.std.specs.Prelude.{◌≡◌, ℕ, Bool, true, ◌||◌, List, [], length, nat_lt, take, Some, None, Result, Ok, Err, IsOk, is_some, option_to_list}
 use Rattle.osi_tpdu.specs.Value.{Value}
+use Rattle.osi_class.specs.Handing.{tsdu_handed, user_of}
 use Rattle.osi_class.specs.Link.{Standing}
 use Rattle.osi_class.specs.declared.faults.LinkFault.{LinkFault}
 use Rattle.osi_carrier.specs.Opened.{peer_in}
@@ -31,9 +32,9 @@ link_grows peer old taken =
     || (nat_lt 0 (length (whole_after taken)) || nat_lt (length old.ends.joining.begun) (length (link_after old taken).ends.joining.begun))
 
 -- the result of handing a unit to the link of the connection with this reference
-abbrev pub StepsTo : Step → ℕ → Rows Connection → Result Standing LinkFault → Type 0
-StepsTo NotOpen r live taken = peer_in (value_at r live) ≡ None
-StepsTo (Took whole) r live taken =
-    (is_some (peer_in (value_at r live)) ≡ true) × IsOk taken × (option_to_list (option_map (λ v. v.items) whole) ≡ whole_after taken)
-StepsTo (Broke place peer fault) r live taken =
+abbrev pub StepsTo : Step → ℕ → Value → Rows Connection → Result Standing LinkFault → Type 0
+StepsTo NotOpen r unit live taken = peer_in (value_at r live) ≡ None
+StepsTo (Took handed) r unit live taken =
+    (is_some (peer_in (value_at r live)) ≡ true) × IsOk taken × (option_to_list (tsdu_handed (user_of unit) handed) ≡ whole_after taken)
+StepsTo (Broke place peer fault) r unit live taken =
     (place_of r live ≡ Some place) × (peer_in (value_at r live) ≡ Some peer) × (taken ≡ Err fault)

@@ -3,6 +3,7 @@
 use crate::ends::EndReason;
 use crate::events::{Event, Ref};
 use crate::faults::{OpenError, SendError};
+use crate::lending::FedLent;
 use crate::pieces::Pieces;
 use crate::selectors::Tsaps;
 use crate::switch::Switch;
@@ -40,7 +41,7 @@ impl Model for Carrier {
 
 impl Carrier {
     ghost use Rattle.std.specs.Prelude.{◌≡◌, ◌≢◌, ◌+◌, ◌-◌, ◌*◌, ◌^◌, ◌≤◌, ◌++◌, true, false, None, Some, Err, [], length, map, min, drop};
-    ghost use Rattle.std.specs.Prelude.{IfOk, IfErr, OnOk, OnErr, MatchResult, option_map, is_some};
+    ghost use Rattle.std.specs.Prelude.{IfOk, IfErr, IfSome, IsSome, OnOk, OnErr, MatchResult, option_map, is_some};
     ghost use Rattle.osi_tpkt.specs.Held.{fresh};
     ghost use Rattle.osi_tpdu.specs.Limits.{tsap_octets};
     ghost use Rattle.osi_carrier.specs.Calls.{fresh_state, may_connect, open_error, asks, open_link, close_error, send_error};
@@ -48,6 +49,7 @@ impl Carrier {
     ghost use Rattle.osi_carrier.specs.Calls.{backlog_of, tsaps_at, Tells, WaitsOn, AllWaitOn};
     ghost use Rattle.osi_carrier.specs.Rows.{value_at};
     ghost use Rattle.osi_carrier.specs.Happenings.{happening};
+    ghost use Rattle.osi_carrier.specs.Lending.{carrying_lent, lent_event};
     ghost use Rattle.osi_carrier.specs.Packets.{Feeds, waits};
     ghost use Rattle.osi_carrier.specs.Pieces.{tsdus_in, FitTsdus};
     ghost use Rattle.osi_carrier.specs.Selectors.{tsap_ids};
@@ -222,6 +224,30 @@ impl Carrier {
         ensures feeds { Feeds self.old piece.now result self.new }
         ensures empty { piece.now ≡ [] → (result.used ≡ 0) × (self.new ≡ self.old) }
     {
+        self.feed_by(piece, false).fed
+    }
+
+    /// Feeds a piece as [`Carrier::feed`] does, and then takes the event of a TSDU as [`Carrier::next_event`] does, if the
+    /// last packet that was used was a whole TSDU and lies within the piece. Such a TSDU is lent from the piece: its octets
+    /// are not copied, and no event is queued for it. Then no event is pending, and `whole` in the result says that a TSDU
+    /// is lent. If none is lent, the call has done what [`Carrier::feed`] does.
+    pub fn feed_lent<'a>(&mut self, piece: &'a [u8]) -> FedLent<'a>
+        ensures feeds { Feeds self.old piece.now result.fed (carrying_lent result.lent self.new) }
+        ensures told { IfSome result.lent (λ lent.
+            Tells (Some (lent_event lent)) (carrying_lent result.lent self.new).state self.new.state) }
+        ensures none { IsSome result.lent → self.new.state.events ≡ [] }
+        ensures empty { piece.now ≡ [] → (result.fed.used ≡ 0) × (self.new ≡ self.old) }
+    {
+        self.feed_by(piece, true)
+    }
+
+    /// Feeds a piece, and lends a whole TSDU if the caller wants that.
+    fn feed_by<'a>(&mut self, piece: &'a [u8], lends: bool) -> FedLent<'a>
+        ensures feeds { Feeds self.old piece.now result.fed (carrying_lent result.lent self.new) }
+        ensures wanted { lends ≡ false → result.lent ≡ None }
+        ensures none { IsSome result.lent → self.new.state.events ≡ [] }
+        ensures empty { piece.now ≡ [] → (result.fed.used ≡ 0) × (self.new ≡ self.old) }
+    {
         // Named for the proof: what every cutter holds.
         let _cutter = &self.cutter;
         if piece.is_empty() {
@@ -235,9 +261,18 @@ impl Carrier {
         }
         let mut rest = piece;
         'packets: loop {
-            let used = match self.read_packet(rest) {
+            let used = match self.read_packet(rest, lends) {
                 Fetched::Over | Fetched::Part => return self.fed(piece.len()),
                 Fetched::Packet(used) => used,
+                Fetched::Lent(used, lent) => {
+                    return FedLent {
+                        fed: Fed {
+                            used: piece.len() - (rest.len() - used),
+                            whole: true,
+                        },
+                        lent: Some(lent),
+                    };
+                }
             };
             let (_, behind) = rest.split_at(used);
             rest = behind;
@@ -250,15 +285,19 @@ impl Carrier {
         }
     }
 
-    /// This many octets were used, and perhaps an event is pending.
+    /// This many octets were used, and perhaps an event is pending. Nothing is lent.
     #[inline(always)]
-    fn fed(&self, used: usize) -> Fed
-        ensures used { result.used ≡ used }
-        ensures whole { result.whole ≡ waits self.now.state }
+    fn fed<'a>(&self, used: usize) -> FedLent<'a>
+        ensures used { result.fed.used ≡ used }
+        ensures whole { result.fed.whole ≡ waits self.now.state }
+        ensures none { result.lent ≡ None }
     {
-        Fed {
-            used,
-            whole: self.switch.has_event(),
+        FedLent {
+            fed: Fed {
+                used,
+                whole: self.switch.has_event(),
+            },
+            lent: None,
         }
     }
 

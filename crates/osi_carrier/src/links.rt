@@ -18,7 +18,7 @@ use bytes::BytesMut;
 use osi_class::laws::{
     all_go_at_once, all_is_given, giving_ends, many_go_as_one_by_one, what_units_take,
 };
-use osi_class::{AnyLink, Link, LinkFault, Room};
+use osi_class::{AnyLink, Handed, Link, LinkFault, Room};
 use std::alloc::{AllocError, Global};
 use std::borrow::CowSlice;
 
@@ -37,7 +37,7 @@ pub enum Step {
     /// No connection with this reference is open.
     NotOpen,
     /// The link took it, and perhaps a TSDU became complete.
-    Took(Option<Vec<u8>>),
+    Took(Handed),
     /// The link of the connection at this place, open with this reference of the peer, refused it.
     Broke(usize, u16, LinkFault),
 }

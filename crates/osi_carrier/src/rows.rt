@@ -372,7 +372,8 @@ impl Connections {
         unit: &Tpdu<'_>,
         out: &mut BytesMut,
     ) -> Result<Step, AllocError>
-        ensures step { IfOk result (λ s. StepsTo s reference self.old (taken (link_in (value_at reference self.old)) (value unit.now))) }
+        ensures step { IfOk result (λ s.
+            StepsTo s reference (value unit.now) self.old (taken (link_in (value_at reference self.old)) (value unit.now))) }
         ensures rows { (peer : ℕ) → peer_in (value_at reference self.old) ≡ Some peer →
             OnOk result (self.new
             ≡ put reference (linked
@@ -396,8 +397,8 @@ impl Connections {
             return Ok(Step::NotOpen);
         };
         let peer = *peer;
-        let whole = match link.receive(unit) {
-            Ok(whole) => whole,
+        let handed = match link.receive(unit) {
+            Ok(handed) => handed,
             Err(LinkFault::OutOfMemory) => return Err(AllocError),
             Err(fault) => return Ok(Step::Broke(place, peer, fault)),
         };
@@ -405,7 +406,7 @@ impl Connections {
             give_up(&mut row.phase, peer);
             return Err(AllocError);
         };
-        Ok(Step::Took(whole))
+        Ok(Step::Took(handed))
     }
 
     /// Hands in a TSDU at the link of the connection at this place, which is open with this reference of the peer, and

@@ -225,13 +225,13 @@ taking_grows r peer s t stands h =
     (link_cases peer (link_in (value_at r s.live)) t h)
 
 -- a TSDU that became complete is reported
-pub took_grows : (r peer : ℕ) (s : State) (t : Result Standing LinkFault) (whole : List ℕ) → IsOk t → whole ∷ [] ≡ whole_after t →
-    grows s (taking r peer t s) ≡ true
-took_grows r peer s (Ok link) whole ok e =
+pub took_grows : (r peer : ℕ) (s : State) (t : Result Standing LinkFault) (whole : List (List ℕ)) → IsOk t → whole ≡ whole_after t →
+    0 < length whole → grows s (taking r peer t s) ≡ true
+took_grows r peer s (Ok link) whole ok e some =
     let one = ap length e in
     let same = length_told r (whole_after (Ok link)) in
     told_grows s (taking r peer (Ok link) s) (map (tsdu r) (whole_after (Ok link))) (omega arith) refl
-took_grows r peer s (Err fault) whole ok e = cc
+took_grows r peer s (Err fault) whole ok e some = cc
 
 pub broke_grows : (r peer : ℕ) (s mid : State) (t : Result Standing LinkFault) (fault : LinkFault) → t ≡ Err fault → mid ≡ s →
     grows mid (breaks r peer fault mid.class mid) ≡ true → grows s (taking r peer t s) ≡ true

@@ -1,18 +1,21 @@
 //! The octets of the stream, cut into packets that take effect one after the other (RFC 1006 section 6).
 
-ghost use Rattle.std.specs.Prelude.{◌≡◌, ◌<◌, false, [], length};
+ghost use Rattle.std.specs.Prelude.{◌≡◌, ◌<◌, false, [], length, IfSome};
 ghost use Rattle.osi_carrier.specs.Fetching.{Fetches, IsNoFront};
 ghost use Rattle.osi_carrier.specs.Packets.{stops};
 
 use super::Carrier;
+use crate::lending::Lent;
 use osi_tpkt::Cutter;
 use osi_tpkt::laws::a_prefix_of_a_packet;
 
 /// The result of taking octets.
 #[derive(Clone, Copy, PartialEq, Eq)]
-pub(super) enum Fetched {
+pub(super) enum Fetched<'a> {
     /// This many octets completed a packet, which took effect.
     Packet(usize),
+    /// The same, and the packet was this whole TSDU, for which no event is queued.
+    Lent(usize, Lent<'a>),
     /// All of them belong to an unfinished packet.
     Part,
     /// They are no packet, or memory ran out to hold them, and the carrier ended.
@@ -21,11 +24,12 @@ pub(super) enum Fetched {
 
 impl Carrier {
     /// Takes octets up to the end of the first packet that they complete, and that packet takes effect; it is not
-    /// copied if it is complete within these octets. If the carrier ends by them, the held octets are dropped.
+    /// copied if it is complete within these octets, and then a whole TSDU is lent from it if the caller wants that. If
+    /// the carrier ends by the octets, the held octets are dropped.
     #[inline(always)]
-    pub(super) fn read_packet(&mut self, octets: &[u8]) -> Fetched
+    pub(super) fn read_packet<'a>(&mut self, octets: &'a [u8], lends: bool) -> Fetched<'a>
         requires { stops self.old.state ≡ false }
-        ensures { Fetches self.old octets.now result self.new }
+        ensures { Fetches lends self.old octets.now result self.new }
     {
         a_prefix_of_a_packet();
         // Named for the proof: the invariant of every cutter.
@@ -36,17 +40,20 @@ impl Carrier {
         let Some(packet) = self.cutter.pass(octets) else {
             return self.gather(octets);
         };
-        self.switch.take_packet(packet);
-        Fetched::Packet(4 + packet.len())
+        let Some(lent) = self.switch.take_packet(packet, lends) else {
+            return Fetched::Packet(4 + packet.len());
+        };
+        Fetched::Lent(4 + packet.len(), lent)
     }
 
-    /// The same if octets are held, or the packet continues after these octets.
+    /// The same if octets are held, or the packet continues after these octets. Nothing is lent from it: its octets are
+    /// in the buffer for the next packet.
     #[inline(never)]
-    fn gather(&mut self, octets: &[u8]) -> Fetched
+    fn gather<'a>(&mut self, octets: &'a [u8]) -> Fetched<'a>
         requires quiet { stops self.old.state ≡ false }
         requires some { 0 < length octets.now }
         requires parted { self.old.held.octets ≡ [] → IsNoFront octets.now }
-        ensures { Fetches self.old octets.now result self.new }
+        ensures { Fetches false self.old octets.now result self.new }
     {
         a_prefix_of_a_packet();
         let fed = match self.cutter.feed(octets) {
@@ -60,7 +67,7 @@ impl Carrier {
         let Some(packet) = self.cutter.packet() else {
             return Fetched::Part;
         };
-        self.switch.take_packet(packet);
+        let _none = self.switch.take_packet(packet, false);
         self.cutter.advance();
         Fetched::Packet(fed.used)
     }

@@ -1,11 +1,13 @@
 //! Units for open connections (X.224 sections 6.7 and 6.22).
 
-ghost use Rattle.std.specs.Prelude.{◌≡◌, ℕ, Some, Ok, true, false, is_some, IfOk, OnOk, OnErr};
+ghost use Rattle.std.specs.Prelude.{◌≡◌, ◌<◌, ℕ, Some, Ok, true, false, is_some, length, option_to_list, IfOk, IsSome, OnOk, OnErr};
 ghost use Rattle.osi_tpdu.specs.View.{value};
+ghost use Rattle.osi_class.specs.Handing.{tsdu_handed, user_of};
 ghost use Rattle.osi_class.specs.Link.{taken};
 ghost use Rattle.osi_carrier.specs.Growth.{grows};
+ghost use Rattle.osi_carrier.specs.Lending.{is_reached, with_reached, LendsIf};
 ghost use Rattle.osi_carrier.specs.Opened.{link_in, peer_in};
-ghost use Rattle.osi_carrier.specs.React.{breaks, leaves, taking, to_linked};
+ghost use Rattle.osi_carrier.specs.React.{breaks, leaves, taking, tells_of, to_linked};
 ghost use Rattle.osi_carrier.specs.Rows.{place_of, value_at};
 ghost use Rattle.osi_carrier.specs.State.{ends};
 ghost use Rattle.osi_carrier.specs.declared.ends.EndReason.TheVariants.{NoMemory};
@@ -13,10 +15,11 @@ ghost use Rattle.osi_carrier.specs.declared.ends.EndReason.TheVariants.{NoMemory
 use super::Switch;
 use crate::ends::{CarrierFault, EndReason};
 use crate::events::{Event, Ref, tell};
+use crate::lending::{Reached, user_data};
 use crate::links::Step;
 use crate::rows::Phase;
 use crate::writing::{put_disconnect, put_disconnected};
-use osi_class::{Class, LinkFault};
+use osi_class::{Class, Handed, LinkFault};
 use osi_tpdu::Tpdu;
 use std::alloc::AllocError;
 
@@ -50,20 +53,28 @@ impl Switch {
             | Tpdu::Dt2(_)
             | Tpdu::Ak(_)
             | Tpdu::Er(_) => {
-                self.hand_to_link(reference, unit)?;
+                self.hand_to_link(reference, unit, false)?;
                 Ok(())
             }
         }
     }
 
-    /// The link of the open connection with this reference takes the unit or refuses it. `false` if there is no such
-    /// connection; then nothing has changed. Room for an event is made only if there is one.
+    /// The link of the open connection with this reference takes the unit or refuses it. If there is no such connection,
+    /// nothing has changed. A unit that is a whole TSDU is left to be lent if the caller wants it; otherwise its octets are
+    /// copied. Room for an event is made only if there is one.
     #[inline(always)]
-    pub fn hand_to_link(&mut self, reference: u16, unit: &Tpdu<'_>) -> Result<bool, AllocError>
-        ensures known { IfOk result (λ b. b ≡ is_some (peer_in (value_at reference self.old.live))) }
+    pub fn hand_to_link(
+        &mut self,
+        reference: u16,
+        unit: &Tpdu<'_>,
+        lends: bool,
+    ) -> Result<Reached, AllocError>
+        ensures known { IfOk result (λ h. is_reached h ≡ is_some (peer_in (value_at reference self.old.live))) }
         ensures ok { (peer : ℕ) → peer_in (value_at reference self.old.live) ≡ Some peer →
-            OnOk result (self.new ≡ taking reference peer (taken (link_in (value_at reference self.old.live)) (value unit.now)) self.old) }
-        ensures none { result ≡ Ok false → self.new ≡ self.old }
+            IfOk result (λ h. with_reached h reference (user_of (value unit.now)) self.new
+            ≡ taking reference peer (taken (link_in (value_at reference self.old.live)) (value unit.now)) self.old) }
+        ensures lent { IfOk result (λ h. LendsIf h lends self.old self.new) }
+        ensures none { result ≡ Ok Reached.NotOpen → self.new ≡ self.old }
         ensures err { OnErr result (ends NoMemory self.new ≡ ends NoMemory self.old) }
         ensures refused { OnErr result (is_some (peer_in (value_at reference self.old.live)) ≡ true) }
         ensures needs { (peer : ℕ) → peer_in (value_at reference self.old.live) ≡ Some peer →
@@ -72,20 +83,42 @@ impl Switch {
     {
         let before = self.outgoing.len();
         match self.live.step(reference, unit, &mut self.outgoing)? {
-            Step::NotOpen => Ok(false),
-            Step::Took(None) => Ok(true),
-            Step::Took(Some(whole)) => {
-                let Ok(()) = self.events.push(Event::Tsdu(Ref(reference), whole)) else {
+            Step::NotOpen => Ok(Reached::NotOpen),
+            Step::Took(Handed::Whole) if lends => Ok(Reached::Whole),
+            Step::Took(handed) => {
+                let Ok(()) = self.tell_tsdu(reference, unit, handed) else {
                     self.outgoing.truncate(before);
                     return Err(AllocError);
                 };
-                Ok(true)
+                Ok(Reached::Settled)
             }
             Step::Broke(place, peer, fault) => {
                 self.fail_link(place, reference, peer, fault)?;
-                Ok(true)
+                Ok(Reached::Settled)
             }
         }
+    }
+
+    /// Queues the event of the TSDU that a link handed out after this unit, if there is one. An allocation failure changes
+    /// nothing.
+    #[inline(always)]
+    fn tell_tsdu(
+        &mut self,
+        reference: u16,
+        unit: &Tpdu<'_>,
+        handed: Handed,
+    ) -> Result<(), AllocError>
+        ensures ok { OnOk result (self.new
+            ≡ tells_of reference (option_to_list (tsdu_handed (user_of (value unit.now)) handed)) self.old) }
+        ensures err { OnErr result (self.new ≡ self.old) }
+        ensures some { OnErr result (0 < length (option_to_list (tsdu_handed (user_of (value unit.now)) handed))) }
+    {
+        let tsdu = match handed {
+            Handed::Nothing => return Ok(()),
+            Handed::Whole => Vec::from_slice(self.alloc, user_data(unit))?,
+            Handed::Joined(tsdu) => tsdu,
+        };
+        self.events.push(Event::Tsdu(Ref(reference), tsdu))
     }
 
     /// The peer broke a rule of the link: in class 2 that ends the connection, in class 0 the carrier.

@@ -1,9 +1,11 @@
 //! The units of a packet, one after the other (X.224 section 6.4).
 
-ghost use Rattle.std.specs.Prelude.{◌≡◌, ℕ, ◌∷◌, [], None, Some, true, false};
+ghost use Rattle.std.specs.Prelude.{◌≡◌, ℕ, ◌∷◌, [], None, Some, true, false, IfSome};
+ghost use Rattle.osi_class.specs.Handing.{user_of};
 ghost use Rattle.osi_class.specs.Link.{taken};
 ghost use Rattle.osi_tpdu.specs.Units.{units_left};
 ghost use Rattle.osi_tpdu.specs.View.{value};
+ghost use Rattle.osi_carrier.specs.Lending.{is_reached, with_lent, with_reached, Lends, LendsIf};
 ghost use Rattle.osi_carrier.specs.Opened.{link_in, peer_in};
 ghost use Rattle.osi_carrier.specs.Packets.{Act, Acts, after_refusal};
 ghost use Rattle.osi_carrier.specs.React.{in_class, taking};
@@ -13,39 +15,36 @@ ghost use Rattle.osi_carrier.specs.declared.ends.EndReason.TheVariants.{NoMemory
 
 use super::Switch;
 use crate::ends::{CarrierFault, EndReason};
+use crate::events::Ref;
+use crate::lending::{Lent, Reached};
 use osi_class::Class;
 use osi_tpdu::{DataAcknowledgement, DataClass0, DataClass2, Tpdu, Units, read_units};
 use osi_tpkt::TpktFault;
 
 impl Switch {
     /// A packet with this transport unit: its units take effect in order, or none does if one is bad. If it is a single
-    /// DT or AK for an open connection, this goes straight to its link.
+    /// DT or AK for an open connection, this goes straight to its link. If it is a whole TSDU and the caller wants it, that
+    /// is returned, and no event is queued for it.
     #[inline(always)]
-    pub fn take_packet(&mut self, packet: &[u8])
+    pub fn take_packet<'a>(&mut self, packet: &'a [u8], lends: bool) -> Option<Lent<'a>>
         requires { self.old.ended ≡ None }
-        ensures { Acts self.old packet.now self.new }
+        ensures acts { Acts self.old packet.now (with_lent result self.new) }
+        ensures lent { IfSome result (λ _. Lends lends self.old self.new) }
     {
         match self.class {
             None => self.take_any(packet),
-            Some(Class::Zero) => self.take_in_zero(packet),
-            Some(Class::Two) => {
-                let Some(data) = DataClass2::from_packet(packet) else {
-                    return self.take_ack(packet);
-                };
-                if self.take_open(data.destination, &Tpdu::Dt2(data)) {
-                    return;
-                }
-                self.take_any(packet);
-            }
+            Some(Class::Zero) => self.take_in_zero(packet, lends),
+            Some(Class::Two) => self.take_in_two(packet, lends),
         }
     }
 
     /// The same in class 0.
     #[inline(always)]
-    fn take_in_zero(&mut self, packet: &[u8])
+    fn take_in_zero<'a>(&mut self, packet: &'a [u8], lends: bool) -> Option<Lent<'a>>
         requires lasts { self.old.ended ≡ None }
         requires class { self.old.class ≡ Some Class.Zero }
-        ensures { Acts self.old packet.now self.new }
+        ensures acts { Acts self.old packet.now (with_lent result self.new) }
+        ensures lent { IfSome result (λ _. Lends lends self.old self.new) }
     {
         let Some(data) = DataClass0::from_packet(packet) else {
             return self.take_any(packet);
@@ -53,44 +52,72 @@ impl Switch {
         let Some(reference) = self.live.first() else {
             return self.take_any(packet);
         };
-        if self.take_open(reference, &Tpdu::Dt0(data)) {
-            return;
+        match self.take_open(reference, &Tpdu::Dt0(data), lends) {
+            Reached::NotOpen => self.take_any(packet),
+            Reached::Settled => None,
+            Reached::Whole => Some(Lent {
+                reference: Ref(reference),
+                octets: data.user,
+            }),
         }
-        self.take_any(packet);
     }
 
-    /// A packet in class 2 that is not one DT.
+    /// The same in class 2.
     #[inline(always)]
-    fn take_ack(&mut self, packet: &[u8])
+    fn take_in_two<'a>(&mut self, packet: &'a [u8], lends: bool) -> Option<Lent<'a>>
         requires lasts { self.old.ended ≡ None }
         requires class { self.old.class ≡ Some Class.Two }
-        ensures { Acts self.old packet.now self.new }
+        ensures acts { Acts self.old packet.now (with_lent result self.new) }
+        ensures lent { IfSome result (λ _. Lends lends self.old self.new) }
+    {
+        let Some(data) = DataClass2::from_packet(packet) else {
+            return self.take_ack(packet);
+        };
+        match self.take_open(data.destination, &Tpdu::Dt2(data), lends) {
+            Reached::NotOpen => self.take_any(packet),
+            Reached::Settled => None,
+            Reached::Whole => Some(Lent {
+                reference: Ref(data.destination),
+                octets: data.user,
+            }),
+        }
+    }
+
+    /// A packet in class 2 that is not one DT. Nothing is lent from it.
+    #[inline(always)]
+    fn take_ack<'a>(&mut self, packet: &'a [u8]) -> Option<Lent<'a>>
+        requires lasts { self.old.ended ≡ None }
+        requires class { self.old.class ≡ Some Class.Two }
+        ensures acts { Acts self.old packet.now self.new }
+        ensures none { result ≡ None }
     {
         let Some(ack) = DataAcknowledgement::from_packet(packet) else {
             return self.take_any(packet);
         };
-        if self.take_open(ack.destination, &Tpdu::Ak(ack)) {
-            return;
+        match self.take_open(ack.destination, &Tpdu::Ak(ack), false) {
+            Reached::NotOpen => self.take_any(packet),
+            Reached::Settled | Reached::Whole => None,
         }
-        self.take_any(packet);
     }
 
-    /// The only unit of a packet, if it is for the link of the open connection with this reference. `false` if there is
-    /// no such connection; then nothing has changed.
+    /// The only unit of a packet, if it is for the link of the open connection with this reference. If there is no such
+    /// connection, nothing has changed.
     #[inline(always)]
-    fn take_open(&mut self, reference: u16, unit: &Tpdu<'_>) -> bool
+    fn take_open(&mut self, reference: u16, unit: &Tpdu<'_>, lends: bool) -> Reached
         requires lasts { self.old.ended ≡ None }
         requires acts { (peer : ℕ) → peer_in (value_at reference self.old.live) ≡ Some peer →
             in_class self.old.class (value unit.now) self.old
             ≡ taking reference peer (taken (link_in (value_at reference self.old.live)) (value unit.now)) self.old }
-        ensures acts { result ≡ true → Act self.old (value unit.now ∷ []) self.new }
-        ensures none { result ≡ false → self.new ≡ self.old }
+        ensures acts { is_reached result ≡ true →
+            Act self.old (value unit.now ∷ []) (with_reached result reference (user_of (value unit.now)) self.new) }
+        ensures none { result ≡ Reached.NotOpen → self.new ≡ self.old }
+        ensures lent { LendsIf result lends self.old self.new }
     {
-        match self.hand_to_link(reference, unit) {
-            Ok(known) => known,
+        match self.hand_to_link(reference, unit, lends) {
+            Ok(reached) => reached,
             Err(_) => {
                 self.run_out();
-                true
+                Reached::Settled
             }
         }
     }
@@ -103,16 +130,18 @@ impl Switch {
         self.end(EndReason::NoMemory);
     }
 
-    /// A packet that may hold any units.
+    /// A packet that may hold any units. Nothing is lent from it.
     #[inline(never)]
-    fn take_any(&mut self, packet: &[u8])
+    fn take_any<'a>(&mut self, packet: &'a [u8]) -> Option<Lent<'a>>
         requires { self.old.ended ≡ None }
-        ensures { Acts self.old packet.now self.new }
+        ensures acts { Acts self.old packet.now self.new }
+        ensures none { result ≡ None }
     {
         match read_units(packet) {
             Ok(units) => self.take_units(units),
             Err(fault) => self.fail(CarrierFault::Tpdu(fault)),
         }
+        None
     }
 
     /// Units in order, up to one that ends the carrier or for which memory runs out.

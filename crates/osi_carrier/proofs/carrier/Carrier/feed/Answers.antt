@@ -1,59 +1,9 @@
-use Rattle.std.proofs.Common.{ℕ, ◌-◌, List, length, is_some, ap, sym, subst, ◌∙◌, inl, inr, arith}
-use Rattle.osi_carrier.specs.declared.carrier.feeding.Fetched.{Fetched}
-use Rattle.osi_carrier.proofs.Vocabulary.{eqb-false, Fetches, Carrying, IsReading, Goes, stops, waits, is_spoilt}
-use Rattle.osi_carrier.proofs.stream.a_piece_is_read_packet_by_packet.{IsRead, read_first, read_next, read_stops, read_spoilt, read_part}
-use Rattle.osi_carrier.proofs.stream.a_piece_is_read_packet_by_packet.{read_over, fed_goes}
+use Rattle.std.proofs.Common.{refl, subst}
+use Rattle.osi_carrier.specs.Lending.{carrying_lent}
+use Rattle.osi_carrier.proofs.Vocabulary.{Feeds}
 use Rattle.osi_carrier.proofs.carrier.Carrier.feed.Goals as goal
 
-pub packets-init : goal.packets-init
-packets-init c =
-    read_first c.args.self.now c.args.piece.now
-    (ap (λ (x : Carrying). is_some x.state.ended) (sym c.self.view_is) ∙ (sym c.has_ended.ensures ∙ c.if-has_ended.false))
-    (ap (λ (x : Carrying). waits x.state) (sym c.self.view_is) ∙ (sym c.has_event.ensures ∙ c.if-has_event.false))
-    (subst IsReading (ap (λ (x : Carrying). x.held) c.self.view_is) c.self.invariant)
-    (eqb-false (length c.args.piece.now) 0 (sym c.is_empty.ensures ∙ c.if-is_empty.false))
-
-pub returns-in-Over-clause-feeds : goal.returns-in-Over-clause-feeds
-returns-in-Over-clause-feeds c =
-    let goes : Goes c.args.self.now c.args.piece.now (length c.args.piece.now) c.read_packet.new.self = elim c.in-Over.is [
-      | inl over ↦ read_over c.args.self.now c.args.piece.now c.packets.self c.packets.rest.now c.read_packet.new.self c.packets.invariant
-          (subst (λ (f : Fetched). Fetches c.packets.self c.packets.rest.now f c.read_packet.new.self) over c.read_packet.ensures)
-      | inr part ↦ read_part c.args.self.now c.args.piece.now c.packets.self c.packets.rest.now c.read_packet.new.self c.packets.invariant
-          (subst (λ (f : Fetched). Fetches c.packets.self c.packets.rest.now f c.read_packet.new.self) part c.read_packet.ensures)
-    ] in
-    fed_goes c.args.self.now c.args.piece.now c.packets.self c.packets.rest.now (length c.args.piece.now) c.fed-in-Over.result
-    c.read_packet.new.self c.packets.invariant goes (omega arith)
-    c.fed-in-Over.ensures.used c.fed-in-Over.ensures.whole
-
-pub returns-then-is_spoilt-clause-feeds : goal.returns-then-is_spoilt-clause-feeds
-returns-then-is_spoilt-clause-feeds c =
-    let spoilt = ap (λ (x : Carrying). is_spoilt x.state.ended) (sym c.self-in-packets.view_is) ∙
-    (sym c.is_spoilt.ensures ∙ c.if-is_spoilt.true) in
-    fed_goes c.args.self.now c.args.piece.now c.packets.self c.packets.rest.now (length c.args.piece.now) c.fed-then-is_spoilt.result
-    c.read_packet.new.self c.packets.invariant
-    (read_spoilt c.args.self.now c.args.piece.now c.packets.self c.packets.rest.now c.in-Packet.used c.read_packet.new.self
-    c.packets.invariant
-    c.in-Packet.ensures spoilt) (omega arith)
-    c.fed-then-is_spoilt.ensures.used c.fed-then-is_spoilt.ensures.whole
-
-pub returns-then-stops-clause-feeds : goal.returns-then-stops-clause-feeds
-returns-then-stops-clause-feeds c =
-    let sound = ap (λ (x : Carrying). is_spoilt x.state.ended) (sym c.self-in-packets.view_is) ∙
-    (sym c.is_spoilt.ensures ∙ c.if-is_spoilt.false) in
-    let stopped = ap (λ (x : Carrying). stops x.state) (sym c.self-in-packets.view_is) ∙ (sym c.stops.ensures ∙ c.if-stops.true) in
-    let goes = subst (λ (l : List ℕ). Goes c.args.self.now c.args.piece.now (length c.args.piece.now - length l) c.read_packet.new.self)
-    (sym c.split_at.ensures.back)
-    (read_stops c.args.self.now c.args.piece.now c.packets.self c.packets.rest.now c.in-Packet.used c.read_packet.new.self
-    c.packets.invariant
-    c.in-Packet.ensures stopped sound) in
-    fed_goes c.args.self.now c.args.piece.now c.packets.self c.packets.rest.now (length c.args.piece.now - length c.split_at.result.1.now)
-    c.fed-then-stops.result c.read_packet.new.self c.packets.invariant goes (omega arith)
-    c.fed-then-stops.ensures.used c.fed-then-stops.ensures.whole
-
-pub packets-preserved : goal.packets-preserved
-packets-preserved c =
-    let quiet = ap (λ (x : Carrying). stops x.state) (sym c.self-in-packets.view_is) ∙ (sym c.stops.ensures ∙ c.if-stops.false) in
-    subst (λ (l : List ℕ). IsRead c.args.self.now c.args.piece.now c.read_packet.new.self l) (sym c.split_at.ensures.back)
-    (read_next c.args.self.now c.args.piece.now c.packets.self c.packets.rest.now c.in-Packet.used c.read_packet.new.self
-    c.packets.invariant
-    c.in-Packet.ensures quiet)
+pub returns-clause-feeds : goal.returns-clause-feeds
+returns-clause-feeds c =
+    subst (λ o. Feeds c.args.self.now c.args.piece.now c.feed_by.result.fed (carrying_lent o c.feed_by.new.self)) (c.feed_by.ensures.wanted refl)
+    c.feed_by.ensures.feeds

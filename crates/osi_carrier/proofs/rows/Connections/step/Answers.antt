@@ -1,5 +1,6 @@
-use Rattle.std.proofs.Common.{◌≡◌, ℕ, ◌++◌, true, Option, Some, Result, Err, IsOk, is_some, refl, option_map, option_to_list}
+use Rattle.std.proofs.Common.{◌≡◌, ℕ, ◌++◌, true, Option, Some, Result, Err, IsOk, is_some, refl, option_to_list}
 use Rattle.std.proofs.Common.{ap, sym, subst, ◌∙◌, rules}
+use Rattle.osi_class.specs.Handing.{tsdu_handed, user_of}
 use Rattle.osi_class.specs.Link.{with_handed}
 use Rattle.osi_class.specs.declared.faults.LinkFault.TheVariants.{OutOfMemory}
 use Rattle.osi_class.proofs.bounds.what_a_queue_hands_out.{handing}
@@ -141,7 +142,7 @@ returns-in_default-pump-clause-needs c = λ peer known.
     let unit = value c.args.unit.now in
     let link = any_standing c.in-Linked.link in
     let new = any_standing c.receive.new.self in
-    let tsdu = option_map (λ v. v.items) c.in-Ok.whole in
+    let tsdu = tsdu_handed (user_of unit) c.in-Ok.handed in
     let at = sought_place c.args.reference c.self.inside.rises c.self.inside.rows.items c.args.self.now c.as_slice.result.now
     c.place_in.result c.as_slice.ensures.value c.self.view_is c.self.invariant c.place_in.ensures ∙ c.in-Some.is in
     let row = open_row c.args.reference c.in-Some.place _ _ c.args.self.now _ _ _ _ at c.index_mut-row.ensures.value c.self.view_is
@@ -151,21 +152,21 @@ returns-in_default-pump-clause-needs c = λ peer known.
     (taken (link_in (value_at c.args.reference c.args.self.now)) unit) ≡ true) same
     (subst (λ (s : Standing). link_grows c.in-Linked.peer s (taken s unit) ≡ true) (sym (ap link_in row))
     (pump_grows c.in-Linked.peer link (with_handed tsdu new) new tsdu (taken link unit) c.in-Ok.ensures.taken
-    (handing (λ v. v.items) c.in-Ok.whole new c.in-Ok.ensures.none) c.in_default-pump.ensures.needs))
+    (handing tsdu new c.in-Ok.ensures.none) c.in_default-pump.ensures.needs))
 
 pub returns-clause-step : goal.returns-clause-step
 returns-clause-step c =
     let unit = value c.args.unit.now in
     let link = any_standing c.in-Linked.link in
     let new = any_standing c.receive.new.self in
-    let tsdu = option_map (λ v. v.items) c.in-Ok.whole in
+    let tsdu = tsdu_handed (user_of unit) c.in-Ok.handed in
     let at = sought_place c.args.reference c.self.inside.rises c.self.inside.rows.items c.args.self.now c.as_slice.result.now
     c.place_in.result c.as_slice.ensures.value c.self.view_is c.self.invariant c.place_in.ensures ∙ c.in-Some.is in
     let row = open_row c.args.reference c.in-Some.place _ _ c.args.self.now _ _ _ _ at c.index_mut-row.ensures.value c.self.view_is
     c.row.view_is c.in-Linked.is in
     let took = subst (λ (s : Standing). IsOk (taken s unit) × (option_to_list tsdu ≡ whole_after (taken s unit))) (sym (ap link_in row))
     (took_whole tsdu (with_handed tsdu new) new (taken link unit) c.in-Ok.ensures.taken
-    (handing (λ v. v.items) c.in-Ok.whole new c.in-Ok.ensures.none)) in
+    (handing tsdu new c.in-Ok.ensures.none)) in
     (ap (λ (o : Option Connection). is_some (peer_in o)) row, took.0, took.1)
 
 pub returns-clause-rows : goal.returns-clause-rows
@@ -173,14 +174,14 @@ returns-clause-rows c = λ peer known.
     let unit = value c.args.unit.now in
     let link = any_standing c.in-Linked.link in
     let new = any_standing c.receive.new.self in
-    let tsdu = option_map (λ v. v.items) c.in-Ok.whole in
+    let tsdu = tsdu_handed (user_of unit) c.in-Ok.handed in
     let was = link_in (value_at c.args.reference c.args.self.now) in
     let at = sought_place c.args.reference c.self.inside.rises c.self.inside.rows.items c.args.self.now c.as_slice.result.now
     c.place_in.result c.as_slice.ensures.value c.self.view_is c.self.invariant c.place_in.ensures ∙ c.in-Some.is in
     let row = open_row c.args.reference c.in-Some.place _ _ c.args.self.now _ _ _ _ at c.index_mut-row.ensures.value c.self.view_is
     c.row.view_is c.in-Linked.is in
     let took = took_link tsdu link (with_handed tsdu new) new (taken link unit) c.in-Ok.ensures.taken
-    (handing (λ v. v.items) c.in-Ok.whole new c.in-Ok.ensures.none) in
+    (handing tsdu new c.in-Ok.ensures.none) in
     put_row c.args.reference c.args.self.now c.self.inside.rows.items c.in-Some.place c.index_mut-row.result.now
     (c.row.inside.reference, linked c.in-Linked.peer (any_standing c.pump.new.link))
     (linked peer (link_after was (taken was unit)))
@@ -195,14 +196,14 @@ returns-clause-ok c = λ peer known.
     let unit = value c.args.unit.now in
     let link = any_standing c.in-Linked.link in
     let new = any_standing c.receive.new.self in
-    let tsdu = option_map (λ v. v.items) c.in-Ok.whole in
+    let tsdu = tsdu_handed (user_of unit) c.in-Ok.handed in
     let at = sought_place c.args.reference c.self.inside.rises c.self.inside.rows.items c.args.self.now c.as_slice.result.now
     c.place_in.result c.as_slice.ensures.value c.self.view_is c.self.invariant c.place_in.ensures ∙ c.in-Some.is in
     let row = open_row c.args.reference c.in-Some.place _ _ c.args.self.now _ _ _ _ at c.index_mut-row.ensures.value c.self.view_is
     c.row.view_is c.in-Linked.is in
     let same = same_peer (peer_in (value_at c.args.reference c.args.self.now)) c.in-Linked.peer peer (ap peer_in row) known in
     let took = took_units c.in-Linked.peer tsdu (with_handed tsdu new) new (taken link unit) c.in-Ok.ensures.taken
-    (handing (λ v. v.items) c.in-Ok.whole new c.in-Ok.ensures.none) in
+    (handing tsdu new c.in-Ok.ensures.none) in
     c.in-Ok-pump.ensures.ok ∙ ap (λ us. c.args.out.now.items ++ packets us)
     (took ∙ ap (λ (s : Standing). units_after c.in-Linked.peer (taken s unit)) (sym (ap link_in row))
     ∙ ap (λ (n : ℕ). units_after n (taken (link_in (value_at c.args.reference c.args.self.now)) unit)) same)

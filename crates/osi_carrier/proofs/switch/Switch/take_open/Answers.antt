@@ -7,7 +7,7 @@ use Rattle.osi_carrier.proofs.switch.Switch.take_open.Goals as goal
 pub returns-in-Ok-clause-acts : goal.returns-in-Ok-clause-acts
 returns-in-Ok-clause-acts c = λ yes.
     with_peer (peer_in (value_at c.args.reference c.args.self.now.live)) (sym c.in-Ok.ensures.known ∙ yes)
-    (λ peer is. one_taken c.args.self.now c.hand_to_link.new.self _ (value c.args.unit.now) c.requires.lasts (c.requires.acts peer is)
+    (λ peer is. one_taken c.args.self.now _ _ (value c.args.unit.now) c.requires.lasts (c.requires.acts peer is)
     (c.in-Ok.ensures.ok peer is))
 
 pub returns-in-Err-clause-acts : goal.returns-in-Err-clause-acts

@@ -1,0 +1,59 @@
+-- A TSDU that is lent from the piece in which it lies, in place of its event.
+-- For the calls that feed a piece.
+use Rattle.std.proofs.Common.{◌≡◌, ℕ, ◌-◌, ◌||◌, ◌==◌, not, Bool, true, false, List, [], ◌∷◌, ◌++◌, length, drop, Option, Some, None}
+use Rattle.std.proofs.Common.{IfSome, IsSome, is_some, refl, sym, ap, subst, ◌∙◌, arith, length-drop}
+use Rattle.osi_carrier.specs.Fetching.{PacketLent}
+use Rattle.osi_carrier.specs.Lending.{Lends, carrying_lent, lent_event, with_lent}
+use Rattle.osi_carrier.specs.declared.lending.Lent.{Lent}
+use Rattle.osi_carrier.specs.declared.lending.FedLent.{FedLent}
+use Rattle.osi_carrier.proofs.Vocabulary.{Acts, Carrying, EndReason, Fed, Feeds, Happening, PacketActs, State, Tells, is_spoilt, stops, waits}
+use Rattle.osi_carrier.proofs.stream.a_piece_is_read_packet_by_packet.{IsRead, read_stops, fed_goes}
+
+-- nothing is lent to a caller who doesn't want it
+pub unlent : (lent : Option Lent) (packet : List ℕ) (old new : State) → Acts old packet (with_lent lent new) →
+    IfSome lent (λ _. Lends false old new) → Acts old packet new
+unlent None packet old new acts h = acts
+unlent (Some lent) packet old new acts h = let never = h.asked in cc
+
+quiet_by : (o : Option EndReason) (l : List Happening) → (is_some o || not (length l == 0)) ≡ false → (l ≡ []) × (o ≡ None)
+quiet_by None [] h = (refl, refl)
+quiet_by None (x ∷ l) h = grind arith
+quiet_by (Some reason) l h = cc
+
+pub lent_packet : (wanted : Bool) (old : Carrying) (octets : List ℕ) (used : ℕ) (lent : Lent) (new : Carrying) → stops old.state ≡ false →
+    Lends wanted old.state new.state → PacketActs old octets used (carrying_lent (Some lent) new) →
+    PacketLent wanted old octets used lent new
+lent_packet wanted old octets used lent new quiet lends acts =
+    let before = quiet_by old.state.ended old.state.events quiet in
+    record { asked = lends.asked; acts = acts; alone = lends.events ∙ before.0; lasts = lends.ended ∙ before.1 }
+
+told_waits : (l : List Happening) (event : Happening) → not (length (l ++ event ∷ []) == 0) ≡ true
+told_waits [] event = refl
+told_waits (x ∷ l) event = grind arith
+
+-- feeding stops behind it
+pub lent_feeds : (wanted : Bool) (old : Carrying) (piece : List ℕ) (now : Carrying) (rest : List ℕ) (used : ℕ) (lent : Lent) (new : Carrying)
+    (fed : Fed) → IsRead old piece now rest → PacketLent wanted now rest used lent new → fed.used ≡ length piece - (length rest - used) →
+    fed.whole ≡ true → Feeds old piece fed (carrying_lent (Some lent) new)
+lent_feeds wanted old piece now rest used lent new fed read h is whole =
+    let told = carrying_lent (Some lent) new in
+    let waiting : waits told.state ≡ true = told_waits new.state.events (lent_event lent) in
+    let stopped : stops told.state ≡ true = ap (λ o. is_some o || waits told.state) h.lasts ∙ waiting in
+    let goes = read_stops old piece now rest used told read h.acts stopped (ap is_spoilt h.lasts) in
+    let left = length-drop used rest in
+    fed_goes old piece now rest (length piece - length (drop used rest)) fed told read goes (omega arith) (omega arith)
+    (whole ∙ sym waiting)
+
+-- or nothing is lent
+pub nothing_lent : (old : Carrying) (piece : List ℕ) (fed : FedLent) (new : Carrying) → fed.lent ≡ None → Feeds old piece fed.fed new →
+    Feeds old piece fed.fed (carrying_lent fed.lent new)
+nothing_lent old piece fed new none feeds = subst (λ o. Feeds old piece fed.fed (carrying_lent o new)) (sym none) feeds
+
+-- its event is the only one
+pub lent_tells : (o : Option Lent) (new : Carrying) → (IsSome o → new.state.events ≡ []) →
+    IfSome o (λ lent. Tells (Some (lent_event lent)) (carrying_lent o new).state new.state)
+lent_tells None new h = tt
+lent_tells (Some lent) new h =
+    let none = h refl in
+    ap (λ (l : List Happening). record new.state { events = l ++ lent_event lent ∷ [] }) none
+    ∙ sym (ap (λ (l : List Happening). record new.state { events = lent_event lent ∷ l }) none)
