@@ -40,13 +40,13 @@ fn tell_session(
     carrier: &mut Carrier,
     lines: &mut Lines,
     reference: Ref,
-    session_event: SessionEvent,
+    session_event: SessionEvent<'_>,
 ) -> Result<(), AllocError>
     ensures ok { OnOk result ((holding carrier.new lines.new).end
-        ≡ to_session reference.0 (event_input session_event) (holding carrier.old lines.old).end) }
+        ≡ to_session reference.0 (event_input session_event.entry) (holding carrier.old lines.old).end) }
     ensures held { carrier.new.held ≡ carrier.old.held }
     ensures err { OnErr result (Interrupted (holding carrier.old lines.old).end (holding carrier.new lines.new).end) }
-    ensures needed { OnErr result (input_needs reference.0 (event_input session_event) (holding carrier.old lines.old).end ≡ true) }
+    ensures needed { OnErr result (input_needs reference.0 (event_input session_event.entry) (holding carrier.old lines.old).end ≡ true) }
 {
     lines.tell(alloc, reference.0, session_event, carrier)
 }

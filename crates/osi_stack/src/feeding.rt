@@ -1,39 +1,74 @@
 //! The octets of the stream.
 
-ghost use Rattle.std.specs.Prelude.{◌≡◌, ◌<◌, ◌≤◌, [], false, length};
-ghost use Rattle.osi_stack.specs.Attending.{FeedsToEvent};
+ghost use Rattle.std.specs.Prelude.{◌≡◌, ◌<◌, ◌≤◌, [], false, length, IsSome, OnOk, OnErr};
+ghost use Rattle.osi_carrier.specs.Lending.{carrying_lent};
+ghost use Rattle.osi_stack.specs.Attending.{FeedsToEvent, LeftOff};
 ghost use Rattle.osi_stack.specs.Feeding.{Goes, stops};
+ghost use Rattle.osi_stack.specs.Hearing.{hears_all};
 ghost use Rattle.osi_stack.specs.State.{IsAttended, holding};
 
 use crate::dispatching::{dispatch_event, starve};
 use crate::events::SessionEvent;
 use crate::lines::Lines;
-use osi_carrier::{Carrier, Event};
+use osi_carrier::{Carrier, Lent};
 use osi_tpkt::laws::a_prefix_of_a_packet;
-use std::alloc::Global;
+use std::alloc::{AllocError, Global};
 
-/// Feeds octets up to those that caused an event of the carrier, and the sessions handle it, the oldest event first. If
-/// the carrier has ended by then, all sessions are lost. Returns how many octets were used.
+/// The sessions handle all events of the carrier, the oldest first. If memory runs out for one, those after it stay.
+fn hear_events(alloc: Global, carrier: &mut Carrier, lines: &mut Lines) -> Result<(), AllocError>
+    ensures ok { OnOk result ((holding carrier.new lines.new).end ≡ hears_all (holding carrier.old lines.old).end) }
+    ensures none { OnOk result (carrier.new.state.events ≡ []) }
+    ensures held { carrier.new.held ≡ carrier.old.held }
+    ensures err { OnErr result (LeftOff (holding carrier.old lines.old).end (holding carrier.new lines.new).end) }
+{
+    'events: while let Some(event) = carrier.next_event() {
+        dispatch_event(alloc, carrier, lines, event)?;
+    }
+    Ok(())
+}
+
+/// The session of a connection handles the TSDU that the carrier has lent, without an event for it. If none is lent, the
+/// sessions handle the events.
+#[inline(always)]
+fn hear(
+    alloc: Global,
+    carrier: &mut Carrier,
+    lines: &mut Lines,
+    lent: Option<Lent<'_>>,
+) -> Result<(), AllocError>
+    requires { IsSome lent → carrier.old.state.events ≡ [] }
+    ensures ok { OnOk result ((holding carrier.new lines.new).end
+        ≡ hears_all (holding (carrying_lent lent.entry carrier.old) lines.old).end) }
+    ensures none { OnOk result (carrier.new.state.events ≡ []) }
+    ensures held { carrier.new.held ≡ carrier.old.held }
+    ensures err { OnErr result (LeftOff (holding (carrying_lent lent.entry carrier.old) lines.old).end (holding carrier.new lines.new).end) }
+{
+    let Some(lent) = lent else {
+        return hear_events(alloc, carrier, lines);
+    };
+    lines.tell(
+        alloc,
+        lent.reference.0,
+        SessionEvent::Lent(lent.octets),
+        carrier,
+    )
+}
+
+/// Feeds octets up to those that caused an event of the carrier, and the sessions handle it, the oldest event first. A
+/// TSDU that lies within the octets goes to its session straight from them. If the carrier has ended by then, all sessions
+/// are lost. Returns how many octets were used.
 fn feed_to_event(alloc: Global, carrier: &mut Carrier, lines: &mut Lines, octets: &[u8]) -> usize
     ensures { FeedsToEvent (holding carrier.old lines.old) octets.now result (holding carrier.new lines.new) }
 {
-    let fed = carrier.feed(octets);
-    'events: while let Some(event) = carrier.next_event() {
-        let heard = match event {
-            Event::Tsdu(reference, tsdu) => {
-                lines.tell(alloc, reference.0, SessionEvent::Tsdu(tsdu), carrier)
-            }
-            _ => dispatch_event(alloc, carrier, lines, event),
-        };
-        let Ok(()) = heard else {
-            starve(carrier, lines);
-            return octets.len();
-        };
-    }
+    let told = carrier.feed_lent(octets);
+    let Ok(()) = hear(alloc, carrier, lines, told.lent) else {
+        starve(carrier, lines);
+        return octets.len();
+    };
     if carrier.ended().is_some() {
         lines.lose_all();
     }
-    fed.used
+    told.fed.used
 }
 
 /// Feeds a piece up to a packet that caused an indication, or all of it, and returns how many octets were used.

@@ -38,7 +38,7 @@ fn quiet_effect(alloc: Global, shown: Option<Indication>) -> Taken
 fn take_event(
     alloc: Global,
     session: &mut Session,
-    event: &SessionEvent,
+    event: &SessionEvent<'_>,
 ) -> Result<Taken, AllocError>
     ensures { Takes result (react session.old (event_input event.now)) session.old session.new }
 {
@@ -48,7 +48,8 @@ fn take_event(
             ..quiet_effect(alloc, None)
         }),
         SessionEvent::Refused(reason) => Ok(quiet_effect(alloc, session.refused(*reason))),
-        SessionEvent::Tsdu(octets) => session.take_unexpected(octets.as_slice()),
+        SessionEvent::Tsdu(tsdu) => session.take_unexpected(tsdu.as_slice()),
+        SessionEvent::Lent(tsdu) => session.take_unexpected(tsdu),
         SessionEvent::Lost => Ok(quiet_effect(alloc, session.broken())),
     }
 }
@@ -96,7 +97,7 @@ fn handle_unexpected(
     alloc: Global,
     session: &mut Session,
     waiting: &mut VecDeque<Indication>,
-    event: &SessionEvent,
+    event: &SessionEvent<'_>,
     carrier: &mut Carrier,
     reference: u16,
 ) -> Result<bool, AllocError>
@@ -142,7 +143,7 @@ pub fn handle_event(
     alloc: Global,
     session: &mut Session,
     waiting: &mut VecDeque<Indication>,
-    event: &SessionEvent,
+    event: &SessionEvent<'_>,
     carrier: &mut Carrier,
     reference: u16,
 ) -> Result<bool, AllocError>
@@ -163,8 +164,8 @@ pub fn handle_event(
     ensures err { OnErr result (carrier.new ≡ carrier.old) }
     ensures needed { OnErr result (session_needs reference (Some session.old) (event_input event.now) carrier.old.state ≡ true) }
 {
-    if let SessionEvent::Tsdu(octets) = event {
-        match session.take_expected(octets.as_slice())? {
+    if let Some(tsdu) = event.tsdu() {
+        match session.take_expected(tsdu)? {
             Expected::Shown(indication) => {
                 let connects = is_connect(&indication);
                 push_indication(waiting, indication)?;

@@ -101,7 +101,7 @@ fn forget(session: &mut Option<Session>, waiting: &mut VecDeque<Indication>, is_
 /// Keeps the session selectors of a CN. The function is kept out of line: otherwise stack space for them would be
 /// reserved on the data path, too.
 #[inline(never)]
-fn keep_selectors(selectors: &mut Option<SessionSelectors>, event: &SessionEvent)
+fn keep_selectors(selectors: &mut Option<SessionSelectors>, event: &SessionEvent<'_>)
     ensures { option_map session_selectors selectors.new ≡ selectors_told (event_input event.now) }
 {
     *selectors = SessionSelectors::of_event(event);
@@ -182,16 +182,16 @@ impl Line {
     fn receive(
         &mut self,
         alloc: Global,
-        event: SessionEvent,
+        event: SessionEvent<'_>,
         carrier: &mut Carrier,
     ) -> Result<(), AllocError>
         ensures reference { self.new.0 ≡ self.old.0 }
-        ensures ok { OnOk result (self.new ≡ (self.old.0, line_by self.old.1 self.old.1.session (event_input event))) }
+        ensures ok { OnOk result (self.new ≡ (self.old.0, line_by self.old.1 self.old.1.session (event_input event.entry))) }
         ensures carrier { OnOk result (carrier.new
-            ≡ record carrier.old { state = carrier_by self.old.0 self.old.1.session (event_input event) carrier.old.state }) }
+            ≡ record carrier.old { state = carrier_by self.old.0 self.old.1.session (event_input event.entry) carrier.old.state }) }
         ensures lost { OnErr result (self.new ≡ (self.old.0, loses self.old.1)) }
         ensures err { OnErr result (carrier.new ≡ carrier.old) }
-        ensures needed { OnErr result (session_needs self.old.0 self.old.1.session (event_input event) carrier.old.state ≡ true) }
+        ensures needed { OnErr result (session_needs self.old.0 self.old.1.session (event_input event.entry) carrier.old.state ≡ true) }
     {
         let Some(session) = &self.session else {
             return Ok(());
@@ -217,7 +217,7 @@ impl Line {
     fn receive_any(
         &mut self,
         alloc: Global,
-        event: &SessionEvent,
+        event: &SessionEvent<'_>,
         carrier: &mut Carrier,
     ) -> Result<(), AllocError>
         ensures reference { self.new.0 ≡ self.old.0 }
@@ -448,15 +448,15 @@ impl Lines {
         &mut self,
         alloc: Global,
         reference: u16,
-        event: SessionEvent,
+        event: SessionEvent<'_>,
         carrier: &mut Carrier,
     ) -> Result<(), AllocError>
         ensures ok { OnOk result (record { carrier = carrier.new.state; lines = self.new }
-            ≡ to_session reference (event_input event) (record { carrier = carrier.old.state; lines = self.old })) }
+            ≡ to_session reference (event_input event.entry) (record { carrier = carrier.old.state; lines = self.old })) }
         ensures held { carrier.new.held ≡ carrier.old.held }
         ensures lost { OnErr result (all_lost self.new ≡ all_lost self.old) }
         ensures err { OnErr result (carrier.new ≡ carrier.old) }
-        ensures needed { OnErr result (session_needs reference (session_in (value_at reference self.old)) (event_input event)
+        ensures needed { OnErr result (session_needs reference (session_in (value_at reference self.old)) (event_input event.entry)
             carrier.old.state ≡ true) }
     {
         let Some(place) = place_in(self.rows.as_slice(), self.rises, reference) else {

@@ -98,11 +98,12 @@ impl SessionSelectors {
     }
 
     /// Those of an event of a session.
-    pub fn of_event(event: &SessionEvent) -> Option<Self>
+    pub fn of_event(event: &SessionEvent<'_>) -> Option<Self>
         ensures { option_map session_selectors result ≡ selectors_told (event_input event.now) }
     {
         match event {
-            SessionEvent::Tsdu(octets) => SessionSelectors::of_tsdu(octets.as_slice()),
+            SessionEvent::Tsdu(tsdu) => SessionSelectors::of_tsdu(tsdu.as_slice()),
+            SessionEvent::Lent(tsdu) => SessionSelectors::of_tsdu(tsdu),
             SessionEvent::Opened | SessionEvent::Refused(_) | SessionEvent::Lost => None,
         }
     }

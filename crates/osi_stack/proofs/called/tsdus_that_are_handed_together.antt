@@ -2,7 +2,7 @@
 use Rattle.std.proofs.Common.{◌≡◌, ◌∙◌, refl, sym, ap, ℕ, ◌≤◌, Bool, true, false, ◌||◌, List, [], ◌∷◌, length, map, nat_lt, Option, Some}
 use Rattle.std.proofs.Common.{None, option_map, unwrap_or, arith, if◌then◌else◌}
 use Rattle.osi_carrier.specs.declared.faults.SendError.TheVariants.{TooLong}
-use Rattle.osi_stack.specs.declared.events.SessionEvent.TheVariants.{Tsdu}
+use Rattle.osi_stack.specs.declared.events.SessionEvent.TheVariants.{Tsdu, Lent}
 use Rattle.osi_stack.proofs.Vocabulary.{list_any, nat_tests, or-false, send_error, send_all_error, lengths_error, open_link, sent, sent_on}
 use Rattle.osi_stack.proofs.Vocabulary.{sent_all, State as Carrier, SendError, Standing as Link, Meaning, DT, is_parted, tsdus_sent, in_one}
 use Rattle.osi_stack.proofs.Vocabulary.{Words, Word, says, part, word_octets, sent_alone, Listener, Move, came, AreShort, message_of, does}
@@ -79,6 +79,7 @@ came_unbounded s octets = grind arith
 
 pub told_unbounded : (s : Listener) (told : SessionEvent) → limit_for s (event_input told) ≡ 0
 told_unbounded s (Tsdu octets) = came_unbounded s octets.items
+told_unbounded s (Lent octets) = came_unbounded s octets.now
 told_unbounded s _ = refl
 
 -- what is handed over for a session that handles an event

@@ -1,8 +1,10 @@
 -- Pending events are handled one after the other.
-use Rattle.std.proofs.Common.{◌≡◌, ℕ, ◌+◌, ◌<◌, ◌==◌, zero, suc, Bool, true, false, not, List, ◌∷◌, length, None, is_some, refl, sym, ap}
+use Rattle.std.proofs.Common.{◌≡◌, ℕ, ◌+◌, ◌<◌, ◌==◌, zero, suc, Bool, true, false, not, List, ◌∷◌, ◌++◌, length, Some, None, is_some, refl, sym, ap}
 use Rattle.std.proofs.Common.{subst, ◌∙◌, inl, inr, arith, if◌then◌else◌, [], Result, Ok, Err}
 use Rattle.osi_carrier.specs.Happenings as events
+use Rattle.osi_carrier.specs.Lending.{carrying_lent, lent_event}
 use Rattle.osi_carrier.specs.Packets as carriers
+use Rattle.osi_carrier.specs.declared.lending.Lent.{Lent}
 use Rattle.osi_stack.proofs.Vocabulary.{eqb-true, not-false, Fed, Tells, Happening, Carrying, is_spoilt, Rows, State as Carrier}
 use Rattle.osi_stack.proofs.Vocabulary.{Interrupted, LeftOff, FeedsToEvent, hears, hears_first, hears_next, hears_times, hears_all}
 use Rattle.osi_stack.proofs.Vocabulary.{with_events, OnErr, OnOk, came, session_in, session_needs, to_session, value_at}
@@ -84,23 +86,10 @@ pub record IsHeard {A E : Type 0} (result : Result A E) (event : Happening) (old
   pub err : OnErr result (Interrupted old.end new.end)
   pub needed : OnErr result (needs_memory event old.end ≡ true)
 
--- what is known of a result by its kind
-pub on_ok : {A E P : Type 0} (r : Result A E) (a : A) → r ≡ Ok a → OnOk r P → P
-on_ok (Ok b) a is h = h
-on_ok (Err e) a is h = cc
-
-pub not_ok : {A E P : Type 0} (r : Result A E) → ((a : A) → r ≡ Ok a → ⊥) → OnErr r P → P
-not_ok (Ok a) never h = absurd (never a refl)
-not_ok (Err e) never h = h
-
--- the same, if what came of it goes by other names
-pub heard_as : {A E : Type 0} (result other : Result A E) (event : Happening) (old : Holding) (carrier after : Carrying)
-    (lines left : Rows Line) → result ≡ other → carrier ≡ after → lines ≡ left → IsHeard other event old (holding after left) →
-    IsHeard result event old (holding carrier lines)
-heard_as result other event old carrier after lines left a b d h =
-    subst (λ (r : Result _ _). IsHeard r event old (holding carrier lines)) (sym a)
-    (subst (λ (x : Carrying). IsHeard other event old (holding x lines)) (sym b)
-    (subst (λ (l : Rows Line). IsHeard other event old (holding after l)) (sym d) h))
+-- what holds if memory ran out
+pub not_done : {A E P : Type 0} (r : Result A E) → P → OnErr r P
+not_done (Ok a) h = tt
+not_done (Err e) h = h
 
 -- a TSDU that a line was told
 pub heard_tsdu : {A E : Type 0} (result : Result A E) (event : Happening) (r : ℕ) (octets : List ℕ) (carrier after : Carrying)
@@ -122,6 +111,53 @@ heard_tsdu (Err e) event r octets carrier after lines left is ok held lost same 
   err = record { lines = lost; carrier = ap (λ (x : Carrying). x.state) same };
   needed = subst (λ (h : Happening). needs_memory h (holding carrier lines).end ≡ true) (sym is) needed;
 }
+
+-- ---- a TSDU that is lent
+
+-- it is handled as its event would be, which would be the only one
+record IsOnly (lent : Lent) (carrier : Carrying) (lines : Rows Line) : Type 0 where
+  first : (holding (carrying_lent (Some lent) carrier) lines).end.carrier.events ≡ lent_event lent ∷ []
+  rest : with_events [] (holding (carrying_lent (Some lent) carrier) lines).end ≡ (holding carrier lines).end
+
+only_is : (lent : Lent) (carrier : Carrying) (lines : Rows Line) → carrier.state.events ≡ [] → IsOnly lent carrier lines
+only_is lent carrier lines none = record {
+  first = ap (λ (l : List Happening). l ++ lent_event lent ∷ []) none;
+  rest = ap (λ (l : List Happening). with_events l (holding carrier lines).end) (sym none);
+}
+
+heard_only : (e : End) (event : Happening) → e.carrier.events ≡ event ∷ [] → hears_all e ≡ hears event (with_events [] e)
+heard_only e event one =
+    ap (λ (l : List Happening). hears_times (length l) e) one ∙ ap (λ (l : List Happening). hears_first l e) one
+
+pub lent_all : {A E : Type 0} (result : Result A E) (lent : Lent) (carrier : Carrying) (lines : Rows Line) (new : Holding) →
+    carrier.state.events ≡ [] → IsHeard result (lent_event lent) (holding carrier lines) new →
+    OnOk result (new.end ≡ hears_all (holding (carrying_lent (Some lent) carrier) lines).end)
+lent_all (Ok a) lent carrier lines new none h =
+    let only = only_is lent carrier lines none in
+    h.ok ∙ ap (hears (lent_event lent)) (sym only.rest)
+    ∙ sym (heard_only (holding (carrying_lent (Some lent) carrier) lines).end (lent_event lent) only.first)
+lent_all (Err e) lent carrier lines new none h = tt
+
+pub lent_left : {A E : Type 0} (result : Result A E) (lent : Lent) (carrier : Carrying) (lines : Rows Line) (new : Holding) →
+    carrier.state.events ≡ [] → IsHeard result (lent_event lent) (holding carrier lines) new →
+    OnErr result (LeftOff (holding (carrying_lent (Some lent) carrier) lines).end new.end)
+lent_left (Ok a) lent carrier lines new none h = tt
+lent_left (Err e) lent carrier lines new none h =
+    let only = only_is lent carrier lines none in
+    record {
+      heard = 0;
+      event = lent_event lent;
+      more = [];
+      waits = only.first;
+      needed = subst (λ (x : End). needs_memory (lent_event lent) x ≡ true) (sym only.rest) h.needed;
+      stopped = subst (λ (x : End). Interrupted x new.end) (sym only.rest) h.err;
+    }
+
+pub lent_none : {A E : Type 0} (result : Result A E) (lent : Lent) (carrier : Carrying) (lines : Rows Line) (new : Holding) →
+    carrier.state.events ≡ [] → IsHeard result (lent_event lent) (holding carrier lines) new → OnOk result (new.end.carrier.events ≡ [])
+lent_none (Ok a) lent carrier lines new none h =
+    ap (λ (x : End). x.carrier.events) h.ok ∙ (hears_keep (lent_event lent) (holding carrier lines).end).events ∙ none
+lent_none (Err e) lent carrier lines new none h = tt
 
 -- ---- an allocation failure
 
@@ -184,23 +220,20 @@ concluded_lines false e lines is h = ap (λ (l : Rows Line). record e { lines = 
     sym (ap (λ (c : Bool). if c then record e { lines = all_lost e.lines } else e) is)
 
 -- the carrier took packets, and its events were handled
-pub fetched : (old : Holding) (octets : List ℕ) (fed : Fed) (told : Carrying) (heard : Holding) (carrier : Carrying) (lines : Rows Line)
-    (b : Bool) →
-    carriers.Feeds (carrying_of old) octets fed told → HasHeard (holding told old.end.lines) heard →
-    Tells None heard.end.carrier carrier.state → carrier.held ≡ heard.held →
-    is_some carrier.state.ended ≡ b → lines ≡ (if b then all_lost heard.end.lines else heard.end.lines) →
-    FeedsToEvent old octets fed.used (holding carrier lines)
-fetched old octets fed told heard carrier lines b feeds so_far none held over left =
-    let is : (holding carrier lines).end ≡ concludes heard.end =
-    ap (λ (c : Carrier). record { carrier = c; lines = lines }) none.1
-    ∙ concluded_lines b heard.end lines (ap (λ (c : Carrier). is_some c.ended) (sym none.1) ∙ over) left in
+pub fetched : (old : Holding) (octets : List ℕ) (fed : Fed) (told : Carrying) (heard : Holding) (lines : Rows Line) (b : Bool) →
+    carriers.Feeds (carrying_of old) octets fed told → heard.end ≡ hears_all (with_carrier told.state old.end) →
+    heard.end.carrier.events ≡ [] → heard.held ≡ told.held →
+    is_some heard.end.carrier.ended ≡ b → lines ≡ (if b then all_lost heard.end.lines else heard.end.lines) →
+    FeedsToEvent old octets fed.used (record heard { end = record heard.end { lines = lines } })
+fetched old octets fed told heard lines b feeds all none held over left =
+    let is : record heard.end { lines = lines } ≡ concludes heard.end = concluded_lines b heard.end lines over left in
     record {
       fed = fed;
       told = told;
       feeds = feeds;
-      held = held ∙ so_far.held;
-      heard = inl (is ∙ ap concludes (heard_all (holding told old.end.lines) heard so_far none.0), refl);
-      attended = concluded_attended heard.end (holding carrier lines).end is none.0;
+      held = held;
+      heard = inl (is ∙ ap concludes all, refl);
+      attended = concluded_attended heard.end (record heard.end { lines = lines }) is none;
     }
 
 -- the same if memory ran out for the effect of one of them

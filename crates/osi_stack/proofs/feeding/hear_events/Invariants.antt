@@ -1,7 +1,7 @@
 use Rattle.std.proofs.Common.{length}
 use Rattle.osi_stack.specs.State.{holding}
 use Rattle.osi_stack.proofs.carried.events_one_after_the_other.{HasHeard}
-use Rattle.osi_stack.proofs.feeding.feed_to_event.Given as goal
+use Rattle.osi_stack.proofs.feeding.hear_events.Given as goal
 
 abbrev pub invariant-events : goal.invariant-events
 invariant-events l = HasHeard (holding l.initial.carrier l.initial.lines) (holding l.carrier l.lines)
