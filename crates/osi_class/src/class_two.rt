@@ -1,8 +1,8 @@
 //! A link of class 2: numbers, credit and acknowledgements.
 
 use crate::faults::LinkFault;
-use crate::handing::Handed;
 use crate::flow::{ReceivingFlow, SendingFlow};
+use crate::handing::Handed;
 use crate::joining::Begun;
 use crate::limits::Credit;
 use crate::links::Link;
