@@ -55,11 +55,11 @@ pub record EndsOver (old : Carrying) (octets : List ℕ) (new : Carrying) : Type
   pub how : Faults old octets new ⊎ LacksRoom old octets new
   pub held : new.held.octets ≡ []
 
-abbrev pub Fetches : Bool → Carrying → List ℕ → Fetched → Carrying → Type 0
-Fetches wanted old octets (Packet used) new = PacketActs old octets used new
-Fetches wanted old octets (Lent used lent) new = PacketLent wanted old octets used lent new
-Fetches wanted old octets Part new = PartHeld old octets new
-Fetches wanted old octets Over new = EndsOver old octets new
+abbrev pub Fetches : Bool → Carrying → List ℕ → Fetched → Tsdu → Carrying → Type 0
+Fetches wanted old octets (Packet used) lent new = PacketActs old octets used new
+Fetches wanted old octets (Lent used) lent new = PacketLent wanted old octets used lent new
+Fetches wanted old octets Part lent new = PartHeld old octets new
+Fetches wanted old octets Over lent new = EndsOver old octets new
 
 -- there is no complete packet at the front of these octets
 abbrev pub IsNoFront : List ℕ → Type 0

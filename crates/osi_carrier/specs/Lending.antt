@@ -10,6 +10,11 @@ use Rattle.osi_carrier.specs.declared.lending.Reached.TheVariants.{NotOpen, Sett
 abbrev pub lent_event : Lent → Happening
 lent_event lent = tsdu lent.reference.0 lent.octets.now
 
+-- what is lent, if anything is
+abbrev pub lent_if : Bool → Lent → Option Lent
+lent_if false lent = None
+lent_if true lent = Some lent
+
 -- the carrier with the event of what is lent, if something is
 abbrev pub with_lent : Option Lent → State → State
 with_lent None s = s

@@ -3,7 +3,7 @@
 use crate::ends::EndReason;
 use crate::events::{Event, Ref};
 use crate::faults::{OpenError, SendError};
-use crate::lending::FedLent;
+use crate::lending::{FedLent, Lent};
 use crate::pieces::Pieces;
 use crate::selectors::Tsaps;
 use crate::switch::Switch;
@@ -236,17 +236,18 @@ impl Carrier {
         ensures told { IfSome result.lent (λ lent.
             Tells (Some (lent_event lent)) (carrying_lent result.lent self.new).state self.new.state) }
         ensures none { IsSome result.lent → self.new.state.events ≡ [] }
-        ensures empty { piece.now ≡ [] → (result.fed.used ≡ 0) × (self.new ≡ self.old) }
+        ensures empty { piece.now ≡ [] → (result.fed.used ≡ 0) × (self.new ≡ self.old) × (result.lent ≡ None) }
     {
         self.feed_by(piece, true)
     }
 
     /// Feeds a piece, and lends a whole TSDU if the caller wants that.
+    #[inline(always)]
     fn feed_by<'a>(&mut self, piece: &'a [u8], lends: bool) -> FedLent<'a>
         ensures feeds { Feeds self.old piece.now result.fed (carrying_lent result.lent self.new) }
         ensures wanted { lends ≡ false → result.lent ≡ None }
         ensures none { IsSome result.lent → self.new.state.events ≡ [] }
-        ensures empty { piece.now ≡ [] → (result.fed.used ≡ 0) × (self.new ≡ self.old) }
+        ensures empty { piece.now ≡ [] → (result.fed.used ≡ 0) × (self.new ≡ self.old) × (result.lent ≡ None) }
     {
         // Named for the proof: what every cutter holds.
         let _cutter = &self.cutter;
@@ -259,12 +260,13 @@ impl Carrier {
         if self.switch.has_event() {
             return self.fed(0);
         }
+        let mut lent = Lent::none();
         let mut rest = piece;
         'packets: loop {
-            let used = match self.read_packet(rest, lends) {
+            let used = match self.read_packet(rest, lends, &mut lent) {
                 Fetched::Over | Fetched::Part => return self.fed(piece.len()),
                 Fetched::Packet(used) => used,
-                Fetched::Lent(used, lent) => {
+                Fetched::Lent(used) => {
                     return FedLent {
                         fed: Fed {
                             used: piece.len() - (rest.len() - used),

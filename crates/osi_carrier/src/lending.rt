@@ -17,6 +17,17 @@ pub struct Lent<'a> {
     pub octets: &'a [u8],
 }
 
+impl<'a> Lent<'a> {
+    /// No TSDU: what is there before one is lent.
+    #[inline(always)]
+    pub(crate) fn none() -> Lent<'a> {
+        Lent {
+            reference: Ref(0),
+            octets: &[],
+        }
+    }
+}
+
 /// What a call of [`Carrier::feed_lent`] did.
 ///
 /// [`Carrier::feed_lent`]: crate::Carrier::feed_lent

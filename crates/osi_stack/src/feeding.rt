@@ -1,7 +1,6 @@
 //! The octets of the stream.
 
-ghost use Rattle.std.specs.Prelude.{◌≡◌, ◌<◌, ◌≤◌, [], false, length, IsSome, OnOk, OnErr};
-ghost use Rattle.osi_carrier.specs.Lending.{carrying_lent};
+ghost use Rattle.std.specs.Prelude.{◌≡◌, ◌<◌, ◌≤◌, [], false, length, OnOk, OnErr};
 ghost use Rattle.osi_stack.specs.Attending.{FeedsToEvent, LeftOff};
 ghost use Rattle.osi_stack.specs.Feeding.{Goes, stops};
 ghost use Rattle.osi_stack.specs.Hearing.{hears_all};
@@ -10,7 +9,7 @@ ghost use Rattle.osi_stack.specs.State.{IsAttended, holding};
 use crate::dispatching::{dispatch_event, starve};
 use crate::events::SessionEvent;
 use crate::lines::Lines;
-use osi_carrier::{Carrier, Lent};
+use osi_carrier::Carrier;
 use osi_tpkt::laws::a_prefix_of_a_packet;
 use std::alloc::{AllocError, Global};
 
@@ -27,33 +26,6 @@ fn hear_events(alloc: Global, carrier: &mut Carrier, lines: &mut Lines) -> Resul
     Ok(())
 }
 
-/// The session of a connection handles the TSDU that the carrier has lent, without an event for it. If none is lent, the
-/// sessions handle the events.
-#[inline(always)]
-fn hear(
-    alloc: Global,
-    carrier: &mut Carrier,
-    lines: &mut Lines,
-    lent: Option<Lent<'_>>,
-) -> Result<(), AllocError>
-    requires { IsSome lent → carrier.old.state.events ≡ [] }
-    ensures ok { OnOk result ((holding carrier.new lines.new).end
-        ≡ hears_all (holding (carrying_lent lent.entry carrier.old) lines.old).end) }
-    ensures none { OnOk result (carrier.new.state.events ≡ []) }
-    ensures held { carrier.new.held ≡ carrier.old.held }
-    ensures err { OnErr result (LeftOff (holding (carrying_lent lent.entry carrier.old) lines.old).end (holding carrier.new lines.new).end) }
-{
-    let Some(lent) = lent else {
-        return hear_events(alloc, carrier, lines);
-    };
-    lines.tell(
-        alloc,
-        lent.reference.0,
-        SessionEvent::Lent(lent.octets),
-        carrier,
-    )
-}
-
 /// Feeds octets up to those that caused an event of the carrier, and the sessions handle it, the oldest event first. A
 /// TSDU that lies within the octets goes to its session straight from them. If the carrier has ended by then, all sessions
 /// are lost. Returns how many octets were used.
@@ -61,7 +33,16 @@ fn feed_to_event(alloc: Global, carrier: &mut Carrier, lines: &mut Lines, octets
     ensures { FeedsToEvent (holding carrier.old lines.old) octets.now result (holding carrier.new lines.new) }
 {
     let told = carrier.feed_lent(octets);
-    let Ok(()) = hear(alloc, carrier, lines, told.lent) else {
+    let heard = match told.lent {
+        None => hear_events(alloc, carrier, lines),
+        Some(lent) => lines.tell(
+            alloc,
+            lent.reference.0,
+            SessionEvent::Lent(lent.octets),
+            carrier,
+        ),
+    };
+    let Ok(()) = heard else {
         starve(carrier, lines);
         return octets.len();
     };
@@ -88,7 +69,7 @@ pub fn feed_to_indication(
 {
     a_prefix_of_a_packet();
     if piece.is_empty() {
-        return carrier.feed(piece).used;
+        return carrier.feed_lent(piece).fed.used;
     }
     let mut rest = piece;
     'packets: loop {

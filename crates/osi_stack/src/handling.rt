@@ -67,22 +67,6 @@ fn push_indications(waiting: &mut VecDeque<Indication>, first: Indication, more:
     };
 }
 
-/// Adds a pending indication, and leaves room for one more after it. Memory is needed only if there is not room for
-/// both; if it runs out, the indications that were pending stay so.
-#[inline(always)]
-fn push_indication(waiting: &mut VecDeque<Indication>, shown: Indication) -> Result<(), AllocError>
-    ensures items { OnOk result (map shown_by waiting.new.items ≡ map shown_by waiting.old.items ++ shown_by shown ∷ []) }
-    ensures room { OnOk result (deque_len waiting.new < deque_capacity waiting.new) }
-    ensures kept { OnErr result (waiting.new.items ≡ waiting.old.items) }
-    ensures len { OnErr result (deque_len waiting.new ≡ deque_len waiting.old) }
-    ensures capacity { OnErr result (deque_capacity waiting.old ≤ deque_capacity waiting.new) }
-    ensures full { OnErr result (deque_capacity waiting.old < deque_len waiting.old + 2) }
-{
-    waiting.reserve(2)?;
-    waiting.push_back_reserved(shown);
-    Ok(())
-}
-
 /// Whether this indicates that a connection is requested.
 fn is_connect(shown: &Indication) -> bool
     ensures { result ≡ is_connect (shown_by shown.now) }
@@ -168,7 +152,8 @@ pub fn handle_event(
         match session.take_expected(tsdu)? {
             Expected::Shown(indication) => {
                 let connects = is_connect(&indication);
-                push_indication(waiting, indication)?;
+                waiting.reserve(2)?;
+                waiting.push_back_reserved(indication);
                 return Ok(connects);
             }
             Expected::Joined => return Ok(false),

@@ -175,9 +175,9 @@ impl Line {
         }
     }
 
-    /// The session handles an event. Data that it expects is indicated in the buffer of its TSDU: its octets are not
-    /// copied. There is room for this indication, and afterwards for one more. If memory runs out, the session is lost
-    /// in its previous state.
+    /// The session handles an event. Data that it expects is indicated in the buffer of its TSDU, if it has one: its octets
+    /// are not copied. There is room for this indication, and afterwards for one more. If memory runs out, the session is
+    /// lost in its previous state.
     #[inline(always)]
     fn receive(
         &mut self,
@@ -212,8 +212,8 @@ impl Line {
         }
     }
 
-    /// The session handles an event other than data that it expects. If memory runs out, the session is lost in its
-    /// previous state.
+    /// The session handles an event other than data that it expects in a buffer of its own. If memory runs out, the
+    /// session is lost in its previous state.
     fn receive_any(
         &mut self,
         alloc: Global,

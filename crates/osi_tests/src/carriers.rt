@@ -13,7 +13,7 @@ use std::test::Fail;
 
 /// What happens to a connection.
 #[derive(Clone, Copy)]
-enum Told {
+pub(crate) enum Told {
     /// The first is open.
     Opened,
     /// The one with this reference was refused, for reason 130.
@@ -26,7 +26,7 @@ enum Told {
 
 /// TSDUs that are sent on connection 1.
 #[derive(Clone, Copy)]
-enum Sending {
+pub(crate) enum Sending {
     /// These octets, or they are refused with this error.
     One(&'static [u8], Option<SendError>),
     /// This many octets, or they are refused with this error.
@@ -47,7 +47,7 @@ enum Sending {
 
 /// What is asked of a carrier, and what it answers.
 #[derive(Clone, Copy)]
-enum Step {
+pub(crate) enum Step {
     /// A connection is asked for, and is given this reference.
     Connect(u16),
     /// No connection may be asked for, by `may_connect` and by `connect`.
@@ -58,6 +58,8 @@ enum Step {
     Send(Sending),
     /// All of these octets are used.
     Take(&'static [u8]),
+    /// All of these octets are used, and this TSDU of connection 1 is lent from them, or none.
+    Lend(&'static [u8], Option<&'static [u8]>),
     /// This many AKs are taken, each of the 15 units sent since the one before it, with credit for 15 more.
     TakeAcks(u8),
     /// The backlog is exactly these octets, and they are taken.
@@ -250,6 +252,20 @@ fn takes(carrier: &mut Carrier, octets: &[u8]) -> Result<(), Fail> {
     }
 }
 
+/// All octets are used, and this TSDU is lent, or none.
+fn lends(carrier: &mut Carrier, octets: &[u8], wanted: Option<&[u8]>) -> Result<(), Fail> {
+    let told = carrier.feed_lent(octets);
+    let is_lent = match (told.lent, wanted) {
+        (None, None) => true,
+        (Some(lent), Some(tsdu)) => lent.reference == Ref(1) && lent.octets == tsdu,
+        _ => false,
+    };
+    if !is_lent || told.fed.used != octets.len() {
+        return Err(Fail::from("another TSDU is lent, or octets are left"));
+    }
+    Ok(())
+}
+
 fn takes_acks(carrier: &mut Carrier, acks: u8) -> Result<(), Fail> {
     for turn in 0..acks {
         let number = turn.wrapping_mul(15).wrapping_add(4) % 128;
@@ -320,6 +336,7 @@ fn does(carrier: &mut Carrier, alloc: Global, step: Step) -> Result<(), Fail> {
         Step::ConnectEach => each_is_refused(carrier)?,
         Step::Send(sending) => sends(carrier, alloc, sending)?,
         Step::Take(octets) => takes(carrier, octets)?,
+        Step::Lend(octets, tsdu) => lends(carrier, octets, tsdu)?,
         Step::TakeAcks(acks) => takes_acks(carrier, acks)?,
         Step::Write(octets) => writes(carrier, octets)?,
         Step::KeepToWrite(count, last) => keeps_to_write(carrier, count, last)?,
@@ -381,7 +398,7 @@ fn end_does(rt: &HostRuntime, end: End, opening: &[Step], steps: &[Step]) -> Res
 }
 
 /// A caller of both classes takes these steps.
-fn caller_does(rt: &HostRuntime, opening: &[Step], steps: &[Step]) -> Result<(), Fail> {
+pub(crate) fn caller_does(rt: &HostRuntime, opening: &[Step], steps: &[Step]) -> Result<(), Fail> {
     end_does(rt, CALLER, opening, steps)
 }
 
@@ -460,7 +477,7 @@ const CONFIRM: [u8; 17] = [
 ];
 
 /// Connection 1 is opened in class 2.
-const OPEN_IN_CLASS_2: [Step; 4] = [
+pub(crate) const OPEN_IN_CLASS_2: [Step; 4] = [
     Step::Connect(1),
     Step::Carry,
     Step::Take(&CONFIRM),
@@ -468,7 +485,7 @@ const OPEN_IN_CLASS_2: [Step; 4] = [
 ];
 
 /// Connection 1 is opened by a CC of class 0.
-const OPEN_IN_CLASS_0: [Step; 4] = [
+pub(crate) const OPEN_IN_CLASS_0: [Step; 4] = [
     Step::Connect(1),
     Step::Carry,
     Step::Take(&[

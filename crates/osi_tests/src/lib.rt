@@ -11,6 +11,7 @@
 //! - `transport_units`, `session_units`: how units are written, sets, bounds, units that are made;
 //! - `links`: credit, numbers that wrap around, the longest TSDU;
 //! - `carriers`: an end of neither class, all references, sending if nothing is open, long lists and backlogs;
+//! - `lending`: TSDUs that a carrier lends, and those that it gives as events;
 //! - `rules`: which units break a rule of transport, row by row;
 //! - `listings`: TSDUs of 1,048,576 octets and more, and traces.
 //!
@@ -19,6 +20,8 @@
 
 #[cfg(test)]
 mod carriers;
+#[cfg(test)]
+mod lending;
 #[cfg(test)]
 mod links;
 #[cfg(test)]

@@ -3,17 +3,17 @@
 use Rattle.std.proofs.Common.{◌≡◌, ℕ, ◌-◌, ◌||◌, ◌==◌, not, Bool, true, false, List, [], ◌∷◌, ◌++◌, length, drop, Option, Some, None}
 use Rattle.std.proofs.Common.{IfSome, IsSome, is_some, refl, sym, ap, subst, ◌∙◌, arith, length-drop}
 use Rattle.osi_carrier.specs.Fetching.{PacketLent}
-use Rattle.osi_carrier.specs.Lending.{Lends, carrying_lent, lent_event, with_lent}
+use Rattle.osi_carrier.specs.Lending.{Lends, carrying_lent, lent_event, lent_if, with_lent}
 use Rattle.osi_carrier.specs.declared.lending.Lent.{Lent}
 use Rattle.osi_carrier.specs.declared.lending.FedLent.{FedLent}
 use Rattle.osi_carrier.proofs.Vocabulary.{Acts, Carrying, EndReason, Fed, Feeds, Happening, PacketActs, State, Tells, is_spoilt, stops, waits}
 use Rattle.osi_carrier.proofs.stream.a_piece_is_read_packet_by_packet.{IsRead, read_stops, fed_goes}
 
 -- nothing is lent to a caller who doesn't want it
-pub unlent : (lent : Option Lent) (packet : List ℕ) (old new : State) → Acts old packet (with_lent lent new) →
-    IfSome lent (λ _. Lends false old new) → Acts old packet new
-unlent None packet old new acts h = acts
-unlent (Some lent) packet old new acts h = let never = h.asked in cc
+pub unlent : (is_lent : Bool) (lent : Lent) (packet : List ℕ) (old new : State) → Acts old packet (with_lent (lent_if is_lent lent) new) →
+    (is_lent ≡ true → Lends false old new) → Acts old packet new
+unlent false lent packet old new acts h = acts
+unlent true lent packet old new acts h = let never = (h refl).asked in cc
 
 quiet_by : (o : Option EndReason) (l : List Happening) → (is_some o || not (length l == 0)) ≡ false → (l ≡ []) × (o ≡ None)
 quiet_by None [] h = (refl, refl)

@@ -1,6 +1,6 @@
 //! The octets of the stream, cut into packets that take effect one after the other (RFC 1006 section 6).
 
-ghost use Rattle.std.specs.Prelude.{◌≡◌, ◌<◌, false, [], length, IfSome};
+ghost use Rattle.std.specs.Prelude.{◌≡◌, ◌<◌, false, [], length, Bool};
 ghost use Rattle.osi_carrier.specs.Fetching.{Fetches, IsNoFront};
 ghost use Rattle.osi_carrier.specs.Packets.{stops};
 
@@ -11,11 +11,11 @@ use osi_tpkt::laws::a_prefix_of_a_packet;
 
 /// The result of taking octets.
 #[derive(Clone, Copy, PartialEq, Eq)]
-pub(super) enum Fetched<'a> {
+pub(super) enum Fetched {
     /// This many octets completed a packet, which took effect.
     Packet(usize),
-    /// The same, and the packet was this whole TSDU, for which no event is queued.
-    Lent(usize, Lent<'a>),
+    /// The same, and the packet was a whole TSDU, which is lent: no event is queued for it.
+    Lent(usize),
     /// All of them belong to an unfinished packet.
     Part,
     /// They are no packet, or memory ran out to hold them, and the carrier ended.
@@ -27,9 +27,14 @@ impl Carrier {
     /// copied if it is complete within these octets, and then a whole TSDU is lent from it if the caller wants that. If
     /// the carrier ends by the octets, the held octets are dropped.
     #[inline(always)]
-    pub(super) fn read_packet<'a>(&mut self, octets: &'a [u8], lends: bool) -> Fetched<'a>
+    pub(super) fn read_packet<'a>(
+        &mut self,
+        octets: &'a [u8],
+        lends: bool,
+        lent: &mut Lent<'a>,
+    ) -> Fetched
         requires { stops self.old.state ≡ false }
-        ensures { Fetches lends self.old octets.now result self.new }
+        ensures { Fetches lends self.old octets.now result lent.new self.new }
     {
         a_prefix_of_a_packet();
         // Named for the proof: the invariant of every cutter.
@@ -40,20 +45,20 @@ impl Carrier {
         let Some(packet) = self.cutter.pass(octets) else {
             return self.gather(octets);
         };
-        let Some(lent) = self.switch.take_packet(packet, lends) else {
-            return Fetched::Packet(4 + packet.len());
-        };
-        Fetched::Lent(4 + packet.len(), lent)
+        if self.switch.take_packet(packet, lends, lent) {
+            return Fetched::Lent(4 + packet.len());
+        }
+        Fetched::Packet(4 + packet.len())
     }
 
     /// The same if octets are held, or the packet continues after these octets. Nothing is lent from it: its octets are
     /// in the buffer for the next packet.
     #[inline(never)]
-    fn gather<'a>(&mut self, octets: &'a [u8]) -> Fetched<'a>
+    fn gather(&mut self, octets: &[u8]) -> Fetched
         requires quiet { stops self.old.state ≡ false }
         requires some { 0 < length octets.now }
         requires parted { self.old.held.octets ≡ [] → IsNoFront octets.now }
-        ensures { Fetches false self.old octets.now result self.new }
+        ensures { (lends : Bool) (lent : Lent) → Fetches lends self.old octets.now result lent self.new }
     {
         a_prefix_of_a_packet();
         let fed = match self.cutter.feed(octets) {
@@ -67,7 +72,7 @@ impl Carrier {
         let Some(packet) = self.cutter.packet() else {
             return Fetched::Part;
         };
-        let _none = self.switch.take_packet(packet, false);
+        self.switch.take_held(packet);
         self.cutter.advance();
         Fetched::Packet(fed.used)
     }

@@ -1,11 +1,11 @@
 //! The units of a packet, one after the other (X.224 section 6.4).
 
-ghost use Rattle.std.specs.Prelude.{◌≡◌, ℕ, ◌∷◌, [], None, Some, true, false, IfSome};
+ghost use Rattle.std.specs.Prelude.{◌≡◌, ℕ, ◌∷◌, [], None, Some, true, false};
 ghost use Rattle.osi_class.specs.Handing.{user_of};
 ghost use Rattle.osi_class.specs.Link.{taken};
 ghost use Rattle.osi_tpdu.specs.Units.{units_left};
 ghost use Rattle.osi_tpdu.specs.View.{value};
-ghost use Rattle.osi_carrier.specs.Lending.{is_reached, with_lent, with_reached, Lends, LendsIf};
+ghost use Rattle.osi_carrier.specs.Lending.{is_reached, lent_if, with_lent, with_reached, Lends, LendsIf};
 ghost use Rattle.osi_carrier.specs.Opened.{link_in, peer_in};
 ghost use Rattle.osi_carrier.specs.Packets.{Act, Acts, after_refusal};
 ghost use Rattle.osi_carrier.specs.React.{in_class, taking};
@@ -23,80 +23,93 @@ use osi_tpkt::TpktFault;
 
 impl Switch {
     /// A packet with this transport unit: its units take effect in order, or none does if one is bad. If it is a single
-    /// DT or AK for an open connection, this goes straight to its link. If it is a whole TSDU and the caller wants it, that
-    /// is returned, and no event is queued for it.
+    /// DT or AK for an open connection, this goes straight to its link. `true` if the packet is a whole TSDU and the caller
+    /// wants it lent: then it is in `lent`, and no event is queued for it.
     #[inline(always)]
-    pub fn take_packet<'a>(&mut self, packet: &'a [u8], lends: bool) -> Option<Lent<'a>>
+    pub fn take_packet<'a>(&mut self, packet: &'a [u8], lends: bool, lent: &mut Lent<'a>) -> bool
         requires { self.old.ended ≡ None }
-        ensures acts { Acts self.old packet.now (with_lent result self.new) }
-        ensures lent { IfSome result (λ _. Lends lends self.old self.new) }
+        ensures acts { Acts self.old packet.now (with_lent (lent_if result lent.new) self.new) }
+        ensures lent { result ≡ true → Lends lends self.old self.new }
     {
         match self.class {
-            None => self.take_any(packet),
-            Some(Class::Zero) => self.take_in_zero(packet, lends),
-            Some(Class::Two) => self.take_in_two(packet, lends),
+            None => {
+                self.take_any(packet);
+                false
+            }
+            Some(Class::Zero) => self.take_in_zero(packet, lends, lent),
+            Some(Class::Two) => {
+                let Some(data) = DataClass2::from_packet(packet) else {
+                    self.take_ack(packet);
+                    return false;
+                };
+                match self.take_open(data.destination, &Tpdu::Dt2(data), lends) {
+                    Reached::NotOpen => {
+                        self.take_any(packet);
+                        false
+                    }
+                    Reached::Settled => false,
+                    Reached::Whole => {
+                        lent.reference = Ref(data.destination);
+                        lent.octets = data.user;
+                        true
+                    }
+                }
+            }
         }
+    }
+
+    /// A packet from which nothing is to be lent.
+    #[inline(always)]
+    pub fn take_held(&mut self, packet: &[u8])
+        requires { self.old.ended ≡ None }
+        ensures { Acts self.old packet.now self.new }
+    {
+        let _nothing = self.take_packet(packet, false, &mut Lent::none());
     }
 
     /// The same in class 0.
     #[inline(always)]
-    fn take_in_zero<'a>(&mut self, packet: &'a [u8], lends: bool) -> Option<Lent<'a>>
+    fn take_in_zero<'a>(&mut self, packet: &'a [u8], lends: bool, lent: &mut Lent<'a>) -> bool
         requires lasts { self.old.ended ≡ None }
         requires class { self.old.class ≡ Some Class.Zero }
-        ensures acts { Acts self.old packet.now (with_lent result self.new) }
-        ensures lent { IfSome result (λ _. Lends lends self.old self.new) }
+        ensures acts { Acts self.old packet.now (with_lent (lent_if result lent.new) self.new) }
+        ensures lent { result ≡ true → Lends lends self.old self.new }
     {
         let Some(data) = DataClass0::from_packet(packet) else {
-            return self.take_any(packet);
+            self.take_any(packet);
+            return false;
         };
         let Some(reference) = self.live.first() else {
-            return self.take_any(packet);
+            self.take_any(packet);
+            return false;
         };
         match self.take_open(reference, &Tpdu::Dt0(data), lends) {
-            Reached::NotOpen => self.take_any(packet),
-            Reached::Settled => None,
-            Reached::Whole => Some(Lent {
-                reference: Ref(reference),
-                octets: data.user,
-            }),
-        }
-    }
-
-    /// The same in class 2.
-    #[inline(always)]
-    fn take_in_two<'a>(&mut self, packet: &'a [u8], lends: bool) -> Option<Lent<'a>>
-        requires lasts { self.old.ended ≡ None }
-        requires class { self.old.class ≡ Some Class.Two }
-        ensures acts { Acts self.old packet.now (with_lent result self.new) }
-        ensures lent { IfSome result (λ _. Lends lends self.old self.new) }
-    {
-        let Some(data) = DataClass2::from_packet(packet) else {
-            return self.take_ack(packet);
-        };
-        match self.take_open(data.destination, &Tpdu::Dt2(data), lends) {
-            Reached::NotOpen => self.take_any(packet),
-            Reached::Settled => None,
-            Reached::Whole => Some(Lent {
-                reference: Ref(data.destination),
-                octets: data.user,
-            }),
+            Reached::NotOpen => {
+                self.take_any(packet);
+                false
+            }
+            Reached::Settled => false,
+            Reached::Whole => {
+                lent.reference = Ref(reference);
+                lent.octets = data.user;
+                true
+            }
         }
     }
 
     /// A packet in class 2 that is not one DT. Nothing is lent from it.
     #[inline(always)]
-    fn take_ack<'a>(&mut self, packet: &'a [u8]) -> Option<Lent<'a>>
+    fn take_ack(&mut self, packet: &[u8])
         requires lasts { self.old.ended ≡ None }
         requires class { self.old.class ≡ Some Class.Two }
-        ensures acts { Acts self.old packet.now self.new }
-        ensures none { result ≡ None }
+        ensures { Acts self.old packet.now self.new }
     {
         let Some(ack) = DataAcknowledgement::from_packet(packet) else {
             return self.take_any(packet);
         };
         match self.take_open(ack.destination, &Tpdu::Ak(ack), false) {
             Reached::NotOpen => self.take_any(packet),
-            Reached::Settled | Reached::Whole => None,
+            Reached::Settled | Reached::Whole => (),
         }
     }
 
@@ -132,16 +145,14 @@ impl Switch {
 
     /// A packet that may hold any units. Nothing is lent from it.
     #[inline(never)]
-    fn take_any<'a>(&mut self, packet: &'a [u8]) -> Option<Lent<'a>>
+    fn take_any(&mut self, packet: &[u8])
         requires { self.old.ended ≡ None }
-        ensures acts { Acts self.old packet.now self.new }
-        ensures none { result ≡ None }
+        ensures { Acts self.old packet.now self.new }
     {
         match read_units(packet) {
             Ok(units) => self.take_units(units),
             Err(fault) => self.fail(CarrierFault::Tpdu(fault)),
         }
-        None
     }
 
     /// Units in order, up to one that ends the carrier or for which memory runs out.

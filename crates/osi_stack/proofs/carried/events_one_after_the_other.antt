@@ -1,5 +1,5 @@
 -- Pending events are handled one after the other.
-use Rattle.std.proofs.Common.{◌≡◌, ℕ, ◌+◌, ◌<◌, ◌==◌, zero, suc, Bool, true, false, not, List, ◌∷◌, ◌++◌, length, Some, None, is_some, refl, sym, ap}
+use Rattle.std.proofs.Common.{◌≡◌, ℕ, ◌+◌, ◌<◌, ◌==◌, zero, suc, Bool, true, false, not, List, ◌∷◌, ◌++◌, length, Option, Some, None, IsSome, is_some, refl, sym, ap}
 use Rattle.std.proofs.Common.{subst, ◌∙◌, inl, inr, arith, if◌then◌else◌, [], Result, Ok, Err}
 use Rattle.osi_carrier.specs.Happenings as events
 use Rattle.osi_carrier.specs.Lending.{carrying_lent, lent_event}
@@ -86,7 +86,15 @@ pub record IsHeard {A E : Type 0} (result : Result A E) (event : Happening) (old
   pub err : OnErr result (Interrupted old.end new.end)
   pub needed : OnErr result (needs_memory event old.end ≡ true)
 
--- what holds if memory ran out
+-- what is known of a result by its kind
+pub on_ok : {A E P : Type 0} (r : Result A E) (a : A) → r ≡ Ok a → OnOk r P → P
+on_ok (Ok b) a is h = h
+on_ok (Err e) a is h = cc
+
+pub not_ok : {A E P : Type 0} (r : Result A E) → ((a : A) → r ≡ Ok a → ⊥) → OnErr r P → P
+not_ok (Ok a) never h = absurd (never a refl)
+not_ok (Err e) never h = h
+
 pub not_done : {A E P : Type 0} (r : Result A E) → P → OnErr r P
 not_done (Ok a) h = tt
 not_done (Err e) h = h
@@ -129,35 +137,62 @@ heard_only : (e : End) (event : Happening) → e.carrier.events ≡ event ∷ []
 heard_only e event one =
     ap (λ (l : List Happening). hears_times (length l) e) one ∙ ap (λ (l : List Happening). hears_first l e) one
 
-pub lent_all : {A E : Type 0} (result : Result A E) (lent : Lent) (carrier : Carrying) (lines : Rows Line) (new : Holding) →
-    carrier.state.events ≡ [] → IsHeard result (lent_event lent) (holding carrier lines) new →
-    OnOk result (new.end ≡ hears_all (holding (carrying_lent (Some lent) carrier) lines).end)
-lent_all (Ok a) lent carrier lines new none h =
-    let only = only_is lent carrier lines none in
-    h.ok ∙ ap (hears (lent_event lent)) (sym only.rest)
-    ∙ sym (heard_only (holding (carrying_lent (Some lent) carrier) lines).end (lent_event lent) only.first)
-lent_all (Err e) lent carrier lines new none h = tt
+-- the events of what a carrier told were handled, or memory ran out for one of them
+pub record IsAttendedTo {A E : Type 0} (result : Result A E) (told : Carrying) (lines : Rows Line) (new : Holding) : Type 0 where
+  pub ok : OnOk result (new.end ≡ hears_all (holding told lines).end)
+  pub none : OnOk result (new.end.carrier.events ≡ [])
+  pub held : new.held ≡ told.held
+  pub err : OnErr result (LeftOff (holding told lines).end new.end)
 
-pub lent_left : {A E : Type 0} (result : Result A E) (lent : Lent) (carrier : Carrying) (lines : Rows Line) (new : Holding) →
+lent_attended : {A E : Type 0} (result : Result A E) (lent : Lent) (carrier : Carrying) (lines : Rows Line) (new : Holding) →
     carrier.state.events ≡ [] → IsHeard result (lent_event lent) (holding carrier lines) new →
-    OnErr result (LeftOff (holding (carrying_lent (Some lent) carrier) lines).end new.end)
-lent_left (Ok a) lent carrier lines new none h = tt
-lent_left (Err e) lent carrier lines new none h =
+    IsAttendedTo result (carrying_lent (Some lent) carrier) lines new
+lent_attended (Ok a) lent carrier lines new none h =
     let only = only_is lent carrier lines none in
     record {
-      heard = 0;
-      event = lent_event lent;
-      more = [];
-      waits = only.first;
-      needed = subst (λ (x : End). needs_memory (lent_event lent) x ≡ true) (sym only.rest) h.needed;
-      stopped = subst (λ (x : End). Interrupted x new.end) (sym only.rest) h.err;
+      ok = h.ok ∙ ap (hears (lent_event lent)) (sym only.rest)
+          ∙ sym (heard_only (holding (carrying_lent (Some lent) carrier) lines).end (lent_event lent) only.first);
+      none = ap (λ (x : End). x.carrier.events) h.ok ∙ (hears_keep (lent_event lent) (holding carrier lines).end).events ∙ none;
+      held = h.held;
+      err = tt;
+    }
+lent_attended (Err e) lent carrier lines new none h =
+    let only = only_is lent carrier lines none in
+    record {
+      ok = tt;
+      none = tt;
+      held = h.held;
+      err = record {
+        heard = 0;
+        event = lent_event lent;
+        more = [];
+        waits = only.first;
+        needed = subst (λ (x : End). needs_memory (lent_event lent) x ≡ true) (sym only.rest) h.needed;
+        stopped = subst (λ (x : End). Interrupted x new.end) (sym only.rest) h.err;
+      };
     }
 
-pub lent_none : {A E : Type 0} (result : Result A E) (lent : Lent) (carrier : Carrying) (lines : Rows Line) (new : Holding) →
-    carrier.state.events ≡ [] → IsHeard result (lent_event lent) (holding carrier lines) new → OnOk result (new.end.carrier.events ≡ [])
-lent_none (Ok a) lent carrier lines new none h =
-    ap (λ (x : End). x.carrier.events) h.ok ∙ (hears_keep (lent_event lent) (holding carrier lines).end).events ∙ none
-lent_none (Err e) lent carrier lines new none h = tt
+-- what was lent, or nothing, by the names that a caller has for it
+pub some_attended : {A E : Type 0} (result other : Result A E) (o : Option Lent) (lent : Lent) (carrier after now : Carrying)
+    (lines left rows : Rows Line) → o ≡ Some lent → (IsSome o → carrier.state.events ≡ []) →
+    IsHeard other (lent_event lent) (holding carrier lines) (holding after left) → result ≡ other → now ≡ after → rows ≡ left →
+    IsAttendedTo result (carrying_lent o carrier) lines (holding now rows)
+some_attended result other o lent carrier after now lines left rows is alone h a b d =
+    subst (λ (r : Result _ _). IsAttendedTo r (carrying_lent o carrier) lines (holding now rows)) (sym a)
+    (subst (λ (x : Carrying). IsAttendedTo other (carrying_lent o carrier) lines (holding x rows)) (sym b)
+    (subst (λ (l : Rows Line). IsAttendedTo other (carrying_lent o carrier) lines (holding after l)) (sym d)
+    (subst (λ (p : Option Lent). IsAttendedTo other (carrying_lent p carrier) lines (holding after left)) (sym is)
+    (lent_attended other lent carrier lines (holding after left) (alone (subst IsSome (sym is) refl)) h))))
+
+pub none_attended : {A E : Type 0} (result other : Result A E) (o : Option Lent) (carrier after now : Carrying)
+    (lines left rows : Rows Line) → o ≡ None → IsAttendedTo other carrier lines (holding after left) →
+    result ≡ other → now ≡ after → rows ≡ left →
+    IsAttendedTo result (carrying_lent o carrier) lines (holding now rows)
+none_attended result other o carrier after now lines left rows is h a b d =
+    subst (λ (r : Result _ _). IsAttendedTo r (carrying_lent o carrier) lines (holding now rows)) (sym a)
+    (subst (λ (x : Carrying). IsAttendedTo other (carrying_lent o carrier) lines (holding x rows)) (sym b)
+    (subst (λ (l : Rows Line). IsAttendedTo other (carrying_lent o carrier) lines (holding after l)) (sym d)
+    (subst (λ (p : Option Lent). IsAttendedTo other (carrying_lent p carrier) lines (holding after left)) (sym is) h)))
 
 -- ---- an allocation failure
 

@@ -50,7 +50,7 @@ idle_is old new piece fed told none quiet attended feeds unused still same =
     search (idle_by old new piece fed.used none unused same
     (nothing_by old fed.used told quiet (subst (λ (p : List ℕ). carriers.Goes (carrying_of old) p fed.used told) none goes) still))
 
-nothing_of : (l : List ℕ) → (length l == 0) ≡ true → l ≡ []
+pub nothing_of : (l : List ℕ) → (length l == 0) ≡ true → l ≡ []
 nothing_of [] e = refl
 nothing_of (x ∷ l) e = let none = eqb-true (length (x ∷ l)) 0 e in absurd (omega arith)
 

@@ -1,26 +1,87 @@
 use Rattle.std.proofs.Common.{true, false, is_some, refl, sym, ap, ◌∙◌}
-use Rattle.osi_carrier.specs.Lending.{carrying_lent}
+use Rattle.osi_carrier.specs.Lending.{carrying_lent, lent_event}
 use Rattle.osi_stack.proofs.Vocabulary.{holding}
+use Rattle.osi_stack.proofs.carried.events_one_after_the_other.{IsAttendedTo, some_attended, none_attended, heard_tsdu, on_ok, not_ok}
 use Rattle.osi_stack.proofs.carried.events_one_after_the_other.{fetched, fetched_not}
+use Rattle.osi_stack.proofs.feeding.feed_to_event.Goals.{in-None, in-Some}
 use Rattle.osi_stack.proofs.feeding.feed_to_event.Goals as goal
 
 pub returns-in_default : goal.returns-in_default
 returns-in_default c =
+    let told : IsAttendedTo c.match-told.heard (carrying_lent c.feed_lent-told.result.lent c.feed_lent-told.new.self) c.args.lines.now
+    (holding c.match-told.carrier c.match-told.lines) =
+    elim c.match-told.branch [
+      | in-None w ↦ none_attended c.match-told.heard w.hear_events-heard.result c.feed_lent-told.result.lent c.feed_lent-told.new.self
+          w.hear_events-heard.new.carrier c.match-told.carrier c.args.lines.now w.hear_events-heard.new.lines c.match-told.lines
+          w.in-None.is (record {
+            ok = w.hear_events-heard.ensures.ok;
+            none = w.hear_events-heard.ensures.none;
+            held = w.hear_events-heard.ensures.held;
+            err = w.hear_events-heard.ensures.err;
+          }) w.heard-is w.carrier-is w.lines-is
+      | in-Some w ↦ some_attended c.match-told.heard w.tell-heard.result c.feed_lent-told.result.lent w.in-Some.lent
+          c.feed_lent-told.new.self w.tell-heard.new.carrier c.match-told.carrier c.args.lines.now w.tell-heard.new.self
+          c.match-told.lines w.in-Some.is c.feed_lent-told.ensures.none
+          (heard_tsdu w.tell-heard.result (lent_event w.in-Some.lent) w.in-Some.lent.reference.0 w.in-Some.lent.octets.now
+          c.feed_lent-told.new.self w.tell-heard.new.carrier c.args.lines.now w.tell-heard.new.self refl
+          w.tell-heard.ensures.ok w.tell-heard.ensures.held w.tell-heard.ensures.lost w.tell-heard.ensures.err
+          w.tell-heard.ensures.needed) w.heard-is w.carrier-is w.lines-is
+    ] in
     fetched_not (holding c.args.carrier.now c.args.lines.now) c.args.octets.now c.feed_lent-told.result.fed
     (carrying_lent c.feed_lent-told.result.lent c.feed_lent-told.new.self)
-    (holding c.hear.new.carrier c.hear.new.lines) (holding c.starve.new.carrier c.starve.new.lines) c.feed_lent-told.ensures.feeds
-    c.in_default.ensures.err c.hear.ensures.held c.starve.ensures
+    (holding c.match-told.carrier c.match-told.lines) (holding c.starve.new.carrier c.starve.new.lines) c.feed_lent-told.ensures.feeds
+    (not_ok c.match-told.heard c.in_default.not-Ok told.err) told.held c.starve.ensures
 
 pub returns-then-is_some : goal.returns-then-is_some
 returns-then-is_some c =
+    let told : IsAttendedTo c.match-told.heard (carrying_lent c.feed_lent-told.result.lent c.feed_lent-told.new.self) c.args.lines.now
+    (holding c.match-told.carrier c.match-told.lines) =
+    elim c.match-told.branch [
+      | in-None w ↦ none_attended c.match-told.heard w.hear_events-heard.result c.feed_lent-told.result.lent c.feed_lent-told.new.self
+          w.hear_events-heard.new.carrier c.match-told.carrier c.args.lines.now w.hear_events-heard.new.lines c.match-told.lines
+          w.in-None.is (record {
+            ok = w.hear_events-heard.ensures.ok;
+            none = w.hear_events-heard.ensures.none;
+            held = w.hear_events-heard.ensures.held;
+            err = w.hear_events-heard.ensures.err;
+          }) w.heard-is w.carrier-is w.lines-is
+      | in-Some w ↦ some_attended c.match-told.heard w.tell-heard.result c.feed_lent-told.result.lent w.in-Some.lent
+          c.feed_lent-told.new.self w.tell-heard.new.carrier c.match-told.carrier c.args.lines.now w.tell-heard.new.self
+          c.match-told.lines w.in-Some.is c.feed_lent-told.ensures.none
+          (heard_tsdu w.tell-heard.result (lent_event w.in-Some.lent) w.in-Some.lent.reference.0 w.in-Some.lent.octets.now
+          c.feed_lent-told.new.self w.tell-heard.new.carrier c.args.lines.now w.tell-heard.new.self refl
+          w.tell-heard.ensures.ok w.tell-heard.ensures.held w.tell-heard.ensures.lost w.tell-heard.ensures.err
+          w.tell-heard.ensures.needed) w.heard-is w.carrier-is w.lines-is
+    ] in
     fetched (holding c.args.carrier.now c.args.lines.now) c.args.octets.now c.feed_lent-told.result.fed
-    (carrying_lent c.feed_lent-told.result.lent c.feed_lent-told.new.self) (holding c.hear.new.carrier c.hear.new.lines)
-    c.lose_all.new.self true c.feed_lent-told.ensures.feeds c.in-Ok.ensures.ok c.in-Ok.ensures.none c.hear.ensures.held
+    (carrying_lent c.feed_lent-told.result.lent c.feed_lent-told.new.self) (holding c.match-told.carrier c.match-told.lines)
+    c.lose_all.new.self true c.feed_lent-told.ensures.feeds (on_ok c.match-told.heard _ c.in-Ok.is told.ok)
+    (on_ok c.match-told.heard _ c.in-Ok.is told.none) told.held
     (ap is_some (sym c.ended.ensures) ∙ sym c.is_some.ensures ∙ c.if-is_some.true) c.lose_all.ensures
 
 pub returns-else-is_some : goal.returns-else-is_some
 returns-else-is_some c =
+    let told : IsAttendedTo c.match-told.heard (carrying_lent c.feed_lent-told.result.lent c.feed_lent-told.new.self) c.args.lines.now
+    (holding c.match-told.carrier c.match-told.lines) =
+    elim c.match-told.branch [
+      | in-None w ↦ none_attended c.match-told.heard w.hear_events-heard.result c.feed_lent-told.result.lent c.feed_lent-told.new.self
+          w.hear_events-heard.new.carrier c.match-told.carrier c.args.lines.now w.hear_events-heard.new.lines c.match-told.lines
+          w.in-None.is (record {
+            ok = w.hear_events-heard.ensures.ok;
+            none = w.hear_events-heard.ensures.none;
+            held = w.hear_events-heard.ensures.held;
+            err = w.hear_events-heard.ensures.err;
+          }) w.heard-is w.carrier-is w.lines-is
+      | in-Some w ↦ some_attended c.match-told.heard w.tell-heard.result c.feed_lent-told.result.lent w.in-Some.lent
+          c.feed_lent-told.new.self w.tell-heard.new.carrier c.match-told.carrier c.args.lines.now w.tell-heard.new.self
+          c.match-told.lines w.in-Some.is c.feed_lent-told.ensures.none
+          (heard_tsdu w.tell-heard.result (lent_event w.in-Some.lent) w.in-Some.lent.reference.0 w.in-Some.lent.octets.now
+          c.feed_lent-told.new.self w.tell-heard.new.carrier c.args.lines.now w.tell-heard.new.self refl
+          w.tell-heard.ensures.ok w.tell-heard.ensures.held w.tell-heard.ensures.lost w.tell-heard.ensures.err
+          w.tell-heard.ensures.needed) w.heard-is w.carrier-is w.lines-is
+    ] in
     fetched (holding c.args.carrier.now c.args.lines.now) c.args.octets.now c.feed_lent-told.result.fed
-    (carrying_lent c.feed_lent-told.result.lent c.feed_lent-told.new.self) (holding c.hear.new.carrier c.hear.new.lines)
-    c.hear.new.lines false c.feed_lent-told.ensures.feeds c.in-Ok.ensures.ok c.in-Ok.ensures.none c.hear.ensures.held
+    (carrying_lent c.feed_lent-told.result.lent c.feed_lent-told.new.self) (holding c.match-told.carrier c.match-told.lines)
+    c.match-told.lines false c.feed_lent-told.ensures.feeds (on_ok c.match-told.heard _ c.in-Ok.is told.ok)
+    (on_ok c.match-told.heard _ c.in-Ok.is told.none) told.held
     (ap is_some (sym c.ended.ensures) ∙ sym c.is_some.ensures ∙ c.if-is_some.false) refl

@@ -1,21 +1,29 @@
 use Rattle.std.proofs.Common.{ℕ, ◌-◌, ◌<◌, List, length, is_some, sym, ap, subst, ◌∙◌}
+use Rattle.osi_carrier.specs.Lending.{carrying_lent}
+use Rattle.osi_carrier.specs.Packets as carriers
 use Rattle.osi_stack.proofs.Vocabulary.{eqb-true, Goes, holding}
 use Rattle.osi_stack.proofs.stream.a_piece_look_by_look.{IsRead, read_first, read_waits, read_ended, read_dry, read_on, nonzero}
-use Rattle.osi_stack.proofs.stream.an_empty_piece_changes_nothing.{idle_goes}
+use Rattle.osi_stack.proofs.stream.an_empty_piece_changes_nothing.{idle_goes, nothing_of}
 use Rattle.osi_stack.proofs.feeding.feed_to_indication.Goals as goal
 
 pub returns-then-is_empty-clause-goes : goal.returns-then-is_empty-clause-goes
 returns-then-is_empty-clause-goes c =
-    let i = idle_goes (holding c.args.carrier.now c.args.lines.now) c.args.piece.now c.feed.result c.feed.new.self
-    (sym c.is_empty.ensures ∙ c.if-is_empty.true)
-    c.requires.quiet c.requires.attended c.feed.ensures.feeds c.feed.ensures.empty in
+    let empty = sym c.is_empty.ensures ∙ c.if-is_empty.true in
+    let stays = c.feed_lent.ensures.empty (nothing_of c.args.piece.now empty) in
+    let i = idle_goes (holding c.args.carrier.now c.args.lines.now) c.args.piece.now c.feed_lent.result.fed c.feed_lent.new.self empty
+    c.requires.quiet c.requires.attended
+    (subst (λ o. carriers.Feeds c.args.carrier.now c.args.piece.now c.feed_lent.result.fed (carrying_lent o c.feed_lent.new.self))
+    stays.2 c.feed_lent.ensures.feeds) (λ _. (stays.0, stays.1)) in
     i.goes
 
 pub returns-then-is_empty-clause-empty : goal.returns-then-is_empty-clause-empty
 returns-then-is_empty-clause-empty c =
-    let i = idle_goes (holding c.args.carrier.now c.args.lines.now) c.args.piece.now c.feed.result c.feed.new.self
-    (sym c.is_empty.ensures ∙ c.if-is_empty.true)
-    c.requires.quiet c.requires.attended c.feed.ensures.feeds c.feed.ensures.empty in
+    let empty = sym c.is_empty.ensures ∙ c.if-is_empty.true in
+    let stays = c.feed_lent.ensures.empty (nothing_of c.args.piece.now empty) in
+    let i = idle_goes (holding c.args.carrier.now c.args.lines.now) c.args.piece.now c.feed_lent.result.fed c.feed_lent.new.self empty
+    c.requires.quiet c.requires.attended
+    (subst (λ o. carriers.Feeds c.args.carrier.now c.args.piece.now c.feed_lent.result.fed (carrying_lent o c.feed_lent.new.self))
+    stays.2 c.feed_lent.ensures.feeds) (λ _. (stays.0, stays.1)) in
     λ e. (i.none, i.same)
 
 pub packets-init : goal.packets-init

@@ -1,29 +1,32 @@
 use Rattle.std.proofs.Common.{◌+◌, length, Some, sym, ap, ◌∙◌, subst}
-use Rattle.osi_carrier.specs.Lending.{Lends, carrying_lent}
+use Rattle.osi_carrier.specs.Lending.{Lends, carrying_lent, lent_if, with_lent}
 use Rattle.osi_carrier.specs.contracts.carrier.Carrier.{the_view}
-use Rattle.osi_carrier.proofs.Vocabulary.{Held, PacketActs, Carrying}
+use Rattle.osi_carrier.proofs.Vocabulary.{Acts, Held, PacketActs, Carrying}
 use Rattle.osi_carrier.proofs.stream.what_the_cutter_returns.{passed_packet}
 use Rattle.osi_carrier.proofs.stream.a_tsdu_is_lent_from_its_piece.{lent_packet}
 use Rattle.osi_carrier.proofs.carrier.Carrier.read_packet.Goals as goal
 
-pub returns-in_default-take_packet : goal.returns-in_default-take_packet
-returns-in_default-take_packet c =
+pub returns-then-take_packet : goal.returns-then-take_packet
+returns-then-take_packet c =
     let new = the_view (record c.self.inside { switch = c.take_packet.new.self; cutter = c.pass.new.self }) in
-    subst (λ (x : Carrying). PacketActs x c.args.octets.now (4 + length c.in-Some.packet.now) new) c.self.view_is
-    (passed_packet c.a_prefix_of_a_packet.ensures.nothing (the_view c.self.inside) new c.args.octets.now c.in-Some.packet.now
-    c.in-Some.ensures.passes
-    c.in-Some.ensures.sound c.in_default-take_packet.ensures.acts)
+    let lent = c.take_packet.new.lent in
+    let is = c.if-take_packet.true in
+    lent_packet c.args.lends c.args.self.now c.args.octets.now (4 + length c.in-Some.packet.now) lent new c.requires
+    (subst (λ (x : Carrying). Lends c.args.lends x.state new.state) c.self.view_is (c.take_packet.ensures.lent is))
+    (subst (λ (x : Carrying). PacketActs x c.args.octets.now (4 + length c.in-Some.packet.now) (carrying_lent (Some lent) new)) c.self.view_is
+    (passed_packet c.a_prefix_of_a_packet.ensures.nothing (the_view c.self.inside) (carrying_lent (Some lent) new) c.args.octets.now
+    c.in-Some.packet.now c.in-Some.ensures.passes
+    c.in-Some.ensures.sound
+    (subst (λ b. Acts c.self.inside.switch c.in-Some.packet.now (with_lent (lent_if b lent) new.state)) is c.take_packet.ensures.acts)))
 
 pub returns : goal.returns
 returns c =
     let new = the_view (record c.self.inside { switch = c.take_packet.new.self; cutter = c.pass.new.self }) in
-    let lent = c.in-Some-take_packet.lent in
-    lent_packet c.args.lends c.args.self.now c.args.octets.now (4 + length c.in-Some.packet.now) lent new c.requires
-    (subst (λ (x : Carrying). Lends c.args.lends x.state new.state) c.self.view_is c.in-Some-take_packet.ensures.lent)
-    (subst (λ (x : Carrying). PacketActs x c.args.octets.now (4 + length c.in-Some.packet.now) (carrying_lent (Some lent) new)) c.self.view_is
-    (passed_packet c.a_prefix_of_a_packet.ensures.nothing (the_view c.self.inside) (carrying_lent (Some lent) new) c.args.octets.now
-    c.in-Some.packet.now c.in-Some.ensures.passes
-    c.in-Some.ensures.sound c.in-Some-take_packet.ensures.acts))
+    subst (λ (x : Carrying). PacketActs x c.args.octets.now (4 + length c.in-Some.packet.now) new) c.self.view_is
+    (passed_packet c.a_prefix_of_a_packet.ensures.nothing (the_view c.self.inside) new c.args.octets.now c.in-Some.packet.now
+    c.in-Some.ensures.passes c.in-Some.ensures.sound
+    (subst (λ b. Acts c.self.inside.switch c.in-Some.packet.now (with_lent (lent_if b c.take_packet.new.lent) new.state))
+    c.if-take_packet.false c.take_packet.ensures.acts))
 
 pub gather-requires-clause-parted : goal.gather-requires-clause-parted
 gather-requires-clause-parted c none =
