@@ -5,11 +5,12 @@ ghost use Rattle.osi_tpdu.specs.View.{value};
 ghost use Rattle.osi_class.specs.Handing.{tsdu_handed, user_of};
 ghost use Rattle.osi_class.specs.Link.{taken};
 ghost use Rattle.osi_carrier.specs.Growth.{grows};
+ghost use Rattle.osi_carrier.specs.Happenings.{tsdu};
 ghost use Rattle.osi_carrier.specs.Lending.{is_reached, with_reached, LendsIf};
 ghost use Rattle.osi_carrier.specs.Opened.{link_in, peer_in};
 ghost use Rattle.osi_carrier.specs.React.{breaks, leaves, taking, tells_of, to_linked};
 ghost use Rattle.osi_carrier.specs.Rows.{place_of, value_at};
-ghost use Rattle.osi_carrier.specs.State.{ends};
+ghost use Rattle.osi_carrier.specs.State.{ends, tells};
 ghost use Rattle.osi_carrier.specs.declared.ends.EndReason.TheVariants.{NoMemory};
 
 use super::Switch;
@@ -113,11 +114,21 @@ impl Switch {
         ensures err { OnErr result (self.new ≡ self.old) }
         ensures some { OnErr result (0 < length (option_to_list (tsdu_handed (user_of (value unit.now)) handed))) }
     {
-        let tsdu = match handed {
-            Handed::Nothing => return Ok(()),
-            Handed::Whole => Vec::from_slice(self.alloc, user_data(unit))?,
-            Handed::Joined(tsdu) => tsdu,
-        };
+        match handed {
+            Handed::Nothing => Ok(()),
+            Handed::Whole => self.tell_copy(reference, user_data(unit)),
+            Handed::Joined(tsdu) => self.events.push(Event::Tsdu(Ref(reference), tsdu)),
+        }
+    }
+
+    /// Queues the event of a TSDU with a copy of these octets. An allocation failure changes nothing. The function is kept
+    /// out of line: otherwise stack space for the copy would be reserved where a TSDU is lent, too.
+    #[inline(never)]
+    fn tell_copy(&mut self, reference: u16, octets: &[u8]) -> Result<(), AllocError>
+        ensures ok { OnOk result (self.new ≡ tells (tsdu reference octets.now) self.old) }
+        ensures err { OnErr result (self.new ≡ self.old) }
+    {
+        let tsdu = Vec::from_slice(self.alloc, octets)?;
         self.events.push(Event::Tsdu(Ref(reference), tsdu))
     }
 
