@@ -93,6 +93,11 @@ pub mod a_called_end_puts_its_cc_of_class_0
 pub mod a_called_end_stands_until_class_2
 pub mod no_called_end_is_blamed_first_in_class_0
 pub mod no_called_end_is_blamed_first
+pub mod an_end_of_class_0_has_its_connection_open
+pub mod the_first_units_of_a_packet_are_a_packet
+pub mod an_end_beside_a_tap_that_judges_all
+pub mod an_end_goes_on_as_if_no_break_had_come
+pub mod a_break_in_class_0_leaves_an_end_alone
 pub mod no_session_of_an_end_is_to_blame
 pub mod no_end_is_to_blame_after_a_break
 pub mod what_is_judged_within_a_bound

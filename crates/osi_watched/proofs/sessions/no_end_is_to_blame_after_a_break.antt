@@ -22,7 +22,7 @@ use Rattle.osi_tap.specs.Tapping.{comes_to}
 use Rattle.osi_watched.specs.Judging.{IsJudgedWhole}
 use Rattle.osi_watched.specs.Passing.{AreOctets}
 use Rattle.osi_watched.proofs.a_capture_is_steps.{capture_steps}
-use Rattle.osi_watched.proofs.in_class_0_one_side_alone_is_judged.{JudgesLess}
+use Rattle.osi_watched.proofs.a_dt_that_halts_its_side_leaves_an_end_alone.{JudgesToo}
 use Rattle.osi_watched.proofs.no_unit_of_a_whole_end_is_a_break.{called_is_fair, called_is_fair_in_class_0, calling_is_fair}
 use Rattle.osi_watched.proofs.no_unit_of_a_whole_end_is_a_break.{calling_is_fair_in_class_0}
 use Rattle.osi_watched.proofs.small_facts_that_many_lemmas_use.{zero_two}
@@ -55,7 +55,7 @@ module _ (known : Known) (known_of : AsSent) (parts : AsParts) (caller : CallerL
 
   -- nobody is to blame, or less is judged
   abbrev EndsWell : Direction → Type 0
-  EndsWell d = NoneIsToBlame d course.sessions ⊎ JudgesLess d course
+  EndsWell d = NoneIsToBlame d course.sessions ⊎ JudgesToo d course
 
   -- ---- in class 0, and while it is not selected
 
@@ -65,14 +65,14 @@ module _ (known : Known) (known_of : AsSent) (parts : AsParts) (caller : CallerL
       where
         in_zero : selected ≡ Some Zero → EndsWell Right
         in_zero zero =
-            ends_well known.proper Two Right local (called_is_fair local) (called_is_fair_in_class_0 local)
+            ends_well known Two Right local (called_is_fair local) (called_is_fair_in_class_0 local)
             (StandsCalledUntilTwo local known.proper)
             (called_early_keeps local known.proper known_of parts caller called) begin capture fresh comes
             (record { not = λ two. zero_two selected zero two; few = few })
 
         without : (selected ≡ Some Zero → ⊥) → EndsWell Right
         without not =
-            ends_well known.proper Zero Right local (called_is_fair local) (called_is_fair_in_class_0 local)
+            ends_well known Zero Right local (called_is_fair local) (called_is_fair_in_class_0 local)
             (StandsOrSelected local known.proper)
             (unless_zero Right local (StandsOrSelected local known.proper)
             (called_keeps local known.proper known_of parts caller called)) begin capture fresh comes (record { not = not; few = few })
@@ -82,19 +82,19 @@ module _ (known : Known) (known_of : AsSent) (parts : AsParts) (caller : CallerL
       where
         in_zero : selected ≡ Some Zero → EndsWell Left
         in_zero zero =
-            ends_well known.proper Two Left local (calling_is_fair local) (calling_is_fair_in_class_0 local) (StandsUntilTwo local)
+            ends_well known Two Left local (calling_is_fair local) (calling_is_fair_in_class_0 local) (StandsUntilTwo local)
             (early_keeps local known.proper known_of parts caller called) begin capture fresh comes
             (record { not = λ two. zero_two selected zero two; few = few })
 
         without : (selected ≡ Some Zero → ⊥) → (b : Bool) → local.class2 ≡ b → EndsWell Left
         without not true two =
-            ends_well known.proper Zero Left local (calling_is_fair local) (calling_is_fair_in_class_0 local)
+            ends_well known Zero Left local (calling_is_fair local) (calling_is_fair_in_class_0 local)
             (StandsQuiet local two known.proper)
             (unless_zero Left local (StandsQuiet local two known.proper)
             (calling_keeps local two known.proper known_of parts caller called)) begin capture fresh comes
             (record { not = not; few = few })
         without not false none =
-            ends_well known.proper Zero Left local (calling_is_fair local) (calling_is_fair_in_class_0 local) (HasSaidNothing Left local)
+            ends_well known Zero Left local (calling_is_fair local) (calling_is_fair_in_class_0 local) (HasSaidNothing Left local)
             (unless_zero Left local (HasSaidNothing Left local) (mute_keeps known.proper Left local (calling_puts_none local none))) begin
             capture fresh comes (record { not = not; few = few })
 
