@@ -94,6 +94,10 @@ pub mod a_called_end_stands_until_class_2
 pub mod no_called_end_is_blamed_first_in_class_0
 pub mod no_called_end_is_blamed_first
 pub mod an_end_of_class_0_has_its_connection_open
+pub mod a_tap_counts_what_it_has_joined_of_a_tsdu
+pub mod what_a_link_has_begun_is_left_over
+pub mod a_dt_that_is_too_long_stays_so
+pub mod an_end_of_class_0_has_begun_what_a_tap_has_joined
 pub mod the_first_units_of_a_packet_are_a_packet
 pub mod an_end_beside_a_tap_that_judges_all
 pub mod an_end_goes_on_as_if_no_break_had_come
