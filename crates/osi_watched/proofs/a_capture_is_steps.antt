@@ -303,8 +303,11 @@ module _ (d : Direction) (is_caller : Bool) (deeds : ℕ → Deeds) (x : ℕ) (c
           later = later_octet d (of (other d) x) capture s now rest;
           how = elim how [
             | inl one ↦ inl one
-            | inr (nothing, spent) ↦ inr (nothing, rest.no_more (ap (λ (z : State). (stream_of (other d) z).spent) is
-                ∙ ap (λ (y : Streamed). y.spent) (stream_there (other d) t _) ∙ spent))
+            | inr (nothing, spent) ↦ inr (
+              nothing,
+              rest.no_more (ap (λ (z : State). (stream_of (other d) z).spent) is
+                  ∙ ap (λ (y : Streamed). y.spent) (stream_there (other d) t _) ∙ spent),
+            )
           ];
         });
       }

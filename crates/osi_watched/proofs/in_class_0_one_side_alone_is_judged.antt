@@ -107,7 +107,7 @@ alone_own d at v c kept a =
 
 -- ---- how it comes to that
 
-pub side_caused : (k : Option Class) (f : Finding) → reach_of k f ≡ reach.Side → (x : Cause) × (cause_of f ≡ Some x)
+side_caused : (k : Option Class) (f : Finding) → reach_of k f ≡ reach.Side → (x : Cause) × (cause_of f ≡ Some x)
 side_caused k Kept e = absurd (cc)
 side_caused k NotJudged e = absurd (cc)
 side_caused k Outside e = absurd (cc)

@@ -94,7 +94,8 @@ spent_stays Right (of Left x) s h = by s.left.spent
     by true = h
     by false = right_stays t (front_of t.held) s.left.held s h
 
-abbrev pub later_octet : (d : Direction) (o : Passed) (capture : Capture) (s : State) (j : Joint) → LaterComes d capture (octet_passes o s) j →
+abbrev pub later_octet : (d : Direction) (o : Passed) (capture : Capture) (s : State) (j : Joint) →
+    LaterComes d capture (octet_passes o s) j →
     LaterComes d (o ∷ capture) s j
 later_octet d o capture s j c = record {
   steps = c.steps;

@@ -16,7 +16,7 @@ use Rattle.osi_fair.specs.Pieces.{units_by}
 use Rattle.osi_tap.specs.declared.marks.Cause.{Cause}
 use Rattle.osi_tap.specs.declared.marks.Mark.{Mark}
 use Rattle.osi_tap.specs.declared.marks.Marks.{Marks}
-use Rattle.osi_tap.specs.Courses.{Course, breaks, cause_of, changes, earlier, first_marked, halts, marks_of, moved, noted_by}
+use Rattle.osi_tap.specs.Courses.{Course, breaks, cause_of, changes, first_marked, halts, marks_of, moved, noted_by}
 use Rattle.osi_tap.specs.Courses.{packet_begins, packet_by, reached, units_pass, unread, unread_mark, unread_moment, way_of}
 use Rattle.osi_watched.proofs.a_break_ends_no_judging_or_all.{halted_by, mark, mid, mid_marks, o, refuses, some_earlier, unread_if}
 use Rattle.osi_watched.proofs.what_an_octet_does.{begins}
@@ -81,66 +81,6 @@ halted_claim e = record {
   begins = λ d c h. begun_halted e d c h;
   passes = λ d at v c h. noted_halted e d at v c (cause_of (o d at v c).told.finding) h;
   bad = λ d at k c h. unread_halted (is_some (marks_of d c).halted) e d at k c h;
-}
-
--- ---- by the same break
-
-abbrev pub HaltsBy : Direction → Mark → Course → Type 0
-HaltsBy e b c = (marks_of e c).halted ≡ Some b
-
-earlier_by : (o : Option Mark) (b m : Mark) → o ≡ Some b → earlier o m ≡ Some b
-earlier_by o b m h = ap (λ (x : Option Mark). earlier x m) h
-
-side_by : (b : Mark) (d e : Direction) (m : Mark) (c : Course) → HaltsBy e b c → HaltsBy e b (changes d (halts m) c)
-side_by b Left Left m c h = earlier_by c.left.halted b m h
-side_by b Left Right m c h = h
-side_by b Right Left m c h = h
-side_by b Right Right m c h = earlier_by c.right.halted b m h
-
-reached_by : (b : Mark) (e : Direction) (m : Mark) (r : Reach) (c : Course) → HaltsBy e b c → HaltsBy e b (reached m r c)
-reached_by b e m reach.Nothing c h = h
-reached_by b e m reach.Connection c h = h
-reached_by b e m reach.Side c h = side_by b m.direction e m c h
-reached_by b Left m reach.Everything c h = earlier_by c.left.halted b m h
-reached_by b Right m reach.Everything c h = earlier_by c.right.halted b m h
-
-begun_by : (b : Mark) (e d : Direction) (c : Course) → HaltsBy e b c → HaltsBy e b (packet_begins d c)
-begun_by b Left d c h = h
-begun_by b Right d c h = h
-
-noted_so : (b : Mark) (e d : Direction) (at : ℕ) (v : Value) (c : Course) (k : Option Cause) → HaltsBy e b c →
-    HaltsBy e b (noted_by d at v (o d at v c).told k (mid d at v c))
-noted_so b e d at v c None h = ap (λ (m : Marks). m.halted) (mid_marks d at v c e) ∙ h
-noted_so b e d at v c (Some k) h =
-    let m = mark d at v c k in
-    let now = mid d at v c in
-    reached_by b e m (o d at v c).told.reach (changes d (breaks m) (first_marked m now))
-    (halted_by d e m now ∙ ap (λ (x : Marks). x.halted) (mid_marks d at v c e) ∙ h)
-
-refused_by : (b : Mark) (e d : Direction) (at : ℕ) (k : Cause) (c : Course) → HaltsBy e b c → HaltsBy e b (refuses d at k c)
-refused_by b e d at k c h =
-    let m = unread_mark d at k in
-    let now = moved (unread_moment d at k c.sessions) (record c { traffic = traffic.refused (way_of d) c.traffic }) in
-    reached_by b e m (traffic.refused_reach (way_of d) c.traffic) (changes d (breaks m) (first_marked m now))
-    (halted_by d e m now ∙ same e ∙ h)
-  where
-    same : (e : Direction) → (marks_of e
-        (moved (unread_moment d at k c.sessions) (record c { traffic = traffic.refused (way_of d) c.traffic }))).halted
-        ≡ (marks_of e c).halted
-    same Left = refl
-    same Right = refl
-
-unread_keeps : (b : Mark) (x : Bool) (e d : Direction) (at : ℕ) (k : Cause) (c : Course) → HaltsBy e b c →
-    HaltsBy e b (unread_if x d at k c)
-unread_keeps b true e d at k c h = h
-unread_keeps b false e d at k c h = refused_by b e d at k c h
-
--- the break that ended the judging stays the first
-pub halts_claim : (e : Direction) (b : Mark) → IsClaim (HaltsBy e b)
-halts_claim e b = record {
-  begins = λ d c h. begun_by b e d c h;
-  passes = λ d at v c h. noted_so b e d at v c (cause_of (o d at v c).told.finding) h;
-  bad = λ d at k c h. unread_keeps b (is_some (marks_of d c).halted) e d at k c h;
 }
 
 -- of a packet whose units can't be read none pass

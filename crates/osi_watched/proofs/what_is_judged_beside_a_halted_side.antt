@@ -1,6 +1,6 @@
 -- In class 0 a break of the other side changes nothing that is judged of an end but that the other side is not judged any more. So a tap
 -- judges what the end sends after it as if the break had not come. For the sessions of an end after such a break.
-use Rattle.std.proofs.Common.{◌≡◌, ◌∙◌, ◌⊎◌, inl, inr, refl, sym, ap, subst, ℕ, Bool, true, false, if◌then◌else◌, List, Option, Some, None}
+use Rattle.std.proofs.Common.{◌≡◌, ◌∙◌, ◌⊎◌, inl, inr, refl, sym, ap, subst, ℕ, Bool, true, false, if◌then◌else◌, Option, Some, None}
 use Rattle.std.specs.Prelude.{position, slice_get, slice_set}
 use Rattle.osi_tpdu.specs.Value.{Connect, Value, acknowledge, confirm, data0, data2, disconnect, disconnected, error, request}
 use Rattle.osi_class.specs.declared.terms.Class.{Class}
@@ -229,7 +229,8 @@ er_breaks d (data0 end user) h b e = absurd h
 er_breaks d (data2 n number end user) h b e = absurd h
 er_breaks d (acknowledge credit n number) h b e = absurd h
 
-zero_route : (d : Direction) (v : Value) → (IsEr v → ⊥) → (a b : Bool) → traffic.route_zero (way_of d) a v ≡ traffic.route_zero (way_of d) b v
+zero_route : (d : Direction) (v : Value) → (IsEr v → ⊥) → (a b : Bool) →
+    traffic.route_zero (way_of d) a v ≡ traffic.route_zero (way_of d) b v
 zero_route d (error n cause) h a b = absurd (h tt)
 zero_route Left v h true true = refl
 zero_route Left v h true false = refl

@@ -11,7 +11,6 @@ ghost use Rattle.osi_honest.specs.Seeing.{IsFresh, IsSeen};
 ghost use Rattle.osi_honest.specs.Turns.{Run, Turn};
 ghost use Rattle.osi_tap.specs.declared.marks.First.{First};
 ghost use Rattle.osi_tap.specs.Tapping.{comes_to};
-ghost use Rattle.osi_watched.specs.Judging.{IsJudgedWhole};
 ghost use Rattle.osi_watched.specs.Passing.{AreOctets, ComesBySteps};
 ghost use Rattle.osi_class.specs.Runs.{parts_in, unit_parts};
 ghost use Rattle.osi_class.specs.Tsdus.{Part};
@@ -261,13 +260,13 @@ pub fn no_session_of_an_end_is_to_blame_after_a_break()
         length (comes_to capture).course.past < 2 ^ 64 →
         (slice_get (comes_to capture).course.sessions.live i ≡ Some j)
         ⊎ (slice_get (comes_to capture).course.sessions.done i ≡ Some j) →
-        IsJudgedWhole Direction.Right (comes_to capture).course → ¬ (IsToBlame Direction.Right j) }
+        (comes_to capture).course.traffic.course.loose ≡ false → ¬ (IsToBlame Direction.Right j) }
     ensures calling { (local : Local) (begin end : Holding) (turns : List Turn) (capture : Capture) (i : ℕ) (j : Joined) →
         IsFresh true local begin → Run begin turns end → AreOctets capture → IsSeen Direction.Left turns capture →
         length (comes_to capture).course.past < 2 ^ 64 →
         (slice_get (comes_to capture).course.sessions.live i ≡ Some j)
         ⊎ (slice_get (comes_to capture).course.sessions.done i ≡ Some j) →
-        IsJudgedWhole Direction.Left (comes_to capture).course → ¬ (IsToBlame Direction.Left j) }
+        (comes_to capture).course.traffic.course.loose ≡ false → ¬ (IsToBlame Direction.Left j) }
 {
     few_octets_fit();
     serial_digits();

@@ -1,12 +1,11 @@
 -- A packet that is no fitting DT ends an end whose connection is open in class 0, and nothing is put for it, whether memory is short or
 -- not. For what such an end does with the packets before a break of the other side.
 use Rattle.osi_honest.proofs.Vocabulary.{[], ap, Bool, Err, false, if◌then◌else◌, inl, inr, is_some, length, List, nat_lt, None, Ok, Option}
-use Rattle.osi_honest.proofs.Vocabulary.{refl, Result, Some, subst, sym, true, ℕ, ◌++◌, ◌+◌, ◌∙◌, ◌∷◌, ◌≡◌, IsOctets, units_found, units_of}
-use Rattle.osi_honest.proofs.Vocabulary.{data0, disconnect, request, Value, TpduFault, Joining, joined, with_part, longest_tsdu, Standing}
+use Rattle.osi_honest.proofs.Vocabulary.{refl, Result, Some, subst, sym, true, ℕ, ◌++◌, ◌+◌, ◌∙◌, ◌∷◌, ◌≡◌, units_of}
+use Rattle.osi_honest.proofs.Vocabulary.{data0, disconnect, request, Value, TpduFault, with_part, longest_tsdu, Standing}
 use Rattle.osi_honest.proofs.Vocabulary.{taken, taken_by, with_joined, Class, Zero, react_quiet, reacts_over, acts_cases, in_class, in_zero}
 use Rattle.osi_honest.proofs.Vocabulary.{reacts, to_linked, to_only, Rows, Connection, linked, State as Carrier, NoMemory, packet_is}
 use Rattle.osi_honest.proofs.Vocabulary.{starved_over, after_packet, hears_times, with_carrier, with_events, End, Starves}
-use Rattle.osi_class.specs.Ends.{Ends}
 use Rattle.osi_class.specs.Flow.{Flow}
 use Rattle.osi_class.specs.declared.faults.LinkFault.{LinkFault}
 use Rattle.osi_class.specs.declared.faults.LinkFault.TheVariants.{TsduTooLong, WrongForm}
@@ -134,8 +133,7 @@ hard_ends r peer link packet e z hard = record {
         let p : Over e.carrier.outgoing c = elim (acts_cases e.carrier c packet acts) [
           | inl is ↦ subst (Over e.carrier.outgoing) (sym is) (acts_over r peer link e.carrier z packet hard)
           | inr starved ↦ starved_so r peer link e.carrier z packet c hard starved
-        ] in
-        (
+        ] in (
           ap (λ (x : End). is_some x.carrier.ended) out.starved
               ∙ starved_over (with_events out.more (hears_times out.heard (with_carrier c e))),
           out_over e.carrier.outgoing (with_carrier c e) new p out,

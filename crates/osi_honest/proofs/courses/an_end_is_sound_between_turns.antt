@@ -1,7 +1,8 @@
 -- Between two turns an end is sound and holds no more than a part of a packet; and where its packets lead, a turn leads that uses no more.
 -- For what an end does with the packets before a break of the other side.
 use Rattle.osi_honest.proofs.Vocabulary.{[], ap, Bool, false, inl, inr, is_some, List, None, Option, refl, Some, subst, sym, true, ℕ, ◌++◌}
-use Rattle.osi_honest.proofs.Vocabulary.{◌∷◌, ◌≡◌, ArePackets, packets, Local, EndReason, lasting_of, or_second, quiet_stops, Goes as GoesThrough}
+use Rattle.osi_honest.proofs.Vocabulary.{◌∷◌, ◌≡◌, ArePackets, packets, Local, EndReason, lasting_of, or_second, quiet_stops}
+use Rattle.osi_honest.proofs.Vocabulary.{Goes as GoesThrough}
 use Rattle.osi_honest.proofs.Vocabulary.{TakesPackets, Calls, Call, carrying, feeding, telling, End, Holding, waits, Deeds, all_units}
 use Rattle.osi_honest.proofs.Vocabulary.{IsFresh, Act, Acts, Takes, Turn, serving, using}
 use Rattle.osi_tpkt.proofs.a_prefix_of_a_packet.{empty_partial}

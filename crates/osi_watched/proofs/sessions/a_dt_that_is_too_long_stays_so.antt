@@ -1,11 +1,10 @@
 -- In class 0 a DT with which the TSDU of its side is too long breaks that rule; and so it would later, whatever the other side has sent.
 -- For a TSDU of the other side that becomes too long.
-use Rattle.std.proofs.Common.{◌≡◌, ◌∙◌, ◌⊎◌, inl, inr, refl, sym, ap, subst, ℕ, zero, suc, ◌+◌, ◌<◌, ◌≤◌, Bool, true, false, if◌then◌else◌}
-use Rattle.std.proofs.Common.{List, [], ◌∷◌, map, length, nat_le, Option, Some, None, arith}
+use Rattle.std.proofs.Common.{◌≡◌, ◌∙◌, ◌⊎◌, inl, inr, refl, sym, ap, subst, ℕ, zero, suc, ◌+◌, ◌<◌, Bool, true, false, if◌then◌else◌}
+use Rattle.std.proofs.Common.{List, [], ◌∷◌, map, length, nat_le, Option, Some, None}
 use Rattle.std.proofs.lemmas.Bool.{eqb-true, leb-false}
 use Rattle.std.specs.Prelude.{◌==◌, slice_get}
 use Rattle.std.specs.List.{AllByRecursion}
-use Rattle.osi_tpdu.specs.Packet.{units_of}
 use Rattle.osi_tpdu.specs.Value.{Value, data0}
 use Rattle.osi_class.specs.Limits.{longest_tsdu}
 use Rattle.osi_class.specs.declared.terms.Class.{Class}
@@ -31,7 +30,7 @@ use Rattle.osi_fair.specs.Wholes as wholes
 use Rattle.osi_fair.proofs.a_dt_of_class_zero_passes.{unlike}
 use Rattle.osi_fair.proofs.what_the_other_side_closes.{IsFirm}
 use Rattle.osi_fair.proofs.while_no_class_is_selected.{after_change}
-use Rattle.osi_tap.specs.Courses.{Course, packet_begins, unit_passes, way_of}
+use Rattle.osi_tap.specs.Courses.{Course, unit_passes, way_of}
 use Rattle.osi_watched.specs.Joint.{Joint, Steps, passes_own}
 use Rattle.osi_watched.specs.Shown.{calls_from}
 use Rattle.osi_watched.proofs.small_facts_that_many_lemmas_use.{same_item, same_one, zero_two}

@@ -1,7 +1,9 @@
--- The rules of transport count as many octets of the unfinished TSDU of each side as a tap has joined of it, at each place, whatever passes.
+-- The rules of transport count as many octets of the unfinished TSDU of each side as a tap has joined of it, at each place, whatever
+-- passes.
 -- For a TSDU of the other side that becomes too long.
-use Rattle.std.proofs.Common.{◌≡◌, ◌∙◌, ◌⊎◌, inl, inr, refl, sym, ap, subst, ℕ, zero, suc, ◌+◌, ◌≤◌, Bool, true, false, if◌then◌else◌, List, [], ◌∷◌}
-use Rattle.std.proofs.Common.{◌++◌, map, min, not, length, nat_le, option_map, Option, Some, None, is_some, arith}
+use Rattle.std.proofs.Common.{◌≡◌, ◌∙◌, ◌⊎◌, inl, inr, refl, sym, ap, subst, ℕ, zero, suc, ◌+◌, ◌≤◌, Bool, true, false, if◌then◌else◌}
+use Rattle.std.proofs.Common.{List, [], ◌∷◌}
+use Rattle.std.proofs.Common.{◌++◌, map, min, not, length, nat_le, Some, is_some, arith}
 use Rattle.std.proofs.lemmas.Bool.{leb-true}
 use Rattle.std.proofs.lemmas.List.{length-append}
 use Rattle.std.proofs.lemmas.Option.{slice_get_within}
@@ -15,8 +17,6 @@ use Rattle.osi_judge.specs.declared.directions.Direction.TheVariants.{Left, Righ
 use Rattle.osi_rules.specs.declared.connections.Connection.{Connection}
 use Rattle.osi_rules.specs.declared.findings.Finding.{Finding}
 use Rattle.osi_rules.specs.declared.findings.Finding.TheVariants.{Broke, NotJudged}
-use Rattle.osi_rules.specs.declared.findings.Meaning.{Meaning}
-use Rattle.osi_rules.specs.declared.findings.Meaning.TheVariants as meaning
 use Rattle.osi_rules.specs.declared.findings.Reach.{Reach}
 use Rattle.osi_rules.specs.declared.findings.Reach.TheVariants as reach
 use Rattle.osi_rules.specs.declared.findings.Rule.TheVariants as rule
@@ -99,7 +99,8 @@ added_begun : (at : ℕ) (end : Bool) (octets : List ℕ) (half : Half) (s : Spo
 added_begun at true octets half s h few = refl
 added_begun at false octets half s h few =
     let n = length-append (begun_octets s.begun) octets in
-    at_most (half.begun + length octets) longest_tsdu few ∙ (let same : half.begun + length octets ≡ length (begun_octets s.begun ++ octets) =
+    at_most (half.begun + length octets) longest_tsdu few
+    ∙ (let same : half.begun + length octets ≡ length (begun_octets s.begun ++ octets) =
     omega (arith, n, h) in same)
   where
     at_most : (m n : ℕ) → m ≤ n → min m n ≡ m

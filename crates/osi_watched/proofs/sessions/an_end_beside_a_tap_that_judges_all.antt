@@ -1,5 +1,5 @@
 -- What holds of an end and a tap as long as all is judged: each step keeps it. For the sessions of an end after breaks of the other side.
-use Rattle.std.proofs.Common.{◌≡◌, ◌∙◌, refl, sym, ap, subst, ℕ, ◌^◌, ◌<◌, Bool, true, false, List, [], ◌∷◌, ◌++◌, length, Some, arith}
+use Rattle.std.proofs.Common.{◌≡◌, ◌∙◌, sym, ap, subst, ℕ, ◌^◌, ◌<◌, List, ◌++◌, length, Some}
 use Rattle.std.specs.Prelude.{slice_get}
 use Rattle.std.specs.List.{AllByRecursion}
 use Rattle.osi_tpdu.specs.Value.{Value}
@@ -8,16 +8,14 @@ use Rattle.osi_class.specs.declared.terms.Local.{Local}
 use Rattle.osi_judge.specs.Captures.{other}
 use Rattle.osi_judge.specs.declared.directions.Direction.{Direction}
 use Rattle.osi_fair.specs.Wholes as wholes
-use Rattle.osi_honest.specs.Courses.{Deeds, all_did, no_deeds}
+use Rattle.osi_honest.specs.Courses.{Deeds, all_did}
 use Rattle.osi_honest.specs.Marked.{all_units}
-use Rattle.osi_honest.specs.Seeing.{IsFresh}
 use Rattle.osi_honest.specs.Turns.{Turn}
 use Rattle.osi_honest.proofs.class_0.what_a_packet_does_in_class_0.{AllProper}
 use Rattle.osi_honest.proofs.courses.an_end_is_sound_between_turns.{IsSane, turn_sane}
 use Rattle.osi_honest.proofs.reading.what_is_written_is_read_again.{CanBeWritten}
-use Rattle.osi_stack.specs.State.{Holding}
 use Rattle.osi_tap.specs.Connections.{Joined, spoken}
-use Rattle.osi_tap.specs.Courses.{Course as Passed, units_pass}
+use Rattle.osi_tap.specs.Courses.{units_pass}
 use Rattle.osi_tap.specs.Lines.{heard}
 use Rattle.osi_watched.specs.Joint.{Joint, Step, Steps, TakesTurn, begins_other, begins_own, passes_other, passes_own, turns}
 use Rattle.osi_watched.specs.Shown.{calls_from}
@@ -27,6 +25,7 @@ use Rattle.osi_watched.proofs.steps_are_events.{IsFollowed, step_followed}
 use Rattle.osi_watched.proofs.what_a_unit_leaves_at_a_tap.{IsJudged}
 use Rattle.osi_watched.proofs.what_passes_keeps_a_claim.{step_kept}
 use Rattle.osi_watched.proofs.what_the_turns_among_steps_do.{TurnDoes}
+use Rattle.osi_watched.proofs.sessions.a_tap_counts_what_it_has_joined_of_a_tsdu.{Counted, counted_claim}
 use Rattle.osi_watched.proofs.sessions.each_step_leaves_class_0_one_connection.{Sure, sure_claim}
 use Rattle.osi_watched.proofs.sessions.no_more_tsdus_than_moments_have_passed.{AreFew, few_claim}
 use Rattle.osi_watched.proofs.sessions.no_session_of_an_end_breaks_first.{ArePassed, HaveCourses, KeepsUnless, firm_so}
@@ -42,6 +41,7 @@ module _ (proper : AllProper) (barred : Class) (d : Direction) (local : Local) (
     pub followed : IsFollowed d (wholes.begin (calls_from d) local) j
     pub few : AreFew (other d) j.course
     pub sure : Sure j.course
+    pub counted : Counted j.course
     pub sane : IsSane j.holding
     pub can : AllByRecursion CanBeWritten j.put
 
@@ -55,6 +55,7 @@ module _ (proper : AllProper) (barred : Class) (d : Direction) (local : Local) (
     followed = step_followed d (wholes.begin (calls_from d) local) proper step old new does g.followed;
     few = step_kept (AreFew (other d)) (few_claim (other d)) d step old new does g.few;
     sure = step_kept Sure sure_claim d step old new does g.sure;
+    counted = step_kept Counted counted_claim d step old new does g.counted;
     sane = sane;
     can = can;
   }

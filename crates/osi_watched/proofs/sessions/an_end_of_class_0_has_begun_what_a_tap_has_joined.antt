@@ -1,6 +1,7 @@
 -- An end of class 0 to which no DT is in flight has begun of a TSDU what a tap has joined of it: a calling end and a called one.
 -- For a TSDU of the other side that becomes too long.
-use Rattle.std.proofs.Common.{◌≡◌, ◌∙◌, ◌⊎◌, inl, inr, refl, sym, ap, subst, ℕ, ◌<◌, Bool, true, false, if◌then◌else◌, List, [], ◌∷◌, Option, Some, None}
+use Rattle.std.proofs.Common.{◌≡◌, ◌∙◌, ◌⊎◌, inl, inr, refl, sym, ap, subst, ℕ, ◌<◌, Bool, true, false, if◌then◌else◌}
+use Rattle.std.proofs.Common.{List, [], Option, Some, None}
 use Rattle.std.proofs.lemmas.Bool.{eq-eqb, eqb-true}
 use Rattle.std.specs.Prelude.{◌==◌, slice_get}
 use Rattle.std.specs.List.{AllByRecursion}
@@ -10,12 +11,11 @@ use Rattle.osi_class.specs.declared.terms.Class.{Class}
 use Rattle.osi_class.specs.declared.terms.Class.TheVariants.{Two, Zero}
 use Rattle.osi_class.specs.declared.terms.Local.{Local}
 use Rattle.osi_carrier.specs.Orderly.{RiseFrom}
-use Rattle.osi_carrier.specs.Rows.{Rows, value_at}
+use Rattle.osi_carrier.specs.Rows.{value_at}
 use Rattle.osi_carrier.specs.State.{Connection as Live, State as Carrier, linked}
 use Rattle.osi_judge.specs.Captures.{other}
 use Rattle.osi_judge.specs.declared.directions.Direction.{Direction}
 use Rattle.osi_judge.specs.declared.directions.Direction.TheVariants.{Left, Right}
-use Rattle.osi_rules.specs.Traffic.{State}
 use Rattle.osi_stack.specs.Calls.{has_given}
 use Rattle.osi_fair.specs.Pieces.{units_in}
 use Rattle.osi_fair.proofs.a_dt_of_class_zero_passes.{unlike}
@@ -42,9 +42,10 @@ use Rattle.osi_watched.proofs.sessions.class_0_keeps_its_one_place.{HasOne}
 use Rattle.osi_watched.proofs.sessions.no_session_of_an_end_breaks_first.{HaveCourses}
 use Rattle.osi_watched.proofs.sessions.nothing_is_done_before_a_cr_passes.{is_under_way, may_take, same_units}
 use Rattle.osi_watched.proofs.sessions.what_a_link_has_begun_is_left_over.{joined_is_begun, none_in_flight}
-use Rattle.osi_watched.proofs.sessions.what_is_in_flight_to_an_end.{in_flight, known_of}
+use Rattle.osi_watched.proofs.sessions.what_is_in_flight_to_an_end.{known_of}
 
--- If class 0 is selected, and another class is not, what a tap has joined of the unfinished TSDU of the other side is what the link has begun.
+-- If class 0 is selected, and another class is not, what a tap has joined of the unfinished TSDU of the other side is what the link has
+-- begun.
 abbrev pub HasBegun : (barred : Class) → (d : Direction) → ((ℕ → Deeds) → Joint → Type 0) → Type 0
 HasBegun barred d Inv = (deeds : ℕ → Deeds) (j : Joint) → Inv deeds j → HaveCourses d deeds j → IsSane j.holding →
     IsFirm j.course.traffic.course → j.course.traffic.course.class ≡ Some Zero → (j.course.traffic.course.class ≡ Some barred → ⊥) →
@@ -92,8 +93,9 @@ calling_begun local deeds j h courses sane firm class not all r peer link at o x
     let end = j.holding.end.carrier in
     let z = h.early.zero class in
     let same : r ≡ z.r = z.amid_is r peer (is_some r peer link end at sane.between.sound.orderly.rise) (is_amid r peer link end at) in
-    joined_is_begun Left deeds (known_below h.ahead.bound end (honest.units_in j.coming)) j.put j.begun j.course.traffic j.course.sessions j.holding.end h.early.all courses r peer link at o.place
-    o.connection x o.there here (open_there Left j.course.traffic o)
+    joined_is_begun Left deeds (known_below h.ahead.bound end (honest.units_in j.coming)) j.put j.begun j.course.traffic j.course.sessions
+    j.holding.end h.early.all courses r peer link at o.place o.connection x o.there here
+    (open_there Left j.course.traffic o)
     (z.one.mine x (ap (slice_get j.course.sessions.live) (sym (one_place Left z.r (IsGone end) j z.one o)) ∙ here)
     ∙ ap (λ (n : ℕ). Some n) (sym same))
     (λ q later is sure. none_later r peer link end at j.coming all q later is sure.1)
@@ -108,8 +110,9 @@ zero_called local deeds j h courses sane all r peer link at o x here =
     let end = j.holding.end.carrier in
     let same : r ≡ h.r = h.amid_is r peer (is_some r peer link end at sane.between.sound.orderly.rise) (is_amid r peer link end at) in
     let one : HasOne Right h.r IsNone j.course.traffic j.course.sessions = h.early_is.zero h.class in
-    joined_is_begun Right deeds (known_one h.r end (honest.units_in j.coming)) j.put j.begun j.course.traffic j.course.sessions j.holding.end h.early_is.all courses r peer link at
-    o.place o.connection x o.there here (open_there Right j.course.traffic o)
+    joined_is_begun Right deeds (known_one h.r end (honest.units_in j.coming)) j.put j.begun j.course.traffic j.course.sessions
+    j.holding.end h.early_is.all courses r peer link at o.place o.connection x o.there here
+    (open_there Right j.course.traffic o)
     (one.mine x (ap (slice_get j.course.sessions.live) (sym (one_place Right h.r IsNone j one o)) ∙ here)
     ∙ ap (λ (n : ℕ). Some n) (sym same))
     (λ q later is sure. none_later r peer link end at j.coming all q later is sure.2)

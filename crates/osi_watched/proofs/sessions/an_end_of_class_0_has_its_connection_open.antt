@@ -1,9 +1,9 @@
 -- Once class 0 is selected and an end has taken the CC, it has its one connection open in class 0, or is over.
 -- For the sessions of an end after a break of the other side in class 0.
-use Rattle.osi_watched.proofs.Vocabulary.{[], ap, Bool, false, is_some, List, None, Option, refl, Some, subst, sym, true, ℕ, ◌++◌, ◌∙◌, ◌∷◌}
-use Rattle.osi_watched.proofs.Vocabulary.{◌≡◌, AllByRecursion, confirm, Connect, Value, Standing, Class, Two, Zero, Local}
-use Rattle.osi_watched.proofs.Vocabulary.{Carrier, EndReason, Traffic as State, Connection, Left, Right, Direction, answered, known, quiet}
-use Rattle.osi_watched.proofs.Vocabulary.{refused, IsInZero, calm_tap, Whole, Joint, lines, selected, selecting, IsFirm, linked}
+use Rattle.osi_watched.proofs.Vocabulary.{ap, Bool, false, is_some, List, None, Some, subst, sym, true, ℕ, ◌++◌, ◌∙◌, ◌∷◌}
+use Rattle.osi_watched.proofs.Vocabulary.{◌≡◌, AllByRecursion, confirm, Connect, Value, Standing, Zero, Local}
+use Rattle.osi_watched.proofs.Vocabulary.{Carrier, Traffic as State, Connection, Left, Right, Direction, answered, known, quiet}
+use Rattle.osi_watched.proofs.Vocabulary.{refused, IsInZero, calm_tap, Whole, Joint, lines, selected, selecting, IsFirm}
 use Rattle.osi_tpdu.specs.Value.{may_be_followed}
 use Rattle.osi_fair.specs.Pieces.{units_in}
 use Rattle.osi_fair.specs.Wholes as wholes

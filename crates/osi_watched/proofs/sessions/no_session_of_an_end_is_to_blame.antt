@@ -28,7 +28,6 @@ use Rattle.osi_honest.specs.Courses.{Course, Deeds, all_did, no_deeds}
 use Rattle.osi_honest.specs.Seeing.{IsFresh}
 use Rattle.osi_honest.specs.Turns.{Turn}
 use Rattle.osi_honest.proofs.class_0.what_a_packet_does_in_class_0.{AllProper}
-use Rattle.osi_honest.proofs.class_0.what_class_0_does_not_take_ends_the_end.{IsHard}
 use Rattle.osi_honest.proofs.courses.an_end_is_sound_between_turns.{fresh_sane}
 use Rattle.osi_honest.proofs.courses.what_a_run_does_to_it.{fresh_course}
 use Rattle.osi_honest.proofs.courses.what_sessions_hear_of_it.{Known}
@@ -41,18 +40,15 @@ use Rattle.osi_tap.specs.Tapping as tapping
 use Rattle.osi_tap.specs.Tapping.{after, comes_to}
 use Rattle.osi_watched.specs.Joint.{Joint, Step, Steps, StepsAlong, TakesTurn, begin, begins_other, begins_own, passes_other, passes_own}
 use Rattle.osi_watched.specs.Joint.{turns}
-use Rattle.osi_watched.specs.Judging.{IsJudgedWhole}
 use Rattle.osi_watched.specs.Passing.{TurnsBad}
 use Rattle.osi_watched.specs.Shown.{calls_from}
 use Rattle.osi_watched.specs.Spoilt.{GoesOn, IsNoPacket, IsUnread, LaterAlong, spoilt}
 use Rattle.osi_watched.proofs.a_break_ends_no_judging_or_all.{all_ends, loose_so, none_ends, nothing_ends, reach_so, still_over}
 use Rattle.osi_watched.proofs.a_break_ends_no_judging_or_all.{unread_sessions}
-use Rattle.osi_watched.proofs.a_dt_that_halts_its_side_leaves_an_end_alone.{JudgesToo, halts_with_data, later_too_less, too_others}
-use Rattle.osi_watched.proofs.a_dt_that_halts_its_side_leaves_an_end_alone.{too_step, too_unread}
 use Rattle.osi_watched.proofs.an_end_that_is_judged_alone_stays_so.{later_kept}
-use Rattle.osi_watched.proofs.in_class_0_one_side_alone_is_judged.{AfterUnread, IsAlone, all_over, alone as is_alone_then}
-use Rattle.osi_watched.proofs.in_class_0_one_side_alone_is_judged.{refused_over_so as unread_ends, unit_alone, unread_alone, unread_is}
-use Rattle.osi_watched.proofs.later_steps_are_events.{spoilt_followed}
+use Rattle.osi_watched.proofs.in_class_0_one_side_alone_is_judged.{AfterUnread, IsAlone, IsLoose, all_over, alone as is_alone_then}
+use Rattle.osi_watched.proofs.in_class_0_one_side_alone_is_judged.{loose_claim, refused_over_so as unread_ends, unit_alone}
+use Rattle.osi_watched.proofs.in_class_0_one_side_alone_is_judged.{unread_alone, unread_is}
 use Rattle.osi_watched.proofs.steps_are_events.{IsFollowed, begin_followed, step_followed}
 use Rattle.osi_watched.proofs.the_first_break_is_not_of_an_end.{IsFairAlone, IsFairFrom}
 use Rattle.osi_watched.proofs.what_a_taker_passes_over.{IsMild, Sort, is_hard as is_broken, is_mild, is_shut, mild_reach, sort_of}
@@ -60,14 +56,16 @@ use Rattle.osi_watched.proofs.what_a_unit_leaves_at_a_tap.{IsJudged, IsOver, beg
 use Rattle.osi_watched.proofs.what_is_halted_stays_halted.{unread_same}
 use Rattle.osi_watched.proofs.what_passes_keeps_a_claim.{IsClaim, after_join, step_kept, units_kept}
 use Rattle.osi_watched.proofs.what_the_turns_among_steps_do.{ComesByDoing, IsOfTap, StepsDo, TurnDoes}
-use Rattle.osi_watched.proofs.sessions.a_break_in_class_0_leaves_an_end_alone.{Kind, is_data, is_hard, kind_of, later_alone}
+use Rattle.osi_watched.proofs.sessions.a_break_in_class_0_leaves_an_end_alone.{Kind, kind_of, later_alone}
 use Rattle.osi_watched.proofs.sessions.a_break_in_class_0_leaves_an_end_alone.{octets_begin_alone, packet_begins_alone, spoilt_alone}
 use Rattle.osi_watched.proofs.sessions.a_break_in_class_0_leaves_an_end_alone.{step_alone, unit_begins}
+use Rattle.osi_watched.proofs.sessions.a_tap_counts_what_it_has_joined_of_a_tsdu.{fresh_counted}
 use Rattle.osi_watched.proofs.sessions.a_unit_after_a_dr_changes_nothing.{IsAfterDr, after_dr}
 use Rattle.osi_watched.proofs.sessions.after_too_many_nobody_is_to_blame.{NoneIsToBlame, none_begins, over_joins}
 use Rattle.osi_watched.proofs.sessions.an_end_beside_a_tap_that_judges_all.{Goes, other_begins_goes, other_goes, own_begins_goes}
 use Rattle.osi_watched.proofs.sessions.an_end_beside_a_tap_that_judges_all.{own_goes, turn_goes}
 use Rattle.osi_watched.proofs.sessions.an_end_goes_on_as_if_no_break_had_come.{IsAsWithout, none_alone}
+use Rattle.osi_watched.proofs.sessions.an_end_of_class_0_has_begun_what_a_tap_has_joined.{HasBegun}
 use Rattle.osi_watched.proofs.sessions.each_step_leaves_class_0_one_connection.{Sure, fresh_sure, sure_claim}
 use Rattle.osi_watched.proofs.sessions.no_session_of_an_end_breaks_first.{ArePassed, HaveCourses, IsWithout, KeepsUnless, class_claim}
 use Rattle.osi_watched.proofs.sessions.no_session_of_an_end_breaks_first.{after_without, firm_so, goes_so, own_right, passed_then}
@@ -116,7 +114,7 @@ not_many closed many = let no : Broke rule.Closed ≡ TooMany = sym closed ∙ m
 module _ (known : Known) (barred : Class) (d : Direction) (local : Local)
     (fair : IsFairFrom (way_of d) (wholes.begin (calls_from d) local))
     (fair_alone : IsFairAlone (way_of d) (wholes.begin (calls_from d) local)) (Inv : (ℕ → Deeds) → Joint → Type 0)
-    (k : KeepsUnless barred d local Inv) where
+    (k : KeepsUnless barred d local Inv) (has_begun : HasBegun barred d Inv) where
   abbrev proper : AllProper
   proper = known.proper
 
@@ -126,17 +124,12 @@ module _ (known : Known) (barred : Class) (d : Direction) (local : Local)
 
   -- or it goes on as if no break had come
   abbrev GoesWithout : Bool → Joint → Type 0
-  GoesWithout ends j = IsAsWithout known barred d local fair fair_alone Inv k ends j
-
-  -- a connection has lost its judgement; or the other side has, with a DT that makes a TSDU too long
-  record IsLost (j : Joint) : Type 0 where
-    followed : IsFollowed d (wholes.begin (calls_from d) local) j
-    less : JudgesToo d j.course
+  GoesWithout ends j = IsAsWithout known barred d local fair fair_alone Inv k has_begun ends j
 
   data Stays (deeds : ℕ → Deeds) (j : Joint) : Type 0 where
     goes : Judging deeds j → Stays deeds j
     ended : IsDone d j.course → Stays deeds j
-    lost : IsLost j → Stays deeds j
+    lost : IsLoose j.course → Stays deeds j
     alone : GoesWithout false j → Stays deeds j
 
   -- ---- a packet of the other side
@@ -144,12 +137,12 @@ module _ (known : Known) (barred : Class) (d : Direction) (local : Local)
   data Passing (at : ℕ) (vs : List Value) (c : Passed) : Type 0 where
     all_taken : ArePassed barred d at vs c → IsJudged (units_pass (other d) at vs c) → Passing at vs c
     then_done : IsDone d (units_pass (other d) at vs c) → Passing at vs c
-    then_lost : JudgesToo d (units_pass (other d) at vs c) → Passing at vs c
+    then_lost : IsLoose (units_pass (other d) at vs c) → Passing at vs c
     then_alone : (front back : List Value) (v : Value) → vs ≡ front ++ v ∷ back → ArePassed barred d at front c →
         IsJudged (units_pass (other d) at front c) →
         is_applied (takes (way_of (other d)) v (units_pass (other d) at front c).traffic).told.finding ≡ false →
         (takes (way_of (other d)) v (units_pass (other d) at front c).traffic).told.reach ≡ reach.Side →
-        IsAlone d (unit_passes (other d) at v (units_pass (other d) at front c)) → ((begun : List ℕ) → IsHard begun v) → Passing at vs c
+        IsAlone d (unit_passes (other d) at v (units_pass (other d) at front c)) → Kind v → Passing at vs c
 
   module _ (deeds : ℕ → Deeds) (at : ℕ) (octets : List ℕ) (units : List Value) (old new : Joint)
       (step : Steps d (passes_other at octets units) old new) (g : Judging deeds old)
@@ -193,9 +186,8 @@ module _ (known : Known) (barred : Class) (d : Direction) (local : Local)
       data One : Type 0 where
         goes_on : AllSoFar (front ++ v ∷ []) → One
         is_done : IsDone d next → One
-        is_lost : JudgesToo d next → One
-        is_alone : is_applied found ≡ false → (takes (way_of (other d)) v c.traffic).told.reach ≡ reach.Side → IsAlone d next →
-            ((begun : List ℕ) → IsHard begun v) → One
+        is_lost : IsLoose next → One
+        is_alone : is_applied found ≡ false → (takes (way_of (other d)) v c.traffic).told.reach ≡ reach.Side → IsAlone d next → One
 
       nobody : NoneIsToBlame d c.sessions
       nobody = blameless front (v ∷ back) is so.taken
@@ -240,17 +232,12 @@ module _ (known : Known) (barred : Class) (d : Direction) (local : Local)
                 ((reach_so (other d) at v c).far ∙ ap (reach_of (class_for (way_of (other d)) c.traffic.course)) after.closed) so.judged);
           })
 
-      by_kind : is_applied found ≡ false → (takes (way_of (other d)) v c.traffic).told.reach ≡ reach.Side → IsAlone d next → Kind v → One
-      by_kind unapplied side a (is_hard hard) = is_alone unapplied side a hard
-      by_kind unapplied side a (is_data end user is_so) =
-          is_lost (inr (a, halts_with_data d at v c side end user is_so so.judged))
-
       by_reach : is_applied found ≡ false → (r : Reach) → (takes (way_of (other d)) v c.traffic).told.reach ≡ r →
           (r ≡ reach.Nothing → ⊥) → One
       by_reach unapplied reach.Nothing reaches less = absurd (less refl)
-      by_reach unapplied reach.Connection reaches less = is_lost (inl (loose_so (other d) at v c reach.Connection reaches))
+      by_reach unapplied reach.Connection reaches less = is_lost (loose_so (other d) at v c reach.Connection reaches)
       by_reach unapplied reach.Side reaches less =
-          by_kind unapplied reaches (unit_alone d at v c so.judged (is_sure.agrees Zero) reaches) (kind_of v)
+          is_alone unapplied reaches (unit_alone d at v c so.judged (is_sure.agrees Zero) reaches)
       by_reach unapplied reach.Everything reaches less =
           is_done (record { over = all_ends (other d) at v c reaches; none = none_joined unapplied })
 
@@ -269,8 +256,8 @@ module _ (known : Known) (barred : Class) (d : Direction) (local : Local)
       then_rest (is_done s) rest =
           then_done (subst (IsDone d) (sym all_join) (units_kept (IsDone d) (done_claim d) (other d) at back next s))
       then_rest (is_lost b) rest =
-          then_lost (subst (JudgesToo d) (sym all_join) (too_others d at back next b))
-      then_rest (is_alone unapplied side a hard) rest = then_alone front back v is so.taken so.judged unapplied side a hard
+          then_lost (subst IsLoose (sym all_join) (units_kept IsLoose loose_claim (other d) at back next b))
+      then_rest (is_alone unapplied side a) rest = then_alone front back v is so.taken so.judged unapplied side a (kind_of v)
 
     pass_on : (back front : List Value) → units ≡ front ++ back → AllSoFar front → Passing at units old.course
     pass_on [] front is so =
@@ -288,11 +275,8 @@ module _ (known : Known) (barred : Class) (d : Direction) (local : Local)
     other_by : Passing at units old.course → Stays deeds new
     other_by (all_taken taken judged) = goes (other_goes proper barred d local Inv k deeds at octets units old new step g taken judged)
     other_by (then_done s) = ended (subst (IsDone d) (sym same) s)
-    other_by (then_lost b) = lost (record {
-      followed = step_followed d (wholes.begin (calls_from d) local) proper (passes_other at octets units) old new step g.followed;
-      less = subst (JudgesToo d) (sym same) b;
-    })
-    other_by (then_alone front back v is taken judged unapplied side a hard) =
+    other_by (then_lost b) = lost (subst IsLoose (sym same) b)
+    other_by (then_alone front back v is taken judged unapplied side a kind) =
         let read : units_of octets ≡ Ok (front ++ v ∷ back) = step.1 ∙ ap (λ (l : List Value). Ok l) is in
         let new_is : new ≡ record old {
           course = units_pass (other d) at (front ++ v ∷ back) old.course;
@@ -303,8 +287,8 @@ module _ (known : Known) (barred : Class) (d : Direction) (local : Local)
         }) is in
         let f = step_followed d (wholes.begin (calls_from d) local) proper (passes_other at octets units) old new step g.followed in
         alone (subst (GoesWithout false) (sym new_is)
-        (unit_begins known barred d local fair fair_alone Inv k deeds at octets front back v old g step.0 read taken judged unapplied side a
-        hard (subst (IsFollowed d (wholes.begin (calls_from d) local)) new_is f)))
+        (unit_begins known barred d local fair fair_alone Inv k has_begun deeds at octets front back v old g step.0 read taken judged
+        unapplied side a kind (subst (IsFollowed d (wholes.begin (calls_from d) local)) new_is f)))
 
   -- ---- a unit of the end
 
@@ -354,12 +338,6 @@ module _ (known : Known) (barred : Class) (d : Direction) (local : Local)
       λ is_so. within.not (ap (λ (j : Joint). j.course.traffic.course.class) step.2 ∙ is_so) in
       other_by deeds at octets units old new step g not (passed deeds at octets units old new step g not)
 
-  lost_step : (step : Step) (old new : Joint) → Steps d step old new → IsLost old → IsLost new
-  lost_step step old new does b = record {
-    followed = step_followed d (wholes.begin (calls_from d) local) proper step old new does b.followed;
-    less = too_step d proper (calls_from d) local fair_alone step old new does b.followed b.less;
-  }
-
   apart_so : (j : Joint) → IsWithout barred j.course → GoesWithout false j → barred ≡ Zero → ⊥
   apart_so j within a same = within.not (a.is.alone.zero ∙ ap (λ (x : Class). Some x) (sym same))
 
@@ -368,10 +346,10 @@ module _ (known : Known) (barred : Class) (d : Direction) (local : Local)
       (Judging deeds old → Stays then_deeds new) → Stays deeds old → Stays then_deeds new
   step_stays step deeds then_deeds old new does within on (goes g) = on g
   step_stays step deeds then_deeds old new does within on (ended s) = ended (step_kept (IsDone d) (done_claim d) d step old new does s)
-  step_stays step deeds then_deeds old new does within on (lost b) = lost (lost_step step old new does b)
+  step_stays step deeds then_deeds old new does within on (lost b) = lost (step_kept IsLoose loose_claim d step old new does b)
   step_stays step deeds then_deeds old new does within on (alone a) =
       let was = step_without barred d step old new does within in
-      alone (step_alone known barred d local fair fair_alone Inv k (apart_so old was a) step old new does was.few a)
+      alone (step_alone known barred d local fair fair_alone Inv k has_begun (apart_so old was a) step old new does was.few a)
 
   tap_stays : (step : Step) → IsOfTap step → (deeds : ℕ → Deeds) (old new : Joint) → Steps d step old new → IsWithout barred new.course →
       Stays deeds old → Stays deeds new
@@ -415,24 +393,26 @@ module _ (known : Known) (barred : Class) (d : Direction) (local : Local)
     followed = begin_followed d (calls_from d) local h fresh;
     few = λ i j here. absurd (cc here);
     sure = fresh_sure;
+    counted = fresh_counted;
     sane = fresh_sane (calls_from d) local h fresh;
     can = tt;
   })
 
-  -- nobody is to blame, or less is judged
+  -- nobody is to blame, or a connection has lost its judgement
   abbrev pub EndsWell : Passed → Type 0
-  EndsWell c = NoneIsToBlame d c.sessions ⊎ JudgesToo d c
+  EndsWell c = NoneIsToBlame d c.sessions ⊎ IsLoose c
 
   ends_so : (j : Joint) → Stood j → EndsWell j.course
   ends_so j (deeds, goes g) = inl (k.none deeds j g.courses g.holds)
   ends_so j (deeds, ended s) = inl s.none
-  ends_so j (deeds, lost b) = inr b.less
-  ends_so j (deeds, alone a) = inl (none_alone known barred d local fair fair_alone Inv k false j a)
+  ends_so j (deeds, lost b) = inr b
+  ends_so j (deeds, alone a) = inl (none_alone known barred d local fair fair_alone Inv k has_begun false j a)
 
   -- the other side sends what can't be read, and then anything passes
   module _ (at : ℕ) (cause_is : Cause) (packets : List (List ℕ)) (none_in : units_in packets ≡ []) (steps : List Step)
       (how : ((packet : List ℕ) × (packets ≡ packet ∷ []) × IsUnread (units_of packet))
-      ⊎ ((packets ≡ []) × AllByRecursion IsNoPacket steps)) (j end : Joint) (along : LaterAlong d (spoilt d at cause_is packets j) steps end)
+      ⊎ ((packets ≡ []) × AllByRecursion IsNoPacket steps)) (j end : Joint)
+      (along : LaterAlong d (spoilt d at cause_is packets j) steps end)
       (within : IsWithout barred end.course) where
     abbrev bad : Joint
     bad = spoilt d at cause_is packets j
@@ -440,17 +420,11 @@ module _ (known : Known) (barred : Class) (d : Direction) (local : Local)
     later_too : (ends : Bool) → (ends ≡ true → AllByRecursion IsNoPacket steps) → (barred ≡ Zero → ⊥) → GoesWithout ends bad →
         EndsWell end.course
     later_too ends none apart a =
-        inl (none_alone known barred d local fair fair_alone Inv k ends end
-        (later_alone known barred d local fair fair_alone Inv k apart ends steps bad end along none within.few a))
+        inl (none_alone known barred d local fair fair_alone Inv k has_begun ends end
+        (later_alone known barred d local fair fair_alone Inv k has_begun apart ends steps bad end along none within.few a))
 
     done_so : IsDone d bad.course → EndsWell end.course
     done_so h = inl (later_kept (IsDone d) (done_claim d) d steps bad end along h).none
-
-    lost_so : IsLost j → EndsWell end.course
-    lost_so b =
-        inr (later_too_less d proper (calls_from d) local fair_alone steps bad end along
-        (spoilt_followed d (wholes.begin (calls_from d) local) at cause_is packets none_in j b.followed)
-        (too_unread d at cause_is j.course b.less))
 
     zero_apart : (c : Passed) → IsAlone d c → (c.traffic.course.class ≡ Some barred → ⊥) → barred ≡ Zero → ⊥
     zero_apart c a not same = not (a.zero ∙ ap (λ (x : Class). Some x) (sym same))
@@ -470,10 +444,11 @@ module _ (known : Known) (barred : Class) (d : Direction) (local : Local)
         let apart = zero_apart bad.course a bad_not in
         elim how [
           | inl (packet, one, unreadable) ↦ later_too false (λ no. absurd (let n : false ≡ true = no in cc)) apart
-              (packet_begins_alone known barred d local fair fair_alone Inv k deeds at cause_is packets none_in j g is refuses_so a packet one
-              unreadable)
+              (packet_begins_alone known barred d local fair fair_alone Inv k has_begun deeds at cause_is packets none_in j g is refuses_so
+              a packet one unreadable)
           | inr (nothing, none) ↦ later_too true (λ yes. none) apart
-              (octets_begin_alone known barred d local fair fair_alone Inv k deeds at cause_is packets none_in j g is refuses_so a nothing)
+              (octets_begin_alone known barred d local fair fair_alone Inv k has_begun deeds at cause_is packets none_in j g is refuses_so a
+              nothing)
         ]
     unread_by deeds g (is_alone_then a) None is =
         absurd (not_both (is_stopped (way_of d) bad.course.traffic.course)
@@ -489,12 +464,13 @@ module _ (known : Known) (barred : Class) (d : Direction) (local : Local)
         unread_by deeds g (unread_alone d at cause_is j.course g.judged (g.sure.agrees Zero))
         (class_for (way_of (other d)) j.course.traffic.course) refl
     after_bad (deeds, ended s) = done_so ((done_claim d).bad (other d) at cause_is j.course s)
-    after_bad (deeds, lost b) = lost_so b
+    after_bad (deeds, lost b) =
+        inr (later_kept IsLoose loose_claim d steps bad end along (loose_claim.bad (other d) at cause_is j.course b))
     after_bad (deeds, alone a) =
-        let apart = zero_apart bad.course (subst (IsAlone d) (sym (unread_same (other d) at cause_is j.course a.is.alone.halted)) a.is.alone)
-        bad_not in
+        let apart = zero_apart bad.course
+        (subst (IsAlone d) (sym (unread_same (other d) at cause_is j.course a.is.alone.halted)) a.is.alone) bad_not in
         later_too false (λ no. absurd (let n : false ≡ true = no in cc)) apart
-        (spoilt_alone known barred d local fair fair_alone Inv k apart at cause_is packets none_in j a)
+        (spoilt_alone known barred d local fair fair_alone Inv k has_begun apart at cause_is packets none_in j a)
 
   bad_within : (capture : Capture) (c : Passed) → TurnsBad d capture c → IsWithout barred (comes_to capture).course → IsWithout barred c
   bad_within capture c t h =
@@ -525,10 +501,8 @@ module _ (known : Known) (barred : Class) (d : Direction) (local : Local)
 differ : {A : Type 0} (b : Bool) → b ≡ true → b ≡ false → A
 differ b h k = absurd (cc)
 
--- each connection is judged, and no DT has ended the judging of the other side alone, or nothing is judged any more
-pub nobody_of_well : (d : Direction) (c : Passed) → NoneIsToBlame d c.sessions ⊎ JudgesToo d c → IsJudgedWhole d c →
+-- each connection is judged, or nothing is judged any more
+pub nobody_of_well : (d : Direction) (c : Passed) → NoneIsToBlame d c.sessions ⊎ IsLoose c → c.traffic.course.loose ≡ false →
     NoneIsToBlame d c.sessions
-nobody_of_well d c (inl none) whole = none
-nobody_of_well d c (inr (inl loose)) whole = differ c.traffic.course.loose loose whole.firm
-nobody_of_well d c (inr (inr (a, (m, halted, it)))) whole =
-    differ (is_stopped (way_of d) c.traffic.course) (whole.both a.zero a.stopped m halted it) a.own
+nobody_of_well d c (inl none) firm = none
+nobody_of_well d c (inr loose) firm = differ c.traffic.course.loose loose firm

@@ -1,5 +1,5 @@
 -- The units of a packet before one of them are units of another packet. For what passes before a break amid a packet.
-use Rattle.osi_watched.proofs.Vocabulary.{[], List, Ok, refl, subst, sym, true, ℕ, ◌++◌, ◌∷◌, ◌≡◌, AllByRecursion, octets_append, octets_left}
+use Rattle.osi_watched.proofs.Vocabulary.{[], List, Ok, refl, subst, ℕ, ◌++◌, ◌∷◌, ◌≡◌, AllByRecursion, octets_append, octets_left}
 use Rattle.osi_watched.proofs.Vocabulary.{octets_right, IsOctets, units_found, units_of, Value}
 use Rattle.osi_tpdu.proofs.the_units_of_a_packet.{units_only}
 use Rattle.osi_tpdu.specs.Packet.{AreUnits}

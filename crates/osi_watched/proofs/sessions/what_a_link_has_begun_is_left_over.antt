@@ -1,23 +1,23 @@
--- The octets of an unfinished TSDU that the link of an open connection holds are those that are left over of the parts that it took. So a tap
+-- The octets of an unfinished TSDU that the link of an open connection holds are those that are left over of the parts it took. So a tap
 -- has joined the same, if nothing is in flight to the end.
 -- For a TSDU of the other side that becomes too long.
-use Rattle.osi_watched.proofs.Vocabulary.{[], ap, Bool, false, is_some, List, None, Option, refl, Some, subst, sym, true, ℕ, ◌++◌, ◌<◌, ◌∙◌}
-use Rattle.osi_watched.proofs.Vocabulary.{◌∷◌, ◌≡◌, append-nil, append_assoc, eq-eqb, AllByRecursion, slice_get, Value, acknowledge, data0}
-use Rattle.osi_watched.proofs.Vocabulary.{data2, parts_in, unit_parts, Part, End, Standing, value_at, Live, linked, Carrier, EndReason}
-use Rattle.osi_watched.proofs.Vocabulary.{Traffic as State, Connection, is_open, own, Direction, other, Deeds, Joined, Sessions, reference_of}
-use Rattle.osi_watched.proofs.Vocabulary.{spoken, way_of, calls_from, left_over, parts_of, picked_first, picked_rest, amid, stage_at}
+use Rattle.osi_watched.proofs.Vocabulary.{[], ap, Bool, false, List, None, Option, refl, Some, subst, sym, true, ℕ, ◌++◌, ◌∙◌}
+use Rattle.osi_watched.proofs.Vocabulary.{◌∷◌, ◌≡◌, append-nil, append_assoc, eq-eqb, AllByRecursion, slice_get, Value, data0}
+use Rattle.osi_watched.proofs.Vocabulary.{data2, parts_in, unit_parts, Part, End, Standing, value_at, Live, linked}
+use Rattle.osi_watched.proofs.Vocabulary.{Traffic as State, Connection, is_open, own, Direction, other, Deeds, Joined, Sessions}
+use Rattle.osi_watched.proofs.Vocabulary.{reference_of}
+use Rattle.osi_watched.proofs.Vocabulary.{spoken, way_of, calls_from, left_over, parts_of, picked_first, picked_rest}
 use Rattle.std.proofs.Common.{if◌then◌else◌}
 use Rattle.std.proofs.lemmas.List.{append_cancel_left}
 use Rattle.osi_class.proofs.bounds.what_a_call_preserves.{takes_run}
 use Rattle.osi_class.proofs.bounds.what_calls_take.{all as all_taken}
 use Rattle.osi_class.specs.Runs.{tsdus_out}
-use Rattle.osi_class.specs.Tsdus.{tsdus, tsdus_after}
+use Rattle.osi_class.specs.Tsdus.{tsdus_after}
 use Rattle.osi_class.specs.declared.terms.Class.{Class}
 use Rattle.osi_class.specs.declared.terms.Class.TheVariants.{Two, Zero}
-use Rattle.osi_class.specs.declared.terms.Local.{Local}
 use Rattle.osi_carrier.specs.Negotiation.{opened_link}
-use Rattle.osi_carrier.specs.State.{asked, closing}
-use Rattle.osi_honest.specs.Courses.{AreCalls, Course, Gone, IsFreshLink, IsOpen, IsShut, awaited, is_gone, unknown}
+use Rattle.osi_carrier.specs.State.{asked}
+use Rattle.osi_honest.specs.Courses.{AreCalls, Course, Gone, IsFreshLink, IsShut, awaited, is_gone, unknown}
 use Rattle.osi_honest.specs.Courses.Course.{is_open as course_open}
 use Rattle.osi_honest.specs.Courses.Gone.{closed, never, over}
 use Rattle.osi_honest.proofs.class_0.what_class_0_does_not_take_ends_the_end.{IsZeroAt}
@@ -109,7 +109,8 @@ open_link_is is_caller r peer link deeds e z course = by course
     by (is_gone g) = gone_not g
 
 -- a tap has joined what the link has begun of a TSDU
-pub joined_is_begun : (d : Direction) (deeds : ℕ → Deeds) (known : Known) (put : List Value) (b : Bool) (s : State) (t : Sessions) (e : End) →
+pub joined_is_begun : (d : Direction) (deeds : ℕ → Deeds) (known : Known) (put : List Value) (b : Bool) (s : State) (t : Sessions)
+    (e : End) →
     AllStand d deeds known put b s t → ((r : ℕ) → Course (calls_from d) r (deeds r) e) → (r peer : ℕ) (link : Standing) →
     IsZeroAt r peer link e.carrier → (p : ℕ) (c : Connection) (j : Joined) → slice_get s.connections p ≡ Some c →
     slice_get t.live p ≡ Some j → is_open (own (way_of d) c).phase ≡ true → reference_of d j ≡ Some r →
