@@ -244,16 +244,15 @@ pub fn no_session_of_an_end_is_blamed_first()
     the_first_break_is_the_earliest();
 }
 
-/// No session of an end is to blame after breaks of the other side that a taker passes over. Take any run of an end of this library from
-/// its beginning, and any capture of it, as in [`no_session_of_an_end_is_blamed_first`]. As long as no break of the other side has ended
-/// the judging of a part, of one connection or in class 0 of the other side alone ([`IsJudgedWhole`]), no session of the end is to blame
-/// for what has passed, in either class, on any of its connections, open or over, be the end the called one (`called`) or the calling one
-/// (`calling`). So it is after DTs beyond the credit or longer than the size, after a CC with a larger size, and after a DT, an AK or a
-/// second DR on a connection that its sender had closed; and so it is after a break with which all judging ends.
+/// No session of an end is to blame after breaks of the other side. Take any run of an end of this library from its beginning, and any
+/// capture of it, as in [`no_session_of_an_end_is_blamed_first`]. As long as no break of the other side has ended the judging of one
+/// connection alone, in class 2, no session of the end is to blame for what has passed, in either class, on any of its connections, open or
+/// over, be the end the called one (`called`) or the calling one (`calling`). So it is after DTs beyond the credit or longer than the size,
+/// after a CC with a larger size, and after a DT, an AK or a second DR on a connection that its sender had closed; so it is after a break
+/// with which all judging ends; and so it is in class 0 after one with which the judging of the other side ends, a TSDU that is too long
+/// among them, or after what nobody can read.
 ///
 /// It is assumed that fewer than 2^64 units have passed.
-///
-/// [`IsJudgedWhole`]: ../specs/Judging.antt
 pub fn no_session_of_an_end_is_to_blame_after_a_break()
     ensures called { (local : Local) (begin end : Holding) (turns : List Turn) (capture : Capture) (i : ℕ) (j : Joined) →
         IsFresh false local begin → Run begin turns end → AreOctets capture → IsSeen Direction.Right turns capture →
