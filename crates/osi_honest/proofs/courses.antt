@@ -18,4 +18,6 @@ pub mod what_a_packet_does_to_it
 pub mod what_a_call_does_to_it
 pub mod what_is_put_in_a_turn_can_be_written
 pub mod what_a_run_does_to_it
+pub mod an_end_takes_packets_up_to_its_last
+pub mod an_end_is_sound_between_turns
 pub mod what_was_said_is_explained

@@ -31,4 +31,5 @@ pub mod what_is_halted_stays_halted
 pub mod later_steps_are_events
 pub mod in_class_0_one_side_alone_is_judged
 pub mod an_end_that_is_judged_alone_stays_so
+pub mod what_is_judged_beside_a_halted_side
 pub mod no_unit_of_an_end_breaks_a_rule

@@ -19,7 +19,7 @@ use Rattle.osi_watched.specs.Joint as joints
 use Rattle.osi_watched.specs.Joint.Step.{turns, begins_own, passes_own, begins_other, passes_other}
 use Rattle.osi_fair.specs.Pieces.{units_by, units_in}
 use Rattle.osi_tpkt.specs.declared.faults.TpktFault.{TpktFault}
-use Rattle.osi_watched.specs.Spoilt.{GoesOn, spoilt}
+use Rattle.osi_watched.specs.Spoilt.{GoesOn, IsNoPacket, IsUnread, spoilt}
 use Rattle.osi_watched.proofs.small_facts_that_many_lemmas_use.{can_more}
 use Rattle.osi_watched.proofs.how_an_end_stands_to_what_has_passed.{OtherStands, OwnStands, begun_now, first_put, has_begun, one_octet}
 use Rattle.osi_watched.proofs.how_an_end_stands_to_what_has_passed.{rest_of, some_octets, uses}
@@ -49,6 +49,8 @@ record Spoils (d : Direction) (capture : Capture) (s : State) (last : Joint) : T
   packets : List (List ℕ)
   none : units_in packets ≡ []
   later : LaterComes d capture s (spoilt d at cause packets last)
+  how : ((packet : List ℕ) × (packets ≡ packet ∷ []) × IsUnread (units_of packet))
+      ⊎ ((packets ≡ []) × AllByRecursion IsNoPacket later.steps)
 
 -- this was done before at each connection of the end
 record Comes (d : Direction) (is_caller : Bool) (deeds : ℕ → Deeds) (capture : Capture) (s : State) (j : Joint) : Type 0 where
@@ -102,6 +104,7 @@ octet_first d is_caller deeds o capture s j c = record {
       packets = k.packets;
       none = k.none;
       later = later_octet d o capture s (spoilt d k.at k.cause k.packets c.last) k.later;
+      how = k.how;
     })
 
     by : ((after capture (octet_passes o s)).course ≡ c.last.course) ⊎ Stops d capture (octet_passes o s) c.last.course →
@@ -259,15 +262,24 @@ module _ (d : Direction) (is_caller : Bool) (deeds : ℕ → Deeds) (x : ℕ) (c
       (on next other_joint refl (other_moved d other_now s other_course other_joint still (ahead ++ x ∷ [])
       (ap (begins (other d) other_held) st.course) st.own_reads st.other_reads st.own others)))
 
+  stream_there : (e : Direction) (t : Streamed) (z : State) → stream_of e (with_stream e t z) ≡ t
+  stream_there Left t z = refl
+  stream_there Right t z = refl
+
   -- the steps up to here, and what follows
   other_stops : (t : Streamed) (cause : Cause) (packets : List (List ℕ)) → is_break cause ≡ true → units_in packets ≡ [] →
       octet_passes (of (other d) x) s ≡ with_stream (other d) t (record s { course = unread (other d) other_now.at cause other_course }) →
-      OtherReads t (ahead ++ x ∷ []) j.holding (j.coming ++ packets) → Comes d is_caller deeds (of (other d) x ∷ capture) s other_joint
-  other_stops t cause packets bad none is reads =
+      OtherReads t (ahead ++ x ∷ []) j.holding (j.coming ++ packets) →
+      ((packet : List ℕ) × (packets ≡ packet ∷ []) × IsUnread (units_of packet)) ⊎ ((packets ≡ []) × (t.spent ≡ true)) →
+      Comes d is_caller deeds (of (other d) x ∷ capture) s other_joint
+  other_stops t cause packets bad none is reads how =
       let course : unread (other d) other_now.at cause other_course ≡ unread (other d) other_now.at cause other_joint.course =
       ap (λ (c : Course). unread (other d) other_now.at cause (begins (other d) other_held c)) st.course in
       let next : State = with_stream (other d) t (record s { course = unread (other d) other_now.at cause other_course }) in
       let now : Joint = spoilt d other_now.at cause packets other_joint in
+      let rest : LaterComes d capture (octet_passes (of (other d) x) s) now = subst (λ (z : State). LaterComes d capture z now) (sym is)
+      (then next now refl (other_moved_later d t s (unread (other d) other_now.at cause other_course) now still (ahead ++ x ∷ [])
+      course st.own_reads st.own (unread_halts (other d) other_now.at cause other_joint.course) reads)) in
       record {
         steps = [];
         last = other_joint;
@@ -288,9 +300,15 @@ module _ (d : Direction) (is_caller : Bool) (deeds : ℕ → Deeds) (x : ℕ) (c
           cause = cause;
           packets = packets;
           none = none;
-          later = later_octet d (of (other d) x) capture s now (subst (λ (z : State). LaterComes d capture z now) (sym is)
-              (then next now refl (other_moved_later d t s (unread (other d) other_now.at cause other_course) now still (ahead ++ x ∷ [])
-              course st.own_reads st.own (unread_halts (other d) other_now.at cause other_joint.course) reads)));
+          later = later_octet d (of (other d) x) capture s now rest;
+          how = elim how [
+            | inl one ↦ inl one
+            | inr (nothing, spent) ↦ inr (
+              nothing,
+              rest.no_more (ap (λ (z : State). (stream_of (other d) z).spent) is
+                  ∙ ap (λ (y : Streamed). y.spent) (stream_there (other d) t _) ∙ spent),
+            )
+          ];
         });
       }
 
@@ -323,7 +341,7 @@ module _ (d : Direction) (is_caller : Bool) (deeds : ℕ → Deeds) (x : ℕ) (c
       (passes_so (other d) x s (whole u) st.other_reads front
       ∙ ap (λ (r : Result (List Value) TpduFault). with_stream (other d) (advanced other_now)
       (record s { course = packet_by (other d) other_now.at r other_course })) is)
-      (inl (st.other_reads, packet_used u front))
+      (inl (st.other_reads, packet_used u front)) (inl (u, refl, subst IsUnread (sym is) tt))
   other_ends u front (Ok units) is =
       let packet = whole_packet other_held u x (one_octet other_held x st.others.octets small) st.others.part front in
       let after_it : Course = packet_passes (other d) other_now.at u other_course in
@@ -350,7 +368,7 @@ module _ (d : Direction) (is_caller : Bool) (deeds : ℕ → Deeds) (x : ℕ) (c
       by partial is = other_goes_on is
       by (faulty fault) is =
           other_stops (ended other_now) (BadPacket fault) [] refl refl (passes_so (other d) x s (faulty fault) st.other_reads is)
-          (inr (refl, other_held ++ x ∷ [], no_packet fault is))
+          (inr (refl, other_held ++ x ∷ [], no_packet fault is)) (inr (refl, refl))
       by (whole u) is = other_ends u is (units_of u) refl
 
 -- ---- a turn
@@ -474,6 +492,7 @@ capture_steps known d is_caller local first end turns_all capture fresh run octe
       end = k.later.last;
       along = k.later.along;
       all = k.later.all;
+      how = k.how;
     })
 
     by : (c : Course) → ((after capture tapping.begin).course ≡ c) ⊎ Stops d capture tapping.begin c →

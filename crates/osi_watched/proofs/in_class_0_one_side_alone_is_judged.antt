@@ -156,7 +156,7 @@ module _ (d : Direction) (at : ℕ) (k : Cause) (c : Course) (j : IsJudged c) (o
   abbrev e : Direction
   e = other d
 
-  unread_is : unread e at k c ≡ refuses e at k c
+  pub unread_is : unread e at k c ≡ refuses e at k c
   unread_is = ap (λ (b : Bool). unread_if b e at k c) (goes_on e c j)
 
   refused_alone : class_for (way_of e) c.traffic.course ≡ Some Zero → IsAlone d (unread e at k c)
@@ -174,7 +174,7 @@ module _ (d : Direction) (at : ℕ) (k : Cause) (c : Course) (j : IsJudged c) (o
         halted = unread_halts e at k c;
       }
 
-  refused_over_so : traffic.refused_reach (way_of e) c.traffic ≡ reach.Everything → IsOver (unread e at k c)
+  pub refused_over_so : traffic.refused_reach (way_of e) c.traffic ≡ reach.Everything → IsOver (unread e at k c)
   refused_over_so is = subst IsOver (sym unread_is) (refused_over e at k c is)
 
   by_class : (x : Option Class) → class_for (way_of e) c.traffic.course ≡ x → AfterUnread d (unread e at k c)

@@ -16,9 +16,9 @@ use Rattle.osi_tpkt.specs.declared.faults.TpktFault.{TpktFault}
 use Rattle.osi_fair.specs.Pieces.{units_by}
 use Rattle.osi_tap.specs.Courses.{Course}
 use Rattle.osi_tap.specs.Streams.{ended}
-use Rattle.osi_tap.specs.Tapping.{State}
+use Rattle.osi_tap.specs.Tapping.{State, looked_at}
 use Rattle.osi_watched.specs.Joint.Step.{turns, begins_own, passes_own, begins_other, passes_other}
-use Rattle.osi_watched.specs.Spoilt.{LaterAlong, LaterSteps}
+use Rattle.osi_watched.specs.Spoilt.{IsNoPacket, LaterAlong, LaterSteps}
 use Rattle.osi_watched.proofs.small_facts_that_many_lemmas_use.{can_more}
 use Rattle.osi_watched.proofs.how_an_end_stands_to_what_has_passed.{OtherRest, OtherStands, OwnStands, begun_now, first_put, has_begun}
 use Rattle.osi_watched.proofs.how_an_end_stands_to_what_has_passed.{one_octet, rest_of, some_octets, uses}
@@ -35,14 +35,75 @@ pub record LaterComes (d : Direction) (capture : Capture) (s : State) (j : Joint
   pub last : Joint
   pub along : LaterAlong d j steps last
   pub all : (after capture s).course ≡ last.course
+  pub no_more : (stream_of (other d) s).spent ≡ true → AllByRecursion IsNoPacket steps
 
 later_first : (d : Direction) (capture : Capture) (s : State) (step : Step) (j mid : Joint) → LaterSteps d step j mid →
-    LaterComes d capture s mid → LaterComes d capture s j
-later_first d capture s step j mid one c = record { steps = step ∷ c.steps; last = c.last; along = (mid, one, c.along); all = c.all }
+    ((stream_of (other d) s).spent ≡ true → IsNoPacket step) → LaterComes d capture s mid → LaterComes d capture s j
+later_first d capture s step j mid one none c = record {
+  steps = step ∷ c.steps;
+  last = c.last;
+  along = (mid, one, c.along);
+  all = c.all;
+  no_more = λ spent. (none spent, c.no_more spent);
+}
 
-pub later_octet : (d : Direction) (o : Passed) (capture : Capture) (s : State) (j : Joint) → LaterComes d capture (octet_passes o s) j →
+spent_passes : (d : Direction) (x : ℕ) (s : State) → (stream_of d s).spent ≡ true →
+    octet_passes (of d x) s ≡ with_stream d (counted 1 (stream_of d s)) s
+spent_passes d x s spent =
+    ap (λ (b : Bool). if b then with_stream d (counted 1 (stream_of d s)) s
+    else looks d (gathered (x ∷ []) (stream_of d s)) (begun d (stream_of d s).held s)) spent
+
+-- a stream of which nothing more is read stays so
+left_stays : (t : Streamed) (f : Front) (held : List ℕ) (s : State) → s.left.spent ≡ true →
+    (looked_at Right t f (begun Right held s)).left.spent ≡ true
+left_stays t partial [] s h = h
+left_stays t (faulty fault) [] s h = h
+left_stays t (whole unit) [] s h = h
+left_stays t partial (o ∷ held) s h = h
+left_stays t (faulty fault) (o ∷ held) s h = h
+left_stays t (whole unit) (o ∷ held) s h = h
+
+right_stays : (t : Streamed) (f : Front) (held : List ℕ) (s : State) → s.right.spent ≡ true →
+    (looked_at Left t f (begun Left held s)).right.spent ≡ true
+right_stays t partial [] s h = h
+right_stays t (faulty fault) [] s h = h
+right_stays t (whole unit) [] s h = h
+right_stays t partial (o ∷ held) s h = h
+right_stays t (faulty fault) (o ∷ held) s h = h
+right_stays t (whole unit) (o ∷ held) s h = h
+
+pub spent_stays : (e : Direction) (o : Passed) (s : State) → (stream_of e s).spent ≡ true → (stream_of e (octet_passes o s)).spent ≡ true
+spent_stays Left (of Left x) s h = ap (λ (s2 : State). s2.left.spent) (spent_passes Left x s h) ∙ h
+spent_stays Right (of Right x) s h = ap (λ (s2 : State). s2.right.spent) (spent_passes Right x s h) ∙ h
+spent_stays Left (of Right x) s h = by s.right.spent
+  where
+    t : Streamed
+    t = gathered (x ∷ []) s.right
+
+    by : (b : Bool) → (if b then with_stream Right (counted 1 s.right) s
+        else looked_at Right t (front_of t.held) (begun Right s.right.held s)).left.spent ≡ true
+    by true = h
+    by false = left_stays t (front_of t.held) s.right.held s h
+spent_stays Right (of Left x) s h = by s.left.spent
+  where
+    t : Streamed
+    t = gathered (x ∷ []) s.left
+
+    by : (b : Bool) → (if b then with_stream Left (counted 1 s.left) s
+        else looked_at Left t (front_of t.held) (begun Left s.left.held s)).right.spent ≡ true
+    by true = h
+    by false = right_stays t (front_of t.held) s.left.held s h
+
+abbrev pub later_octet : (d : Direction) (o : Passed) (capture : Capture) (s : State) (j : Joint) →
+    LaterComes d capture (octet_passes o s) j →
     LaterComes d (o ∷ capture) s j
-later_octet d o capture s j c = record { steps = c.steps; last = c.last; along = c.along; all = c.all }
+later_octet d o capture s j c = record {
+  steps = c.steps;
+  last = c.last;
+  along = c.along;
+  all = c.all;
+  no_more = λ spent. c.no_more (spent_stays (other d) o s spent);
+}
 
 -- ---- how the end stands to what has passed
 
@@ -89,7 +150,7 @@ other_moved Right g s c j still ahead course own_reads own halted others =
 own_begins : (d : Direction) (capture : Capture) (s : State) (held : List ℕ) (j : Joint) → j.begun ≡ has_begun held → j.put ≢ [] →
     LaterComes d capture s (record j { begun = true; course = begins d held j.course }) → LaterComes d capture s j
 own_begins d capture s [] j is some c =
-    later_first d capture s begins_own j (record j { begun = true; course = begins d [] j.course }) (some, is, refl) c
+    later_first d capture s begins_own j (record j { begun = true; course = begins d [] j.course }) (some, is, refl) (λ spent. tt) c
 own_begins d capture s (o ∷ held) j is some c = subst (λ (b : Bool). LaterComes d capture s (record j { begun = b })) (sym is) c
 
 module _ (d : Direction) (x : ℕ) (capture : Capture) (s : State) (j : Joint) (still ahead : List ℕ) (small : x < 256)
@@ -142,7 +203,7 @@ module _ (d : Direction) (x : ℕ) (capture : Capture) (s : State) (j : Joint) (
       let own : OwnStands [] still vs false =
       record { octets = octets_nil; part = refl; all = rest; begun_so = refl; can = can.1 } in
       let next : State = with_stream d (advanced own_now) (record s { course = after_it }) in
-      later_first d (of d x ∷ capture) s (passes_own at v) own_joint last (read, octets, is, refl, refl)
+      later_first d (of d x ∷ capture) s (passes_own at v) own_joint last (read, octets, is, refl, refl) (λ spent. tt)
       (later_octet d (of d x) capture s last
       (subst (λ (t : State). LaterComes d capture t last) (sym (passes_so d x s (whole (written v)) st.own_reads front))
       (on next last refl (own_moved d (advanced own_now) s after_it last still ahead course st.own_reads own
@@ -163,14 +224,8 @@ module _ (d : Direction) (x : ℕ) (capture : Capture) (s : State) (j : Joint) (
 other_begins : (d : Direction) (capture : Capture) (s : State) (held : List ℕ) (j : Joint) →
     LaterComes d capture s (record j { course = begins (other d) held j.course }) → LaterComes d capture s j
 other_begins d capture s [] j c =
-    later_first d capture s begins_other j (record j { course = begins (other d) [] j.course }) refl c
+    later_first d capture s begins_other j (record j { course = begins (other d) [] j.course }) refl (λ spent. tt) c
 other_begins d capture s (o ∷ held) j c = c
-
-spent_passes : (d : Direction) (x : ℕ) (s : State) → (stream_of d s).spent ≡ true →
-    octet_passes (of d x) s ≡ with_stream d (counted 1 (stream_of d s)) s
-spent_passes d x s spent =
-    ap (λ (b : Bool). if b then with_stream d (counted 1 (stream_of d s)) s
-    else looks d (gathered (x ∷ []) (stream_of d s)) (begun d (stream_of d s).held s)) spent
 
 module _ (d : Direction) (x : ℕ) (capture : Capture) (s : State) (j : Joint) (still ahead : List ℕ) (small : x < 256)
     (st : StandsLater d s j still ahead)
@@ -272,6 +327,7 @@ module _ (d : Direction) (x : ℕ) (capture : Capture) (s : State) (j : Joint) (
         } in
         let next : State = with_stream (other d) (advanced other_now) (record s { course = after_it }) in
         later_first d (of (other d) x ∷ capture) s (passes_other other_now.at u units) other_joint last (octets, refl, refl)
+        (λ spent. absurd (let no : true ≡ false = sym spent ∙ reads in cc))
         (later_octet d (of (other d) x) capture s last
         (subst (λ (t : State). LaterComes d capture t last) (sym (passes_so (other d) x s (whole u) reads front))
         (on next last refl (other_moved d (advanced other_now) s after_it last still (ahead ++ x ∷ []) course st.own_reads st.own
@@ -358,7 +414,7 @@ pub later_steps : (d : Direction) (is_caller : Bool) (still ahead : List ℕ) (c
     Follows d still ahead capture turns_left → (deeds : ℕ → Deeds) (s : State) (j : Joint) (end : Holding) → AreOctets capture →
     TurnsOf is_caller deeds j.holding turns_left end → StandsLater d s j still ahead → LaterComes d capture s j
 later_steps d is_caller _ _ _ _ (all_passed still ahead left) deeds s j end octets does st =
-    record { steps = []; last = j; along = refl; all = st.course }
+    record { steps = []; last = j; along = refl; all = st.course; no_more = λ spent. tt }
 later_steps d is_caller _ _ _ _ (own_passes x o all still ahead capture left is front more) deeds s j end octets does st =
     let small : x < 256 = subst IsOctet is octets.0 in
     subst (λ (p : Passed). LaterComes d (p ∷ capture) s j) (sym is)
@@ -374,6 +430,6 @@ later_steps d is_caller _ _ _ _ (other_passes x o still ahead capture left is mo
 later_steps d is_caller _ _ _ _ (turn_taken turn still all ahead capture left is more) deeds s j end octets does st =
     let here = subst (λ (l : List ℕ). StandsLater d s j still l) is st in
     let k = turned d is_caller deeds s j turn does.0 still ahead does.1 does.2 here here.others in
-    later_first d capture s (turns turn) j k.later k.takes
+    later_first d capture s (turns turn) j k.later k.takes (λ spent. tt)
     (later_steps d is_caller (still ++ turn.put) ahead capture left more (all_did deeds does.2.on.more) s k.later end octets
     (subst (λ (h : Holding). TurnsOf is_caller (all_did deeds does.2.on.more) h left end) (sym k.holding) does.3) k.stands)

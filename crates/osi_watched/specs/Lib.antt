@@ -1,6 +1,5 @@
 pub mod Bounded
 pub mod Joint
-pub mod Judging
 pub mod Spoilt
 pub mod Passing
 pub mod Shown

@@ -1,7 +1,10 @@
 -- How an end and a tap go on after the other side has sent what can't be read.
-use Rattle.std.specs.Prelude.{◌≡◌, ℕ, List, [], ◌∷◌, ◌++◌}
+use Rattle.std.specs.Prelude.{◌≡◌, ◌⊎◌, ℕ, List, [], ◌∷◌, ◌++◌, Result, Ok, Err}
+use Rattle.std.specs.List.{AllByRecursion}
 use Rattle.osi_tpkt.specs.Octets.{IsOctets}
 use Rattle.osi_tpdu.specs.Packet.{units_of}
+use Rattle.osi_tpdu.specs.Value.{Value}
+use Rattle.osi_tpdu.specs.declared.faults.TpduFault.{TpduFault}
 use Rattle.osi_judge.specs.declared.directions.Direction.{Direction}
 use Rattle.osi_judge.specs.Captures.{Capture, other}
 use Rattle.osi_fair.specs.Pieces.{units_by, units_in}
@@ -24,12 +27,23 @@ LaterSteps d begins_other old new = Steps d begins_other old new
 LaterSteps d (passes_other at packet units) old new = IsOctets packet × (units_by (units_of packet) ≡ units)
     × (new ≡ record old { course = units_pass (other d) at units old.course; coming = old.coming ++ packet ∷ [] })
 
+-- it is no packet of the other side that passes
+abbrev pub IsNoPacket : Step → Type 0
+IsNoPacket (passes_other at packet units) = ⊥
+IsNoPacket step = Unit {0}
+
+-- the units of a packet can't be read
+abbrev pub IsUnread : Result (List Value) TpduFault → Type 0
+IsUnread (Ok units) = ⊥
+IsUnread (Err fault) = Unit {0}
+
 -- one after the other
 abbrev pub LaterAlong : Direction → Joint → List Step → Joint → Type 0
 LaterAlong d old [] new = new ≡ old
 LaterAlong d old (step ∷ steps) new = (mid : Joint) × LaterSteps d step old mid × LaterAlong d mid steps new
 
--- After this the other side sends what can't be read, and then the capture comes to what these steps come to.
+-- After this the other side sends what can't be read, a packet, or octets with which none begins, so that none passes any more. And then
+-- the capture comes to what these steps come to.
 pub record GoesOn (d : Direction) (capture : Capture) (last : Joint) : Type 0 where
   pub at : ℕ
   pub cause : Cause
@@ -39,3 +53,5 @@ pub record GoesOn (d : Direction) (capture : Capture) (last : Joint) : Type 0 wh
   pub end : Joint
   pub along : LaterAlong d (spoilt d at cause packets last) steps end
   pub all : (comes_to capture).course ≡ end.course
+  pub how : ((packet : List ℕ) × (packets ≡ packet ∷ []) × IsUnread (units_of packet))
+      ⊎ ((packets ≡ []) × AllByRecursion IsNoPacket steps)

@@ -100,7 +100,7 @@ module _ (known : Known) (is_caller : Bool) where
       (λ after w. subst (Steps is_caller (CourseAll is_caller) after mid.carrier) (sym (packet_is e u))
       (attended known is_caller after mid w))
 
-  takes_steps : (packets : List (List ℕ)) (moves : ℕ → Deeds) (old new : End) → AllByRecursion IsOctets packets → Between old →
+  pub takes_steps : (packets : List (List ℕ)) (moves : ℕ → Deeds) (old new : End) → AllByRecursion IsOctets packets → Between old →
       Courses moves old → TakesPackets old packets new → CourseSteps (units_in packets) moves old new
   takes_steps [] moves old new octets b course takes =
       subst (CourseSteps [] moves old) (sym takes)

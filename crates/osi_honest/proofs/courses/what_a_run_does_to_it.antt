@@ -63,7 +63,7 @@ user_between call e allowed b = record { sound = user_sound call e allowed b.sou
     user_attended (disconnecting q) e allowed h = disconnect_attended q e h
     user_attended breaking e allowed h = breaks_attended e h
 
-act_between : (act : Act) (old new : Holding) → Between old.end → Acts old act new → Between new.end
+pub act_between : (act : Act) (old new : Holding) → Between old.end → Acts old act new → Between new.end
 act_between (serving call) old new b acts = call_between call old new b acts
 act_between (using call) old new b acts =
     subst (λ (x : Holding). Between x.end) (sym acts.3) (user_between call old.end acts.1 b)

@@ -33,7 +33,7 @@ use Rattle.osi_watched.proofs.sessions.what_the_stage_of_a_calling_end_says.{IsD
 
 -- ---- what it has put
 
-class_by : {A : Type 0} (k : Option Class) → k ≡ Some Zero → (k ≡ None) ⊎ (k ≡ Some Two) → A
+pub class_by : {A : Type 0} (k : Option Class) → k ≡ Some Zero → (k ≡ None) ⊎ (k ≡ Some Two) → A
 class_by k h (inl e) = none_some k Zero e h
 class_by k h (inr e) = zero_two k h e
 

@@ -19,10 +19,9 @@ use Rattle.osi_tap.specs.Blaming.{IsToBlame}
 use Rattle.osi_tap.specs.Connections.{Joined}
 use Rattle.osi_tap.specs.Courses.{Course}
 use Rattle.osi_tap.specs.Tapping.{comes_to}
-use Rattle.osi_watched.specs.Judging.{IsJudgedWhole}
 use Rattle.osi_watched.specs.Passing.{AreOctets}
 use Rattle.osi_watched.proofs.a_capture_is_steps.{capture_steps}
-use Rattle.osi_watched.proofs.in_class_0_one_side_alone_is_judged.{JudgesLess}
+use Rattle.osi_watched.proofs.in_class_0_one_side_alone_is_judged.{IsLoose}
 use Rattle.osi_watched.proofs.no_unit_of_a_whole_end_is_a_break.{called_is_fair, called_is_fair_in_class_0, calling_is_fair}
 use Rattle.osi_watched.proofs.no_unit_of_a_whole_end_is_a_break.{calling_is_fair_in_class_0}
 use Rattle.osi_watched.proofs.small_facts_that_many_lemmas_use.{zero_two}
@@ -32,6 +31,7 @@ use Rattle.osi_watched.proofs.sessions.a_calling_end_stands_until_class_2.{Stand
 use Rattle.osi_watched.proofs.sessions.a_calling_end_without_class_2_puts_no_dt.{calling_puts_none}
 use Rattle.osi_watched.proofs.sessions.after_too_many_nobody_is_to_blame.{NoneIsToBlame}
 use Rattle.osi_watched.proofs.sessions.an_end_that_has_said_nothing_is_not_to_blame.{HasSaidNothing, mute_keeps}
+use Rattle.osi_watched.proofs.sessions.an_end_of_class_0_has_begun_what_a_tap_has_joined.{barred_begun, called_begun, calling_begun}
 use Rattle.osi_watched.proofs.sessions.no_called_end_is_blamed_first_in_class_0.{called_early_keeps}
 use Rattle.osi_watched.proofs.sessions.no_calling_end_is_blamed_first_in_class_0.{early_keeps}
 use Rattle.osi_watched.proofs.sessions.no_session_of_a_called_end_breaks_first.{StandsOrSelected, called_keeps}
@@ -48,14 +48,14 @@ module _ (known : Known) (known_of : AsSent) (parts : AsParts) (caller : CallerL
   abbrev selected : Option Class
   selected = course.traffic.course.class
 
-  -- all is judged, or nothing any more
-  pub record IsAssumed (d : Direction) : Type 0 where
+  -- each connection is judged, or nothing is judged any more
+  pub record IsAssumed : Type 0 where
     pub few : length course.past < 2 ^ 64
-    pub whole : IsJudgedWhole d course
+    pub firm : course.traffic.course.loose ≡ false
 
-  -- nobody is to blame, or less is judged
+  -- nobody is to blame, or a connection has lost its judgement
   abbrev EndsWell : Direction → Type 0
-  EndsWell d = NoneIsToBlame d course.sessions ⊎ JudgesLess d course
+  EndsWell d = NoneIsToBlame d course.sessions ⊎ IsLoose course
 
   -- ---- in class 0, and while it is not selected
 
@@ -65,37 +65,40 @@ module _ (known : Known) (known_of : AsSent) (parts : AsParts) (caller : CallerL
       where
         in_zero : selected ≡ Some Zero → EndsWell Right
         in_zero zero =
-            ends_well known.proper Two Right local (called_is_fair local) (called_is_fair_in_class_0 local)
+            ends_well known Two Right local (called_is_fair local) (called_is_fair_in_class_0 local)
             (StandsCalledUntilTwo local known.proper)
-            (called_early_keeps local known.proper known_of parts caller called) begin capture fresh comes
+            (called_early_keeps local known.proper known_of parts caller called) (called_begun local known.proper) begin capture fresh comes
             (record { not = λ two. zero_two selected zero two; few = few })
 
         without : (selected ≡ Some Zero → ⊥) → EndsWell Right
         without not =
-            ends_well known.proper Zero Right local (called_is_fair local) (called_is_fair_in_class_0 local)
+            ends_well known Zero Right local (called_is_fair local) (called_is_fair_in_class_0 local)
             (StandsOrSelected local known.proper)
             (unless_zero Right local (StandsOrSelected local known.proper)
-            (called_keeps local known.proper known_of parts caller called)) begin capture fresh comes (record { not = not; few = few })
+            (called_keeps local known.proper known_of parts caller called))
+            (barred_begun Right (StandsOrSelected local known.proper)) begin capture fresh comes (record { not = not; few = few })
 
     calling_ends : IsFresh true local begin → ComesByDoing Left true capture begin → EndsWell Left
     calling_ends fresh comes = zero_by selected in_zero (λ not. without not local.class2 refl)
       where
         in_zero : selected ≡ Some Zero → EndsWell Left
         in_zero zero =
-            ends_well known.proper Two Left local (calling_is_fair local) (calling_is_fair_in_class_0 local) (StandsUntilTwo local)
-            (early_keeps local known.proper known_of parts caller called) begin capture fresh comes
+            ends_well known Two Left local (calling_is_fair local) (calling_is_fair_in_class_0 local) (StandsUntilTwo local)
+            (early_keeps local known.proper known_of parts caller called) (calling_begun local) begin capture fresh comes
             (record { not = λ two. zero_two selected zero two; few = few })
 
         without : (selected ≡ Some Zero → ⊥) → (b : Bool) → local.class2 ≡ b → EndsWell Left
         without not true two =
-            ends_well known.proper Zero Left local (calling_is_fair local) (calling_is_fair_in_class_0 local)
+            ends_well known Zero Left local (calling_is_fair local) (calling_is_fair_in_class_0 local)
             (StandsQuiet local two known.proper)
             (unless_zero Left local (StandsQuiet local two known.proper)
-            (calling_keeps local two known.proper known_of parts caller called)) begin capture fresh comes
+            (calling_keeps local two known.proper known_of parts caller called))
+            (barred_begun Left (StandsQuiet local two known.proper)) begin capture fresh comes
             (record { not = not; few = few })
         without not false none =
-            ends_well known.proper Zero Left local (calling_is_fair local) (calling_is_fair_in_class_0 local) (HasSaidNothing Left local)
-            (unless_zero Left local (HasSaidNothing Left local) (mute_keeps known.proper Left local (calling_puts_none local none))) begin
+            ends_well known Zero Left local (calling_is_fair local) (calling_is_fair_in_class_0 local) (HasSaidNothing Left local)
+            (unless_zero Left local (HasSaidNothing Left local) (mute_keeps known.proper Left local (calling_puts_none local none)))
+            (barred_begun Left (HasSaidNothing Left local)) begin
             capture fresh comes (record { not = not; few = few })
 
   -- ---- so nobody is to blame
@@ -106,17 +109,17 @@ module _ (known : Known) (known_of : AsSent) (parts : AsParts) (caller : CallerL
   among d i j nobody (inr here) blame = nobody.done i j here blame
 
   pub called_later : (begin end : Holding) (turns : List Turn) (i : ℕ) (j : Joined) → IsFresh false local begin → Run begin turns end →
-      AreOctets capture → IsSeen Right turns capture → IsAssumed Right →
+      AreOctets capture → IsSeen Right turns capture → IsAssumed →
       (slice_get course.sessions.live i ≡ Some j) ⊎ (slice_get course.sessions.done i ≡ Some j) → IsToBlame Right j → ⊥
   called_later begin end turns i j fresh run octets seen h there =
       among Right i j
       (nobody_of_well Right course
-      (called_ends h.few begin fresh (capture_steps known Right false local begin end turns capture fresh run octets seen)) h.whole) there
+      (called_ends h.few begin fresh (capture_steps known Right false local begin end turns capture fresh run octets seen)) h.firm) there
 
   pub calling_later : (begin end : Holding) (turns : List Turn) (i : ℕ) (j : Joined) → IsFresh true local begin → Run begin turns end →
-      AreOctets capture → IsSeen Left turns capture → IsAssumed Left →
+      AreOctets capture → IsSeen Left turns capture → IsAssumed →
       (slice_get course.sessions.live i ≡ Some j) ⊎ (slice_get course.sessions.done i ≡ Some j) → IsToBlame Left j → ⊥
   calling_later begin end turns i j fresh run octets seen h there =
       among Left i j
       (nobody_of_well Left course
-      (calling_ends h.few begin fresh (capture_steps known Left true local begin end turns capture fresh run octets seen)) h.whole) there
+      (calling_ends h.few begin fresh (capture_steps known Left true local begin end turns capture fresh run octets seen)) h.firm) there

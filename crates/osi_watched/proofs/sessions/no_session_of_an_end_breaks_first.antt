@@ -152,7 +152,7 @@ class_bad k false d at cause c h =
     ap (λ (s : Traffic). s.course.class) (marked_traffic (unread_mark d at cause) (traffic.refused_reach (way_of d) c.traffic) _)
     ∙ class_stays k (rubbish (way_of d)) c.traffic h
 
-class_claim : (k : Class) → IsClaim (λ c. c.traffic.course.class ≡ Some k)
+pub class_claim : (k : Class) → IsClaim (λ c. c.traffic.course.class ≡ Some k)
 class_claim k = record {
   begins = λ d c h. class_stays k (packet (way_of d)) c.traffic h;
   passes = λ d at v c h.
@@ -171,7 +171,7 @@ long_bad n false d at cause c h =
     omega (arith, same, more, h)
 
 -- no moment is lost
-long_claim : (n : ℕ) → IsClaim (λ c. n ≤ length c.past)
+pub long_claim : (n : ℕ) → IsClaim (λ c. n ≤ length c.past)
 long_claim n = record {
   begins = λ d c h. h;
   passes = λ d at v c h.

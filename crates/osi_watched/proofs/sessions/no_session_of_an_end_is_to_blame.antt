@@ -1,28 +1,36 @@
 -- No session of an end is to blame, also after breaks of the other side that a taker passes over, if something holds at each step by which
 -- nobody of the end is to blame, as long as all is judged and one class is not selected.
 -- For the law that no session of an end is blamed after such a break.
-use Rattle.std.proofs.Common.{◌≡◌, ◌∙◌, ◌⊎◌, inl, inr, refl, sym, ap, subst, ℕ, ◌^◌, ◌<◌, Bool, true, false}
-use Rattle.std.proofs.Common.{List, [], ◌∷◌, ◌++◌, length, Some, append_assoc, arith}
+use Rattle.std.proofs.Common.{◌≡◌, ◌∙◌, ◌⊎◌, inl, inr, refl, sym, ap, subst, ℕ, ◌^◌, ◌<◌, Bool, true, false, Ok}
+use Rattle.std.proofs.Common.{List, [], ◌∷◌, ◌++◌, length, Option, Some, None, append_assoc, arith}
 use Rattle.std.specs.Prelude.{slice_get}
+use Rattle.std.specs.List.{AllByRecursion}
 use Rattle.std.proofs.lemmas.List.{append-nil}
+use Rattle.osi_tpdu.specs.Packet.{units_of}
 use Rattle.osi_tpdu.specs.Value.{Value}
 use Rattle.osi_class.specs.declared.terms.Class.{Class}
-use Rattle.osi_class.specs.declared.terms.Class.TheVariants.{Zero}
+use Rattle.osi_class.specs.declared.terms.Class.TheVariants.{Two, Zero}
 use Rattle.osi_class.specs.declared.terms.Local.{Local}
 use Rattle.osi_judge.specs.Captures.{Capture, other}
 use Rattle.osi_judge.specs.declared.directions.Direction.{Direction}
+use Rattle.osi_judge.specs.declared.directions.Direction.TheVariants.{Left, Right}
 use Rattle.osi_rules.specs.declared.findings.Finding.{Finding}
 use Rattle.osi_rules.specs.declared.findings.Finding.TheVariants.{Broke, Kept, NotJudged, Outside, TooMany}
+use Rattle.osi_rules.specs.declared.findings.Reach.{Reach}
+use Rattle.osi_rules.specs.declared.findings.Reach.TheVariants as reach
 use Rattle.osi_rules.specs.declared.findings.Rule.TheVariants as rule
-use Rattle.osi_rules.specs.Reaches.{is_applied, reach_of}
+use Rattle.osi_rules.specs.Reaches.{is_applied, reach_by, reach_of}
 use Rattle.osi_rules.specs.Traffic.{class_for, is_stopped, takes}
+use Rattle.osi_fair.specs.Pieces.{units_in}
 use Rattle.osi_fair.specs.Wholes as wholes
 use Rattle.osi_stack.specs.State.{End, Holding}
 use Rattle.osi_honest.specs.Courses.{Course, Deeds, all_did, no_deeds}
 use Rattle.osi_honest.specs.Seeing.{IsFresh}
 use Rattle.osi_honest.specs.Turns.{Turn}
 use Rattle.osi_honest.proofs.class_0.what_a_packet_does_in_class_0.{AllProper}
+use Rattle.osi_honest.proofs.courses.an_end_is_sound_between_turns.{fresh_sane}
 use Rattle.osi_honest.proofs.courses.what_a_run_does_to_it.{fresh_course}
+use Rattle.osi_honest.proofs.courses.what_sessions_hear_of_it.{Known}
 use Rattle.osi_tap.specs.declared.marks.Cause.{Cause}
 use Rattle.osi_tap.specs.Connections.{Joined, spoken}
 use Rattle.osi_tap.specs.Courses.{Course as Passed}
@@ -32,29 +40,34 @@ use Rattle.osi_tap.specs.Tapping as tapping
 use Rattle.osi_tap.specs.Tapping.{after, comes_to}
 use Rattle.osi_watched.specs.Joint.{Joint, Step, Steps, StepsAlong, TakesTurn, begin, begins_other, begins_own, passes_other, passes_own}
 use Rattle.osi_watched.specs.Joint.{turns}
-use Rattle.osi_watched.specs.Judging.{IsJudgedWhole}
 use Rattle.osi_watched.specs.Passing.{TurnsBad}
-use Rattle.osi_watched.specs.Spoilt.{GoesOn, LaterAlong, spoilt}
-use Rattle.osi_fair.specs.Pieces.{units_in}
 use Rattle.osi_watched.specs.Shown.{calls_from}
-use Rattle.osi_watched.proofs.a_break_ends_no_judging_or_all.{all_ends, begins_judged, none_ends, nothing_ends}
-use Rattle.osi_watched.proofs.a_break_ends_no_judging_or_all.{reach_so, still_over}
+use Rattle.osi_watched.specs.Spoilt.{GoesOn, IsNoPacket, IsUnread, LaterAlong, spoilt}
+use Rattle.osi_watched.proofs.a_break_ends_no_judging_or_all.{all_ends, loose_so, none_ends, nothing_ends, reach_so, still_over}
 use Rattle.osi_watched.proofs.a_break_ends_no_judging_or_all.{unread_sessions}
-use Rattle.osi_watched.proofs.an_end_that_is_judged_alone_stays_so.{StandsLess, later_kept, later_less, step_less}
-use Rattle.osi_watched.proofs.in_class_0_one_side_alone_is_judged.{AfterUnread, JudgesLess, all_over, alone, hard_less, less_others}
-use Rattle.osi_watched.proofs.in_class_0_one_side_alone_is_judged.{less_unread, unread_alone}
-use Rattle.osi_watched.proofs.later_steps_are_events.{spoilt_followed}
+use Rattle.osi_watched.proofs.an_end_that_is_judged_alone_stays_so.{later_kept}
+use Rattle.osi_watched.proofs.in_class_0_one_side_alone_is_judged.{AfterUnread, IsAlone, IsLoose, all_over, alone as is_alone_then}
+use Rattle.osi_watched.proofs.in_class_0_one_side_alone_is_judged.{loose_claim, refused_over_so as unread_ends, unit_alone}
+use Rattle.osi_watched.proofs.in_class_0_one_side_alone_is_judged.{unread_alone, unread_is}
 use Rattle.osi_watched.proofs.steps_are_events.{IsFollowed, begin_followed, step_followed}
 use Rattle.osi_watched.proofs.the_first_break_is_not_of_an_end.{IsFairAlone, IsFairFrom}
-use Rattle.osi_watched.proofs.what_a_taker_passes_over.{IsMild, Sort, is_hard, is_mild, is_shut, mild_reach, sort_of}
+use Rattle.osi_watched.proofs.what_a_taker_passes_over.{IsMild, Sort, is_hard as is_broken, is_mild, is_shut, mild_reach, sort_of}
 use Rattle.osi_watched.proofs.what_a_unit_leaves_at_a_tap.{IsJudged, IsOver, begins_over, unread_over}
+use Rattle.osi_watched.proofs.what_is_halted_stays_halted.{unread_same}
 use Rattle.osi_watched.proofs.what_passes_keeps_a_claim.{IsClaim, after_join, step_kept, units_kept}
 use Rattle.osi_watched.proofs.what_the_turns_among_steps_do.{ComesByDoing, IsOfTap, StepsDo, TurnDoes}
+use Rattle.osi_watched.proofs.sessions.a_break_in_class_0_leaves_an_end_alone.{Kind, kind_of, later_alone}
+use Rattle.osi_watched.proofs.sessions.a_break_in_class_0_leaves_an_end_alone.{octets_begin_alone, packet_begins_alone, spoilt_alone}
+use Rattle.osi_watched.proofs.sessions.a_break_in_class_0_leaves_an_end_alone.{step_alone, unit_begins}
+use Rattle.osi_watched.proofs.sessions.a_tap_counts_what_it_has_joined_of_a_tsdu.{fresh_counted}
 use Rattle.osi_watched.proofs.sessions.a_unit_after_a_dr_changes_nothing.{IsAfterDr, after_dr}
 use Rattle.osi_watched.proofs.sessions.after_too_many_nobody_is_to_blame.{NoneIsToBlame, none_begins, over_joins}
+use Rattle.osi_watched.proofs.sessions.an_end_beside_a_tap_that_judges_all.{Goes, other_begins_goes, other_goes, own_begins_goes}
+use Rattle.osi_watched.proofs.sessions.an_end_beside_a_tap_that_judges_all.{own_goes, turn_goes}
+use Rattle.osi_watched.proofs.sessions.an_end_goes_on_as_if_no_break_had_come.{IsAsWithout, none_alone}
+use Rattle.osi_watched.proofs.sessions.an_end_of_class_0_has_begun_what_a_tap_has_joined.{HasBegun}
 use Rattle.osi_watched.proofs.sessions.each_step_leaves_class_0_one_connection.{Sure, fresh_sure, sure_claim}
-use Rattle.osi_watched.proofs.sessions.no_more_tsdus_than_moments_have_passed.{AreFew, few_claim}
-use Rattle.osi_watched.proofs.sessions.no_session_of_an_end_breaks_first.{ArePassed, HaveCourses, IsWithout, KeepsUnless}
+use Rattle.osi_watched.proofs.sessions.no_session_of_an_end_breaks_first.{ArePassed, HaveCourses, IsWithout, KeepsUnless, class_claim}
 use Rattle.osi_watched.proofs.sessions.no_session_of_an_end_breaks_first.{after_without, firm_so, goes_so, own_right, passed_then}
 use Rattle.osi_watched.proofs.sessions.no_session_of_an_end_breaks_first.{step_without, units_join, units_not, unread_without}
 use Rattle.osi_watched.proofs.sessions.steps_of_either_class_leave_all_standing.{IsRight}
@@ -77,6 +90,13 @@ done_claim d = record {
   bad = λ e at k c h. subst (IsDone d) (sym (unread_over e at k c h.over)) h;
 }
 
+not_both : (b : Bool) → b ≡ true → b ≡ false → ⊥
+not_both b h k = cc
+
+own_stopped : (d : Direction) (c : Passed) → IsOver c → is_stopped (way_of d) c.traffic.course ≡ true
+own_stopped Left c o = o.left
+own_stopped Right c o = o.right
+
 -- ---- one connection too many, or not
 
 many_or : (f : Finding) → (f ≡ TooMany) ⊎ (f ≡ TooMany → ⊥)
@@ -91,33 +111,41 @@ not_many closed many = let no : Broke rule.Closed ≡ TooMany = sym closed ∙ m
 
 -- ---- the steps
 
-module _ (proper : AllProper) (barred : Class) (d : Direction) (local : Local)
+module _ (known : Known) (barred : Class) (d : Direction) (local : Local)
     (fair : IsFairFrom (way_of d) (wholes.begin (calls_from d) local))
     (fair_alone : IsFairAlone (way_of d) (wholes.begin (calls_from d) local)) (Inv : (ℕ → Deeds) → Joint → Type 0)
-    (k : KeepsUnless barred d local Inv) where
+    (k : KeepsUnless barred d local Inv) (has_begun : HasBegun barred d Inv) where
+  abbrev proper : AllProper
+  proper = known.proper
+
   -- all that passes is judged
-  record Goes (deeds : ℕ → Deeds) (j : Joint) : Type 0 where
-    judged : IsJudged j.course
-    holds : Inv deeds j
-    courses : HaveCourses d deeds j
-    followed : IsFollowed d (wholes.begin (calls_from d) local) j
-    few : AreFew (other d) j.course
-    sure : Sure j.course
+  abbrev Judging : (ℕ → Deeds) → Joint → Type 0
+  Judging deeds j = Goes proper barred d local Inv k deeds j
+
+  -- or it goes on as if no break had come
+  abbrev GoesWithout : Bool → Joint → Type 0
+  GoesWithout ends j = IsAsWithout known barred d local fair fair_alone Inv k has_begun ends j
 
   data Stays (deeds : ℕ → Deeds) (j : Joint) : Type 0 where
-    goes : Goes deeds j → Stays deeds j
+    goes : Judging deeds j → Stays deeds j
     ended : IsDone d j.course → Stays deeds j
-    lost : StandsLess d proper (calls_from d) local fair_alone j → Stays deeds j
+    lost : IsLoose j.course → Stays deeds j
+    alone : GoesWithout false j → Stays deeds j
 
   -- ---- a packet of the other side
 
   data Passing (at : ℕ) (vs : List Value) (c : Passed) : Type 0 where
     all_taken : ArePassed barred d at vs c → IsJudged (units_pass (other d) at vs c) → Passing at vs c
     then_done : IsDone d (units_pass (other d) at vs c) → Passing at vs c
-    then_lost : JudgesLess d (units_pass (other d) at vs c) → Passing at vs c
+    then_lost : IsLoose (units_pass (other d) at vs c) → Passing at vs c
+    then_alone : (front back : List Value) (v : Value) → vs ≡ front ++ v ∷ back → ArePassed barred d at front c →
+        IsJudged (units_pass (other d) at front c) →
+        is_applied (takes (way_of (other d)) v (units_pass (other d) at front c).traffic).told.finding ≡ false →
+        (takes (way_of (other d)) v (units_pass (other d) at front c).traffic).told.reach ≡ reach.Side →
+        IsAlone d (unit_passes (other d) at v (units_pass (other d) at front c)) → Kind v → Passing at vs c
 
   module _ (deeds : ℕ → Deeds) (at : ℕ) (octets : List ℕ) (units : List Value) (old new : Joint)
-      (step : Steps d (passes_other at octets units) old new) (g : Goes deeds old)
+      (step : Steps d (passes_other at octets units) old new) (g : Judging deeds old)
       (not : (units_pass (other d) at units old.course).traffic.course.class ≡ Some barred → ⊥) where
     abbrev After : List Value → Passed
     After front = units_pass (other d) at front old.course
@@ -158,7 +186,8 @@ module _ (proper : AllProper) (barred : Class) (d : Direction) (local : Local)
       data One : Type 0 where
         goes_on : AllSoFar (front ++ v ∷ []) → One
         is_done : IsDone d next → One
-        is_lost : JudgesLess d next → One
+        is_lost : IsLoose next → One
+        is_alone : is_applied found ≡ false → (takes (way_of (other d)) v c.traffic).told.reach ≡ reach.Side → IsAlone d next → One
 
       nobody : NoneIsToBlame d c.sessions
       nobody = blameless front (v ∷ back) is so.taken
@@ -203,16 +232,21 @@ module _ (proper : AllProper) (barred : Class) (d : Direction) (local : Local)
                 ((reach_so (other d) at v c).far ∙ ap (reach_of (class_for (way_of (other d)) c.traffic.course)) after.closed) so.judged);
           })
 
-      by_hard : is_applied found ≡ false → IsOver next ⊎ JudgesLess d next → One
-      by_hard unapplied (inl o) = is_done (record { over = o; none = none_joined unapplied })
-      by_hard unapplied (inr p) = is_lost p
+      by_reach : is_applied found ≡ false → (r : Reach) → (takes (way_of (other d)) v c.traffic).told.reach ≡ r →
+          (r ≡ reach.Nothing → ⊥) → One
+      by_reach unapplied reach.Nothing reaches less = absurd (less refl)
+      by_reach unapplied reach.Connection reaches less = is_lost (loose_so (other d) at v c reach.Connection reaches)
+      by_reach unapplied reach.Side reaches less =
+          is_alone unapplied reaches (unit_alone d at v c so.judged (is_sure.agrees Zero) reaches)
+      by_reach unapplied reach.Everything reaches less =
+          is_done (record { over = all_ends (other d) at v c reaches; none = none_joined unapplied })
 
       one_by : Sort v found → One
       one_by (is_mild m) = by_mild m (many_or found)
       one_by (is_shut closed other_unit) = by_after (after_dr (other d) v c closed other_unit)
-      one_by (is_hard unapplied less) =
-          by_hard unapplied (hard_less d at v c so.judged (is_sure.agrees Zero)
-          (λ none. less (class_for (way_of (other d)) c.traffic.course) (sym (reach_so (other d) at v c).far ∙ none)))
+      one_by (is_broken unapplied less) =
+          by_reach unapplied (takes (way_of (other d)) v c.traffic).told.reach refl
+          (λ none. less (class_for (way_of (other d)) c.traffic.course) (sym (reach_so (other d) at v c).far ∙ none))
 
       all_join : After units ≡ units_pass (other d) at back next
       all_join = ap After is ∙ units_join (other d) at front (v ∷ back) old.course
@@ -222,7 +256,8 @@ module _ (proper : AllProper) (barred : Class) (d : Direction) (local : Local)
       then_rest (is_done s) rest =
           then_done (subst (IsDone d) (sym all_join) (units_kept (IsDone d) (done_claim d) (other d) at back next s))
       then_rest (is_lost b) rest =
-          then_lost (subst (JudgesLess d) (sym all_join) (less_others d at back next b))
+          then_lost (subst IsLoose (sym all_join) (units_kept IsLoose loose_claim (other d) at back next b))
+      then_rest (is_alone unapplied side a) rest = then_alone front back v is so.taken so.judged unapplied side a (kind_of v)
 
     pass_on : (back front : List Value) → units ≡ front ++ back → AllSoFar front → Passing at units old.course
     pass_on [] front is so =
@@ -238,23 +273,26 @@ module _ (proper : AllProper) (barred : Class) (d : Direction) (local : Local)
     same = ap (λ (j : Joint). j.course) step.2
 
     other_by : Passing at units old.course → Stays deeds new
-    other_by (all_taken taken judged) = goes (record {
-      judged = subst IsJudged (sym same) judged;
-      holds = k.other_passes deeds at octets units old new step taken g.holds;
-      courses = subst (HaveCourses d deeds) (sym step.2) g.courses;
-      followed = step_followed d (wholes.begin (calls_from d) local) proper (passes_other at octets units) old new step g.followed;
-      few = step_kept (AreFew (other d)) (few_claim (other d)) d (passes_other at octets units) old new step g.few;
-      sure = step_kept Sure sure_claim d (passes_other at octets units) old new step g.sure;
-    })
+    other_by (all_taken taken judged) = goes (other_goes proper barred d local Inv k deeds at octets units old new step g taken judged)
     other_by (then_done s) = ended (subst (IsDone d) (sym same) s)
-    other_by (then_lost b) = lost (record {
-      followed = step_followed d (wholes.begin (calls_from d) local) proper (passes_other at octets units) old new step g.followed;
-      less = subst (JudgesLess d) (sym same) b;
-    })
+    other_by (then_lost b) = lost (subst IsLoose (sym same) b)
+    other_by (then_alone front back v is taken judged unapplied side a kind) =
+        let read : units_of octets ≡ Ok (front ++ v ∷ back) = step.1 ∙ ap (λ (l : List Value). Ok l) is in
+        let new_is : new ≡ record old {
+          course = units_pass (other d) at (front ++ v ∷ back) old.course;
+          coming = old.coming ++ octets ∷ [];
+        } = step.2 ∙ ap (λ (l : List Value). record old {
+          course = units_pass (other d) at l old.course;
+          coming = old.coming ++ octets ∷ [];
+        }) is in
+        let f = step_followed d (wholes.begin (calls_from d) local) proper (passes_other at octets units) old new step g.followed in
+        alone (subst (GoesWithout false) (sym new_is)
+        (unit_begins known barred d local fair fair_alone Inv k has_begun deeds at octets front back v old g step.0 read taken judged
+        unapplied side a kind (subst (IsFollowed d (wholes.begin (calls_from d) local)) new_is f)))
 
   -- ---- a unit of the end
 
-  own_so : (deeds : ℕ → Deeds) (at : ℕ) (v : Value) (old new : Joint) → Steps d (passes_own at v) old new → Goes deeds old →
+  own_so : (deeds : ℕ → Deeds) (at : ℕ) (v : Value) (old new : Joint) → Steps d (passes_own at v) old new → Judging deeds old →
       (old.course.traffic.course.class ≡ Some barred → ⊥) → (new.course.traffic.course.class ≡ Some barred → ⊥) → Stays deeds new
   own_so deeds at v old new step g was_not not = by (none_ends d at v old.course right.none g.judged)
     where
@@ -264,72 +302,35 @@ module _ (proper : AllProper) (barred : Class) (d : Direction) (local : Local)
       holds : Inv deeds new
       holds = k.own_passes deeds at v old new step right (firm_so old.course g.judged) g.sure was_not not g.holds
 
-      courses : HaveCourses d deeds new
-      courses = subst (HaveCourses d deeds) (sym step.4) g.courses
-
       now : new.course ≡ unit_passes d at v old.course
       now = ap (λ (j : Joint). j.course) step.4
 
       by : IsJudged (unit_passes d at v old.course) ⊎ IsOver (unit_passes d at v old.course) → Stays deeds new
-      by (inl j) = goes (record {
-        judged = subst IsJudged (sym now) j;
-        holds = holds;
-        courses = courses;
-        followed = step_followed d (wholes.begin (calls_from d) local) proper (passes_own at v) old new step g.followed;
-        few = step_kept (AreFew (other d)) (few_claim (other d)) d (passes_own at v) old new step g.few;
-        sure = step_kept Sure sure_claim d (passes_own at v) old new step g.sure;
+      by (inl j) = goes (own_goes proper barred d local Inv k deeds at v old new step g right was_not not (subst IsJudged (sym now) j))
+      by (inr o) = ended (record {
+        over = subst IsOver (sym now) o;
+        none = k.none deeds new (subst (HaveCourses d deeds) (sym step.4) g.courses) holds;
       })
-      by (inr o) = ended (record { over = subst IsOver (sym now) o; none = k.none deeds new courses holds })
 
   -- ---- each step
 
-  few_so : (deeds : ℕ → Deeds) (old : Joint) → Goes deeds old → IsWithout barred old.course → (i : ℕ) (j : Joined) →
+  few_so : (deeds : ℕ → Deeds) (old : Joint) → Judging deeds old → IsWithout barred old.course → (i : ℕ) (j : Joined) →
       slice_get old.course.sessions.live i ≡ Some j → length (heard (spoken (other d) j)) < 2 ^ 64
   few_so deeds old g within i j here = let most = g.few i j here in let few = within.few in omega (arith, most, few)
 
-  -- nothing passes
-  still_goes : (deeds then_deeds : ℕ → Deeds) (step : Step) (old new : Joint) → Steps d step old new → Goes deeds old →
-      IsJudged new.course → Inv then_deeds new → HaveCourses d then_deeds new → Stays then_deeds new
-  still_goes deeds then_deeds step old new does g judged holds courses = goes (record {
-    judged = judged;
-    holds = holds;
-    courses = courses;
-    followed = step_followed d (wholes.begin (calls_from d) local) proper step old new does g.followed;
-    few = step_kept (AreFew (other d)) (few_claim (other d)) d step old new does g.few;
-    sure = step_kept Sure sure_claim d step old new does g.sure;
-  })
-
   turn_so : (turn : Turn) (old new : Joint) (t : TakesTurn turn old new) (deeds : ℕ → Deeds)
-      (does : TurnDoes (calls_from d) deeds turn old new t) → Goes deeds old → IsWithout barred old.course →
+      (does : TurnDoes (calls_from d) deeds turn old new t) → Judging deeds old → IsWithout barred old.course →
       Stays (all_did deeds does.of.on.more) new
-  turn_so turn old new t deeds does g within =
-      still_goes deeds (all_did deeds does.of.on.more) (turns turn) old new t g (subst IsJudged (sym t.course) g.judged)
-      (k.turn turn old new t deeds does g.followed
-      (step_followed d (wholes.begin (calls_from d) local) proper (turns turn) old new t g.followed)
-      (firm_so old.course g.judged) within.not g.holds)
-      does.of.on.course
-
-  own_begins_so : (old new : Joint) → Steps d begins_own old new → IsWithout barred old.course → (deeds : ℕ → Deeds) → Goes deeds old →
-      Stays deeds new
-  own_begins_so old new step within deeds g =
-      still_goes deeds deeds begins_own old new step g
-      (subst (λ (j : Joint). IsJudged j.course) (sym step.2) (begins_judged d old.course g.judged))
-      (k.own_begins deeds old new step g.courses (few_so deeds old g within) g.holds)
-      (subst (HaveCourses d deeds) (sym step.2) g.courses)
-
-  other_begins_so : (old new : Joint) → Steps d begins_other old new → (deeds : ℕ → Deeds) → Goes deeds old → Stays deeds new
-  other_begins_so old new step deeds g =
-      still_goes deeds deeds begins_other old new step g
-      (subst (λ (j : Joint). IsJudged j.course) (sym step) (begins_judged (other d) old.course g.judged))
-      (k.other_begins deeds old new step g.holds) (subst (HaveCourses d deeds) (sym step) g.courses)
+  turn_so turn old new t deeds does g within = goes (turn_goes proper barred d local Inv k turn old new t deeds does g within.not)
 
   -- what passes
   tap_so : (step : Step) → IsOfTap step → (old new : Joint) → Steps d step old new → IsWithout barred new.course → (deeds : ℕ → Deeds) →
-      Goes deeds old → Stays deeds new
+      Judging deeds old → Stays deeds new
   tap_so (turns turn) tap old new t within deeds g = absurd tap
   tap_so begins_own tap old new step within deeds g =
-      own_begins_so old new step (step_without barred d begins_own old new step within) deeds g
-  tap_so begins_other tap old new step within deeds g = other_begins_so old new step deeds g
+      goes (own_begins_goes proper barred d local Inv k old new step
+      (few_so deeds old g (step_without barred d begins_own old new step within)) deeds g)
+  tap_so begins_other tap old new step within deeds g = goes (other_begins_goes proper barred d local Inv k old new step deeds g)
   tap_so (passes_own at v) tap old new step within deeds g =
       own_so deeds at v old new step g (step_without barred d (passes_own at v) old new step within).not within.not
   tap_so (passes_other at octets units) tap old new step within deeds g =
@@ -337,18 +338,23 @@ module _ (proper : AllProper) (barred : Class) (d : Direction) (local : Local)
       λ is_so. within.not (ap (λ (j : Joint). j.course.traffic.course.class) step.2 ∙ is_so) in
       other_by deeds at octets units old new step g not (passed deeds at octets units old new step g not)
 
+  apart_so : (j : Joint) → IsWithout barred j.course → GoesWithout false j → barred ≡ Zero → ⊥
+  apart_so j within a same = within.not (a.is.alone.zero ∙ ap (λ (x : Class). Some x) (sym same))
+
   -- what is over or lost stays so
-  step_stays : (step : Step) (deeds then_deeds : ℕ → Deeds) (old new : Joint) → Steps d step old new →
-      (Goes deeds old → Stays then_deeds new) → Stays deeds old → Stays then_deeds new
-  step_stays step deeds then_deeds old new does on (goes g) = on g
-  step_stays step deeds then_deeds old new does on (ended s) = ended (step_kept (IsDone d) (done_claim d) d step old new does s)
-  step_stays step deeds then_deeds old new does on (lost b) =
-      lost (step_less d proper (calls_from d) local fair_alone step old new does b)
+  step_stays : (step : Step) (deeds then_deeds : ℕ → Deeds) (old new : Joint) → Steps d step old new → IsWithout barred new.course →
+      (Judging deeds old → Stays then_deeds new) → Stays deeds old → Stays then_deeds new
+  step_stays step deeds then_deeds old new does within on (goes g) = on g
+  step_stays step deeds then_deeds old new does within on (ended s) = ended (step_kept (IsDone d) (done_claim d) d step old new does s)
+  step_stays step deeds then_deeds old new does within on (lost b) = lost (step_kept IsLoose loose_claim d step old new does b)
+  step_stays step deeds then_deeds old new does within on (alone a) =
+      let was = step_without barred d step old new does within in
+      alone (step_alone known barred d local fair fair_alone Inv k has_begun (apart_so old was a) step old new does was.few a)
 
   tap_stays : (step : Step) → IsOfTap step → (deeds : ℕ → Deeds) (old new : Joint) → Steps d step old new → IsWithout barred new.course →
       Stays deeds old → Stays deeds new
   tap_stays step tap deeds old new does within s =
-      step_stays step deeds deeds old new does (λ g. tap_so step tap old new does within deeds g) s
+      step_stays step deeds deeds old new does within (λ g. tap_so step tap old new does within deeds g) s
 
   along_within : (steps : List Step) (old new : Joint) → StepsAlong d old steps new → IsWithout barred new.course →
       IsWithout barred old.course
@@ -364,7 +370,7 @@ module _ (proper : AllProper) (barred : Class) (d : Direction) (local : Local)
   along_so (turns turn ∷ steps) deeds old new (mid, t, more) (does, rest) within s =
       let now = along_within steps mid new more within in
       along_so steps (all_did deeds does.of.on.more) mid new more rest within
-      (step_stays (turns turn) deeds (all_did deeds does.of.on.more) old mid t
+      (step_stays (turns turn) deeds (all_did deeds does.of.on.more) old mid t now
       (λ g. turn_so turn old mid t deeds does g (subst (IsWithout barred) t.course now)) s)
   along_so (begins_own ∷ steps) deeds old new (mid, one, more) does within s =
       along_so steps deeds mid new more does within (tap_stays begins_own tt deeds old mid one (along_within steps mid new more within) s)
@@ -387,45 +393,84 @@ module _ (proper : AllProper) (barred : Class) (d : Direction) (local : Local)
     followed = begin_followed d (calls_from d) local h fresh;
     few = λ i j here. absurd (cc here);
     sure = fresh_sure;
+    counted = fresh_counted;
+    sane = fresh_sane (calls_from d) local h fresh;
+    can = tt;
   })
 
-  -- nobody is to blame, or less is judged
+  -- nobody is to blame, or a connection has lost its judgement
   abbrev pub EndsWell : Passed → Type 0
-  EndsWell c = NoneIsToBlame d c.sessions ⊎ JudgesLess d c
+  EndsWell c = NoneIsToBlame d c.sessions ⊎ IsLoose c
 
   ends_so : (j : Joint) → Stood j → EndsWell j.course
   ends_so j (deeds, goes g) = inl (k.none deeds j g.courses g.holds)
   ends_so j (deeds, ended s) = inl s.none
-  ends_so j (deeds, lost b) = inr b.less
+  ends_so j (deeds, lost b) = inr b
+  ends_so j (deeds, alone a) = inl (none_alone known barred d local fair fair_alone Inv k has_begun false j a)
 
   -- the other side sends what can't be read, and then anything passes
-  module _ (at : ℕ) (cause_is : Cause) (packets : List (List ℕ)) (none_in : units_in packets ≡ []) (j : Joint) where
+  module _ (at : ℕ) (cause_is : Cause) (packets : List (List ℕ)) (none_in : units_in packets ≡ []) (steps : List Step)
+      (how : ((packet : List ℕ) × (packets ≡ packet ∷ []) × IsUnread (units_of packet))
+      ⊎ ((packets ≡ []) × AllByRecursion IsNoPacket steps)) (j end : Joint)
+      (along : LaterAlong d (spoilt d at cause_is packets j) steps end)
+      (within : IsWithout barred end.course) where
     abbrev bad : Joint
     bad = spoilt d at cause_is packets j
 
-    abbrev Worse : Type 0
-    Worse = IsDone d bad.course ⊎ StandsLess d proper (calls_from d) local fair_alone bad
+    later_too : (ends : Bool) → (ends ≡ true → AllByRecursion IsNoPacket steps) → (barred ≡ Zero → ⊥) → GoesWithout ends bad →
+        EndsWell end.course
+    later_too ends none apart a =
+        inl (none_alone known barred d local fair fair_alone Inv k has_begun ends end
+        (later_alone known barred d local fair fair_alone Inv k has_begun apart ends steps bad end along none within.few a))
 
-    lost_so : IsFollowed d (wholes.begin (calls_from d) local) j → JudgesLess d bad.course → Worse
-    lost_so f less = inr (record {
-      followed = spoilt_followed d (wholes.begin (calls_from d) local) at cause_is packets none_in j f;
-      less = less;
-    })
+    done_so : IsDone d bad.course → EndsWell end.course
+    done_so h = inl (later_kept (IsDone d) (done_claim d) d steps bad end along h).none
 
-    unread_by : NoneIsToBlame d j.course.sessions → IsFollowed d (wholes.begin (calls_from d) local) j → AfterUnread d bad.course → Worse
-    unread_by none f (all_over o) =
-        inl (record { over = o; none = subst (NoneIsToBlame d) (sym (unread_sessions (other d) at cause_is j.course)) none })
-    unread_by none f (alone a) = lost_so f (inr a)
+    zero_apart : (c : Passed) → IsAlone d c → (c.traffic.course.class ≡ Some barred → ⊥) → barred ≡ Zero → ⊥
+    zero_apart c a not same = not (a.zero ∙ ap (λ (x : Class). Some x) (sym same))
 
-    unread_so : Stood j → Worse
-    unread_so (deeds, goes g) =
-        unread_by (k.none deeds j g.courses g.holds) g.followed (unread_alone d at cause_is j.course g.judged (g.sure.agrees Zero))
-    unread_so (deeds, ended s) = inl ((done_claim d).bad (other d) at cause_is j.course s)
-    unread_so (deeds, lost b) = lost_so b.followed (less_unread d at cause_is j.course b.less)
+    bad_not : bad.course.traffic.course.class ≡ Some barred → ⊥
+    bad_not is = within.not (later_kept (λ c. c.traffic.course.class ≡ Some barred) (class_claim barred) d steps bad end along is)
 
-    after_bad : (steps : List Step) (end : Joint) → LaterAlong d bad steps end → Worse → EndsWell end.course
-    after_bad steps end along (inl h) = let last = later_kept (IsDone d) (done_claim d) d steps bad end along h in inl last.none
-    after_bad steps end along (inr b) = inr (later_less d proper (calls_from d) local fair_alone steps bad end along b).less
+    unread_by : (deeds : ℕ → Deeds) → Judging deeds j → AfterUnread d bad.course →
+        (x : Option Class) → class_for (way_of (other d)) j.course.traffic.course ≡ x → EndsWell end.course
+    unread_by deeds g (all_over o) x is =
+        done_so (record {
+          over = o;
+          none = subst (NoneIsToBlame d) (sym (unread_sessions (other d) at cause_is j.course)) (k.none deeds j g.courses g.holds);
+        })
+    unread_by deeds g (is_alone_then a) (Some Zero) is =
+        let refuses_so = unread_is d at cause_is j.course g.judged (g.sure.agrees Zero) in
+        let apart = zero_apart bad.course a bad_not in
+        elim how [
+          | inl (packet, one, unreadable) ↦ later_too false (λ no. absurd (let n : false ≡ true = no in cc)) apart
+              (packet_begins_alone known barred d local fair fair_alone Inv k has_begun deeds at cause_is packets none_in j g is refuses_so
+              a packet one unreadable)
+          | inr (nothing, none) ↦ later_too true (λ yes. none) apart
+              (octets_begin_alone known barred d local fair fair_alone Inv k has_begun deeds at cause_is packets none_in j g is refuses_so a
+              nothing)
+        ]
+    unread_by deeds g (is_alone_then a) None is =
+        absurd (not_both (is_stopped (way_of d) bad.course.traffic.course)
+        (own_stopped d bad.course (unread_ends d at cause_is j.course g.judged (g.sure.agrees Zero)
+        (ap (λ (x : Option Class). reach_by x false) is))) a.own)
+    unread_by deeds g (is_alone_then a) (Some Two) is =
+        absurd (not_both (is_stopped (way_of d) bad.course.traffic.course)
+        (own_stopped d bad.course (unread_ends d at cause_is j.course g.judged (g.sure.agrees Zero)
+        (ap (λ (x : Option Class). reach_by x false) is))) a.own)
+
+    after_bad : Stood j → EndsWell end.course
+    after_bad (deeds, goes g) =
+        unread_by deeds g (unread_alone d at cause_is j.course g.judged (g.sure.agrees Zero))
+        (class_for (way_of (other d)) j.course.traffic.course) refl
+    after_bad (deeds, ended s) = done_so ((done_claim d).bad (other d) at cause_is j.course s)
+    after_bad (deeds, lost b) =
+        inr (later_kept IsLoose loose_claim d steps bad end along (loose_claim.bad (other d) at cause_is j.course b))
+    after_bad (deeds, alone a) =
+        let apart = zero_apart bad.course
+        (subst (IsAlone d) (sym (unread_same (other d) at cause_is j.course a.is.alone.halted)) a.is.alone) bad_not in
+        later_too false (λ no. absurd (let n : false ≡ true = no in cc)) apart
+        (spoilt_alone known barred d local fair fair_alone Inv k has_begun apart at cause_is packets none_in j a)
 
   bad_within : (capture : Capture) (c : Passed) → TurnsBad d capture c → IsWithout barred (comes_to capture).course → IsWithout barred c
   bad_within capture c t h =
@@ -449,17 +494,15 @@ module _ (proper : AllProper) (barred : Class) (d : Direction) (local : Local)
       by : ((comes_to capture).course ≡ comes.last.course) ⊎ GoesOn d capture comes.last → EndsWell (comes_to capture).course
       by (inl is) = subst EndsWell (sym is) (ends_so comes.last at_last)
       by (inr g) = subst EndsWell (sym g.all)
-          (after_bad g.at g.cause g.packets g.none comes.last g.steps g.end g.along
-          (unread_so g.at g.cause g.packets g.none comes.last at_last))
+          (after_bad g.at g.cause g.packets g.none g.steps g.how comes.last g.end g.along (subst (IsWithout barred) g.all within) at_last)
 
 -- ---- in the end
 
 differ : {A : Type 0} (b : Bool) → b ≡ true → b ≡ false → A
 differ b h k = absurd (cc)
 
--- no side alone is judged in class 0, and each connection is, or nothing any more
-pub nobody_of_well : (d : Direction) (c : Passed) → NoneIsToBlame d c.sessions ⊎ JudgesLess d c → IsJudgedWhole d c →
+-- each connection is judged, or nothing is judged any more
+pub nobody_of_well : (d : Direction) (c : Passed) → NoneIsToBlame d c.sessions ⊎ IsLoose c → c.traffic.course.loose ≡ false →
     NoneIsToBlame d c.sessions
-nobody_of_well d c (inl none) whole = none
-nobody_of_well d c (inr (inl loose)) whole = differ c.traffic.course.loose loose whole.firm
-nobody_of_well d c (inr (inr a)) whole = differ (is_stopped (way_of d) c.traffic.course) (whole.both a.zero a.stopped) a.own
+nobody_of_well d c (inl none) firm = none
+nobody_of_well d c (inr loose) firm = differ c.traffic.course.loose loose firm

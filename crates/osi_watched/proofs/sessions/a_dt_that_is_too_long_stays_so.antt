@@ -1,0 +1,219 @@
+-- In class 0 a DT with which the TSDU of its side is too long breaks that rule; and so it would later, whatever the other side has sent.
+-- For a TSDU of the other side that becomes too long.
+use Rattle.std.proofs.Common.{◌≡◌, ◌∙◌, ◌⊎◌, inl, inr, refl, sym, ap, subst, ℕ, zero, suc, ◌+◌, ◌<◌, Bool, true, false, if◌then◌else◌}
+use Rattle.std.proofs.Common.{List, [], ◌∷◌, map, length, nat_le, Option, Some, None}
+use Rattle.std.proofs.lemmas.Bool.{eqb-true, leb-false}
+use Rattle.std.specs.Prelude.{◌==◌, slice_get}
+use Rattle.std.specs.List.{AllByRecursion}
+use Rattle.osi_tpdu.specs.Value.{Value, data0}
+use Rattle.osi_class.specs.Limits.{longest_tsdu}
+use Rattle.osi_class.specs.declared.terms.Class.{Class}
+use Rattle.osi_class.specs.declared.terms.Class.TheVariants.{Two, Zero}
+use Rattle.osi_class.specs.declared.terms.Local.{Local}
+use Rattle.osi_judge.specs.Captures.{other}
+use Rattle.osi_judge.specs.declared.directions.Direction.{Direction}
+use Rattle.osi_judge.specs.declared.directions.Direction.TheVariants.{Left, Right}
+use Rattle.osi_rules.specs.declared.connections.Connection.{Connection}
+use Rattle.osi_rules.specs.declared.findings.Finding.{Finding}
+use Rattle.osi_rules.specs.declared.findings.Finding.TheVariants.{Broke, Kept, NotJudged}
+use Rattle.osi_rules.specs.declared.findings.Reach.{Reach}
+use Rattle.osi_rules.specs.declared.findings.Rule.TheVariants as rule
+use Rattle.osi_rules.specs.declared.halves.Half.{Half}
+use Rattle.osi_rules.specs.Reaches.{is_applied, reach_of}
+use Rattle.osi_rules.specs.Rows.{first_failed, fits_size, fits_tsdu}
+use Rattle.osi_rules.specs.Sides as sides
+use Rattle.osi_rules.specs.Sides.{begins, is_open, own}
+use Rattle.osi_rules.specs.Traffic as traffic
+use Rattle.osi_rules.specs.Traffic.{Outcome, State, class_for, connection_after, found_on, is_stopped, none_told, one_told, route, route_in}
+use Rattle.osi_rules.specs.Traffic.{routed, takes}
+use Rattle.osi_fair.specs.Wholes as wholes
+use Rattle.osi_fair.proofs.a_dt_of_class_zero_passes.{unlike}
+use Rattle.osi_fair.proofs.what_the_other_side_closes.{IsFirm}
+use Rattle.osi_fair.proofs.while_no_class_is_selected.{after_change}
+use Rattle.osi_tap.specs.Courses.{Course, unit_passes, way_of}
+use Rattle.osi_watched.specs.Joint.{Joint, Steps, passes_own}
+use Rattle.osi_watched.specs.Shown.{calls_from}
+use Rattle.osi_watched.proofs.small_facts_that_many_lemmas_use.{same_item, same_one, zero_two}
+use Rattle.osi_watched.proofs.steps_are_events.{IsFollowed, own_first}
+use Rattle.osi_watched.proofs.sessions.a_called_end_stands_in_class_0.{dts_of, stage_of}
+use Rattle.osi_watched.proofs.sessions.a_calling_end_stands_until_class_2.{runs_staged}
+use Rattle.osi_watched.proofs.sessions.a_dt_of_class_0_has_one_place.{IsOnly, dt_takes, open_not_refused}
+use Rattle.osi_watched.proofs.sessions.all_connections_stand.{other_after}
+use Rattle.osi_watched.proofs.sessions.connections_have_the_same_places.{unit_knows}
+use Rattle.osi_watched.proofs.sessions.each_step_leaves_class_0_one_connection.{IsSure, Sure, is_zero}
+use Rattle.osi_watched.proofs.sessions.what_the_stage_of_a_calling_end_says.{IsDt0, PassesOwn, adding, asking, own_unit}
+
+-- ---- the one connection
+
+-- a TSDU of the other side is too long with these octets
+abbrev pub IsTooLong : Direction → List ℕ → State → Type 0
+IsTooLong d user s = (o : IsOnly s) → longest_tsdu < (own (way_of (other d)) o.connection).begun + length user
+
+pub only_of : (s : State) → IsSure s → IsFirm s.course → s.course.class ≡ Some Zero → IsOnly s
+only_of s sure firm class = (is_zero Right s sure firm.firm firm.right class).only
+
+same_place : (s : State) (o q : IsOnly s) → q.place ≡ o.place
+same_place s o q = by (q.place == o.place) refl
+  where
+    by : (b : Bool) → (q.place == o.place) ≡ b → q.place ≡ o.place
+    by true e = eqb-true q.place o.place e
+    by false e =
+        absurd (open_not_refused q.connection.right.phase q.right (o.others q.place q.connection q.there (unlike q.place o.place e)))
+
+same_only : (s : State) (o q : IsOnly s) → q.connection ≡ o.connection
+same_only s o q = same_item q.connection o.connection (sym q.there ∙ ap (slice_get s.connections) (same_place s o q) ∙ o.there)
+
+-- ---- the break
+
+long_so : (begun octets : ℕ) → nat_le (begun + octets) longest_tsdu ≡ false → longest_tsdu < begun + octets
+long_so begun octets h = leb-false (begun + octets) longest_tsdu h
+
+not_fits : (fits more : Bool) → is_applied (first_failed ((fits, Broke rule.TsduTooLong) ∷ (more, Broke rule.SizeExceeded) ∷ [])) ≡ false →
+    fits ≡ false
+not_fits false more h = refl
+not_fits true true h = absurd (cc h)
+not_fits true false h = absurd (cc h)
+
+pub breaks_too_long : (d : Direction) (end : Bool) (user : List ℕ) (s : State) → IsSure s → IsFirm s.course → s.course.class ≡ Some Zero →
+    is_stopped (way_of (other d)) s.course ≡ false → class_for (way_of (other d)) s.course ≡ Some Zero →
+    is_applied (takes (way_of (other d)) (data0 end user) s).told.finding ≡ false → IsTooLong d user s
+breaks_too_long d end user s sure firm class goes seen unapplied q =
+    let o = only_of s sure firm class in
+    let e = way_of (other d) in
+    let told = dt_takes e end user s sure.judged firm.firm sure.apart o goes seen in
+    let found : is_applied (found_on e s o.connection (data0 end user)) ≡ false =
+    ap (λ (x : Outcome). is_applied x.told.finding) (sym told) ∙ unapplied in
+    let tests : is_applied (first_failed ((fits_tsdu e o.connection (length user), Broke rule.TsduTooLong)
+    ∷ (fits_size o.connection.size (length user + 3), Broke rule.SizeExceeded) ∷ [])) ≡ false =
+    sym (found_is (other d) o.connection (sure.judged firm.firm o.place o.connection o.there)) ∙ found in
+    subst (λ (c : Connection). longest_tsdu < (own e c).begun + length user) (sym (same_only s o q))
+    (long_so (own e o.connection).begun (length user)
+    (not_fits (fits_tsdu e o.connection (length user)) (fits_size o.connection.size (length user + 3)) tests))
+  where
+    found_is : (e : Direction) (c : Connection) → c.is_judged ≡ true →
+        is_applied (found_on (way_of e) s c (data0 end user))
+        ≡ is_applied (first_failed ((fits_tsdu (way_of e) c (length user), Broke rule.TsduTooLong)
+        ∷ (fits_size c.size (length user + 3), Broke rule.SizeExceeded) ∷ []))
+    found_is Left c judged =
+        ap (λ (b : Bool). is_applied (if b then first_failed ((fits_tsdu (way_of Left) c (length user), Broke rule.TsduTooLong)
+        ∷ (fits_size c.size (length user + 3), Broke rule.SizeExceeded) ∷ []) else NotJudged)) judged
+    found_is Right c judged =
+        ap (λ (b : Bool). is_applied (if b then first_failed ((fits_tsdu (way_of Right) c (length user), Broke rule.TsduTooLong)
+        ∷ (fits_size c.size (length user + 3), Broke rule.SizeExceeded) ∷ []) else NotJudged)) judged
+
+-- ---- a packet begins
+
+begun_right : (e : Direction) (c : Connection) → (begins (way_of e) c).right ≡ c.right
+begun_right Left c = refl
+begun_right Right c = refl
+
+begun_own : (d e : Direction) (c : Connection) → (own (way_of d) (begins (way_of e) c)).begun ≡ (own (way_of d) c).begun
+begun_own Left Left c = refl
+begun_own Left Right c = refl
+begun_own Right Left c = refl
+begun_own Right Right c = refl
+
+connection_of : (d : Direction) (xs : List Connection) (i : ℕ) (y : Connection) → slice_get (map (begins (way_of d)) xs) i ≡ Some y →
+    (x : Connection) × (slice_get xs i ≡ Some x) × (y ≡ begins (way_of d) x)
+connection_of d [] i y h = absurd (cc)
+connection_of d (z ∷ xs) zero y h = (z, refl, sym (same_one (begins (way_of d) z) y h))
+connection_of d (z ∷ xs) (suc i) y h = connection_of d xs i y h
+
+pub begins_too_long : (d e : Direction) (user : List ℕ) (s : State) → IsOnly s → IsTooLong d user s →
+    IsTooLong d user (traffic.packet_begins (way_of e) s)
+begins_too_long d e user s o long q = by (q.place == o.place) refl
+  where
+    was : (x : Connection) × (slice_get s.connections q.place ≡ Some x) × (q.connection ≡ begins (way_of e) x)
+    was = connection_of e s.connections q.place q.connection q.there
+
+    by : (b : Bool) → (q.place == o.place) ≡ b → longest_tsdu < (own (way_of (other d)) q.connection).begun + length user
+    by true same =
+        let is : was.0 ≡ o.connection = same_item was.0 o.connection
+        (sym was.1 ∙ ap (slice_get s.connections) (eqb-true q.place o.place same) ∙ o.there) in
+        subst (λ (n : ℕ). longest_tsdu < n + length user)
+        (sym (ap (λ (c : Connection). (own (way_of (other d)) c).begun) was.2 ∙ begun_own (other d) e was.0
+        ∙ ap (λ (c : Connection). (own (way_of (other d)) c).begun) is))
+        (long o)
+    by false apart =
+        absurd (open_not_refused was.0.right.phase
+        (ap (λ (h : Half). is_open h.phase) (sym (begun_right e was.0)) ∙ ap (λ (c : Connection). is_open c.right.phase) (sym was.2)
+        ∙ q.right)
+        (o.others q.place was.0 was.1 (unlike q.place o.place apart)))
+
+-- ---- a DT of the end passes
+
+none_kept : (d : Direction) (k : Option Class) (b end : Bool) (user : List ℕ) (s : State) →
+    (routed (way_of d) (data0 end user) s (route_in k (way_of d) b (data0 end user))).told.finding ≡ Kept → k ≡ Some Zero
+none_kept Left None b end user s h = absurd (let no : Broke rule.UnexpectedUnit ≡ Kept = h in cc)
+none_kept Right None b end user s h = absurd (let no : Broke rule.UnexpectedUnit ≡ Kept = h in cc)
+none_kept Left (Some Two) b end user s h = absurd (let no : Broke rule.UnexpectedUnit ≡ Kept = h in cc)
+none_kept Right (Some Two) b end user s h = absurd (let no : Broke rule.UnexpectedUnit ≡ Kept = h in cc)
+none_kept d (Some Zero) b end user s h = refl
+
+kept_zero : (d : Direction) (end : Bool) (user : List ℕ) (s : State) → is_stopped (way_of d) s.course ≡ false →
+    (takes (way_of d) (data0 end user) s).told.finding ≡ Kept → class_for (way_of d) s.course ≡ Some Zero
+kept_zero d end user s goes kept =
+    none_kept d (class_for (way_of d) s.course) (is_stopped (sides.other (way_of d)) s.course) end user s
+    (ap (λ (b : Bool). (if b then none_told (way_of d) NotJudged s
+    else routed (way_of d) (data0 end user) s (route (way_of d) s.course (data0 end user))).told.finding) (sym goes) ∙ kept)
+
+other_begun : (d : Direction) (v : Value) (b : Bool) (r : Reach) (c : Connection) →
+    own (way_of (other d)) (connection_after (way_of d) v b r c) ≡ own (way_of (other d)) c
+other_begun Left v b r c = other_after Right v b r c
+other_begun Right v b r c = other_after Left v b r c
+
+own_long : (d : Direction) (end : Bool) (mine user : List ℕ) (s : State) → IsSure s → IsFirm s.course → s.course.class ≡ Some Zero →
+    is_stopped (way_of d) s.course ≡ false → (takes (way_of d) (data0 end mine) s).told.finding ≡ Kept → IsTooLong d user s →
+    IsTooLong d user (takes (way_of d) (data0 end mine) s).state
+own_long d end mine user s sure firm class goes kept long =
+    let o = only_of s sure firm class in
+    let told = dt_takes (way_of d) end mine s sure.judged firm.firm sure.apart o goes (kept_zero d end mine s goes kept) in
+    subst (λ (x : Outcome). IsTooLong d user x.state) (sym told) (λ q. by o q)
+  where
+    by : (o : IsOnly s) (q : IsOnly (one_told (way_of d) o.place o.connection (data0 end mine) s).state) →
+        longest_tsdu < (own (way_of (other d)) q.connection).begun + length user
+    by o q = then_by (after_change s.connections o.place q.place then_is q.connection q.there)
+      where
+        f : Finding
+        f = found_on (way_of d) s o.connection (data0 end mine)
+
+        then_is : Connection
+        then_is = connection_after (way_of d) (data0 end mine) (is_applied f) (reach_of (class_for (way_of d) s.course) f) o.connection
+
+        then_by : ((q.place ≡ o.place) × (q.connection ≡ then_is))
+            ⊎ ((q.place ≡ o.place → ⊥) × (slice_get s.connections q.place ≡ Some q.connection)) →
+            longest_tsdu < (own (way_of (other d)) q.connection).begun + length user
+        then_by (inl (same, is)) =
+            subst (λ (n : ℕ). longest_tsdu < n + length user)
+            (sym (ap (λ (c : Connection). (own (way_of (other d)) c).begun) is
+            ∙ ap (λ (h : Half). h.begun) (other_begun d (data0 end mine) (is_applied f) (reach_of (class_for (way_of d) s.course) f)
+            o.connection)))
+            (long o)
+        then_by (inr (apart, there)) =
+            absurd (open_not_refused q.connection.right.phase q.right (o.others q.place q.connection there apart))
+
+-- a unit of the end is a DT then
+pub own_is_dt : (local : Local) (d : Direction) (at : ℕ) (v : Value) (old new : Joint) → Steps d (passes_own at v) old new →
+    IsFollowed d (wholes.begin (calls_from d) local) old → IsFirm old.course.traffic.course → old.course.traffic.course.class ≡ Some Zero →
+    IsDt0 v
+own_is_dt local Left at v old new (read, octets, put, begun, is) f firm class =
+    let s = own_first Left (wholes.begin true local) old new v (read, octets, put) f in
+    let zero_is = ap (λ (t : State). t.course.class) f.tap ∙ class in
+    by (own_unit local f.whole v s.rest
+    ((runs_staged local old f).stage (ap (λ (t : State). t.course.left_stopped) f.tap ∙ firm.left)) s.is (f.begun ∙ begun)
+    (λ two. zero_two f.whole.tap.course.class zero_is two)) zero_is
+  where
+    by : PassesOwn f.whole v → f.whole.tap.course.class ≡ Some Zero → IsDt0 v
+    by (asking x is_so none) zero_is = absurd (let no : None ≡ Some Zero = sym none ∙ zero_is in cc)
+    by (adding end user is_so k seen) zero_is = subst IsDt0 (sym is_so) tt
+own_is_dt local Right at v old new (read, octets, put, begun, is) f firm class =
+    let s = own_first Right (wholes.begin false local) old new v (read, octets, put) f in
+    (subst (AllByRecursion IsDt0) s.is
+    (dts_of local f.whole (stage_of local old f firm) (ap (λ (t : State). t.course.class) f.tap ∙ class))).0
+
+pub passes_too_long : (d : Direction) (at : ℕ) (v : Value) (user : List ℕ) (c : Course) → IsDt0 v → Sure c → IsFirm c.traffic.course →
+    c.traffic.course.class ≡ Some Zero → is_stopped (way_of d) c.traffic.course ≡ false →
+    (takes (way_of d) v c.traffic).told.finding ≡ Kept → IsTooLong d user c.traffic → IsTooLong d user (unit_passes d at v c).traffic
+passes_too_long d at (data0 end mine) user c dt sure firm class goes kept long =
+    subst (IsTooLong d user) (sym (unit_knows d at (data0 end mine) c)) (own_long d end mine user c.traffic sure firm class goes kept long)
+passes_too_long d at v user c dt sure firm class goes kept long = absurd dt

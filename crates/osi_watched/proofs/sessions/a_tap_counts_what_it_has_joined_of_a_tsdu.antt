@@ -1,0 +1,382 @@
+-- The rules of transport count as many octets of the unfinished TSDU of each side as a tap has joined of it, at each place, whatever
+-- passes.
+-- For a TSDU of the other side that becomes too long.
+use Rattle.std.proofs.Common.{◌≡◌, ◌∙◌, ◌⊎◌, inl, inr, refl, sym, ap, subst, ℕ, zero, suc, ◌+◌, ◌≤◌, Bool, true, false, if◌then◌else◌}
+use Rattle.std.proofs.Common.{List, [], ◌∷◌}
+use Rattle.std.proofs.Common.{◌++◌, map, min, not, length, nat_le, Some, is_some, arith}
+use Rattle.std.proofs.lemmas.Bool.{leb-true}
+use Rattle.std.proofs.lemmas.List.{length-append}
+use Rattle.std.proofs.lemmas.Option.{slice_get_within}
+use Rattle.std.specs.Prelude.{◌==◌, set, slice_get}
+use Rattle.osi_tpdu.specs.Value.{Connect, Value, acknowledge, confirm, data0, data2, disconnect, disconnected, error, request}
+use Rattle.osi_class.specs.Limits.{longest_tsdu}
+use Rattle.osi_class.specs.declared.terms.Class.{Class}
+use Rattle.osi_judge.specs.Captures.{other}
+use Rattle.osi_judge.specs.declared.directions.Direction.{Direction}
+use Rattle.osi_judge.specs.declared.directions.Direction.TheVariants.{Left, Right}
+use Rattle.osi_rules.specs.declared.connections.Connection.{Connection}
+use Rattle.osi_rules.specs.declared.findings.Finding.{Finding}
+use Rattle.osi_rules.specs.declared.findings.Finding.TheVariants.{Broke, NotJudged}
+use Rattle.osi_rules.specs.declared.findings.Reach.{Reach}
+use Rattle.osi_rules.specs.declared.findings.Reach.TheVariants as reach
+use Rattle.osi_rules.specs.declared.findings.Rule.TheVariants as rule
+use Rattle.osi_rules.specs.declared.halves.Half.{Half}
+use Rattle.osi_rules.specs.Reaches.{is_applied}
+use Rattle.osi_rules.specs.Rows.{Test, data0_tests, data2_tests, first_failed, fits_size, fits_tsdu, has_credit, is_tellable}
+use Rattle.osi_rules.specs.Sides.{begins, is_open, is_silent, own}
+use Rattle.osi_rules.specs.Traffic as traffic
+use Rattle.osi_rules.specs.Traffic.{State, asked_by, begun_after, closing_phase, connection_after, found_on, half_after, judged_on}
+use Rattle.osi_rules.specs.Traffic.{meaning_if, meant, takes}
+use Rattle.osi_fair.proofs.what_holds_of_one_item.{after_add}
+use Rattle.osi_fair.proofs.while_no_class_is_selected.{after_change}
+use Rattle.osi_tap.specs.declared.rooms.Room.{Room}
+use Rattle.osi_tap.specs.declared.rooms.Room.TheVariants.{All}
+use Rattle.osi_tap.specs.Connections.{Joined, Sessions, adds, asked, packet_begins, spoken, taken, user_of}
+use Rattle.osi_tap.specs.Connections as joined
+use Rattle.osi_tap.specs.declared.marks.Cause.{Cause}
+use Rattle.osi_tap.specs.Courses.{Course, fresh, marks_of, moved, unit_passes, unread_mark, unread_moment, way_of}
+use Rattle.osi_tap.specs.Lines.{Spoken, added, begun_octets}
+use Rattle.osi_tap.specs.Rooms.{fits, spent}
+use Rattle.osi_watched.specs.ShownPlaces.{HaveSamePlaces}
+use Rattle.osi_watched.proofs.a_break_ends_no_judging_or_all.{refused_traffic, refuses, unread_if}
+use Rattle.osi_watched.proofs.small_facts_that_many_lemmas_use.{same_one}
+use Rattle.osi_watched.proofs.what_passes_keeps_a_claim.{IsClaim}
+use Rattle.osi_watched.proofs.sessions.all_connections_stand.{map_of, other_after, own_after}
+use Rattle.osi_watched.proofs.sessions.connections_have_the_same_places.{as_long, marked_leaves, packet_agrees, unit_joins, unit_knows}
+use Rattle.osi_watched.proofs.sessions.connections_have_the_same_places.{unit_places}
+use Rattle.osi_watched.proofs.sessions.what_a_unit_does_at_its_place.{Does, asks_again, asks_more, nowhere, somewhere, unit_does}
+
+-- of this side of a connection
+abbrev pub IsCountedOf : Direction → Connection → Joined → Type 0
+IsCountedOf e c j = (own (way_of e) c).begun ≡ length (begun_octets (spoken e j).begun)
+
+-- of both sides, and all of it is judged
+pub record IsCounted (c : Connection) (j : Joined) : Type 0 where
+  pub of : (e : Direction) → IsCountedOf e c j
+  pub room : j.room ≡ All
+
+-- ---- a unit that has its effect fits
+
+le_so : (m n : ℕ) → nat_le m n ≡ true → m ≤ n
+le_so m n h = leb-true m n h
+
+-- the test is among these, before those that are passed over
+first_fits : (fits : Bool) (more : List Test) → is_applied (first_failed ((fits, Broke rule.TsduTooLong) ∷ more)) ≡ true → fits ≡ true
+first_fits true more h = refl
+first_fits false more h = absurd (cc)
+
+open_fits : (a b x y fits : Bool) (more : List Test) →
+    is_applied (first_failed ((a, Broke rule.UnknownReference) ∷ (b, Broke rule.Closed) ∷ (x, Broke rule.OutOfSequence)
+    ∷ (y, Broke rule.OutOfSequence) ∷ (fits, Broke rule.TsduTooLong) ∷ more)) ≡ true → fits ≡ true
+open_fits true true true true fits more h = first_fits fits more h
+open_fits false b x y fits more h = absurd (cc)
+open_fits true false x y fits more h = absurd (cc)
+open_fits true true false y fits more h = absurd (cc)
+open_fits true true true false fits more h = absurd (cc)
+
+judged_applied : (b : Bool) (f : Finding) → is_applied (if b then f else NotJudged) ≡ true → is_applied f ≡ true
+judged_applied true f h = h
+judged_applied false f h = absurd (cc)
+
+-- ---- one connection
+
+judged_own : (d : Direction) (r : Reach) (c : Connection) → own (way_of d) (judged_on r c) ≡ own (way_of d) c
+judged_own Left reach.Nothing c = refl
+judged_own Left reach.Connection c = refl
+judged_own Left reach.Side c = refl
+judged_own Left reach.Everything c = refl
+judged_own Right reach.Nothing c = refl
+judged_own Right reach.Connection c = refl
+judged_own Right reach.Side c = refl
+judged_own Right reach.Everything c = refl
+
+closing_begun : (b : Bool) (half : Half) → (closing_phase b half).begun ≡ half.begun
+closing_begun true half = refl
+closing_begun false half = refl
+
+added_begun : (at : ℕ) (end : Bool) (octets : List ℕ) (half : Half) (s : Spoken) → half.begun ≡ length (begun_octets s.begun) →
+    half.begun + length octets ≤ longest_tsdu → begun_after half end (length octets) ≡ length (begun_octets (added at end octets s).begun)
+added_begun at true octets half s h few = refl
+added_begun at false octets half s h few =
+    let n = length-append (begun_octets s.begun) octets in
+    at_most (half.begun + length octets) longest_tsdu few
+    ∙ (let same : half.begun + length octets ≡ length (begun_octets s.begun ++ octets) =
+    omega (arith, n, h) in same)
+  where
+    at_most : (m n : ℕ) → m ≤ n → min m n ≡ m
+    at_most m n less = omega (arith, less)
+
+-- what a DT adds
+record Adds (d : Direction) (at : ℕ) (end : Bool) (octets : List ℕ) (j new : Joined) : Type 0 where
+  mine : spoken d new ≡ added at end octets (spoken d j)
+  theirs : spoken (other d) new ≡ spoken (other d) j
+  room : new.room ≡ All
+
+adds_there : (d : Direction) (at : ℕ) (end : Bool) (octets : List ℕ) (j : Joined) → j.room ≡ All →
+    Adds d at end octets j (adds d at end octets j)
+adds_there Left at end octets j all = record {
+  mine = ap (λ (r : Room). (joined.adds_if (fits r (length octets)) (spent r (length octets)) Left at end octets j).left) all;
+  theirs = ap (λ (r : Room). (joined.adds_if (fits r (length octets)) (spent r (length octets)) Left at end octets j).right) all;
+  room = ap (λ (r : Room). (joined.adds_if (fits r (length octets)) (spent r (length octets)) Left at end octets j).room) all;
+}
+adds_there Right at end octets j all = record {
+  mine = ap (λ (r : Room). (joined.adds_if (fits r (length octets)) (spent r (length octets)) Right at end octets j).right) all;
+  theirs = ap (λ (r : Room). (joined.adds_if (fits r (length octets)) (spent r (length octets)) Right at end octets j).left) all;
+  room = ap (λ (r : Room). (joined.adds_if (fits r (length octets)) (spent r (length octets)) Right at end octets j).room) all;
+}
+
+-- its two sides
+each_side : (d : Direction) (c : Connection) (j : Joined) → IsCountedOf d c j → IsCountedOf (other d) c j → j.room ≡ All → IsCounted c j
+each_side Left c j mine theirs room = record { of = λ e. by e; room = room }
+  where
+    by : (e : Direction) → IsCountedOf e c j
+    by Left = mine
+    by Right = theirs
+each_side Right c j mine theirs room = record { of = λ e. by e; room = room }
+  where
+    by : (e : Direction) → IsCountedOf e c j
+    by Left = theirs
+    by Right = mine
+
+module _ (d : Direction) (at : ℕ) (v : Value) (r : Reach) (c : Connection) (j : Joined) (h : IsCounted c j) where
+  -- what is joined stays
+  record Same (new : Joined) : Type 0 where
+    mine : begun_octets (spoken d new).begun ≡ begun_octets (spoken d j).begun
+    theirs : begun_octets (spoken (other d) new).begun ≡ begun_octets (spoken (other d) j).begun
+    room : new.room ≡ j.room
+
+  none_same : Same j
+  none_same = record { mine = refl; theirs = refl; room = refl }
+
+  stays : (b : Bool) (new : Joined) → Same new → (own (way_of d) (connection_after (way_of d) v b r c)).begun ≡ (own (way_of d) c).begun →
+      IsCounted (connection_after (way_of d) v b r c) new
+  stays b new s same =
+      each_side d (connection_after (way_of d) v b r c) new (same ∙ h.of d ∙ ap length (sym s.mine))
+      (ap (λ (x : Half). x.begun) (theirs_same d b) ∙ h.of (other d) ∙ ap length (sym s.theirs)) (s.room ∙ h.room)
+    where
+      theirs_same : (d : Direction) (b : Bool) → own (way_of (other d)) (connection_after (way_of d) v b r c) ≡ own (way_of (other d)) c
+      theirs_same Left b = other_after Right v b r c
+      theirs_same Right b = other_after Left v b r c
+
+  applied_same : (new : Joined) → Same new → (half_after v (own (way_of d) c)).begun ≡ (own (way_of d) c).begun →
+      IsCounted (connection_after (way_of d) v true r c) new
+  applied_same new s same = stays true new s (ap (λ (x : Half). x.begun) (own_after d v r c) ∙ same)
+
+  data_added : (end : Bool) → (half_after v (own (way_of d) c)).begun ≡ begun_after (own (way_of d) c) end (length (user_of v)) →
+      (own (way_of d) c).begun + length (user_of v) ≤ longest_tsdu →
+      IsCounted (connection_after (way_of d) v true r c) (adds d at end (user_of v) j)
+  data_added end is few =
+      let a = adds_there d at end (user_of v) j h.room in
+      each_side d (connection_after (way_of d) v true r c) (adds d at end (user_of v) j)
+      (ap (λ (x : Half). x.begun) (own_after d v r c) ∙ is
+      ∙ added_begun at end (user_of v) (own (way_of d) c) (spoken d j) (h.of d) few
+      ∙ ap (λ (s : Spoken). length (begun_octets s.begun)) (sym a.mine))
+      (ap (λ (x : Half). x.begun) (theirs_same d) ∙ h.of (other d) ∙ ap (λ (s : Spoken). length (begun_octets s.begun)) (sym a.theirs))
+      a.room
+    where
+      theirs_same : (d : Direction) → own (way_of (other d)) (connection_after (way_of d) v true r c) ≡ own (way_of (other d)) c
+      theirs_same Left = other_after Right v true r c
+      theirs_same Right = other_after Left v true r c
+
+shut_same : (d : Direction) (at : ℕ) (v : Value) (r : Reach) (c : Connection) (j : Joined) (h : IsCounted c j) →
+    Same d at v r c j h (joined.shut j)
+shut_same Left at v r c j h = record { mine = refl; theirs = refl; room = refl }
+shut_same Right at v r c j h = record { mine = refl; theirs = refl; room = refl }
+
+opened_same : (d : Direction) (at : ℕ) (v : Value) (r : Reach) (c : Connection) (j : Joined) (h : IsCounted c j) (n : ℕ) (k : Class) →
+    Same d at v r c j h (joined.opened n k j)
+opened_same Left at v r c j h n k = record { mine = refl; theirs = refl; room = refl }
+opened_same Right at v r c j h n k = record { mine = refl; theirs = refl; room = refl }
+
+found_data0 : (d : Direction) (s : State) (c : Connection) (end : Bool) (user : List ℕ) →
+    is_applied (found_on (way_of d) s c (data0 end user)) ≡ true → (own (way_of d) c).begun + length user ≤ longest_tsdu
+found_data0 d s c end user h = by d h
+  where
+    so : (d : Direction) → is_applied (if c.is_judged then first_failed (data0_tests (way_of d) c (length user)) else NotJudged) ≡ true →
+        (own (way_of d) c).begun + length user ≤ longest_tsdu
+    so d h =
+        le_so ((own (way_of d) c).begun + length user) longest_tsdu
+        (first_fits (fits_tsdu (way_of d) c (length user)) ((fits_size c.size (length user + 3), Broke rule.SizeExceeded) ∷ [])
+        (judged_applied c.is_judged (first_failed (data0_tests (way_of d) c (length user))) h))
+
+    by : (d : Direction) → is_applied (found_on (way_of d) s c (data0 end user)) ≡ true →
+        (own (way_of d) c).begun + length user ≤ longest_tsdu
+    by Left h = so Left h
+    by Right h = so Right h
+
+found_data2 : (d : Direction) (s : State) (c : Connection) (n number : ℕ) (end : Bool) (user : List ℕ) →
+    is_applied (found_on (way_of d) s c (data2 n number end user)) ≡ true → (own (way_of d) c).begun + length user ≤ longest_tsdu
+found_data2 d s c n number end user h = by d h
+  where
+    so : (d : Direction) →
+        is_applied (if c.is_judged then first_failed (data2_tests (way_of d) c number (length user)) else NotJudged) ≡ true →
+        (own (way_of d) c).begun + length user ≤ longest_tsdu
+    so d h =
+        le_so ((own (way_of d) c).begun + length user) longest_tsdu
+        (open_fits (not (is_silent (own (way_of d) c).phase)) (is_open (own (way_of d) c).phase) (number == (own (way_of d) c).next)
+        (is_tellable (way_of d) c) (fits_tsdu (way_of d) c (length user))
+        ((has_credit (way_of d) c, Broke rule.NoCredit) ∷ (fits_size c.size (length user + 5), Broke rule.SizeExceeded) ∷ [])
+        (judged_applied c.is_judged (first_failed (data2_tests (way_of d) c number (length user))) h))
+
+    by : (d : Direction) → is_applied (found_on (way_of d) s c (data2 n number end user)) ≡ true →
+        (own (way_of d) c).begun + length user ≤ longest_tsdu
+    by Left h = so Left h
+    by Right h = so Right h
+
+counted_after : (d : Direction) (at : ℕ) (v : Value) (s : State) (b : Bool) (r : Reach) (c : Connection) (j : Joined) →
+    is_applied (found_on (way_of d) s c v) ≡ b → IsCounted c j →
+    IsCounted (connection_after (way_of d) v b r c) (joined.meant d at v (meaning_if b (meant v)) j)
+counted_after d at v s false r c j is h =
+    stays d at v r c j h false j (none_same d at v r c j h) (ap (λ (x : Half). x.begun) (judged_own d r c))
+counted_after d at (request x) s true r c j is h = applied_same d at (request x) r c j h j (none_same d at (request x) r c j h) refl
+counted_after d at (confirm n x) s true r c j is h =
+    applied_same d at (confirm n x) r c j h _
+    (opened_same d at (confirm n x) r c j h (joined.source_of (confirm n x)) (joined.class_of (confirm n x))) refl
+counted_after d at (disconnect n source reason user) s true r c j is h =
+    applied_same d at (disconnect n source reason user) r c j h (joined.shut j) (shut_same d at (disconnect n source reason user) r c j h)
+    (closing_begun (is_silent (own (way_of d) c).phase) (own (way_of d) c))
+counted_after d at (disconnected n source) s true r c j is h =
+    applied_same d at (disconnected n source) r c j h j (none_same d at (disconnected n source) r c j h) refl
+counted_after d at (data0 end user) s true r c j is h =
+    data_added d at (data0 end user) r c j h end refl (found_data0 d s c end user is)
+counted_after d at (data2 n number end user) s true r c j is h =
+    data_added d at (data2 n number end user) r c j h end refl (found_data2 d s c n number end user is)
+counted_after d at (acknowledge credit n number) s true r c j is h =
+    applied_same d at (acknowledge credit n number) r c j h j (none_same d at (acknowledge credit n number) r c j h) refl
+counted_after d at (error n cause) s true r c j is h =
+    applied_same d at (error n cause) r c j h (joined.shut j) (shut_same d at (error n cause) r c j h) refl
+
+-- ---- all of them
+
+-- of all connections that have a place
+pub record AreCounted (s : State) (t : Sessions) : Type 0 where
+  pub places : HaveSamePlaces s.connections t.live
+  pub each : (i : ℕ) (c : Connection) (j : Joined) → slice_get s.connections i ≡ Some c → slice_get t.live i ≡ Some j → IsCounted c j
+  pub room : t.room ≡ All
+
+module _ (d : Direction) (at : ℕ) (v : Value) (s : State) (t : Sessions) (a : AreCounted s t) where
+  abbrev Counts : List Connection → List Joined → Type 0
+  Counts cs js = (i : ℕ) (c : Connection) (j : Joined) → slice_get cs i ≡ Some c → slice_get js i ≡ Some j → IsCounted c j
+
+  at_change : (p : ℕ) (c : Connection) (j : Joined) → IsCounted c j → Counts (set s.connections p c) (set t.live p j)
+  at_change p c j h i x y there here = by (after_change s.connections p i c x there) (after_change t.live p i j y here)
+    where
+      by : ((i ≡ p) × (x ≡ c)) ⊎ ((i ≡ p → ⊥) × (slice_get s.connections i ≡ Some x)) →
+          ((i ≡ p) × (y ≡ j)) ⊎ ((i ≡ p → ⊥) × (slice_get t.live i ≡ Some y)) → IsCounted x y
+      by (inl (m, so)) (inl (n, same)) = subst (λ (z : Connection). IsCounted z y) (sym so) (subst (IsCounted c) (sym same) h)
+      by (inl (m, so)) (inr (n, same)) = absurd (n m)
+      by (inr (m, so)) (inl (n, same)) = absurd (m n)
+      by (inr (m, so)) (inr (n, same)) = a.each i x y so same
+
+  at_end : (c : Connection) (j : Joined) → IsCounted c j → Counts (s.connections ++ c ∷ []) (t.live ++ j ∷ [])
+  at_end c j h i x y there here = by (after_add s.connections i c x there) (after_add t.live i j y here)
+    where
+      long : length s.connections ≡ length t.live
+      long = as_long s.connections t.live a.places
+
+      by : ((i ≡ length s.connections) × (x ≡ c)) ⊎ (slice_get s.connections i ≡ Some x) →
+          ((i ≡ length t.live) × (y ≡ j)) ⊎ (slice_get t.live i ≡ Some y) → IsCounted x y
+      by (inl (m, so)) (inl (n, same)) = subst (λ (z : Connection). IsCounted z y) (sym so) (subst (IsCounted c) (sym same) h)
+      by (inl (m, so)) (inr same) = absurd (let near = slice_get_within t.live i y same in omega (arith, near, m, long))
+      by (inr so) (inl (n, same)) = absurd (let near = slice_get_within s.connections i x so in omega (arith, near, n, long))
+      by (inr so) (inr same) = a.each i x y so same
+
+  asked_counted : (x : Connect) (number : ℕ) → IsCounted (asked_by x) (asked number x.source t.room)
+  asked_counted x number = record { of = λ e. by e; room = a.room }
+    where
+      by : (e : Direction) → IsCountedOf e (asked_by x) (asked number x.source t.room)
+      by Left = refl
+      by Right = refl
+
+  abbrev then_places : HaveSamePlaces (takes (way_of d) v s).state.connections
+      (taken d at v (takes (way_of d) v s).told.meaning (takes (way_of d) v s).told.place t).live
+  then_places = unit_places d at v s t a.places
+
+  unit_counts : Does d at v s t (takes (way_of d) v s) →
+      AreCounted (takes (way_of d) v s).state (taken d at v (takes (way_of d) v s).told.meaning (takes (way_of d) v s).told.place t)
+  unit_counts (nowhere place same left) = record {
+    places = then_places;
+    each = λ i c j there here.
+        a.each i c j (ap (λ (l : List Connection). slice_get l i) (sym same) ∙ there)
+        (ap (λ (x : Sessions). slice_get x.live i) (sym left) ∙ here);
+    room = ap (λ (x : Sessions). x.room) left ∙ a.room;
+  }
+  unit_counts (somewhere p c j b r place there here one finding is same left) = record {
+    places = then_places;
+    each = λ i x y at_there at_here.
+        at_change p (connection_after (way_of d) v b r c) (joined.meant d at v (meaning_if b (meant v)) j)
+        (counted_after d at v s b r c j is (a.each p c j there here)) i x y
+        (ap (λ (l : List Connection). slice_get l i) (sym same) ∙ at_there)
+        (ap (λ (z : Sessions). slice_get z.live i) (sym left) ∙ at_here);
+    room = ap (λ (x : Sessions). x.room) left ∙ a.room;
+  }
+  unit_counts (asks_more x request_is number same left) = record {
+    places = then_places;
+    each = λ i y z there here.
+        at_end (asked_by x) (asked number x.source t.room) (asked_counted x number) i y z
+        (ap (λ (l : List Connection). slice_get l i) (sym same) ∙ there)
+        (ap (λ (w : Sessions). slice_get w.live i) (sym left) ∙ here);
+    room = ap (λ (x : Sessions). x.room) left ∙ a.room;
+  }
+  unit_counts (asks_again x request_is number p j was same left) = record {
+    places = then_places;
+    each = λ i y z there here.
+        at_change p (asked_by x) (asked number x.source t.room) (asked_counted x number) i y z
+        (ap (λ (l : List Connection). slice_get l i) (sym same) ∙ there)
+        (ap (λ (w : Sessions). slice_get w.live i) (sym left) ∙ here);
+    room = ap (λ (x : Sessions). x.room) left ∙ a.room;
+  }
+
+-- ---- at a tap
+
+abbrev pub Counted : Course → Type 0
+Counted c = AreCounted c.traffic c.sessions
+
+counted_begun : (d : Direction) (c : Connection) (j : Joined) → IsCounted c j → IsCounted (begins (way_of d) c) (packet_begins d j)
+counted_begun d c j h = record { of = λ e. by d e (h.of e); room = room_so d ∙ h.room }
+  where
+    by : (d e : Direction) → IsCountedOf e c j → IsCountedOf e (begins (way_of d) c) (packet_begins d j)
+    by Left Left x = x
+    by Left Right x = x
+    by Right Left x = x
+    by Right Right x = x
+
+    room_so : (d : Direction) → (packet_begins d j).room ≡ j.room
+    room_so Left = refl
+    room_so Right = refl
+
+unread_counts : (b : Bool) (d : Direction) (at : ℕ) (k : Cause) (c : Course) → Counted c → Counted (unread_if b d at k c)
+unread_counts true d at k c h = h
+unread_counts false d at k c h =
+    subst (λ (s : State). AreCounted s (refuses d at k c).sessions) (sym (refused_traffic d at k c))
+    (subst (AreCounted (traffic.refused (way_of d) c.traffic))
+    (sym (marked_leaves (unread_mark d at k) (traffic.refused_reach (way_of d) c.traffic)
+    (moved (unread_moment d at k c.sessions) (record c { traffic = traffic.refused (way_of d) c.traffic }))))
+    (record { places = h.places; each = h.each; room = h.room }))
+
+pub counted_claim : IsClaim Counted
+counted_claim = record {
+  begins = λ d c h. record {
+    places = packet_agrees d c h.places;
+    each = λ i x y there here.
+        let (z, z_at, z_is) = connection_of d c.traffic.connections i x there in
+        let (k, k_at, k_is) = map_of (packet_begins d) c.sessions.live i y here in
+        subst (λ (w : Connection). IsCounted w y) (sym z_is)
+        (subst (IsCounted (begins (way_of d) z)) (sym k_is) (counted_begun d z k (h.each i z k z_at k_at)));
+    room = h.room;
+  };
+  passes = λ d at v c h.
+      subst (λ (s : State). AreCounted s (unit_passes d at v c).sessions) (sym (unit_knows d at v c))
+      (subst (AreCounted (takes (way_of d) v c.traffic).state) (sym (unit_joins d at v c))
+      (unit_counts d at v c.traffic c.sessions h (unit_does d at v c.traffic c.sessions h.places)));
+  bad = λ d at k c h. unread_counts (is_some (marks_of d c).halted) d at k c h;
+}
+  where
+    connection_of : (d : Direction) (xs : List Connection) (i : ℕ) (y : Connection) → slice_get (map (begins (way_of d)) xs) i ≡ Some y →
+        (x : Connection) × (slice_get xs i ≡ Some x) × (y ≡ begins (way_of d) x)
+    connection_of d [] i y h = absurd (cc)
+    connection_of d (z ∷ xs) zero y h = (z, refl, sym (same_one (begins (way_of d) z) y h))
+    connection_of d (z ∷ xs) (suc i) y h = connection_of d xs i y h
+
+pub fresh_counted : Counted fresh
+fresh_counted = record { places = tt; each = λ i c j there here. absurd (cc there); room = refl }

@@ -1,0 +1,127 @@
+-- An end of class 0 to which no DT is in flight has begun of a TSDU what a tap has joined of it: a calling end and a called one.
+-- For a TSDU of the other side that becomes too long.
+use Rattle.std.proofs.Common.{◌≡◌, ◌∙◌, ◌⊎◌, inl, inr, refl, sym, ap, subst, ℕ, ◌<◌, Bool, true, false, if◌then◌else◌}
+use Rattle.std.proofs.Common.{List, [], Option, Some, None}
+use Rattle.std.proofs.lemmas.Bool.{eq-eqb, eqb-true}
+use Rattle.std.specs.Prelude.{◌==◌, slice_get}
+use Rattle.std.specs.List.{AllByRecursion}
+use Rattle.osi_class.specs.Link.{Standing}
+use Rattle.osi_class.specs.Tsdus.{Part}
+use Rattle.osi_class.specs.declared.terms.Class.{Class}
+use Rattle.osi_class.specs.declared.terms.Class.TheVariants.{Two, Zero}
+use Rattle.osi_class.specs.declared.terms.Local.{Local}
+use Rattle.osi_carrier.specs.Orderly.{RiseFrom}
+use Rattle.osi_carrier.specs.Rows.{value_at}
+use Rattle.osi_carrier.specs.State.{Connection as Live, State as Carrier, linked}
+use Rattle.osi_judge.specs.Captures.{other}
+use Rattle.osi_judge.specs.declared.directions.Direction.{Direction}
+use Rattle.osi_judge.specs.declared.directions.Direction.TheVariants.{Left, Right}
+use Rattle.osi_stack.specs.Calls.{has_given}
+use Rattle.osi_fair.specs.Pieces.{units_in}
+use Rattle.osi_fair.proofs.a_dt_of_class_zero_passes.{unlike}
+use Rattle.osi_fair.proofs.what_the_other_side_closes.{IsFirm}
+use Rattle.osi_honest.specs.Courses.{Deeds}
+use Rattle.osi_honest.specs.Courses as honest
+use Rattle.osi_honest.proofs.class_0.what_a_packet_does_in_class_0.{AllProper}
+use Rattle.osi_honest.proofs.class_0.what_class_0_does_not_take_ends_the_end.{IsZeroAt}
+use Rattle.osi_honest.proofs.courses.an_end_is_sound_between_turns.{IsSane}
+use Rattle.osi_honest.proofs.courses.how_long_a_connection_is_open.{amid, stage_at, stage_is}
+use Rattle.osi_tap.specs.Connections.{Joined, spoken}
+use Rattle.osi_tap.specs.Lines.{begun_octets}
+use Rattle.osi_watched.specs.Joint.{Joint}
+use Rattle.osi_watched.proofs.small_facts_that_many_lemmas_use.{none_some}
+use Rattle.osi_watched.proofs.sessions.a_called_end_hears_what_comes_until_class_2.{IsNone, known_one}
+use Rattle.osi_watched.proofs.sessions.a_called_end_stands_in_class_0.{StandsInZero}
+use Rattle.osi_watched.proofs.sessions.a_called_end_stands_until_class_2.{StandsCalledUntilTwo, StandsInNone}
+use Rattle.osi_watched.proofs.sessions.a_called_end_stands_until_its_cc_of_class_0_passes.{StandsAnswering}
+use Rattle.osi_watched.proofs.sessions.a_calling_end_hears_what_comes_until_class_2.{IsGone, known_below}
+use Rattle.osi_watched.proofs.sessions.a_calling_end_stands_until_class_2.{StandsUntilTwo}
+use Rattle.osi_watched.proofs.sessions.a_dt_of_class_0_has_one_place.{IsOnly, open_there}
+use Rattle.osi_watched.proofs.sessions.an_end_of_class_0_has_its_connection_open.{MayBeFollowed}
+use Rattle.osi_watched.proofs.sessions.class_0_keeps_its_one_place.{HasOne}
+use Rattle.osi_watched.proofs.sessions.no_session_of_an_end_breaks_first.{HaveCourses}
+use Rattle.osi_watched.proofs.sessions.nothing_is_done_before_a_cr_passes.{is_under_way, may_take, same_units}
+use Rattle.osi_watched.proofs.sessions.what_a_link_has_begun_is_left_over.{joined_is_begun, none_in_flight}
+use Rattle.osi_watched.proofs.sessions.what_is_in_flight_to_an_end.{known_of}
+
+-- If class 0 is selected, and another class is not, what a tap has joined of the unfinished TSDU of the other side is what the link has
+-- begun.
+abbrev pub HasBegun : (barred : Class) → (d : Direction) → ((ℕ → Deeds) → Joint → Type 0) → Type 0
+HasBegun barred d Inv = (deeds : ℕ → Deeds) (j : Joint) → Inv deeds j → HaveCourses d deeds j → IsSane j.holding →
+    IsFirm j.course.traffic.course → j.course.traffic.course.class ≡ Some Zero → (j.course.traffic.course.class ≡ Some barred → ⊥) →
+    AllByRecursion MayBeFollowed (units_in j.coming) → (r peer : ℕ) (link : Standing) → IsZeroAt r peer link j.holding.end.carrier →
+    (o : IsOnly j.course.traffic) (x : Joined) → slice_get j.course.sessions.live o.place ≡ Some x →
+    begun_octets (spoken (other d) x).begun ≡ link.ends.joining.begun
+
+-- another class is class 0 itself
+pub barred_begun : (d : Direction) (Inv : (ℕ → Deeds) → Joint → Type 0) → HasBegun Zero d Inv
+barred_begun d Inv deeds j h courses sane firm class not all r peer link z o x here = absurd (not class)
+
+-- ---- the connection of the end
+
+module _ (r peer : ℕ) (link : Standing) (c : Carrier) (z : IsZeroAt r peer link c) where
+  is_here : value_at r c.live ≡ Some (linked peer link)
+  is_here = ap (value_at r) z.live ∙ ap (λ (b : Bool). if◌then◌else◌ {A = Option Live} b (Some (linked peer link)) None) (eq-eqb r r refl)
+
+  is_amid : stage_at r c ≡ amid peer
+  is_amid = stage_is r c (Some (linked peer link)) (has_given r c) z.lasts refl is_here
+
+  is_some : RiseFrom 0 c.live → 0 < r
+  is_some rise = (subst (RiseFrom 0) z.live rise).0
+
+  none_later : (coming : List (List ℕ)) → AllByRecursion MayBeFollowed (units_in coming) → (q : ℕ) (later : List Part) → q ≡ r →
+      known_of (may_take c) (honest.units_in coming) q later → later ≡ []
+  none_later coming all q later same sure =
+      sure (ap (λ (n : ℕ). may_take c n) same ∙ ap is_under_way is_amid)
+      ∙ none_in_flight q (honest.units_in coming) (subst (AllByRecursion MayBeFollowed) (same_units coming) all)
+
+-- the one place
+one_place : (d : Direction) (r : ℕ) (gone : ℕ → Type 0) (j : Joint) (one : HasOne d r gone j.course.traffic j.course.sessions)
+    (o : IsOnly j.course.traffic) → o.place ≡ one.place
+one_place d r gone j one o = by (o.place == one.place) refl
+  where
+    by : (b : Bool) → (o.place == one.place) ≡ b → o.place ≡ one.place
+    by true e = eqb-true o.place one.place e
+    by false e =
+        absurd (let no : true ≡ false = sym (o.others one.place one.connection one.there (λ k. unlike o.place one.place e (sym k)))
+        ∙ one.up in cc)
+
+-- ---- a calling end
+
+pub calling_begun : (local : Local) → HasBegun Two Left (StandsUntilTwo local)
+calling_begun local deeds j h courses sane firm class not all r peer link at o x here =
+    let end = j.holding.end.carrier in
+    let z = h.early.zero class in
+    let same : r ≡ z.r = z.amid_is r peer (is_some r peer link end at sane.between.sound.orderly.rise) (is_amid r peer link end at) in
+    joined_is_begun Left deeds (known_below h.ahead.bound end (honest.units_in j.coming)) j.put j.begun j.course.traffic j.course.sessions
+    j.holding.end h.early.all courses r peer link at o.place o.connection x o.there here
+    (open_there Left j.course.traffic o)
+    (z.one.mine x (ap (slice_get j.course.sessions.live) (sym (one_place Left z.r (IsGone end) j z.one o)) ∙ here)
+    ∙ ap (λ (n : ℕ). Some n) (sym same))
+    (λ q later is sure. none_later r peer link end at j.coming all q later is sure.1)
+
+-- ---- a called end
+
+zero_called : (local : Local) (deeds : ℕ → Deeds) (j : Joint) → StandsInZero local deeds j → HaveCourses Right deeds j → IsSane j.holding →
+    AllByRecursion MayBeFollowed (units_in j.coming) → (r peer : ℕ) (link : Standing) → IsZeroAt r peer link j.holding.end.carrier →
+    (o : IsOnly j.course.traffic) (x : Joined) → slice_get j.course.sessions.live o.place ≡ Some x →
+    begun_octets (spoken Left x).begun ≡ link.ends.joining.begun
+zero_called local deeds j h courses sane all r peer link at o x here =
+    let end = j.holding.end.carrier in
+    let same : r ≡ h.r = h.amid_is r peer (is_some r peer link end at sane.between.sound.orderly.rise) (is_amid r peer link end at) in
+    let one : HasOne Right h.r IsNone j.course.traffic j.course.sessions = h.early_is.zero h.class in
+    joined_is_begun Right deeds (known_one h.r end (honest.units_in j.coming)) j.put j.begun j.course.traffic j.course.sessions
+    j.holding.end h.early_is.all courses r peer link at o.place o.connection x o.there here
+    (open_there Right j.course.traffic o)
+    (one.mine x (ap (slice_get j.course.sessions.live) (sym (one_place Right h.r IsNone j one o)) ∙ here)
+    ∙ ap (λ (n : ℕ). Some n) (sym same))
+    (λ q later is sure. none_later r peer link end at j.coming all q later is sure.2)
+
+pub called_begun : (local : Local) (proper : AllProper) → HasBegun Two Right (StandsCalledUntilTwo local proper)
+called_begun local proper deeds j h courses sane firm class not all r peer link at o x here = by h.how
+  where
+    by : StandsInNone local proper deeds j ⊎ (StandsAnswering local deeds j ⊎ StandsInZero local deeds j) →
+        begun_octets (spoken Left x).begun ≡ link.ends.joining.begun
+    by (inl none) = none_some j.course.traffic.course.class Zero none.class class
+    by (inr (inl waits)) = none_some j.course.traffic.course.class Zero waits.class class
+    by (inr (inr z)) = zero_called local deeds j z courses sane all r peer link at o x here

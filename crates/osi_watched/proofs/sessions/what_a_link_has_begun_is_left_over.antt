@@ -1,0 +1,133 @@
+-- The octets of an unfinished TSDU that the link of an open connection holds are those that are left over of the parts it took. So a tap
+-- has joined the same, if nothing is in flight to the end.
+-- For a TSDU of the other side that becomes too long.
+use Rattle.osi_watched.proofs.Vocabulary.{[], ap, Bool, false, List, None, Option, refl, Some, subst, sym, true, ℕ, ◌++◌, ◌∙◌}
+use Rattle.osi_watched.proofs.Vocabulary.{◌∷◌, ◌≡◌, append-nil, append_assoc, eq-eqb, AllByRecursion, slice_get, Value, data0}
+use Rattle.osi_watched.proofs.Vocabulary.{data2, parts_in, unit_parts, Part, End, Standing, value_at, Live, linked}
+use Rattle.osi_watched.proofs.Vocabulary.{Traffic as State, Connection, is_open, own, Direction, other, Deeds, Joined, Sessions}
+use Rattle.osi_watched.proofs.Vocabulary.{reference_of}
+use Rattle.osi_watched.proofs.Vocabulary.{spoken, way_of, calls_from, left_over, parts_of, picked_first, picked_rest}
+use Rattle.std.proofs.Common.{if◌then◌else◌}
+use Rattle.std.proofs.lemmas.List.{append_cancel_left}
+use Rattle.osi_class.proofs.bounds.what_a_call_preserves.{takes_run}
+use Rattle.osi_class.proofs.bounds.what_calls_take.{all as all_taken}
+use Rattle.osi_class.specs.Runs.{tsdus_out}
+use Rattle.osi_class.specs.Tsdus.{tsdus_after}
+use Rattle.osi_class.specs.declared.terms.Class.{Class}
+use Rattle.osi_class.specs.declared.terms.Class.TheVariants.{Two, Zero}
+use Rattle.osi_carrier.specs.Negotiation.{opened_link}
+use Rattle.osi_carrier.specs.State.{asked}
+use Rattle.osi_honest.specs.Courses.{AreCalls, Course, Gone, IsFreshLink, IsShut, awaited, is_gone, unknown}
+use Rattle.osi_honest.specs.Courses.Course.{is_open as course_open}
+use Rattle.osi_honest.specs.Courses.Gone.{closed, never, over}
+use Rattle.osi_honest.proofs.class_0.what_class_0_does_not_take_ends_the_end.{IsZeroAt}
+use Rattle.osi_tap.specs.Lines.{begun_octets}
+use Rattle.osi_watched.proofs.small_facts_that_many_lemmas_use.{over_none}
+use Rattle.osi_watched.proofs.sessions.a_session_that_is_shown_is_not_to_blame.{tsdus_more}
+use Rattle.osi_watched.proofs.sessions.all_connections_stand.{AllStand}
+use Rattle.osi_watched.proofs.sessions.an_end_of_class_0_has_its_connection_open.{MayBeFollowed}
+use Rattle.osi_watched.proofs.sessions.what_is_in_flight_to_an_end.{in_flight, in_flight_more}
+use Rattle.osi_watched.proofs.sessions.what_stands_of_a_connection.{Known, Stands, is_for, lives, past, unnamed}
+
+-- ---- a link
+
+fresh_whole : (first : Standing) → IsFreshLink first → (first.ends.joining.whole ≡ []) × (first.ends.joining.begun ≡ [])
+fresh_whole first f = by f.class f.is
+  where
+    by : (k : Class) → first ≡ opened_link k f.size f.local f.credit → (first.ends.joining.whole ≡ []) × (first.ends.joining.begun ≡ [])
+    by Zero is = (ap (λ (s : Standing). s.ends.joining.whole) is, ap (λ (s : Standing). s.ends.joining.begun) is)
+    by Two is = (ap (λ (s : Standing). s.ends.joining.whole) is, ap (λ (s : Standing). s.ends.joining.begun) is)
+
+pub begun_left : (peer : ℕ) (deeds : Deeds) (c : AreCalls peer deeds) → c.link.ends.joining.begun ≡ left_over [] (parts_in deeds.calls)
+begun_left peer deeds c =
+    let (whole, begun) = fresh_whole c.first c.fresh in
+    let parts = parts_in deeds.calls in
+    let b = c.link.ends.joining.begun in
+    let w = c.link.ends.joining.whole in
+    let one : List Part = (true, []) ∷ [] in
+    let run = takes_run c.first c.link deeds.calls one c.along in
+    let all = all_taken c.first c.link deeds.calls c.along whole begun in
+    let from : tsdus_after [] (parts ++ one) ≡ tsdus_out deeds.calls ++ (w ++ (b ++ []) ∷ []) =
+    (λ i. sym whole i ++ tsdus_after (sym begun i) (parts ++ one)) ∙ run in
+    let same : (tsdus_out deeds.calls ++ w) ++ (left_over [] parts ++ []) ∷ [] ≡ (tsdus_out deeds.calls ++ w) ++ (b ++ []) ∷ [] =
+    ap (λ (l : List (List ℕ)). l ++ (left_over [] parts ++ []) ∷ []) (sym all) ∙ sym (tsdus_more [] parts one) ∙ from
+    ∙ sym (append_assoc (tsdus_out deeds.calls) w ((b ++ []) ∷ [])) in
+    let last = append_cancel_left (tsdus_out deeds.calls ++ w) ((left_over [] parts ++ []) ∷ []) ((b ++ []) ∷ []) same in
+    sym (append-nil b) ∙ sym (first_is (left_over [] parts ++ []) (b ++ []) last) ∙ append-nil (left_over [] parts)
+  where
+    first_is : (x y : List ℕ) → x ∷ [] ≡ y ∷ [] → x ≡ y
+    first_is x y e = cc
+
+-- ---- no part is in flight
+
+followed_parts : (v : Value) → MayBeFollowed v → unit_parts v ≡ []
+followed_parts (data0 end user) h = absurd (cc h)
+followed_parts (data2 n number end user) h = absurd (cc h)
+followed_parts v h = refl
+
+one_none : (r : ℕ) (v : Value) → MayBeFollowed v → in_flight r (v ∷ []) ≡ []
+one_none r v h = by (is_for (Some r) v) refl
+  where
+    by : (b : Bool) → is_for (Some r) v ≡ b → in_flight r (v ∷ []) ≡ []
+    by true e = ap (λ (l : List Value). parts_of l) (picked_first (is_for (Some r)) v [] e)
+        ∙ ap (λ (l : List Part). l ++ []) (followed_parts v h)
+    by false e = ap (λ (l : List Value). parts_of l) (picked_rest (is_for (Some r)) v [] e)
+
+pub none_in_flight : (r : ℕ) (units : List Value) → AllByRecursion MayBeFollowed units → in_flight r units ≡ []
+none_in_flight r [] h = refl
+none_in_flight r (v ∷ units) h =
+    in_flight_more r (v ∷ []) units ∙ (λ i. one_none r v h.0 i ++ none_in_flight r units h.1 i)
+
+-- ---- a connection that is open
+
+open_link_is : (is_caller : Bool) (r peer : ℕ) (link : Standing) (deeds : Deeds) (e : End) → IsZeroAt r peer link e.carrier →
+    Course is_caller r deeds e → link.ends.joining.begun ≡ left_over [] (parts_in deeds.calls)
+open_link_is is_caller r peer link deeds e z course = by course
+  where
+    here : value_at r e.carrier.live ≡ Some (linked peer link)
+    here = ap (value_at r) z.live ∙ ap (λ (b : Bool). if◌then◌else◌ {A = Option Live} b (Some (linked peer link)) None) (eq-eqb r r refl)
+
+    not_none : {A : Type 0} → value_at r e.carrier.live ≡ None → A
+    not_none none = absurd (let no : Some (linked peer link) ≡ None = sym here ∙ none in cc)
+
+    not_asked : {A : Type 0} → value_at r e.carrier.live ≡ Some asked → A
+    not_asked is = absurd (let no : Some (linked peer link) ≡ Some asked = sym here ∙ is in cc)
+
+    same_link : (p : ℕ) (l : Standing) → value_at r e.carrier.live ≡ Some (linked p l) → link ≡ l
+    same_link p l is = let same : Some (linked peer link) ≡ Some (linked p l) = sym here ∙ is in cc
+
+    gone_not : {A : Type 0} → Gone is_caller r deeds e → A
+    gone_not (closed p calls b session speaks given shut) = absurd (subst IsShut here shut)
+    gone_not (over p calls heard unheard b session speaks parts into ended) = over_none e.carrier.ended ended z.lasts
+    gone_not (never none ended) = over_none e.carrier.ended ended z.lasts
+
+    by : Course is_caller r deeds e → link.ends.joining.begun ≡ left_over [] (parts_in deeds.calls)
+    by (unknown none side given live lines) = not_none live
+    by (awaited none c terms side lasts given live kept) = not_asked live
+    by (course_open given o) =
+        ap (λ (l : Standing). l.ends.joining.begun) (same_link o.peer o.calls.link o.here) ∙ begun_left o.peer deeds o.calls
+    by (is_gone g) = gone_not g
+
+-- a tap has joined what the link has begun of a TSDU
+pub joined_is_begun : (d : Direction) (deeds : ℕ → Deeds) (known : Known) (put : List Value) (b : Bool) (s : State) (t : Sessions)
+    (e : End) →
+    AllStand d deeds known put b s t → ((r : ℕ) → Course (calls_from d) r (deeds r) e) → (r peer : ℕ) (link : Standing) →
+    IsZeroAt r peer link e.carrier → (p : ℕ) (c : Connection) (j : Joined) → slice_get s.connections p ≡ Some c →
+    slice_get t.live p ≡ Some j → is_open (own (way_of d) c).phase ≡ true → reference_of d j ≡ Some r →
+    ((q : ℕ) (later : List Part) → q ≡ r → known q later → later ≡ []) →
+    begun_octets (spoken (other d) j).begun ≡ link.ends.joining.begun
+joined_is_begun d deeds known put b s t e a courses r peer link z p c j there here live named none = by (a.live p c j there here)
+  where
+    number : (m n : ℕ) → Some m ≡ Some n → m ≡ n
+    number m n same = cc
+
+    by : Stands d deeds known put b c j → begun_octets (spoken (other d) j).begun ≡ link.ends.joining.begun
+    by (unnamed bare mine theirs room) = absurd (let bad : Some r ≡ None = sym named ∙ bare in cc)
+    by (past q shut waiting later sure h) = absurd (let bad : true ≡ false = sym live ∙ shut in cc)
+    by (lives q o is open_too later sure h) =
+        let same : q ≡ r = number q r (sym h.shown.named ∙ named) in
+        h.shown.came.unfinished
+        ∙ ap (λ (l : List Part). left_over [] (parts_in (deeds q).calls ++ l)) (h.later_is ∙ none q later same sure)
+        ∙ ap (left_over []) (append-nil (parts_in (deeds q).calls))
+        ∙ ap (λ (n : ℕ). left_over [] (parts_in (deeds n).calls)) same
+        ∙ sym (open_link_is (calls_from d) r peer link (deeds r) e z (courses r))
