@@ -28,6 +28,7 @@ use Rattle.osi_fair.proofs.what_holds_of_one_item.{HoldsOfEach}
 use Rattle.osi_fair.proofs.while_no_class_is_selected.{calm_tap}
 use Rattle.osi_fair.proofs.what_the_other_side_closes.{IsClear, IsDr, IsFirm, IsPlain, IsSane, closed_by}
 use Rattle.osi_fair.proofs.what_is_live_at_a_called_end.{IsLive}
+use Rattle.osi_fair.proofs.an_end_has_broken_no_rule.{mild_not, other_fine, own_fine, rubbish_fine}
 
 -- ---- all that holds
 
@@ -37,6 +38,8 @@ pub record Joined (local : Local) (w : Whole) : Type 0 where
   pub orderly : IsOrderly w.end
   pub local_is : IsClear w.tap.course → w.end.local ≡ local
   pub followed : IsClear w.tap.course → Followed local w
+  -- the end has broken no rule
+  pub fine : IsClear w.tap.course → w.tap.course.left_erred ≡ false
 
 orderly_calls : (call : UserCall) (s : State) → MayCall call s → IsOrderly s → IsOrderly (user_does call s)
 orderly_calls (connects calling called) s may h = orderly_asks calling called s may h
@@ -105,7 +108,7 @@ module _ (local : Local) (w : Whole) (j : Joined local w) where
       Told v w.tap (takes Right v w.tap) ⊎ IsIdle v w.tap (takes Right v w.tap) →
       Followed local (record w { tap = (takes Right v w.tap).state; coming = w.coming ++ v ∷ [] })
   other_by v ranges firm_after f firm (inl told) =
-      other_passes local w f j.kept.sane firm.sure.firm j.staged.newer v ranges told firm_after.sure firm_after.two
+      other_passes local w f j.kept.sane firm.sure.firm j.staged.newer v ranges told firm_after.sure firm_after.two (j.fine firm)
   other_by v ranges firm_after f firm (inr idle) = idle_passes local w f j.kept.sane firm.sure.firm v ranges idle
 
   other_goes : (v : Value) → HasFieldsInRange v → IsClear (takes Right v w.tap).state.course →
@@ -113,7 +116,8 @@ module _ (local : Local) (w : Whole) (j : Joined local w) where
   other_goes v ranges firm_after =
       let firm = before_clear (passing Right v) w.tap firm_after in
       let f = j.followed firm in
-      other_by v ranges firm_after f firm (comes_for w.tap firm.sure.firm v firm.sure.left firm.sure.right f.zero firm_after.sure)
+      let sure = firm.sure in
+      other_by v ranges firm_after f firm (comes_for w.tap sure.firm (j.fine firm) v sure.left sure.right f.zero firm_after.sure)
 
   not_zero : {A : Type 0} (k : Option Class) → (k ≡ None) ⊎ (k ≡ Some Two) → k ≡ Some Zero → A
   not_zero k (inl e) h = absurd (cc (sym e ∙ h))
@@ -164,6 +168,13 @@ mild_of w v (inl e) = inl e
 mild_of w v (inr (inl e)) = inr (inl e)
 mild_of w v (inr (inr (e, strays))) = inr (inr e)
 
+-- so it breaks no rule
+own_keeps : (local : Local) (w : Whole) (v : Value) (rest : List Value) → Joined local w → w.put ≡ v ∷ rest → w.begun ≡ true →
+    IsClear w.tap.course → (takes Left v w.tap).state.course.left_erred ≡ false
+own_keeps local w v rest j e begun firm =
+    let fine = fine_by local w v rest j e begun firm (subst (AllByRecursion (IsOwned w.tap)) e (j.followed firm).owned).0 in
+    own_fine Left v w.tap (mild_not (takes Left v w.tap).told.finding (mild_of w v fine)) (j.fine firm)
+
 -- ---- whatever happens
 
 pub next_joined : (local : Local) (event : Event) (w new : Whole) → Happens Left event w new → Joined local w → Joined local new
@@ -171,36 +182,39 @@ next_joined local arrives w new (u, coming, is) j =
     let after = record w { end = react u w.end; put = w.put ++ put_for u w.end; coming = new.coming } in
     subst (Joined local) (sym is) (record {
       staged = holds_next local arrives w after (u, coming, refl) j.staged;
-      kept = next_holds arrives w after (u, coming, refl) j.kept;
+      kept = next_holds arrives w after (u, coming, refl) j.fine j.kept;
       orderly = orderly_unit u w.end j.orderly;
       local_is = λ clear. (unit_after u w.end (j.kept.offers clear)
           (subst (AllByRecursion SelectsTwo) coming (j.kept.selects clear)).0).local
           ∙ j.local_is clear;
       followed = λ firm. taking local w j u new.coming coming firm;
+      fine = j.fine;
     })
 next_joined local (calls call) w new (may, is) j =
     let after = record w { end = user_does call w.end; put = w.put ++ put_by call w.end } in
     subst (Joined local) (sym is) (record {
       staged = holds_next local (calls call) w after (may, refl) j.staged;
-      kept = next_holds (calls call) w after (may, refl) j.kept;
+      kept = next_holds (calls call) w after (may, refl) j.fine j.kept;
       orderly = orderly_calls call w.end may j.orderly;
       local_is = λ clear. (call_after call w.end (j.kept.offers clear)).local ∙ j.local_is clear;
       followed = λ firm. calling local w j call may firm;
+      fine = j.fine;
     })
 next_joined local begins_own w new (some, not_begun, is) j =
     let after = record w { begun = true; tap = packet_begins Left w.tap } in
     subst (Joined local) (sym is) (record {
       staged = holds_next local begins_own w after (some, not_begun, refl) j.staged;
-      kept = next_holds begins_own w after (some, not_begun, refl) j.kept;
+      kept = next_holds begins_own w after (some, not_begun, refl) j.fine j.kept;
       orderly = j.orderly;
       local_is = λ clear. j.local_is (before_clear (packet Left) w.tap clear);
       followed = λ begun_firm.
           let firm = before_clear (packet Left) w.tap begun_firm in
           own_begins local w (all_judged local w j firm) not_begun some (j.followed firm);
+      fine = λ clear. j.fine (before_clear (packet Left) w.tap clear);
     })
 next_joined local passes_own w new (v, put, begun, is) j =
     let after = record w { put = new.put; begun = false; tap = (takes Left v w.tap).state } in
-    let kept = next_holds passes_own w after (v, put, begun, refl) j.kept in
+    let kept = next_holds passes_own w after (v, put, begun, refl) j.fine j.kept in
     subst (Joined local) (sym is) (record {
       staged = holds_next local passes_own w after (v, put, begun, refl) j.staged;
       kept = kept;
@@ -210,33 +224,37 @@ next_joined local passes_own w new (v, put, begun, is) j =
           let firm = before_clear (passing Left v) w.tap firm_after in
           let f = j.followed firm in
           own_by local w j v new.put put begun kept firm_after firm f (subst (AllByRecursion (IsOwned w.tap)) put f.owned).0;
+      fine = λ after_it. own_keeps local w v new.put j put begun (before_clear (passing Left v) w.tap after_it);
     })
 next_joined local begins_other w new is j =
     let after = record w { tap = packet_begins Right w.tap } in
     subst (Joined local) (sym is) (record {
       staged = holds_next local begins_other w after refl j.staged;
-      kept = next_holds begins_other w after refl j.kept;
+      kept = next_holds begins_other w after refl j.fine j.kept;
       orderly = j.orderly;
       local_is = λ clear. j.local_is (before_clear (packet Right) w.tap clear);
       followed = λ firm. other_begins local w (j.followed (before_clear (packet Right) w.tap firm));
+      fine = λ clear. j.fine (before_clear (packet Right) w.tap clear);
     })
 next_joined local (passes_other v) w new (ranges, is) j =
     let after = record w { tap = (takes Right v w.tap).state; coming = w.coming ++ v ∷ [] } in
     subst (Joined local) (sym is) (record {
       staged = holds_next local (passes_other v) w after (ranges, refl) j.staged;
-      kept = next_holds (passes_other v) w after (ranges, refl) j.kept;
+      kept = next_holds (passes_other v) w after (ranges, refl) j.fine j.kept;
       orderly = j.orderly;
       local_is = λ clear. j.local_is (before_clear (passing Right v) w.tap clear);
       followed = λ firm. other_goes local w j v ranges firm;
+      fine = λ clear. other_fine Left v w.tap (j.fine (before_clear (passing Right v) w.tap clear));
     })
 next_joined local passes_rubbish w new is j =
     let after = record w { tap = passes (rubbish Right) w.tap } in
     subst (Joined local) (sym is) (record {
       staged = holds_next local passes_rubbish w after refl j.staged;
-      kept = next_holds passes_rubbish w after refl j.kept;
+      kept = next_holds passes_rubbish w after refl j.fine j.kept;
       orderly = j.orderly;
       local_is = λ clear. j.local_is (before_clear (rubbish Right) w.tap clear);
       followed = λ firm. rubbish_by local w j firm;
+      fine = λ clear. rubbish_fine Left Right w.tap (j.fine (before_clear (rubbish Right) w.tap clear));
     })
 
 pub all_joined : (local : Local) (events : List Event) (w new : Whole) → HappenAlong Left w events new → Joined local w →
@@ -251,6 +269,7 @@ first_joined local two = record {
   kept = first_holds local two;
   orderly = orderly_fresh true local;
   local_is = λ clear. refl;
+  fine = λ clear. refl;
   followed = λ firm. record {
     lines = λ i c at. no_item i c at;
     waiting = λ i c at. no_item i c at;

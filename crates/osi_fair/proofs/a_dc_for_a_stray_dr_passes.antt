@@ -5,9 +5,10 @@ use Rattle.osi_fair.proofs.Vocabulary.{[], ap, Bool, false, if◌then◌else◌,
 use Rattle.osi_fair.proofs.Vocabulary.{ℕ, ◌∙◌, ◌∷◌, ◌≡◌, ◌⊎◌, eqb-true, AllByRecursion, not, position, slice_get, ◌&&◌, ◌||◌, Connect}
 use Rattle.osi_fair.proofs.Vocabulary.{disconnected, request, Value, Class, Two, Zero, Local, first_failed, is_due}
 use Rattle.osi_fair.proofs.Vocabulary.{is_named, at_found, at_place, class_for}
-use Rattle.osi_fair.proofs.Vocabulary.{is_stopped, none_told, one_told, Outcome, route, route_in, routed}
+use Rattle.osi_fair.proofs.Vocabulary.{none_told, one_told, Outcome, route, route_in, routed}
 use Rattle.osi_fair.proofs.Vocabulary.{Traffic, takes, unnamed_told, Connection, Left, Right}
 use Rattle.osi_fair.proofs.Vocabulary.{Broke, Kept, NotJudged, Whole}
+use Rattle.osi_fair.proofs.Vocabulary.{has_broken}
 use Rattle.osi_rules.specs.declared.findings.Rule.TheVariants as rule
 use Rattle.osi_fair.proofs.small_facts_that_many_lemmas_use.{and_false as none_begun, and_first, and_second, both, judged_same, or_last}
 use Rattle.osi_fair.proofs.a_right_unit_is_not_blamed.{first_there}
@@ -69,7 +70,7 @@ module _ (m source : ℕ) (s : Traffic) (firm : s.course.loose ≡ false) (stray
       ((i : ℕ) (c : Connection) → slice_get s.connections i ≡ Some c → c.is_judged ≡ true) → Passes m source s (takes Left v s)
   dc_passes left judged =
       subst (λ (b : Bool). Passes m source s (if b then none_told Left NotJudged s else routed Left v s (route Left s.course v))) (sym left)
-      (by_class (class_for Left s.course) (is_stopped Right s.course)
+      (by_class (class_for Left s.course) (has_broken Right s.course)
       (at_passes judged (position (is_named Left m) s.connections) refl))
 
 -- ---- at the end

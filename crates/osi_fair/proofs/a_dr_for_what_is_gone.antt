@@ -31,6 +31,7 @@ use Rattle.osi_fair.proofs.which_units_are_for_a_connection.{is_dc}
 use Rattle.osi_fair.proofs.which_requests_are_put.{asked_among, call_asks, unit_asks}
 use Rattle.osi_fair.proofs.what_is_live_at_a_called_end.{IsLive}
 use Rattle.osi_fair.proofs.Vocabulary.{is_applied, reach_of, class_for, course_after, found_on, reached}
+use Rattle.osi_fair.proofs.Vocabulary.{noted}
 
 -- ---- what has come
 
@@ -358,7 +359,8 @@ same_content i m y x e = cc
 same_class : (i m : ℕ) (y x : Connect) → confirm i y ≡ confirm m x → (y.class == 2) ≡ true → (x.class == 2) ≡ true
 same_class i m y x e h = ap (λ (z : Connect). z.class == 2) (same_content i m y x e) ∙ h
 
-module _ (s : Traffic) (sane : IsSane s) (clear : IsClear s.course) (v : Value) (after : IsClear (takes Right v s).state.course) where
+module _ (s : Traffic) (sane : IsSane s) (clear : IsClear s.course) (fine : s.course.left_erred ≡ false) (v : Value)
+    (after : IsClear (takes Right v s).state.course) where
   by_answer : (t : Told v s (takes Right v s)) → (judged : t.c.is_judged ≡ true) (sound : Sound t.c) → Answered s t.c judged sound v →
       SelectsTwo v
   by_answer t judged sound k m x is = grind (arith, same_class)
@@ -372,8 +374,9 @@ module _ (s : Traffic) (sane : IsSane s) (clear : IsClear s.course) (v : Value) 
       (subst IsFirm course_is after.sure)) m x is
   cc_by t judged sound false e m x is =
       absurd (cc_waits s t.c judged sound m x e
-      (subst (λ (u : Value). IsFirm (reached Right (reach_of (class_for Right s.course) (found_on Right s t.c u))
-      (course_after Right t.c u (is_applied (found_on Right s t.c u)) s.course))) is
+      (subst (λ (u : Value). IsFirm (noted Right (found_on Right s t.c u)
+      (reached Right (reach_of (class_for Right s.course) (found_on Right s t.c u))
+      (course_after Right t.c u (is_applied (found_on Right s t.c u)) s.course)))) is
       (subst IsFirm (ap (λ (o : Outcome). o.state.course) t.is) after.sure)))
 
   by_told : Told v s (takes Right v s) ⊎ IsIdle v s (takes Right v s) → SelectsTwo v
@@ -384,7 +387,7 @@ module _ (s : Traffic) (sane : IsSane s) (clear : IsClear s.course) (v : Value) 
 
   selects_two : SelectsTwo v
   selects_two =
-      by_told (comes_for s clear.sure.firm v clear.sure.left clear.sure.right (class_of s.course clear) after.sure)
+      by_told (comes_for s clear.sure.firm fine v clear.sure.left clear.sure.right (class_of s.course clear) after.sure)
 
 not_over : (call : UserCall) (s : State) → (user_does call s).ended ≡ None → s.ended ≡ None
 not_over call s h = grind (arith, sent_lasts, all_last, closed_lasts, ended_lasts)
@@ -424,13 +427,14 @@ selects_add : (vs : List Value) (v : Value) → AllByRecursion SelectsTwo vs →
 selects_add [] v h k = (k, tt)
 selects_add (u ∷ vs) v (one, more) k = (one, selects_add vs v more k)
 
-pub next_holds : (event : Event) (w new : Whole) → Happens Left event w new → Holds w → Holds new
-next_holds arrives w new (unit, coming, is) h =
+pub next_holds : (event : Event) (w new : Whole) → Happens Left event w new → (IsClear w.tap.course → w.tap.course.left_erred ≡ false) →
+    Holds w → Holds new
+next_holds arrives w new (unit, coming, is) fine h =
     subst Holds (sym is) (holds_taking w unit new.coming coming h
     (still_newer arrives w (after_arriving w unit new.coming) (unit, coming, refl) h.newer))
-next_holds (calls call) w new (may, is) h =
+next_holds (calls call) w new (may, is) fine h =
     subst Holds (sym is) (holds_calling w call h (still_newer (calls call) w (after_calling w call) (may, refl) h.newer))
-next_holds begins_own w new (some, not_begun, is) h =
+next_holds begins_own w new (some, not_begun, is) fine h =
     let after = record w { begun = true; tap = packet_begins Left w.tap } in
     subst Holds (sym is) (record {
       newer = still_newer begins_own w after (some, not_begun, refl) h.newer;
@@ -439,7 +443,7 @@ next_holds begins_own w new (some, not_begun, is) h =
       sane = sane_begins Left w.tap h.sane;
       lively = λ plain lasts. beginning Left w true (h.lively (before_passing (packet Left) w.tap plain) lasts);
     })
-next_holds passes_own w new (v, put, begun, is) h =
+next_holds passes_own w new (v, put, begun, is) fine h =
     let after = record w { put = new.put; begun = false; tap = (takes Left v w.tap).state } in
     subst Holds (sym is) (record {
       newer = still_newer passes_own w after (v, put, begun, refl) h.newer;
@@ -448,7 +452,7 @@ next_holds passes_own w new (v, put, begun, is) h =
       sane = sane_left v w.tap (above w v new.put put h.newer IsStarted (started_asked v)) h.sane;
       lively = λ plain lasts. own w v new.put put h.newer h.sane.distinct (h.lively (before_passing (passing Left v) w.tap plain) lasts);
     })
-next_holds begins_other w new is h =
+next_holds begins_other w new is fine h =
     let after = record w { tap = packet_begins Right w.tap } in
     subst Holds (sym is) (record {
       newer = still_newer begins_other w after refl h.newer;
@@ -457,21 +461,22 @@ next_holds begins_other w new is h =
       sane = sane_begins Right w.tap h.sane;
       lively = λ plain lasts. beginning Right w w.begun (h.lively (before_passing (packet Right) w.tap plain) lasts);
     })
-next_holds (passes_other v) w new (ranges, is) h =
+next_holds (passes_other v) w new (ranges, is) fine h =
     subst Holds (sym is) (record {
       newer = still_newer (passes_other v) w (after_other w v) (ranges, refl) h.newer;
       offers = λ clear. h.offers (before_clear (passing Right v) w.tap clear);
       selects = λ clear_after.
           let clear = before_clear (passing Right v) w.tap clear_after in
-          selects_add w.coming v (h.selects clear) (selects_two w.tap h.sane clear v clear_after);
+          selects_add w.coming v (h.selects clear) (selects_two w.tap h.sane clear (fine clear) v clear_after);
       sane = sane_right v w.tap h.sane;
       lively = λ plain lasts.
           let before = before_passing (passing Right v) w.tap plain in
           let l = h.lively before lasts in
           came w v h.newer l (what_came
-          (Held w.end w.coming) w.tap h.sane l.tap before.firm before.strays before.left v before.right plain);
+          (Held w.end w.coming) w.tap h.sane l.tap before.firm before.strays before.left
+          (fine (clear_of w.tap.course before)) v before.right plain);
     })
-next_holds passes_rubbish w new is h =
+next_holds passes_rubbish w new is fine h =
     let after = record w { tap = passes (rubbish Right) w.tap } in
     subst Holds (sym is) (record {
       newer = still_newer passes_rubbish w after refl h.newer;

@@ -58,6 +58,10 @@ one_test b h = grind arith
 pub form_test : (b : Bool) → is_applied (first_failed ((b, Broke rule.WrongForm) ∷ [])) ≡ true → b ≡ true
 form_test b h = grind arith
 
+pub error_test : (b erred : Bool) →
+    is_applied (first_failed ((b || not erred, NotJudged) ∷ (b, Broke rule.WrongForm) ∷ [])) ≡ true → b ≡ true
+error_test b erred h = grind arith
+
 due_test : (due told strays : Bool) →
     is_applied (first_failed ((due || not strays, NotJudged) ∷ (told, Broke rule.UnknownReference) ∷ (due, Broke rule.NothingToAnswer)
     ∷ [])) ≡ true →
@@ -132,7 +136,7 @@ right_sent (disconnected destination source) s c p a at j sound live r h is =
     (not (is_silent c.right.phase)) s.course.strays h))
 right_sent (error destination cause) s c p a at j sound live r h is =
     right_by s.course false c (error destination cause) s.connections p r a at j sound live
-    (refuses_so c.right c.seen_by_right (form_test (is_silent c.right.phase) h))
+    (refuses_so c.right c.seen_by_right (error_test (is_silent c.right.phase) s.course.left_erred h))
 right_sent v s c p a at j sound live r h is =
     right_by s.course false c v s.connections p r a at j sound live
     (same_phase c.right c.seen_by_right (half_after v c.right) refl refl)

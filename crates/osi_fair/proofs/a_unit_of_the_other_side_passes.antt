@@ -8,6 +8,7 @@ use Rattle.osi_fair.proofs.Vocabulary.{is_closing, is_open, is_over, is_over_by,
 use Rattle.osi_fair.proofs.Vocabulary.{connection_after, course_after, found_on, half_after, judged_on, Outcome, reached, sent_on, takes}
 use Rattle.osi_fair.proofs.Vocabulary.{uses_source, Connection, Course, Right, Finding, Broke, Kept, Reach, Half, Phase}
 use Rattle.osi_fair.proofs.Vocabulary.{after_finding, finding_of, Line, opened_line, unit as passing, Whole}
+use Rattle.osi_fair.proofs.Vocabulary.{noted}
 use Rattle.osi_rules.specs.declared.findings.Reach.TheVariants as reach
 use Rattle.osi_rules.specs.declared.findings.Rule.TheVariants as rule
 use Rattle.osi_fair.specs.Lines.{passes_other}
@@ -93,7 +94,8 @@ data Kind (c : Connection) : Type 0 where
 
 module _ (local : Local) (w : Whole) (f : Followed local w) (sane : IsSane w.tap) (firm : w.tap.course.loose ≡ false)
     (newer : Newer w) (v : Value) (ranges : HasFieldsInRange v) (t : Told v w.tap (takes Right v w.tap))
-    (firm_after : IsFirm (takes Right v w.tap).state.course) (none_zero : (takes Right v w.tap).state.course.class ≡ Some Zero → ⊥) where
+    (firm_after : IsFirm (takes Right v w.tap).state.course) (none_zero : (takes Right v w.tap).state.course.class ≡ Some Zero → ⊥)
+    (fine : w.tap.course.left_erred ≡ false) where
   abbrev cs : List Connection
   cs = w.tap.connections
 
@@ -122,7 +124,7 @@ module _ (local : Local) (w : Whole) (f : Followed local w) (sane : IsSane w.tap
   nxt = connection_after Right v (is_applied found_so) far c
 
   abbrev course_so : Course
-  course_so = reached Right far (course_after Right c v (is_applied found_so) w.tap.course)
+  course_so = noted Right found_so (reached Right far (course_after Right c v (is_applied found_so) w.tap.course))
 
   conns : (takes Right v w.tap).state.connections ≡ set cs t.q nxt
   conns = ap (λ (o : Outcome). o.state.connections) t.is
@@ -219,7 +221,7 @@ module _ (local : Local) (w : Whole) (f : Followed local w) (sane : IsSane w.tap
 
   goes_so : is_tracked c ≡ true → Next
   goes_so tracked =
-      let (there, right) = open_stays w.tap c judged_c sound_c v t.n t.dest tracked firm_so in
+      let (there, right) = open_stays w.tap c judged_c sound_c v t.n t.dest tracked fine firm_so in
       let still = both (is_open nxt.left.phase) (is_open nxt.right.phase || is_closing nxt.right.phase)
       (ap (λ (h : Half). is_open h.phase) nxt_left ∙ left_open c tracked) there in
       let none = no_cc (there_not_silent c.right.phase (right_there c tracked)) in

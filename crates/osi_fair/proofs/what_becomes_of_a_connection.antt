@@ -10,6 +10,7 @@ use Rattle.osi_fair.proofs.Vocabulary.{is_refused, is_silent, at_found, at_place
 use Rattle.osi_fair.proofs.Vocabulary.{found, found_on, half_after, none_told, one_told, Outcome, reached, route}
 use Rattle.osi_fair.proofs.Vocabulary.{route_in, routed, Traffic, takes, unnamed_by, unnamed_told, uses_source, Connection, Course}
 use Rattle.osi_fair.proofs.Vocabulary.{Right, Finding, Broke, Kept, NotJudged, Outside, TooMany, Reach, Rule, Half, Phase}
+use Rattle.osi_fair.proofs.Vocabulary.{noted, course_after_none}
 use Rattle.osi_rules.specs.declared.findings.Rule.TheVariants as rule
 use Rattle.osi_fair.proofs.small_facts_that_many_lemmas_use.{and_first, and_second, differ, judged_same, open_or_closing}
 use Rattle.osi_fair.proofs.no_two_open_connections_have_one_peer.{left_open, right_there, there_not_silent}
@@ -20,6 +21,8 @@ use Rattle.osi_fair.proofs.what_the_other_side_closes.{IsFirm, not_firm}
 use Rattle.osi_fair.proofs.which_units_are_for_a_connection.{is_dc}
 use Rattle.osi_fair.proofs.while_no_class_is_selected.{named_where}
 use Rattle.osi_fair.proofs.one_request_waits.{reached_class}
+use Rattle.osi_fair.proofs.an_end_has_broken_no_rule.{er_as_ever, not_broken}
+use Rattle.osi_fair.proofs.what_the_other_side_closes.{unknown_is}
 
 -- ---- for which connection it is
 
@@ -49,24 +52,28 @@ idle_by : (b : Bool) (m source : ℕ) (s : Traffic) → s.course.strays ≡ b �
 idle_by b m source s e firm h = search (arith, not_firm)
 
 unknown_not : (v : Value) (s : Traffic) → ((b : Bool) → unnamed_by b v ≡ Broke rule.UnknownReference) → s.course.loose ≡ false →
-    IsFirm (unnamed_told Right v s).state.course → ⊥
-unknown_not v s is firm h = grind (arith, not_firm)
+    s.course.left_erred ≡ false → IsFirm (unnamed_told Right v s).state.course → ⊥
+unknown_not v s is firm fine h =
+    let mid = course_after_none v s.course in
+    let so = unknown_is v s.course firm fine ∙ is s.course.strays in
+    not_firm (class_for Right mid) rule.UnknownReference mid refl
+    (subst (λ (f : Finding). IsFirm (noted Right f (reached Right (reach_of (class_for Right mid) f) mid))) so h)
 
 by_bool : (v : Value) → unnamed_by true v ≡ Broke rule.UnknownReference → unnamed_by false v ≡ Broke rule.UnknownReference →
     (b : Bool) → unnamed_by b v ≡ Broke rule.UnknownReference
 by_bool v h k b = grind arith
 
-none_idle : (v : Value) (s : Traffic) → s.course.loose ≡ false → IsFirm (unnamed_told Right v s).state.course →
-    IsIdle v s (unnamed_told Right v s)
-none_idle v s firm h = grind (arith, unknown_not, by_bool, idle_by)
+none_idle : (v : Value) (s : Traffic) → s.course.loose ≡ false → s.course.left_erred ≡ false →
+    IsFirm (unnamed_told Right v s).state.course → IsIdle v s (unnamed_told Right v s)
+none_idle v s firm fine h = grind (arith, unknown_not, by_bool, idle_by)
 
-module _ (s : Traffic) (firm : s.course.loose ≡ false) where
+module _ (s : Traffic) (firm : s.course.loose ≡ false) (fine : s.course.left_erred ≡ false) where
   abbrev Comes : Value → Outcome → Type 0
   Comes v o = IsFirm o.state.course → Told v s o ⊎ IsIdle v s o
 
   at_name : (v : Value) (n : ℕ) (o : Option ℕ) → position (is_named Right n) s.connections ≡ o → destination_of v ≡ Some n →
       Comes v (at_place Right v s o)
-  at_name v n None e d h = inr (none_idle v s firm h)
+  at_name v n None e d h = inr (none_idle v s firm fine h)
   at_name v n (Some q) e d h =
       let (c, at, named) = named_where s.connections n q e in
       inl (record { n = n; q = q; c = c; dest = d; at = at; named = named; is = ap (λ (o : Option Connection). at_found Right v s q o) at })
@@ -107,7 +114,8 @@ module _ (s : Traffic) (firm : s.course.loose ≡ false) where
   comes_for v left right class =
       let so : takes Right v s ≡ routed Right v s (route_in s.course.class Right false v) =
       ap (λ (b : Bool). if b then none_told Right NotJudged s else routed Right v s (route Right s.course v)) right
-      ∙ ap (λ (b : Bool). routed Right v s (route_in s.course.class Right b v)) left in
+      ∙ ap (λ (b : Bool). routed Right v s (route_in s.course.class Right b v))
+      (not_broken s.course.left_stopped s.course.left_erred left fine) in
       subst (Comes v) (sym so) (by_class s.course.class class v)
 
 -- ---- what it does to its connection
@@ -134,8 +142,8 @@ dc_or : (due told strays : Bool) → Fate due (first_failed ((due || not strays,
     ∷ (due, Broke rule.NothingToAnswer) ∷ []))
 dc_or due told strays = grind arith
 
-er_kept : (a : Bool) → a ≡ true → first_failed ((a, Broke rule.WrongForm) ∷ []) ≡ Kept
-er_kept a h = grind arith
+er_kept : (a erred : Bool) → a ≡ true → first_failed ((a || not erred, NotJudged) ∷ (a, Broke rule.WrongForm) ∷ []) ≡ Kept
+er_kept a erred h = grind arith
 
 -- what is found of a CC for a connection that waits
 pub data Ruled (f : Finding) : Type 0 where
@@ -165,7 +173,7 @@ module _ (s : Traffic) (c : Connection) (judged : c.is_judged ≡ true) (sound :
   next v = connection_after Right v (is_applied (finding v)) (how_far v) c
 
   abbrev course : Value → Course
-  course v = reached Right (how_far v) (course_after Right c v (is_applied (finding v)) s.course)
+  course v = noted Right (finding v) (reached Right (how_far v) (course_after Right c v (is_applied (finding v)) s.course))
 
   is_found : (v : Value) → finding v ≡ found Right s.course (uses_source Right s.connections v) c v
   is_found v = judged_same c.is_judged (found Right s.course (uses_source Right s.connections v) c v) judged
@@ -217,25 +225,27 @@ module _ (s : Traffic) (c : Connection) (judged : c.is_judged ≡ true) (sound :
   same_next : (v : Value) → next v ≡ c → is_tracked c ≡ true → StaysOpen v
   same_next v e h = grind (arith, right_there)
 
-  pub open_stays : (v : Value) (n : ℕ) → destination_of v ≡ Some n → is_tracked c ≡ true → IsFirm (course v) → StaysOpen v
-  open_stays (request x) n e h p = absurd (cc e)
-  open_stays (confirm destination x) n e h p =
+  pub open_stays : (v : Value) (n : ℕ) → destination_of v ≡ Some n → is_tracked c ≡ true → s.course.left_erred ≡ false →
+      IsFirm (course v) → StaysOpen v
+  open_stays (request x) n e h kept p = absurd (cc e)
+  open_stays (confirm destination x) n e h kept p =
       broke (confirm destination x) rule.WrongForm (is_found (confirm destination x) ∙ form_broke (is_silent c.right.phase)
       (drop 1 (confirm_tests c s.course.class (uses_source Right s.connections (confirm destination x)) s.course.loose x))
       (not_silent h)) refl p
-  open_stays (disconnect destination source reason user) n e h p =
+  open_stays (disconnect destination source reason user) n e h kept p =
       dr_by destination source reason user (is_applied (finding (disconnect destination source reason user))) refl h
-  open_stays (disconnected destination source) n e h p =
+  open_stays (disconnected destination source) n e h kept p =
       same_next (disconnected destination source) (dc_idle destination source p
       (λ due. open_or_closing c.left.phase (left_open c h)
       (sound.right_knows.closing (and_first (is_closing c.seen_by_right.phase) (source == c.right.reference)
       (and_second (is_open c.right.phase) (is_closing c.seen_by_right.phase && (source == c.right.reference)) due))))
       (dc_fate destination source)) h
-  open_stays (data0 end user) n e h p = absurd (cc e)
-  open_stays (error destination cause) n e h p =
+  open_stays (data0 end user) n e h kept p = absurd (cc e)
+  open_stays (error destination cause) n e h kept p =
       broke (error destination cause) rule.WrongForm
-      (is_found (error destination cause) ∙ form_broke (is_silent c.right.phase) [] (not_silent h)) refl p
-  open_stays v n e h p =
+      (is_found (error destination cause) ∙ er_as_ever (is_silent c.right.phase) s.course.left_erred kept
+      ∙ form_broke (is_silent c.right.phase) [] (not_silent h)) refl p
+  open_stays v n e h kept p =
       same_by v (is_applied (finding v)) refl refl refl h
 
   -- a CC is for a connection that waits

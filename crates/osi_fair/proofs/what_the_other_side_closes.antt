@@ -21,6 +21,8 @@ use Rattle.osi_fair.proofs.while_no_class_is_selected.{after_change, named_where
 use Rattle.osi_fair.proofs.what_stays_of_each_connection.{AreDistinct, IsLively, IsStarted, is_there, left_then, right_judged, right_own}
 use Rattle.osi_fair.proofs.what_a_side_knows_stays.{form_first}
 use Rattle.osi_fair.proofs.Vocabulary.{is_live}
+use Rattle.osi_fair.proofs.Vocabulary.{noted, unnamed, in_doubt, course_after_none}
+use Rattle.osi_fair.proofs.an_end_has_broken_no_rule.{no_report, not_broken}
 pub use Rattle.osi_fair.proofs.small_facts_that_many_lemmas_use.{judged_same}
 
 -- both sides are judged, no connection has lost its judgement, class 0 is not selected, and each DR has closed something
@@ -68,25 +70,47 @@ pub data Came (L : ℕ → Type 0) (v : Value) (s t : State) : Type 0 where
   closes : (n : ℕ) → closed_by v ≡ Some n → (p : ℕ) (c : Connection) → slice_get s.connections p ≡ Some c → c.left.reference ≡ n →
       (IsDr v → L n) → HoldsOfEach (IsLively (Less L n)) t.connections → Came L v s t
 
+-- whatever is noted of a unit
+pub firm_noted : (f : Finding) (c : Course) → IsFirm (noted Right f c) → IsFirm c
+firm_noted f c h = record { firm = h.firm; left = h.left; right = h.right }
+
 -- ---- what is wrong is not firm
 
 by_reach : (k : Option Class) (b : Bool) (c : Course) → IsFirm (reached Right (reach_by k b) c) → ⊥
 by_reach k b c h = grind (arith, differ)
 
-pub not_firm : (k : Option Class) (r : Rule) (c : Course) → passes_over r ≡ false → IsFirm (reached Right (reach_of k (Broke r)) c) → ⊥
-not_firm k r c e h = grind (arith, by_reach)
+never_firm : (k : Option Class) (r : Rule) (c : Course) → passes_over r ≡ false → IsFirm (reached Right (reach_of k (Broke r)) c) → ⊥
+never_firm k r c e h = grind (arith, by_reach)
 
-bad : (k : Option Class) (r : Rule) (c : Course) → passes_over r ≡ false → IsPlain (reached Right (reach_of k (Broke r)) c) → ⊥
-bad k r c e h = not_firm k r c e (firm_of (reached Right (reach_of k (Broke r)) c) h)
+pub not_firm : (k : Option Class) (r : Rule) (c : Course) → passes_over r ≡ false →
+    IsFirm (noted Right (Broke r) (reached Right (reach_of k (Broke r)) c)) → ⊥
+not_firm k r c e h = never_firm k r c e (firm_noted (Broke r) (reached Right (reach_of k (Broke r)) c) h)
+
+bad : (k : Option Class) (r : Rule) (c : Course) → passes_over r ≡ false →
+    IsPlain (noted Right (Broke r) (reached Right (reach_of k (Broke r)) c)) → ⊥
+bad k r c e h = not_firm k r c e (firm_of (noted Right (Broke r) (reached Right (reach_of k (Broke r)) c)) h)
 
 -- a unit for no connection
 none_rule : (v : Value) → (r : Rule) × (unnamed_by false v ≡ Broke r) × (passes_over r ≡ false)
 none_rule (disconnected destination source) = (rule.UnknownReference, refl, refl)
 none_rule _ = (rule.UnknownReference, refl, refl)
 
-none_bad : (v : Value) (s : State) → s.course.loose ≡ false → s.course.strays ≡ false →
+-- what is found of one, if the end has broken no rule
+pub unknown_is : (v : Value) (c : Course) → c.loose ≡ false → c.left_erred ≡ false → unnamed Right c v ≡ unnamed_by c.strays v
+unknown_is v c firm fine =
+    ap (λ (b : Bool). if b then NotJudged else (if c.loose then in_doubt (unnamed_by c.strays v) else unnamed_by c.strays v))
+    (no_report c.left_erred v fine)
+    ∙ ap (λ (b : Bool). if b then in_doubt (unnamed_by c.strays v) else unnamed_by c.strays v) firm
+
+none_bad : (v : Value) (s : State) → s.course.loose ≡ false → s.course.strays ≡ false → s.course.left_erred ≡ false →
     IsPlain (unnamed_told Right v s).state.course → ⊥
-none_bad v s firm plain h = grind (arith, none_rule, bad)
+none_bad v s firm plain fine h =
+    let (r, is, past) = none_rule v in
+    let mid = course_after_none v s.course in
+    let so : unnamed Right s.course v ≡ Broke r =
+    unknown_is v s.course firm fine ∙ ap (λ (b : Bool). unnamed_by b v) plain ∙ is in
+    bad (class_for Right mid) r mid past
+    (subst (λ (f : Finding). IsPlain (noted Right f (reached Right (reach_of (class_for Right mid) f) mid))) so h)
 
 reached_plain : (r : Reach) (c : Course) → (reached Right r c).strays ≡ false → c.strays ≡ false
 reached_plain r c h = grind arith
@@ -107,7 +131,7 @@ still_open p q a b c h = grind arith
 
 module _ (L : ℕ → Type 0) (s : State) (q : ℕ) (c : Connection) (at : slice_get s.connections q ≡ Some c)
     (judged : c.is_judged ≡ true) (sound : Sound c) (started : IsStarted c) (distinct : AreDistinct s.connections)
-    (lively : HoldsOfEach (IsLively L) s.connections) (plain : s.course.strays ≡ false) where
+    (lively : HoldsOfEach (IsLively L) s.connections) (plain : s.course.strays ≡ false) (fine : s.course.left_erred ≡ false) where
   abbrev finding : Value → Finding
   finding v = found_on Right s c v
 
@@ -118,7 +142,7 @@ module _ (L : ℕ → Type 0) (s : State) (q : ℕ) (c : Connection) (at : slice
   after v = connection_after Right v (is_applied (finding v)) (how_far v) c
 
   abbrev course : Value → Course
-  course v = reached Right (how_far v) (course_after Right c v (is_applied (finding v)) s.course)
+  course v = noted Right (finding v) (reached Right (how_far v) (course_after Right c v (is_applied (finding v)) s.course))
 
   is_found : (v : Value) → finding v ≡ found Right s.course (uses_source Right s.connections v) c v
   is_found v = judged_same c.is_judged (found Right s.course (uses_source Right s.connections v) c v) judged
@@ -219,17 +243,19 @@ module _ (L : ℕ → Type 0) (s : State) (q : ℕ) (c : Connection) (at : slice
   dc_by false true false h = inr (rule.NothingToAnswer, refl, refl)
   dc_by due told true h = absurd (cc)
 
+  not_so : (v : Value) (r : Rule) → finding v ≡ Broke r → passes_over r ≡ false → IsPlain (course v) → ⊥
+  not_so v r e past h =
+      bad (class_for Right s.course) r (course_after Right c v (is_applied (finding v)) s.course) past
+      (subst (λ (f : Finding). IsPlain (noted Right f (reached Right (reach_of (class_for Right s.course) f)
+      (course_after Right c v (is_applied (finding v)) s.course)))) e h)
+
   answers_by : (destination source : ℕ) → c.left.reference ≡ destination →
       (is_applied (finding (disconnected destination source)) ≡ true)
       ⊎ (IsBad (finding (disconnected destination source))) → IsPlain (course (disconnected destination source)) →
       Came L (disconnected destination source) s (one_told Right q c (disconnected destination source) s).state
   answers_by destination source is (inl e) h =
       closed_so (disconnected destination source) destination refl is e refl refl (λ dr. absurd dr)
-  answers_by destination source is (inr (r, e, past)) h =
-      let v = disconnected destination source in
-      absurd (bad (class_for Right s.course) r (course_after Right c v (is_applied (finding v)) s.course) past
-      (subst (λ (f : Finding). IsPlain (reached Right (reach_of (class_for Right s.course) f)
-      (course_after Right c v (is_applied (finding v)) s.course))) e h))
+  answers_by destination source is (inr (r, e, past)) h = absurd (not_so (disconnected destination source) r e past h)
 
   dc_found : (destination source : ℕ) → (is_applied (finding (disconnected destination source)) ≡ true)
       ⊎ (IsBad (finding (disconnected destination source)))
@@ -239,19 +265,24 @@ module _ (L : ℕ → Type 0) (s : State) (q : ℕ) (c : Connection) (at : slice
 
   -- ---- an ER
 
-  er_by : (silent : Bool) → (is_applied (first_failed ((silent, Broke rule.WrongForm) ∷ [])) ≡ true)
-      ⊎ (first_failed ((silent, Broke rule.WrongForm) ∷ []) ≡ Broke rule.WrongForm)
-  er_by silent = grind arith
+  er_by : (silent erred : Bool) → erred ≡ false →
+      (is_applied (first_failed ((silent || not erred, NotJudged) ∷ (silent, Broke rule.WrongForm) ∷ [])) ≡ true)
+      ⊎ (first_failed ((silent || not erred, NotJudged) ∷ (silent, Broke rule.WrongForm) ∷ []) ≡ Broke rule.WrongForm)
+  er_by true erred h = inl refl
+  er_by false false h = inr refl
+  er_by false true h = absurd (cc)
 
   refuses_by : (destination cause : ℕ) → c.left.reference ≡ destination → (is_applied (finding (error destination cause)) ≡ true)
       ⊎ (finding (error destination cause) ≡ Broke rule.WrongForm) → IsPlain (course (error destination cause)) →
       Came L (error destination cause) s (one_told Right q c (error destination cause) s).state
   refuses_by destination cause is (inl e) h = closed_so (error destination cause) destination refl is e refl refl (λ dr. absurd dr)
-  refuses_by destination cause is (inr e) h = grind (arith, bad)
+  refuses_by destination cause is (inr e) h = absurd (not_so (error destination cause) rule.WrongForm e refl h)
 
   er_found : (destination cause : ℕ) → (is_applied (finding (error destination cause)) ≡ true)
       ⊎ (finding (error destination cause) ≡ Broke rule.WrongForm)
-  er_found destination cause = grind (arith, is_found, er_by)
+  er_found destination cause =
+      subst (λ (f : Finding). (is_applied f ≡ true) ⊎ (f ≡ Broke rule.WrongForm)) (sym (is_found (error destination cause)))
+      (er_by (is_silent c.right.phase) s.course.left_erred fine)
 
   -- ---- any
 
@@ -286,7 +317,8 @@ pub is_name : (c : Connection) (n : ℕ) → Sound c → is_named Right n c ≡ 
 is_name c n sound h = grind (arith, named_so, eqb-true)
 
 module _ (L : ℕ → Type 0) (s : State) (sane : IsSane s) (lively : HoldsOfEach (IsLively L) s.connections)
-    (firm : s.course.loose ≡ false) (plain : s.course.strays ≡ false) (went_on : s.course.left_stopped ≡ false) where
+    (firm : s.course.loose ≡ false) (plain : s.course.strays ≡ false) (went_on : s.course.left_stopped ≡ false)
+    (fine : s.course.left_erred ≡ false) where
   abbrev Comes : Value → Outcome → Type 0
   Comes v o = IsPlain o.state.course → Came L v s o.state
 
@@ -295,7 +327,7 @@ module _ (L : ℕ → Type 0) (s : State) (sane : IsSane s) (lively : HoldsOfEac
   at_one v q c at named =
       let judged = sane.judged firm q c at in
       let sound = sane.apart.sound q c at judged in
-      one_came L s q c at judged sound (sane.started q c at) sane.distinct lively plain v (λ n e. is_name c n sound (named n e))
+      one_came L s q c at judged sound (sane.started q c at) sane.distinct lively plain fine v (λ n e. is_name c n sound (named n e))
 
   there : (v : Value) (q : ℕ) (c : Connection) → slice_get s.connections q ≡ Some c →
       ((n : ℕ) → closed_by v ≡ Some n → is_named Right n c ≡ true) → Comes v (at_place Right v s (Some q))
@@ -303,7 +335,7 @@ module _ (L : ℕ → Type 0) (s : State) (sane : IsSane s) (lively : HoldsOfEac
 
   at_name : (v : Value) (n : ℕ) (o : Option ℕ) → position (is_named Right n) s.connections ≡ o →
       ((m : ℕ) → closed_by v ≡ Some m → n ≡ m) → Comes v (at_place Right v s o)
-  at_name v n None e same h = absurd (none_bad v s firm plain h)
+  at_name v n None e same h = absurd (none_bad v s firm plain fine h)
   at_name v n (Some q) e same h =
       let (c, at, named) = named_where s.connections n q e in
       there v q c at (λ m k. subst (λ (i : ℕ). is_named Right i c ≡ true) (same m k) named) h
@@ -366,5 +398,6 @@ module _ (L : ℕ → Type 0) (s : State) (sane : IsSane s) (lively : HoldsOfEac
   what_came v judged =
       let so : takes Right v s ≡ routed Right v s (route_in s.course.class Right false v) =
       ap (λ (b : Bool). if b then none_told Right NotJudged s else routed Right v s (route Right s.course v)) judged
-      ∙ ap (λ (b : Bool). routed Right v s (route_in s.course.class Right b v)) went_on in
+      ∙ ap (λ (b : Bool). routed Right v s (route_in s.course.class Right b v))
+      (not_broken s.course.left_stopped s.course.left_erred went_on fine) in
       subst (Comes v) (sym so) (by_class s.course.class v)
