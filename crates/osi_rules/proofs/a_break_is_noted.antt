@@ -16,9 +16,9 @@ use Rattle.osi_rules.specs.declared.routes.Route.TheVariants.{Asks, Named, Only,
 use Rattle.osi_rules.specs.Reaches.{reach_of, is_applied, is_break}
 use Rattle.osi_rules.specs.Rows.{first_failed}
 use Rattle.osi_rules.specs.Sides.{is_live, is_named}
-use Rattle.osi_rules.specs.Traffic.{State, Outcome, class_for, course_after, course_after_none, found_on, has_erred, noted, of_side, reached}
+use Rattle.osi_rules.specs.Traffic.{State, Outcome, class_for, course_after, course_after_none, found_on, has_erred, noted, of_side}
 use Rattle.osi_rules.specs.Traffic.{one_told, unnamed, unnamed_told, none_told, at_found, at_place, asks_by, asks_of, request_tests}
-use Rattle.osi_rules.specs.Traffic.{routed, route, is_stopped, takes}
+use Rattle.osi_rules.specs.Traffic.{reached, routed, route, is_stopped, takes}
 
 -- what has been found of neither side is different
 abbrev IsSame : Course → Course → Type 0
@@ -34,7 +34,8 @@ reached_same Left reach.Side c = (refl, refl)
 reached_same Right reach.Side c = (refl, refl)
 reached_same d reach.Everything c = (refl, refl)
 
-after_same : (d : Direction) (c : Connection) (v : Value) (applied : Bool) (course : Course) → IsSame (course_after d c v applied course) course
+after_same : (d : Direction) (c : Connection) (v : Value) (applied : Bool) (course : Course) →
+    IsSame (course_after d c v applied course) course
 after_same d c (request r) applied course = (refl, refl)
 after_same d c (confirm destination r) true course = (refl, refl)
 after_same d c (confirm destination r) false course = (refl, refl)

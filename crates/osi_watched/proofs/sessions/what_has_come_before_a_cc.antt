@@ -353,7 +353,8 @@ module _ (local : Local) (v : Value) (w : Whole) (j : Follows local w)
 
   tracked_now : (r : ℕ) → MayOpen w.end r → IsForOne r v → Tracked w.tap.connections r
   tracked_now r may one =
-      tracked_of r may one (comes_for w.tap clear.sure.firm v clear.sure.left clear.sure.right (j.followed clear).zero then_clear.sure)
+      let sure = clear.sure in
+      tracked_of r may one (comes_for w.tap sure.firm (j.fine clear) v sure.left sure.right (j.followed clear).zero then_clear.sure)
 
 -- one that right is closing has its CC too, if it may open
 pub closing_tracked : (end : Carrier) (coming : List Value) (s : State) → IsQuiet end coming s → (i : ℕ) (c : Connection) →
