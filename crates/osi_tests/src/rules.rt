@@ -261,8 +261,8 @@ const REPORTED_LATE: [Step; 6] = [
     Step::Sends(LEFT, REQUEST, KEPT),
     Step::Sends(RIGHT, CONFIRM, KEPT),
     Step::Sends(LEFT, CLOSE, KEPT),
-    Step::Sends(RIGHT, CLOSED, KEPT),
     Step::Sends(LEFT, DATA_0, Finding::Broke(Rule::Closed)),
+    Step::Sends(RIGHT, CLOSED, KEPT),
     Step::Sends(RIGHT, REPORT_BACK, UNSEEN),
 ];
 
