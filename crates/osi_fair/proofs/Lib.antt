@@ -35,6 +35,7 @@ pub mod one_request_waits
 pub mod a_refused_request_waits_no_more
 pub mod what_a_carrier_puts
 pub mod while_no_class_is_selected
+pub mod an_end_has_broken_no_rule
 pub mod what_lasts_at_the_tap
 pub mod a_connection_is_lost_in_class_2_alone
 pub mod which_requests_are_put

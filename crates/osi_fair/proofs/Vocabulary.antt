@@ -72,18 +72,19 @@ pub use Rattle.osi_carrier.specs.declared.ends.EndReason.{EndReason}
 pub use Rattle.osi_carrier.specs.declared.ends.EndReason.TheVariants.{Fault, NoMemory}
 pub use Rattle.osi_carrier.specs.declared.faults.OpenError.{OpenError}
 pub use Rattle.osi_carrier.specs.declared.faults.OpenError.TheVariants.{Ended, Negotiating, NotCaller, OneConnection}
+pub use Rattle.osi_rules.proofs.a_break_is_noted.{breaks_are_noted}
 pub use Rattle.osi_rules.proofs.a_stop_is_said.{stops_are_said}
-pub use Rattle.osi_rules.specs.Reaches.{is_applied, is_of_connection, passes_over, reach_by, reach_of, reach_past}
+pub use Rattle.osi_rules.specs.Reaches.{is_applied, is_break, is_of_connection, passes_over, reach_by, reach_of, reach_past}
 pub use Rattle.osi_rules.specs.Rows.{acknowledge_tests, code_named, confirm_tests, data0_tests, data2_tests, disconnect_tests}
-pub use Rattle.osi_rules.specs.Rows.{disconnected_tests, first_failed, fits_size, fits_tsdu}
+pub use Rattle.osi_rules.specs.Rows.{disconnected_tests, error_tests, first_failed, fits_size, fits_tsdu}
 pub use Rattle.osi_rules.specs.Rows.{given_again, has_credit, has_passed, is_due, is_inside}
 pub use Rattle.osi_rules.specs.Rows.{is_offered, is_tellable, keeps_credit, steps_from, Test}
 pub use Rattle.osi_rules.specs.Sides.{begins, is_closed, is_closing, is_free, is_live, is_named, is_open, is_over, is_over_by, is_refused}
 pub use Rattle.osi_rules.specs.Sides.{is_silent, other, own, seen, theirs, uses}
 pub use Rattle.osi_rules.specs.Traffic.{asked_by, asks_by, asks_kept, asks_of, at_found, at_place, begun_after, class_for, class_of}
 pub use Rattle.osi_rules.specs.Traffic.{closing_phase, connection_after, course_after, course_after_none, course_begins, found, found_on}
-pub use Rattle.osi_rules.specs.Traffic.{fresh, half_after, has_place, in_doubt, is_not_judged}
-pub use Rattle.osi_rules.specs.Traffic.{is_stopped, is_stray, judged_on, none_told, offer_of}
+pub use Rattle.osi_rules.specs.Traffic.{fresh, half_after, has_broken, has_erred, has_place, in_doubt, is_not_judged, is_report}
+pub use Rattle.osi_rules.specs.Traffic.{is_stopped, is_stray, judged_on, none_told, noted, of_side, offer_of}
 pub use Rattle.osi_rules.specs.Traffic.{one_told, Outcome, packet_begins, placed, reached, refused, refused_reach, request_tests, route}
 pub use Rattle.osi_rules.specs.Traffic.{route_in, route_two, route_zero, routed, sent_on, silent_half, sized, State as Traffic, stops_by}
 pub use Rattle.osi_rules.specs.Traffic.{takes, unnamed, unnamed_by, unnamed_told, uses_source}

@@ -29,6 +29,7 @@ use Rattle.osi_fair.proofs.what_holds_of_one_item.{HoldsOfEach}
 use Rattle.osi_fair.proofs.what_keeps_names_apart.{AreApart}
 use Rattle.osi_fair.proofs.what_lasts_at_the_tap.{lasts_passing}
 use Rattle.osi_fair.proofs.which_unit_comes_to_a_called_end.{IsCalm, by_reach, calm_before}
+use Rattle.osi_fair.proofs.an_end_has_broken_no_rule.{other_fine, own_fine, right_not, rubbish_fine}
 
 -- ---- a unit of the end
 
@@ -77,6 +78,8 @@ pub record Joined (local : Local) (w : Whole) : Type 0 where
   pub stage : IsCalm w.tap.course → Stage local w
   -- as long as the other side is judged, this one is
   pub right : w.tap.course.left_stopped ≡ false → w.tap.course.right_stopped ≡ false
+  -- and it has broken no rule
+  pub fine : w.tap.course.left_stopped ≡ false → w.tap.course.right_erred ≡ false
 
 calm_was : (p : Passing) (w : Whole) → IsCalm (passes p w.tap).course → IsCalm w.tap.course
 calm_was p w h = calm_before w.tap.course (passes p w.tap).course (lasts_passing p w.tap) h
@@ -146,11 +149,11 @@ module _ (local : Local) (w : Whole) (j : Joined local w) where
   comes_stage : (v : Value) → HasFieldsInRange v → IsCalm w.tap.course → IsCalm (takes Left v w.tap).state.course → Stage local w →
       Stage local (record w { tap = (takes Left v w.tap).state; coming = w.coming ++ v ∷ [] })
   comes_stage v ranges calm calm_after (lines f c named) =
-      let (after, still) = comes_so local w f j.apart named v ranges calm_after in lines after c still
+      let (after, still) = comes_so local w f j.apart named v ranges calm_after (j.fine calm.left) in lines after c still
   comes_stage v ranges calm calm_after (selecting f) =
-      selecting (selecting_comes w j.apart (firm_in None f.class (λ no. cc no)) v calm_after local f)
+      selecting (selecting_comes w j.apart (firm_in None f.class (λ no. cc no)) v (j.fine calm.left) calm_after local f)
   comes_stage v ranges calm calm_after (selected f) =
-      selected (selected_comes w j.apart (firm_in (Some Zero) f.class (λ no. cc no)) v calm_after f)
+      selected (selected_comes w j.apart (firm_in (Some Zero) f.class (λ no. cc no)) v (j.fine calm.left) calm_after f)
 
 pub next_joined : (local : Local) (event : Event) (w new : Whole) → Happens Right event w new → Joined local w → Joined local new
 next_joined local arrives w new (u, coming, is) j = subst (Joined local) (sym is) (record {
@@ -161,6 +164,7 @@ next_joined local arrives w new (u, coming, is) j = subst (Joined local) (sym is
   two = j.two;
   stage = λ calm. takes_stage local w j u new.coming coming calm (j.stage calm);
   right = j.right;
+  fine = j.fine;
 })
 next_joined local (calls call) w new (may, is) j = subst (Joined local) (sym is) (record {
   apart = j.apart;
@@ -170,6 +174,7 @@ next_joined local (calls call) w new (may, is) j = subst (Joined local) (sym is)
   two = j.two;
   stage = λ calm. calls_stage local w j call may (j.stage calm);
   right = j.right;
+  fine = j.fine;
 })
 next_joined local begins_own w new (some, not_begun, is) j = subst (Joined local) (sym is) (record {
   apart = passes_apart (packet Right) w.tap j.apart;
@@ -179,6 +184,7 @@ next_joined local begins_own w new (some, not_begun, is) j = subst (Joined local
   two = still_two (packet Right) w.tap j.two;
   stage = λ calm. own_stage local w j not_begun some (j.stage (calm_was (packet Right) w calm));
   right = j.right;
+  fine = j.fine;
 })
 next_joined local passes_own w new (v, put, begun, is) j = subst (Joined local) (sym is) (record {
   apart = passes_apart (passing Right v) w.tap j.apart;
@@ -193,6 +199,11 @@ next_joined local passes_own w new (v, put, begun, is) j = subst (Joined local) 
       let l = lasts_passing (passing Right v) w.tap in
       let before : IsCalm w.tap.course = record { left = l.left left; right = j.right (l.left left) } in
       own_judged v w.tap (mild w v (passes_stage local w j v new.put put begun before (j.stage before)).0) before.right;
+  fine = λ left.
+      let l = lasts_passing (passing Right v) w.tap in
+      let before : IsCalm w.tap.course = record { left = l.left left; right = j.right (l.left left) } in
+      own_fine Right v w.tap (right_not (takes Right v w.tap).told.finding
+      (mild w v (passes_stage local w j v new.put put begun before (j.stage before)).0)) (j.fine (l.left left));
 })
 next_joined local begins_other w new is j = subst (Joined local) (sym is) (record {
   apart = passes_apart (packet Left) w.tap j.apart;
@@ -202,6 +213,7 @@ next_joined local begins_other w new is j = subst (Joined local) (sym is) (recor
   two = still_two (packet Left) w.tap j.two;
   stage = λ calm. other_stage local w j (j.stage (calm_was (packet Left) w calm));
   right = j.right;
+  fine = j.fine;
 })
 next_joined local (passes_other v) w new (ranges, is) j = subst (Joined local) (sym is) (record {
   apart = passes_apart (passing Left v) w.tap j.apart;
@@ -213,6 +225,8 @@ next_joined local (passes_other v) w new (ranges, is) j = subst (Joined local) (
       let before = calm_was (passing Left v) w calm in comes_stage local w j v ranges before calm (j.stage before);
   right = λ left.
       let l = lasts_passing (passing Left v) w.tap in other_judged v w.tap (j.right (l.left left)) left;
+  fine = λ left.
+      let l = lasts_passing (passing Left v) w.tap in other_fine Right v w.tap (j.fine (l.left left));
 })
 next_joined local passes_rubbish w new is j = subst (Joined local) (sym is) (record {
   apart = passes_apart (rubbish Left) w.tap j.apart;
@@ -223,6 +237,8 @@ next_joined local passes_rubbish w new is j = subst (Joined local) (sym is) (rec
   stage = λ calm. by_reach w.tap.course.class_seen w.tap.course calm;
   right = λ left.
       let l = lasts_passing (rubbish Left) w.tap in rubbish_judged w.tap (j.right (l.left left)) left;
+  fine = λ left.
+      let l = lasts_passing (rubbish Left) w.tap in rubbish_fine Right Left w.tap (j.fine (l.left left));
 })
 
 pub all_joined : (local : Local) (events : List Event) (w new : Whole) → HappenAlong Right w events new → Joined local w →
@@ -239,6 +255,7 @@ first_joined local = record {
   tap = refl;
   two = record { lost = λ e. absurd (cc e); seen = λ e. absurd (cc e) };
   right = λ left. refl;
+  fine = λ left. refl;
   stage = λ calm. lines (record {
     tagged = [];
     put = refl;

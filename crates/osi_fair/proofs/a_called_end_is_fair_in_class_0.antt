@@ -7,6 +7,7 @@ use Rattle.osi_fair.proofs.Vocabulary.{is_live, is_named, is_stopped, reach_of, 
 use Rattle.osi_fair.proofs.Vocabulary.{at_found, at_place, course_after_none, if◌then◌else◌, none_told, Outcome, takes, Traffic}
 use Rattle.osi_fair.proofs.Vocabulary.{unnamed_told, Connection, Course, Left, Right, Finding, Broke, Kept, NotJudged, rubbish}
 use Rattle.osi_fair.proofs.Vocabulary.{unit as passing, arrives, begin, calls, Event, HappenAlong, Happens, passes_rubbish, Whole}
+use Rattle.osi_fair.proofs.Vocabulary.{has_broken}
 use Rattle.osi_rules.specs.Traffic.{route}
 use Rattle.osi_rules.specs.declared.findings.Rule.TheVariants as rule
 use Rattle.osi_fair.specs.Wholes.{begins_other, begins_own, passes_other, passes_own}
@@ -69,7 +70,7 @@ module _ (w : Whole) (f : Selected w) where
     unnamed_goes is =
         let c = course_after_none v w.tap.course in
         selected_still (takes Left v w.tap).state (w.coming ++ v ∷ []) (ap (λ (o : Outcome). o.state.connections) is) (left_class v w.tap)
-        (ap (λ (o : Outcome). o.state.course.class_seen) is ∙ reached_seen (reach_of c.class_seen (unnamed w.tap.course v)) c
+        (ap (λ (o : Outcome). o.state.course.class_seen) is ∙ reached_seen (reach_of c.class_seen (unnamed Left w.tap.course v)) c
         ∙ none_seen v w.tap.course)
 
     item_goes : (q : ℕ) (o : Option Connection) → slice_get w.tap.connections q ≡ o → Goes (at_found Left v w.tap q o)
@@ -84,15 +85,15 @@ module _ (w : Whole) (f : Selected w) where
     error_goes true destination cause is = none_goes Kept is
     error_goes false destination cause is = none_goes (Broke rule.WrongForm) is
 
-    zero_goes : (u : Value) → Goes (routed Left v w.tap (route_in (Some Zero) Left (is_stopped Right w.tap.course) u))
+    zero_goes : (u : Value) → Goes (routed Left v w.tap (route_in (Some Zero) Left (has_broken Right w.tap.course) u))
     zero_goes (request x) is = none_goes (Broke rule.OneConnection) is
     zero_goes (disconnected destination source) is = place_goes (position (is_named Left destination) w.tap.connections) is
     zero_goes (data0 end user) is = place_goes (position (is_live Left) w.tap.connections) is
-    zero_goes (error destination cause) is = error_goes (is_stopped Right w.tap.course) destination cause is
+    zero_goes (error destination cause) is = error_goes (has_broken Right w.tap.course) destination cause is
     zero_goes _ is = none_goes (Broke rule.WrongForm) is
 
     by_seen : (b : Bool) (k : Option Class) → b ≡ false → k ≡ Some Zero →
-        Goes (if b then none_told Left NotJudged w.tap else routed Left v w.tap (route_in k Left (is_stopped Right w.tap.course) v))
+        Goes (if b then none_told Left NotJudged w.tap else routed Left v w.tap (route_in k Left (has_broken Right w.tap.course) v))
     by_seen false (Some Zero) was seen is = zero_goes v is
     by_seen true k was seen is = absurd (cc was)
     by_seen false _ was seen is = absurd (cc seen)

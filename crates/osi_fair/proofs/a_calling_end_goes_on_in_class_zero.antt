@@ -13,6 +13,7 @@ use Rattle.osi_fair.proofs.Vocabulary.{one_told, Outcome, packet_begins, reached
 use Rattle.osi_fair.proofs.Vocabulary.{sent_on, Traffic, takes, unnamed, unnamed_told, Connection, Offer, Course, Left, Right, Finding}
 use Rattle.osi_fair.proofs.Vocabulary.{Broke, Kept, NotJudged, Reach, Half, Phase, Open, Refused, Silent, rubbish, unit as passing, put_at}
 use Rattle.osi_fair.proofs.Vocabulary.{put_by, put_for, MayCall}
+use Rattle.osi_fair.proofs.Vocabulary.{has_broken}
 use Rattle.osi_carrier.specs.Negotiation.{selects_expedited}
 use Rattle.osi_carrier.specs.State.{State}
 use Rattle.osi_rules.specs.declared.findings.Reach.TheVariants as reach
@@ -120,10 +121,10 @@ other_one : {A : Type 0} (cs : List Connection) (p i : ℕ) (new e : Connection)
 other_one cs p i new e (inl (same, so)) other k = absurd (other same)
 other_one cs p i new e (inr (not_p, there)) other k = k there
 
-pub confirmed_so : (n r p : ℕ) (o : Offer) (x : Connect) (cs : List Connection) (strays : Bool) (end : State) → (w : Waits r p o cs) →
+pub confirmed_so : (n r p : ℕ) (o : Offer) (x : Connect) (cs : List Connection) (strays erred : Bool) (end : State) → (w : Waits r p o cs) →
     IsConnect x → IsCalling (one r) end → (x.class == 2) ≡ false →
-    IsZeroed (react (confirm n x) end) [] false (confirmed_tap p n x w.c cs strays)
-confirmed_so n r p o x cs strays end w range is zero =
+    IsZeroed (react (confirm n x) end) [] false (confirmed_tap p n x w.c cs strays erred)
+confirmed_so n r p o x cs strays erred end w range is zero =
     let new = sent_on Right (confirm n x) w.c in
     record {
       tap = record {
@@ -377,7 +378,7 @@ module _ (end : State) (units : List Value) (begun : Bool) (s : Traffic) (f : Is
     to_unnamed class =
         let course = course_after_none v s.course in
         same_conns (unnamed_told Right v s).state refl class
-        (reached_seen (reach_of (class_for Right course) (unnamed s.course v)) course
+        (reached_seen (reach_of (class_for Right course) (unnamed Right s.course v)) course
         ∙ ap (λ (k : Course). k.class_seen) (none_same v only s.course))
 
     abbrev applied : Bool
@@ -463,9 +464,9 @@ module _ (end : State) (units : List Value) (begun : Bool) (s : Traffic) (f : Is
   zero_comes v false = to_none v (Broke rule.WrongForm)
 
   comes_by : (stopped : Bool) (v : Value) (k : Option Class) → k ≡ Some Zero →
-      After v (if stopped then none_told Right NotJudged s else routed Right v s (route_in k Right (is_stopped Left s.course) v))
+      After v (if stopped then none_told Right NotJudged s else routed Right v s (route_in k Right (has_broken Left s.course) v))
   comes_by true v k e = to_none v NotJudged
-  comes_by false v (Some Zero) e = zero_comes v (is_stopped Left s.course)
+  comes_by false v (Some Zero) e = zero_comes v (has_broken Left s.course)
   comes_by false v _ e = absurd (cc e)
 
   pub zeroed_comes : (v : Value) → IsZeroed end units begun (takes Right v s).state

@@ -33,6 +33,7 @@ use Rattle.osi_fair.proofs.which_units_are_for_a_connection.{IsOf, ours_so}
 use Rattle.osi_fair.proofs.while_no_class_is_selected.{calm_tap}
 use Rattle.osi_fair.proofs.what_the_other_side_closes.{IsOngoing, IsDr, IsPlain, closed_by}
 use Rattle.osi_fair.proofs.what_is_live_at_a_called_end.{IsLive}
+use Rattle.osi_fair.proofs.an_end_has_broken_no_rule.{mild_not, other_fine, own_fine, rubbish_fine}
 
 -- ---- all that holds
 
@@ -43,6 +44,8 @@ pub record Joined (local : Local) (w : Whole) : Type 0 where
   pub local_is : IsOngoing w.tap.course → w.end.local ≡ local
   pub followed : IsOngoing w.tap.course → Followed local w
   pub peers : IsOngoing w.tap.course → ArePeersApart w.tap.connections
+  -- the end has broken no rule
+  pub fine : IsOngoing w.tap.course → w.tap.course.left_erred ≡ false
 
 orderly_calls : (call : UserCall) (s : State) → MayCall call s → IsOrderly s → IsOrderly (user_does call s)
 orderly_calls (connects calling called) s may h = orderly_asks calling called s may h
@@ -60,7 +63,7 @@ plain_of c h strays = record { left = h.sure.left; right = h.sure.right; strays 
 
 module _ (local : Local) (w : Whole) (j : Joined local w) where
   known_so : Known w
-  known_so = record { peers = j.peers; selects = λ going. next_selects local w (j.followed going) }
+  known_so = record { peers = j.peers; selects = λ going. next_selects local w (j.followed going); fine = j.fine }
 
   -- a DR that the end takes is for a connection that it has, or a DR that closed nothing has passed
   known_by : (b : Bool) → w.tap.course.strays ≡ b → IsOngoing w.tap.course → (u : Value) (later : List Value) → w.coming ≡ u ∷ later →
@@ -101,7 +104,7 @@ module _ (local : Local) (w : Whole) (j : Joined local w) where
   other_goes v ranges after =
       let going = before_going (passing Right v) w.tap after in
       let f = j.followed going in
-      other_by v ranges after f going (comes_for w.tap v going.sure.left going.sure.right f.zero after.sure)
+      other_by v ranges after f going (comes_for w.tap (j.fine going) v going.sure.left going.sure.right f.zero after.sure)
 
   not_zero : {A : Type 0} (k : Option Class) → (k ≡ None) ⊎ (k ≡ Some Two) → k ≡ Some Zero → A
   not_zero k (inl e) h = absurd (cc (sym e ∙ h))
@@ -201,6 +204,13 @@ mild_of w v (inl e) = inl e
 mild_of w v (inr (inl e)) = inr (inl e)
 mild_of w v (inr (inr (e, why))) = inr (inr e)
 
+-- so it breaks no rule
+own_keeps : (local : Local) (w : Whole) (v : Value) (rest : List Value) → Joined local w → w.put ≡ v ∷ rest → w.begun ≡ true →
+    IsOngoing w.tap.course → (takes Left v w.tap).state.course.left_erred ≡ false
+own_keeps local w v rest j e begun going =
+    let mild = mild_of w v (goes local w j v rest e begun going).fine in
+    own_fine Left v w.tap (mild_not (takes Left v w.tap).told.finding mild) (j.fine going)
+
 -- ---- whatever happens
 
 pub next_joined : (local : Local) (event : Event) (w new : Whole) → Happens Left event w new → Joined local w → Joined local new
@@ -214,6 +224,7 @@ next_joined local arrives w new (u, coming, is) j =
       local_is = λ going. (unit_after u w.end (j.kept.offers going) (known.selects going u new.coming coming)).local ∙ j.local_is going;
       followed = λ going. taking local w j u new.coming coming going;
       peers = j.peers;
+      fine = j.fine;
     })
 next_joined local (calls call) w new (may, is) j =
     let after = record w { end = user_does call w.end; put = w.put ++ put_by call w.end } in
@@ -224,6 +235,7 @@ next_joined local (calls call) w new (may, is) j =
       local_is = λ going. (call_after call w.end (j.kept.offers going)).local ∙ j.local_is going;
       followed = λ going. calling local w j call may going;
       peers = j.peers;
+      fine = j.fine;
     })
 next_joined local begins_own w new (some, not_begun, is) j =
     let after = record w { begun = true; tap = packet_begins Left w.tap } in
@@ -234,6 +246,7 @@ next_joined local begins_own w new (some, not_begun, is) j =
       local_is = λ going. j.local_is (before_going (packet Left) w.tap going);
       followed = λ going. own_begins local w not_begun some (j.followed (before_going (packet Left) w.tap going));
       peers = λ going. left_begins w.tap.connections j.kept.sane.apart (j.peers (before_going (packet Left) w.tap going));
+      fine = λ going. j.fine (before_going (packet Left) w.tap going);
     })
 next_joined local passes_own w new (v, put, begun, is) j =
     let after = record w { put = new.put; begun = false; tap = (takes Left v w.tap).state } in
@@ -244,6 +257,7 @@ next_joined local passes_own w new (v, put, begun, is) j =
       local_is = λ going. j.local_is (before_going (passing Left v) w.tap going);
       followed = λ going. (goes local w j v new.put put begun (before_going (passing Left v) w.tap going)).followed;
       peers = λ going. (goes local w j v new.put put begun (before_going (passing Left v) w.tap going)).peers;
+      fine = λ going. own_keeps local w v new.put j put begun (before_going (passing Left v) w.tap going);
     })
 next_joined local begins_other w new is j =
     let after = record w { tap = packet_begins Right w.tap } in
@@ -254,6 +268,7 @@ next_joined local begins_other w new is j =
       local_is = λ going. j.local_is (before_going (packet Right) w.tap going);
       followed = λ going. other_begins local w (j.followed (before_going (packet Right) w.tap going));
       peers = λ going. right_begins w.tap.connections j.kept.sane.apart (j.peers (before_going (packet Right) w.tap going));
+      fine = λ going. j.fine (before_going (packet Right) w.tap going);
     })
 next_joined local (passes_other v) w new (ranges, is) j =
     let after = record w { tap = (takes Right v w.tap).state; coming = w.coming ++ v ∷ [] } in
@@ -264,6 +279,7 @@ next_joined local (passes_other v) w new (ranges, is) j =
       local_is = λ going. j.local_is (before_going (passing Right v) w.tap going);
       followed = λ going. (other_goes local w j v ranges going).0;
       peers = λ going. (other_goes local w j v ranges going).1;
+      fine = λ going. other_fine Left v w.tap (j.fine (before_going (passing Right v) w.tap going));
     })
 next_joined local passes_rubbish w new is j =
     let after = record w { tap = passes (rubbish Right) w.tap } in
@@ -274,6 +290,7 @@ next_joined local passes_rubbish w new is j =
       local_is = λ going. j.local_is (before_going (rubbish Right) w.tap going);
       followed = λ going. rubbish_by local w j going;
       peers = λ going. rubbish_by local w j going;
+      fine = λ going. rubbish_fine Left Right w.tap (j.fine (before_going (rubbish Right) w.tap going));
     })
 
 pub all_joined : (local : Local) (events : List Event) (w new : Whole) → HappenAlong Left w events new → Joined local w →
@@ -308,6 +325,7 @@ first_joined local two = record {
   };
   peers = λ going.
       record { lost = λ i c at j. no_item i c at; used = λ n i k c e at. no_item i c at; known = λ n i k c e at. no_item i c at };
+  fine = λ going. refl;
 }
 
 has_none : {A : Type 0} (a b : Bool) → a ≡ false → b ≡ true → (a || not b) ≡ true → A

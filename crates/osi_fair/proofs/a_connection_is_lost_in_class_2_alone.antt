@@ -8,6 +8,7 @@ use Rattle.osi_fair.proofs.Vocabulary.{course_after_none, found_on, is_stopped, 
 use Rattle.osi_fair.proofs.Vocabulary.{route, routed, Traffic as State, takes, unnamed, unnamed_told, Connection, Course, Direction, Left}
 use Rattle.osi_fair.proofs.Vocabulary.{Right, Finding, Kept, NotJudged, Reach, Route, Asks, Named, Only, Unnamed, packet, passes, Passing}
 use Rattle.osi_fair.proofs.Vocabulary.{rubbish, unit}
+use Rattle.osi_fair.proofs.Vocabulary.{noted}
 use Rattle.osi_rules.specs.declared.findings.Reach.TheVariants as reach
 use Rattle.osi_fair.proofs.what_lasts_at_the_tap.{Lasts, lasts_passing}
 
@@ -32,6 +33,11 @@ reached_changes d k reach.Connection c h = record { lost = λ e. inr (h refl); s
 reached_changes Left k reach.Side c h = record { lost = λ e. inl e; seen = refl }
 reached_changes Right k reach.Side c h = record { lost = λ e. inl e; seen = refl }
 reached_changes d k reach.Everything c h = record { lost = λ e. inl e; seen = refl }
+
+told_changes : (d : Direction) (k : Option Class) (f : Finding) (r : Reach) (c : Course) → (r ≡ reach.Connection → k ≡ Some Two) →
+    Changes k c (noted d f (reached d r c))
+told_changes d k f r c h =
+    let changes = reached_changes d k r c h in record { lost = changes.lost; seen = changes.seen }
 
 changes_from : (k : Option Class) (c mid after : Course) → mid.loose ≡ c.loose → mid.class_seen ≡ c.class_seen → Changes k mid after →
     Changes k c after
@@ -63,25 +69,26 @@ abbrev Keeps : Direction → State → Outcome → Type 0
 Keeps d s o = Changes (class_for d s.course) s.course o.state.course
 
 to_none : (d : Direction) (f : Finding) (s : State) → Keeps d s (none_told d f s)
-to_none d f s = reached_changes d (class_for d s.course) (reach_of (class_for d s.course) f) s.course
+to_none d f s = told_changes d (class_for d s.course) f (reach_of (class_for d s.course) f) s.course
     (connection_by (class_for d s.course) f)
 
 to_unnamed : (d : Direction) (v : Value) (s : State) → Keeps d s (unnamed_told d v s)
 to_unnamed d v s =
     let mid = course_after_none v s.course in
-    changes_from (class_for d s.course) s.course mid (reached d (reach_of (class_for d mid) (unnamed s.course v)) mid)
+    let f = unnamed d s.course v in
+    changes_from (class_for d s.course) s.course mid (noted d f (reached d (reach_of (class_for d mid) f) mid))
     (none_loose v s.course) (none_seen v s.course)
-    (reached_changes d (class_for d s.course) (reach_of (class_for d mid) (unnamed s.course v)) mid
-    (λ e. sym (none_class d v s.course) ∙ connection_by (class_for d mid) (unnamed s.course v) e))
+    (told_changes d (class_for d s.course) f (reach_of (class_for d mid) f) mid
+    (λ e. sym (none_class d v s.course) ∙ connection_by (class_for d mid) f e))
 
 to_one : (d : Direction) (v : Value) (s : State) (p : ℕ) (o : Option Connection) → Keeps d s (at_found d v s p o)
 to_one d v s p None = to_unnamed d v s
 to_one d v s p (Some c) =
     let f = found_on d s c v in
     let mid = course_after d c v (is_applied f) s.course in
-    changes_from (class_for d s.course) s.course mid (reached d (reach_of (class_for d s.course) f) mid)
+    changes_from (class_for d s.course) s.course mid (noted d f (reached d (reach_of (class_for d s.course) f) mid))
     (after_loose d c v (is_applied f) s.course) (after_seen d c v (is_applied f) s.course)
-    (reached_changes d (class_for d s.course) (reach_of (class_for d s.course) f) mid (connection_by (class_for d s.course) f))
+    (told_changes d (class_for d s.course) f (reach_of (class_for d s.course) f) mid (connection_by (class_for d s.course) f))
 
 to_place : (d : Direction) (v : Value) (s : State) (p : Option ℕ) → Keeps d s (at_place d v s p)
 to_place d v s None = to_unnamed d v s

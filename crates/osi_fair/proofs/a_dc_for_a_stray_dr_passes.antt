@@ -2,7 +2,7 @@
 -- For the law on a whole end.
 use Rattle.osi_fair.proofs.Vocabulary.{arith, [], ap, Bool, false, if◌then◌else◌, inl, inr, List, None, Option, refl, Some, subst, sym}
 use Rattle.osi_fair.proofs.Vocabulary.{true, ℕ, ◌∙◌, ◌∷◌, ◌≡◌, eqb-true, not, position, slice_get, ◌&&◌, ◌||◌, disconnected, Value, Class}
-use Rattle.osi_fair.proofs.Vocabulary.{Two, Zero, Local, first_failed, is_due, is_named, at_found, at_place, class_for, is_stopped}
+use Rattle.osi_fair.proofs.Vocabulary.{Two, Zero, Local, first_failed, is_due, is_named, at_found, at_place, class_for, has_broken}
 use Rattle.osi_fair.proofs.Vocabulary.{none_told, one_told, Outcome, route, route_in, routed, set, is_applied, reach_of, Traffic, takes}
 use Rattle.osi_fair.proofs.Vocabulary.{unnamed_told, Connection, Left, Right, connection_after, found, found_on, in_doubt, is_silent}
 use Rattle.osi_fair.proofs.Vocabulary.{uses_source, unnamed_by, Finding, Broke, NotJudged, Whole}
@@ -80,7 +80,7 @@ module _ (m source : ℕ) (s : Traffic) (strays : s.course.strays ≡ true) wher
   pub dc_passes : s.course.left_stopped ≡ false → Passes m source s (takes Left v s)
   dc_passes left =
       subst (λ (b : Bool). Passes m source s (if b then none_told Left NotJudged s else routed Left v s (route Left s.course v))) (sym left)
-      (by_class (class_for Left s.course) (is_stopped Right s.course)
+      (by_class (class_for Left s.course) (has_broken Right s.course)
       (at_passes (position (is_named Left m) s.connections) refl))
 
 -- ---- at the end

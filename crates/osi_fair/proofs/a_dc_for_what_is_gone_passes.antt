@@ -4,11 +4,12 @@ use Rattle.osi_fair.proofs.Vocabulary.{arith}
 use Rattle.osi_fair.proofs.Vocabulary.{[], ap, Bool, false, if◌then◌else◌, inl, inr, List, None, Option, refl, Some, subst, sym, true, ℕ}
 use Rattle.osi_fair.proofs.Vocabulary.{◌∙◌, ◌∷◌, ◌≡◌, eqb-true, AllByRecursion, not, position, slice_get, ◌&&◌, ◌==◌, ◌||◌, Connect}
 use Rattle.osi_fair.proofs.Vocabulary.{disconnected, Value, Local, first_failed, is_due, is_closing, is_named}
-use Rattle.osi_fair.proofs.Vocabulary.{is_open, at_found, at_place, in_doubt, is_stopped, none_told}
+use Rattle.osi_fair.proofs.Vocabulary.{is_open, at_found, at_place, in_doubt, none_told}
 use Rattle.osi_fair.proofs.Vocabulary.{one_told, Outcome, route, routed, Traffic, takes, unnamed, unnamed_by, Connection, Left}
 use Rattle.osi_fair.proofs.Vocabulary.{Right, Finding, Broke, NotJudged, Half, Route, Whole}
 use Rattle.osi_fair.proofs.Vocabulary.{class_for, connection_after, course_after, found, found_on}
 use Rattle.osi_fair.proofs.Vocabulary.{is_applied, is_silent, reach_of, reached, set}
+use Rattle.osi_fair.proofs.Vocabulary.{has_broken, noted}
 use Rattle.osi_rules.specs.declared.findings.Rule.TheVariants as rule
 use Rattle.osi_fair.proofs.small_facts_that_many_lemmas_use.{and_false, differ, is_false}
 use Rattle.osi_fair.proofs.how_a_unit_of_right_passes.{route_dc}
@@ -41,7 +42,7 @@ record Spared (u : Value) (s : Traffic) (o : Outcome) : Type 0 where
   state : o.state ≡ s
 
 module _ (m n : ℕ) (s : Traffic) (strays : s.course.strays ≡ true) where
-  none_spared : Spared (disconnected m n) s (none_told Right (unnamed s.course (disconnected m n)) s)
+  none_spared : Spared (disconnected m n) s (none_told Right (unnamed Right s.course (disconnected m n)) s)
   none_spared = subst (λ (f : Finding). Spared (disconnected m n) s (none_told Right f s))
       (sym (unnamed_so s.course.loose s.course.strays m n strays)) (record { finding = refl; state = refl })
 
@@ -52,8 +53,8 @@ module _ (m n : ℕ) (s : Traffic) (strays : s.course.strays ≡ true) where
     state = record {
       connections = set s.connections q (connection_after Right (disconnected m n) (is_applied f)
           (reach_of (class_for Right s.course) f) c);
-      course = reached Right (reach_of (class_for Right s.course) f)
-          (course_after Right c (disconnected m n) (is_applied f) s.course);
+      course = noted Right f (reached Right (reach_of (class_for Right s.course) f)
+          (course_after Right c (disconnected m n) (is_applied f) s.course));
     };
   }
 
@@ -88,7 +89,7 @@ module _ (m n : ℕ) (s : Traffic) (strays : s.course.strays ≡ true) where
       (sym (ap (λ (b : Bool). if b then none_told Right NotJudged s else routed Right (disconnected m n) s
       (route Right s.course (disconnected m n)))
       right ∙ ap (λ (r : Route). routed Right (disconnected m n) s r)
-      (route_dc s.course.class (is_stopped Left s.course) m n)))
+      (route_dc s.course.class (has_broken Left s.course) m n)))
       (place_spared (position (is_named Right m) s.connections) h)
 
 module _ (local : Local) (w : Whole) (f : Called local w) (right : w.tap.course.right_stopped ≡ false) (u : Value) (rest : List Value)

@@ -278,10 +278,12 @@ pub record Holds (w : Whole) : Type 0 where
   pub offers : IsOngoing w.tap.course → OffersTwo w.end
   pub lively : IsPlain w.tap.course → w.end.ended ≡ None → Lively w
 
--- what is known besides: the references of right are apart, and the next unit selects class 2 if it is a CC that the end awaits
+-- what is known besides: the references of right are apart, the next unit selects class 2 if it is a CC that the end awaits, and the end
+-- has broken no rule
 pub record Known (w : Whole) : Type 0 where
   pub peers : IsOngoing w.tap.course → ArePeersApart w.tap.connections
   pub selects : IsOngoing w.tap.course → (u : Value) (later : List Value) → w.coming ≡ u ∷ later → SelectsTwo w.end u
+  pub fine : IsOngoing w.tap.course → w.tap.course.left_erred ≡ false
 
 begun_started : (d : Direction) (c : Connection) → IsStarted c → IsStarted (begins d c)
 begun_started d c h = grind arith
@@ -419,7 +421,8 @@ next_holds (passes_other v) w new (ranges, is) k h =
       lively = λ plain lasts.
           let before = before_passing (passing Right v) w.tap plain in
           let l = h.lively before lasts in
-          came w v h.newer l (what_came (Held w.end w.coming) w.tap h.sane (k.peers (going_of w.tap.course before)) l.tap before v plain);
+          let going = going_of w.tap.course before in
+          came w v h.newer l (what_came (Held w.end w.coming) w.tap h.sane (k.peers going) l.tap before (k.fine going) v plain);
     })
 next_holds passes_rubbish w new is k h =
     let after = record w { tap = passes (rubbish Right) w.tap } in

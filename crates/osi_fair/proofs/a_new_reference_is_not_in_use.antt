@@ -10,6 +10,7 @@ use Rattle.osi_fair.proofs.Vocabulary.{has_place, is_not_judged, is_stopped, non
 use Rattle.osi_fair.proofs.Vocabulary.{sent_on, sized, Traffic as State, takes, Connection, Direction, Left, Right, Finding, Broke, Kept}
 use Rattle.osi_fair.proofs.Vocabulary.{NotJudged, TooMany, Reach, Half, Route, all_asked, all_written, asked_as}
 use Rattle.osi_fair.proofs.Vocabulary.{asked_in, all_passed, packet, passes, Passing, rubbish, unit, Zero}
+use Rattle.osi_fair.proofs.Vocabulary.{has_broken}
 use Rattle.osi_carrier.specs.Runs.{Act}
 use Rattle.osi_rules.specs.declared.findings.Rule.TheVariants as rule
 use Rattle.osi_fair.proofs.small_facts_that_many_lemmas_use.{begins_reference, closing_same}
@@ -88,7 +89,7 @@ module _ (m : ℕ) where
   right_asks (Some Two) stopped x s a = a
 
   right_routes : (v : Value) (s : State) → AreBelow s → AreBelow (routed Right v s (route Right s.course v)).state
-  right_routes (request x) s a = right_asks (class_for Right s.course) (is_stopped (other Right) s.course) x s a
+  right_routes (request x) s a = right_asks (class_for Right s.course) (has_broken (other Right) s.course) x s a
   right_routes (confirm destination x) s a =
       by_route Right (confirm destination x) s (route Right s.course (confirm destination x)) tt a
   right_routes (disconnect destination source reason user) s a =

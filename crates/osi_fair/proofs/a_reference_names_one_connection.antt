@@ -52,8 +52,9 @@ refuses_so mine seen h = search (arith, or_first)
 one_test : (b : Bool) → is_applied (first_failed ((b, Broke rule.Closed) ∷ [])) ≡ true → b ≡ true
 one_test b h = grind arith
 
-pub form_test : (b : Bool) → is_applied (first_failed ((b, Broke rule.WrongForm) ∷ [])) ≡ true → b ≡ true
-form_test b h = grind arith
+pub error_test : (b erred : Bool) →
+    is_applied (first_failed ((b || not erred, NotJudged) ∷ (b, Broke rule.WrongForm) ∷ [])) ≡ true → b ≡ true
+error_test b erred h = grind arith
 
 due_test : (due told strays : Bool) →
     is_applied (first_failed ((due || not strays, NotJudged) ∷ (told, Broke rule.UnknownReference) ∷ (due, Broke rule.NothingToAnswer)
@@ -71,7 +72,7 @@ confirm_test a b i u loose z h = grind arith
 
 module _ (course : Course) (in_use : Bool) (c : Connection) where
   left_effect : (v : Value) → is_applied (found Left course in_use c v) ≡ true → Effect c.left c.seen_by_left (half_after v c.left)
-  left_effect v h = grind (arith, closes_so, one_test, answers_so, due_test, refuses_so, form_test, same_phase)
+  left_effect v h = grind (arith, closes_so, one_test, answers_so, due_test, refuses_so, error_test, same_phase)
 
   pub left_sent : (v : Value) → is_applied (found Left course in_use c v) ≡ true → c.is_judged ≡ true → Sound c →
       is_over_by c.left c.seen_by_left ≡ false → Lessens c (sent_on Left v c)
@@ -82,7 +83,7 @@ module _ (course : Course) (in_use : Bool) (c : Connection) where
   right_effect : (v : Value) → ((m : ℕ) (x : Connect) → v ≡ confirm m x → ⊥) → is_applied (found Right course in_use c v) ≡ true →
       Effect c.right c.seen_by_right (half_after v c.right)
   right_effect (confirm destination x) none h = absurd (none destination x refl)
-  right_effect v none h = grind (arith, closes_so, one_test, answers_so, due_test, refuses_so, form_test, same_phase)
+  right_effect v none h = grind (arith, closes_so, one_test, answers_so, due_test, refuses_so, error_test, same_phase)
 
   -- a unit of right that is no CC
   pub right_goes : (v : Value) → ((m : ℕ) (x : Connect) → v ≡ confirm m x → ⊥) → is_applied (found Right course in_use c v) ≡ true →
@@ -141,7 +142,7 @@ right_sent (disconnected destination source) s c p a at j sound live r h is =
     (not (is_silent c.right.phase)) s.course.strays h))
 right_sent (error destination cause) s c p a at j sound live r h is =
     right_by s.course false c (error destination cause) s.connections p r a at j sound live
-    (refuses_so c.right c.seen_by_right (form_test (is_silent c.right.phase) h))
+    (refuses_so c.right c.seen_by_right (error_test (is_silent c.right.phase) s.course.left_erred h))
 right_sent v s c p a at j sound live r h is =
     right_by s.course false c v s.connections p r a at j sound live
     (same_phase c.right c.seen_by_right (half_after v c.right) refl refl)

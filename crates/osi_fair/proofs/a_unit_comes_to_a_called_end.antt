@@ -9,6 +9,7 @@ use Rattle.osi_fair.proofs.Vocabulary.{is_refused, is_silent, connection_after, 
 use Rattle.osi_fair.proofs.Vocabulary.{one_told, Outcome, reached, Traffic, takes, uses_source, Connection, Course, Left, Right, Finding}
 use Rattle.osi_fair.proofs.Vocabulary.{Broke, NotJudged, Reach, Half, Phase, after_finding, finding_of, Line}
 use Rattle.osi_fair.proofs.Vocabulary.{unit as passing, Whole}
+use Rattle.osi_fair.proofs.Vocabulary.{noted}
 use Rattle.osi_rules.specs.declared.findings.Reach.TheVariants as reach
 use Rattle.osi_rules.specs.declared.findings.Rule.TheVariants as rule
 use Rattle.osi_fair.specs.Lines.{passes_other}
@@ -30,7 +31,7 @@ use Rattle.osi_fair.proofs.what_lasts_at_the_tap.{Lasts, lasts_passing}
 use Rattle.osi_fair.proofs.what_stays_of_each_connection.{left_judged, left_own, own_stays, right_then}
 use Rattle.osi_fair.proofs.which_units_are_for_a_connection.{first_left, named_not, named_so, names, one_more, those, those_join}
 use Rattle.osi_fair.proofs.while_no_class_is_selected.{after_change}
-use Rattle.osi_fair.proofs.which_unit_comes_to_a_called_end.{IsCalm, IsNear, calm_before, calm_near}
+use Rattle.osi_fair.proofs.which_unit_comes_to_a_called_end.{IsCalm, IsNear, calm_before, calm_near, calm_noted}
 
 -- ---- small facts
 
@@ -227,12 +228,14 @@ module _ (local : Local) (w : Whole) (f : Called local w) (apart : AreApart w.ta
     next = connection_after Left v (is_applied found_so) far c
 
     course_is : (takes Left v w.tap).state.course
-        ≡ reached Left (reach_of w.tap.course.class_seen found_so) (course_after Left c v (is_applied found_so) w.tap.course)
+        ≡ noted Left found_so
+        (reached Left (reach_of w.tap.course.class_seen found_so) (course_after Left c v (is_applied found_so) w.tap.course))
     course_is = ap (λ (o : Outcome). o.state.course) is
 
     near : IsNear w.tap.course.class_seen found_so
     near = calm_near w.tap.course.class_seen found_so (course_after Left c v (is_applied found_so) w.tap.course)
-        (subst IsCalm course_is calm_after)
+        (calm_noted Left found_so (reached Left (reach_of w.tap.course.class_seen found_so)
+        (course_after Left c v (is_applied found_so) w.tap.course)) (subst IsCalm course_is calm_after))
 
     conns : (takes Left v w.tap).state.connections ≡ set cs q next
     conns = ap (λ (o : Outcome). o.state.connections) is

@@ -4,12 +4,12 @@ use Rattle.osi_fair.proofs.Vocabulary.{[], ap, arith, Bool, drop, false, inl, in
 use Rattle.osi_fair.proofs.Vocabulary.{ℕ, ◌++◌, ◌<◌, ◌∙◌, ◌∷◌, ◌≡◌, ◌≤◌, ◌⊎◌, eq-eqb, AllByRecursion, list_any, position_or_len, position}
 use Rattle.osi_fair.proofs.Vocabulary.{slice_get, ◌&&◌, ◌==◌, ◌||◌, confirm, Connect, destination_of, disconnect, error, Value, Standing}
 use Rattle.osi_fair.proofs.Vocabulary.{Class, Two, Local, acceptance, opened_link, confirm_tests, is_named, is_open, is_over, is_refused}
-use Rattle.osi_fair.proofs.Vocabulary.{is_silent, other, uses, course_after, found, found_on, half_after, is_stopped, route, sent_on}
+use Rattle.osi_fair.proofs.Vocabulary.{is_silent, other, uses, course_after, found, found_on, half_after, route, sent_on}
 use Rattle.osi_fair.proofs.Vocabulary.{silent_half, takes, uses_source, Connection, Course, Left, Right, Kept, NotJudged, Half, Refused}
 use Rattle.osi_fair.proofs.Vocabulary.{Named, ActsAlong, after_finding, finding_of, IsRight, IsRightNow, Line, opened_half, opened_line}
 use Rattle.osi_fair.proofs.Vocabulary.{unit as passing, Whole, acknowledge, Broke, class_for, connection_after, data0, data2, disconnected}
 use Rattle.osi_fair.proofs.Vocabulary.{Finding, first_failed, if◌then◌else◌, is_applied, is_over_by, not, one_told, Outcome, reach_of}
-use Rattle.osi_fair.proofs.Vocabulary.{reached, request, Traffic}
+use Rattle.osi_fair.proofs.Vocabulary.{reached, request, Traffic, has_broken, noted}
 use Rattle.osi_rules.specs.declared.findings.Reach.TheVariants as reach
 use Rattle.osi_rules.specs.declared.findings.Rule.TheVariants as rule
 use Rattle.osi_fair.specs.Lines.{passes_own}
@@ -39,6 +39,7 @@ use Rattle.osi_fair.proofs.how_a_unit_of_right_passes.{no_list, use_so, route_co
 use Rattle.osi_fair.proofs.how_a_unit_of_right_passes.{strays_more, above_next, half_keeps, half_started, open_started, half_not_refused}
 use Rattle.osi_fair.proofs.how_a_unit_of_right_passes.{wrong_form, there_not, finding_kept, conns_kept, course_kept, takes_so}
 use Rattle.osi_fair.proofs.a_unit_of_a_whole_end_passes.{put_open as open_of}
+use Rattle.osi_fair.proofs.an_end_has_broken_no_rule.{er_not_kept}
 
 -- ---- small facts
 
@@ -376,7 +377,7 @@ module _ (local : Local) (w : Whole) (f : Called local w) (apart : AreApart w.ta
       run_first = name_first g.peer p c at (named_of (destination_of u) g.peer Right c dest is_right.named)
 
       run_route : route Right w.tap.course u ≡ Named g.peer
-      run_route = route_two_so w.tap.course.class (is_stopped Left w.tap.course) u g.peer (f.two p c at g.there) dest
+      run_route = route_two_so w.tap.course.class (has_broken Left w.tap.course) u g.peer (f.two p c at g.there) dest
 
       abbrev in_use : Bool
       in_use = uses_source Right cs u
@@ -390,7 +391,7 @@ module _ (local : Local) (w : Whole) (f : Called local w) (apart : AreApart w.ta
           (sym (ap (λ (v : Value). found Right w.tap.course in_use c v) e) ∙ is_right.kept w.tap.course in_use)
 
       no_er : (m cause : ℕ) → u ≡ error m cause → ⊥
-      no_er m cause e = wrong_form (is_silent c.right.phase) [] (open_started c.right.phase g.there)
+      no_er m cause e = er_not_kept (is_silent c.right.phase) w.tap.course.left_erred (open_started c.right.phase g.there)
           (sym (ap (λ (v : Value). found Right w.tap.course in_use c v) e) ∙ is_right.kept w.tap.course in_use)
 
       abbrev next : Connection
@@ -512,7 +513,7 @@ module _ (local : Local) (w : Whole) (f : Called local w) (apart : AreApart w.ta
           (ap (λ (b : Bool). b && is_over_by c.right c.seen_by_right) is_lost) there (eq-eqb c.seen_by_right.reference g.peer is)
 
       lost_route : route Right w.tap.course u ≡ Named g.peer
-      lost_route = route_two_so w.tap.course.class (is_stopped Left w.tap.course) u g.peer (f.two p c at g.there) lost_dest
+      lost_route = route_two_so w.tap.course.class (has_broken Left w.tap.course) u g.peer (f.two p c at g.there) lost_dest
 
       lost_takes : takes Right u w.tap ≡ one_told Right p c u w.tap
       lost_takes = takes_so u w.tap g.peer p c right lost_route (name_first g.peer p c at lost_named) at
@@ -525,8 +526,8 @@ module _ (local : Local) (w : Whole) (f : Called local w) (apart : AreApart w.ta
           (is_applied k) (reach_of (class_for Right w.tap.course) k) c)) lost_found
 
       lost_course : (takes Right u w.tap).state.course ≡ course_after Right c u false w.tap.course
-      lost_course = ap (λ (o : Outcome). o.state.course) lost_takes ∙ ap (λ (k : Finding). reached Right
-          (reach_of (class_for Right w.tap.course) k) (course_after Right c u (is_applied k) w.tap.course)) lost_found
+      lost_course = ap (λ (o : Outcome). o.state.course) lost_takes ∙ ap (λ (k : Finding). noted Right k (reached Right
+          (reach_of (class_for Right w.tap.course) k) (course_after Right c u (is_applied k) w.tap.course))) lost_found
 
       lost_finding : (takes Right u w.tap).told.finding ≡ NotJudged
       lost_finding = ap (λ (o : Outcome). o.told.finding) lost_takes ∙ lost_found

@@ -6,8 +6,9 @@ use Rattle.osi_fair.proofs.Vocabulary.{eq-eqb, list_any, position_or_len, min, n
 use Rattle.osi_fair.proofs.Vocabulary.{confirm, Connect, data0, Value, longest_tsdu, accept, keeps_flow_control, proposes}
 use Rattle.osi_fair.proofs.Vocabulary.{proposes_zero_alone, refuse, selected_by, selected_size, Two, Zero, Local, acceptance, unit_octets}
 use Rattle.osi_fair.proofs.Vocabulary.{is_closed, is_closing, is_live, is_named, is_open, is_over, is_over_by, is_refused, is_silent, uses}
-use Rattle.osi_fair.proofs.Vocabulary.{course_after, found, found_on, is_stopped, route, sent_on, takes, uses_source}
+use Rattle.osi_fair.proofs.Vocabulary.{course_after, found, found_on, route, sent_on, takes, uses_source}
 use Rattle.osi_fair.proofs.Vocabulary.{Connection, Course, Left, Right, Kept, Half, Phase, Named, opened_half, Whole}
+use Rattle.osi_fair.proofs.Vocabulary.{has_broken}
 use Rattle.osi_fair.proofs.small_facts_that_many_lemmas_use.{and_false, and_not, any_none, both as is_both, first_is, judged_so, name_so}
 use Rattle.osi_fair.proofs.small_facts_that_many_lemmas_use.{rest_is, unequal}
 use Rattle.osi_fair.proofs.a_dt_of_class_zero_passes.{begun_so, dt_conns, dt_course, dt_kept, only_first}
@@ -111,7 +112,7 @@ module _ (local : Local) (w : Whole) (apart : AreApart w.tap.connections) (judge
 
     cc_route : route Right w.tap.course u ≡ Named f.x.source
     cc_route = ap (λ (v : Value). route Right w.tap.course v) u_cc
-        ∙ route_confirm w.tap.course.class (is_stopped Left w.tap.course) f.x.source (acceptance Zero f.size f.x local f.r) (inl f.class)
+        ∙ route_confirm w.tap.course.class (has_broken Left w.tap.course) f.x.source (acceptance Zero f.size f.x local f.r) (inl f.class)
 
     cc_first : position (is_named Right f.x.source) all ≡ Some f.p
     cc_first = name_first f.x.source f.p f.c f.at cc_named

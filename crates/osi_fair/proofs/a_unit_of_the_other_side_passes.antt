@@ -7,7 +7,7 @@ use Rattle.osi_fair.proofs.Vocabulary.{Class, Two, Zero, Local, agreed_size, ope
 use Rattle.osi_fair.proofs.Vocabulary.{is_closing, is_open, is_over, is_over_by, is_refused, is_silent, uses, class_for, class_of}
 use Rattle.osi_fair.proofs.Vocabulary.{connection_after, course_after, found_on, half_after, judged_on, Outcome, reached, sent_on, takes}
 use Rattle.osi_fair.proofs.Vocabulary.{found, not, uses_source, Connection, Course, Right, Finding, Broke, Kept, NotJudged, Reach, Half}
-use Rattle.osi_fair.proofs.Vocabulary.{Phase, after_finding, finding_of, Line, opened_line, unit as passing, Whole}
+use Rattle.osi_fair.proofs.Vocabulary.{Phase, after_finding, finding_of, Line, opened_line, unit as passing, Whole, noted}
 use Rattle.osi_rules.specs.declared.findings.Reach.TheVariants as reach
 use Rattle.osi_rules.specs.declared.findings.Rule.TheVariants as rule
 use Rattle.osi_fair.specs.Lines.{passes_other}
@@ -126,7 +126,7 @@ module _ (local : Local) (w : Whole) (f : Followed local w) (sane : IsSane w.tap
   nxt = connection_after Right v (is_applied found_so) far c
 
   abbrev course_so : Course
-  course_so = reached Right far (course_after Right c v (is_applied found_so) w.tap.course)
+  course_so = noted Right found_so (reached Right far (course_after Right c v (is_applied found_so) w.tap.course))
 
   conns : (takes Right v w.tap).state.connections ≡ set cs t.q nxt
   conns = ap (λ (o : Outcome). o.state.connections) t.is
@@ -215,11 +215,12 @@ module _ (local : Local) (w : Whole) (f : Followed local w) (sane : IsSane w.tap
   cc_none false lost there m x e = ap is_applied (lost_found lost)
 
   -- it ends the judging of that
-  calm_cc : (m : ℕ) (x : Connect) → v ≡ confirm m x → IsCalm (reached Right (reach_of (class_for Right w.tap.course) (found_on Right w.tap c
-      (confirm m x))) (course_after Right c (confirm m x) (is_applied (found_on Right w.tap c (confirm m x))) w.tap.course))
-  calm_cc m x e =
-      subst (λ (u : Value). IsCalm (reached Right (reach_of (class_for Right w.tap.course) (found_on Right w.tap c u))
-      (course_after Right c u (is_applied (found_on Right w.tap c u)) w.tap.course))) e calm_so
+  abbrev course_of : Value → Course
+  course_of u = noted Right (found_on Right w.tap c u) (reached Right (reach_of (class_for Right w.tap.course) (found_on Right w.tap c u))
+      (course_after Right c u (is_applied (found_on Right w.tap c u)) w.tap.course))
+
+  calm_cc : (m : ℕ) (x : Connect) → v ≡ confirm m x → IsCalm (course_of (confirm m x))
+  calm_cc m x e = subst (λ (u : Value). IsCalm (course_of u)) e calm_so
 
   cc_ends : c.is_judged ≡ true → is_silent c.right.phase ≡ false → (m : ℕ) (x : Connect) → v ≡ confirm m x → nxt.is_judged ≡ false
   cc_ends judged there m x e =
@@ -231,9 +232,8 @@ module _ (local : Local) (w : Whole) (f : Followed local w) (sane : IsSane w.tap
       v ≡ confirm m x → A
   cc_late firm there m x e =
       let judged = sane.judged ((lasts_passing (passing Right v) w.tap).firm firm) t.q c t.at in
-      differ course_so.loose (ap (λ (u : Value). (reached Right (reach_of (class_for Right w.tap.course) (found_on Right w.tap c u))
-      (course_after Right c u (is_applied (found_on Right w.tap c u)) w.tap.course)).loose) e
-      ∙ cc_loose w.tap c judged sound_c m x there (calm_cc m x e)) (ap (λ (k : Course). k.loose) (sym course_is) ∙ firm)
+      differ course_so.loose (ap (λ (u : Value). (course_of u).loose) e ∙ cc_loose w.tap c judged sound_c m x there (calm_cc m x e))
+      (ap (λ (k : Course). k.loose) (sym course_is) ∙ firm)
 
   same_by : (b : Bool) → is_applied found_so ≡ b → (b ≡ true → (m : ℕ) (x : Connect) → v ≡ confirm m x → ⊥) → SameClass
   same_by true e none =

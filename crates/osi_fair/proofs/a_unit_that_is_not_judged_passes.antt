@@ -5,7 +5,7 @@ use Rattle.osi_fair.proofs.Vocabulary.{sym, true, ℕ, ◌++◌, ◌∙◌, ◌�
 use Rattle.osi_fair.proofs.Vocabulary.{Connect, destination_of, disconnected, request, Value, Class, Two, Local, is_applied, reach_of}
 use Rattle.osi_fair.proofs.Vocabulary.{is_named, is_over, is_over_by, is_silent, class_for, connection_after, found, found_on, one_told}
 use Rattle.osi_fair.proofs.Vocabulary.{Outcome, route, route_in, Traffic, takes, uses_source, Connection, Course, Left, Finding, Kept}
-use Rattle.osi_fair.proofs.Vocabulary.{NotJudged, Named, after_finding, finding_of, Line, unit as passing, Whole}
+use Rattle.osi_fair.proofs.Vocabulary.{NotJudged, Named, after_finding, finding_of, Line, unit as passing, Whole, has_broken, Right}
 use Rattle.osi_fair.specs.Lines.{passes_own}
 use Rattle.osi_fair.proofs.small_facts_that_many_lemmas_use.{and_false, both, name_so, no_list, number_is}
 use Rattle.osi_fair.proofs.a_unit_of_a_whole_end_passes.{name_first, own_kept, own_passes, own_peers, put_first, row_same}
@@ -39,7 +39,9 @@ module _ (u : Value) (s : Traffic) (n p : ℕ) (c : Connection) (left : s.course
     (first : position (is_named Left n) s.connections ≡ Some p) (at : slice_get s.connections p ≡ Some c)
     (lost : c.is_judged ≡ false) where
   routed_so : route Left s.course u ≡ Named n
-  routed_so = ap (λ (k : Option Class). route_in k Left s.course.right_stopped u) class ∙ route_by s.course.right_stopped u n dest
+  routed_so =
+      let broke = has_broken Right s.course in
+      ap (λ (k : Option Class). route_in k Left broke u) class ∙ route_by broke u n dest
 
   takes_so : takes Left u s ≡ one_told Left p c u s
   takes_so = grind (arith, routed_so)

@@ -159,8 +159,13 @@ right_turned c (unit ∷ units) h = record {
   kept = λ course in_use. kept_turned course in_use c unit (h.kept course in_use);
 }
 
+-- what each side has broken is of the other one then
+abbrev turned_course : Course → Course
+turned_course course = record course { left_erred = course.right_erred; right_erred = course.left_erred }
+
 found_other : (course : Course) (in_use : Bool) (c : Connection) (v : Value) →
-    (found Left course in_use c v ≡ found Right course in_use (turned c) v) ⊎ (found Left course in_use c v ≡ Broke rule.WrongForm)
+    (found Left course in_use c v ≡ found Right (turned_course course) in_use (turned c) v)
+    ⊎ (found Left course in_use c v ≡ Broke rule.WrongForm)
 found_other course in_use c v = grind arith
 
 own_turned : (r peer : ℕ) (course : Course) (in_use : Bool) (old new : Line) → Acts Right r peer (passes_own course in_use) old new →
@@ -170,8 +175,8 @@ own_turned r peer course in_use old new k was h = grind (arith, first_is, kept_t
 
 other_turned : (r peer : ℕ) (course : Course) (in_use : Bool) (unit : Value) (old new : Line) →
     Acts Right r peer (passes_other course in_use unit) old new →
-    found Left course in_use old.tap unit ≡ found Right course in_use (turned old.tap) unit →
-    Acts Left r peer (passes_other course in_use unit) (turned_line old) (turned_line new)
+    found Left course in_use old.tap unit ≡ found Right (turned_course course) in_use (turned old.tap) unit →
+    Acts Left r peer (passes_other (turned_course course) in_use unit) (turned_line old) (turned_line new)
 other_turned r peer course in_use unit old new h e = grind (arith, finding_turned)
 
 -- a CC of the calling side: its connection is not judged any more
@@ -180,10 +185,10 @@ not_judged c unit f e = ap (λ (g : Finding). (after_finding Left g unit c).is_j
 
 other_keeps : (r peer : ℕ) (course : Course) (in_use : Bool) (unit : Value) (old new : Line) →
     Acts Right r peer (passes_other course in_use unit) old new → Keeps r peer (turned_line old) →
-    (found Left course in_use old.tap unit ≡ found Right course in_use (turned old.tap) unit)
+    (found Left course in_use old.tap unit ≡ found Right (turned_course course) in_use (turned old.tap) unit)
     ⊎ (found Left course in_use old.tap unit ≡ Broke rule.WrongForm) → Keeps r peer (turned_line new)
 other_keeps r peer course in_use unit old new a h (inl e) judged =
-    act_keeps r peer (passes_other course in_use unit) (turned_line old) (turned_line new)
+    act_keeps r peer (passes_other (turned_course course) in_use unit) (turned_line old) (turned_line new)
     (other_turned r peer course in_use unit old new a e) h judged
 other_keeps r peer course in_use unit old new (range, named, some, new_is) h (inr e) judged =
     let still = sym (ap (λ (l : Line). l.tap.is_judged) new_is) ∙ judged in

@@ -5,6 +5,7 @@ use Rattle.osi_fair.proofs.Vocabulary.{data0, disconnected, error, request, Valu
 use Rattle.osi_fair.proofs.Vocabulary.{at_found, at_place, class_for, course_after, course_after_none, found_on, is_stopped, none_told}
 use Rattle.osi_fair.proofs.Vocabulary.{refused_reach, route_in, route_zero, routed, Traffic as State, unnamed, Connection, Course}
 use Rattle.osi_fair.proofs.Vocabulary.{Direction, Left, Right, Finding, Broke, Kept, NotJudged, passes, Passing, rubbish, unit, packet}
+use Rattle.osi_fair.proofs.Vocabulary.{has_broken}
 use Rattle.osi_rules.specs.declared.findings.Rule.TheVariants as rule
 use Rattle.osi_fair.proofs.left_selects_no_class.{KeepsClass, left_class}
 pub use Rattle.osi_fair.proofs.one_request_waits.{reached_class}
@@ -17,7 +18,7 @@ found_keeps : (v : Value) (s : State) (p : ℕ) (o : Option Connection) →
     KeepsClass s (at_found Right v s p o)
 found_keeps v s p None one none =
     let c = course_after_none v s.course in
-    reached_class Right (reach_of (class_for Right c) (unnamed s.course v)) c ∙ ap (λ (x : Course). x.class) none
+    reached_class Right (reach_of (class_for Right c) (unnamed Right s.course v)) c ∙ ap (λ (x : Course). x.class) none
 found_keeps v s p (Some c) one none =
     let f = found_on Right s c v in
     reached_class Right (reach_of (class_for Right s.course) f) (course_after Right c v (is_applied f) s.course)
@@ -28,7 +29,7 @@ at_place_keeps : (v : Value) (s : State) (o : Option ℕ) →
     KeepsClass s (at_place Right v s o)
 at_place_keeps v s None one none =
     let c = course_after_none v s.course in
-    reached_class Right (reach_of (class_for Right c) (unnamed s.course v)) c ∙ ap (λ (x : Course). x.class) none
+    reached_class Right (reach_of (class_for Right c) (unnamed Right s.course v)) c ∙ ap (λ (x : Course). x.class) none
 at_place_keeps v s (Some p) one none = found_keeps v s p (slice_get s.connections p) one none
 
 zero_keeps : (v : Value) (s : State) (b : Bool) → KeepsClass s (routed Right v s (route_zero Right b v))
@@ -45,9 +46,9 @@ zero_keeps _ s true = none_keeps Right (Broke rule.WrongForm) s
 zero_keeps _ s false = none_keeps Right (Broke rule.WrongForm) s
 
 right_by : (stopped : Bool) (v : Value) (s : State) (k : Option Class) → k ≡ Some Zero →
-    KeepsClass s (if stopped then none_told Right NotJudged s else routed Right v s (route_in k Right (is_stopped Left s.course) v))
+    KeepsClass s (if stopped then none_told Right NotJudged s else routed Right v s (route_in k Right (has_broken Left s.course) v))
 right_by true v s k e = none_keeps Right NotJudged s
-right_by false v s (Some Zero) e = zero_keeps v s (is_stopped Left s.course)
+right_by false v s (Some Zero) e = zero_keeps v s (has_broken Left s.course)
 right_by false v s _ e = cc
 
 pub zero_stays : (p : Passing) (s : State) → s.course.class ≡ Some Zero → (passes p s).course.class ≡ Some Zero

@@ -371,27 +371,27 @@ class_two x h = ap (λ (b : Bool). Some (if b then Two else Zero)) h
 item_is : (x y : Connection) (o : Option Connection) → o ≡ Some x → o ≡ Some y → x ≡ y
 item_is x y o h k = cc
 
-confirm_answer : (local : Local) (w : Whole) (v : Value) (r p : ℕ) (o : Offer) (cs : List Connection) (strays : Bool) →
+confirm_answer : (local : Local) (w : Whole) (v : Value) (r p : ℕ) (o : Offer) (cs : List Connection) (strays erred : Bool) →
     Calling local (one r) w.end → w.put ≡ [] → w.begun ≡ false → Offers local o → (waiting : Waits r p o cs) → AreDcs w.coming →
-    (n : ℕ) (x : Connect) → v ≡ confirm n x → IsConnect x → (takes Right v w.tap).state ≡ confirmed_tap p n x waiting.c cs strays →
+    (n : ℕ) (x : Connect) → v ≡ confirm n x → IsConnect x → (takes Right v w.tap).state ≡ confirmed_tap p n x waiting.c cs strays erred →
     is_offered o None x ≡ true → is_inside x ≡ true → (b : Bool) → (x.class == 2) ≡ b → Stage local (after_other w v)
-confirm_answer local w v r p o cs strays is none not_begun offers waiting dcs n x same_unit range so offered inside true class =
+confirm_answer local w v r p o cs strays erred is none not_begun offers waiting dcs n x same_unit range so offered inside true class =
     known (ap (λ (s : Traffic). s.course.class) so ∙ class_two x class) (λ h. differ w.begun h not_begun)
     (offers.two (is_two o x class offered))
-confirm_answer local w v r p o cs strays is none not_begun offers waiting dcs n x same_unit range so offered inside false class =
+confirm_answer local w v r p o cs strays erred is none not_begun offers waiting dcs n x same_unit range so offered inside false class =
     answered r is none not_begun w.coming n x [] (ap (λ (u : Value). w.coming ++ u ∷ []) same_unit) dcs class
     (offers.zero (is_zero o x class inside offered)) (react (confirm n x) w.end) refl
     (subst (λ (s : Traffic). IsZeroed (react (confirm n x) w.end) [] false s) (sym so)
-    (confirmed_so n r p o x cs strays w.end waiting range is.0 class))
+    (confirmed_so n r p o x cs strays erred w.end waiting range is.0 class))
 
 waits_answer : (local : Local) (w : Whole) (v : Value) (r p : ℕ) (o : Offer) (cs : List Connection) (strays : Bool) → HasFieldsInRange v →
     Calling local (one r) w.end → w.put ≡ [] → w.begun ≡ false → Offers local o → Waits r p o cs → AreDcs w.coming →
     Answer r p o cs strays v (takes Right v w.tap).state → Stage local (after_other w v)
-waits_answer local w v r p o cs strays ranges is none not_begun offers waiting dcs (confirms n x same_unit c at so offered inside) =
+waits_answer local w v r p o cs strays ranges is none not_begun offers waiting dcs (confirms n x same_unit c at erred so offered inside) =
     let range = (subst HasFieldsInRange same_unit ranges).1 in
     let here : c ≡ waiting.c = item_is c waiting.c (slice_get cs p) at waiting.at in
-    confirm_answer local w v r p o cs strays is none not_begun offers waiting dcs n x same_unit range
-    (so ∙ ap (λ (y : Connection). confirmed_tap p n x y cs strays) here) offered inside (x.class == 2) refl
+    confirm_answer local w v r p o cs strays erred is none not_begun offers waiting dcs n x same_unit range
+    (so ∙ ap (λ (y : Connection). confirmed_tap p n x y cs strays erred) here) offered inside (x.class == 2) refl
 waits_answer local w v r p o cs strays ranges is none not_begun offers waiting dcs (refuses refusal after more tap done) =
     refused r is none not_begun after more tap done w.coming v [] refl dcs refusal tt
 waits_answer local w v r p o cs strays ranges is none not_begun offers waiting dcs (says_nothing (dc, tap)) =

@@ -27,7 +27,7 @@ to_none f s = reached_class (reach_of (class_for Left s.course) f) s.course
 to_one : (v : Value) (s : State) (p : ℕ) (o : Option Connection) → KeepsClass s (at_found Left v s p o)
 to_one v s p None =
     let c = course_after_none v s.course in
-    reached_class (reach_of (class_for Left c) (unnamed s.course v)) c ∙ none_class v s.course
+    reached_class (reach_of (class_for Left c) (unnamed Left s.course v)) c ∙ none_class v s.course
 to_one v s p (Some c) =
     let f = found_on Left s c v in
     reached_class (reach_of (class_for Left s.course) f) (course_after Left c v (is_applied f) s.course)
@@ -36,7 +36,7 @@ to_one v s p (Some c) =
 to_place : (v : Value) (s : State) (p : Option ℕ) → KeepsClass s (at_place Left v s p)
 to_place v s None =
     let c = course_after_none v s.course in
-    reached_class (reach_of (class_for Left c) (unnamed s.course v)) c ∙ none_class v s.course
+    reached_class (reach_of (class_for Left c) (unnamed Left s.course v)) c ∙ none_class v s.course
 to_place v s (Some p) = to_one v s p (slice_get s.connections p)
 
 asking : (f : Finding) (x : Connect) (s : State) → KeepsClass s (asks_by Left f x s)

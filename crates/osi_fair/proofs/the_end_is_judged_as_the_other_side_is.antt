@@ -27,7 +27,7 @@ to_one : (d : Direction) (p : ℕ) (c : Connection) (v : Value) (s : State) → 
 to_one d p c v s = refl
 
 to_unnamed : (d : Direction) (v : Value) (s : State) → IsBy d s (unnamed_told d v s)
-to_unnamed d v s = ap (λ (k : Option Class). reach_of k (unnamed s.course v)) (none_class d v s.course)
+to_unnamed d v s = ap (λ (k : Option Class). reach_of k (unnamed d s.course v)) (none_class d v s.course)
 
 at_one : (d : Direction) (v : Value) (s : State) (p : ℕ) (c : Option Connection) → IsBy d s (at_found d v s p c)
 at_one d v s p None = to_unnamed d v s

@@ -6,10 +6,10 @@ use Rattle.osi_fair.proofs.Vocabulary.{confirm, Connect, data0, data2, destinati
 use Rattle.osi_fair.proofs.Vocabulary.{Class, Two, Zero, is_applied, is_of_connection, passes_over, reach_of, code_named, confirm_tests}
 use Rattle.osi_fair.proofs.Vocabulary.{acknowledge_tests, data2_tests, length, first_failed, given_again, is_due, is_inside, is_offered}
 use Rattle.osi_fair.proofs.Vocabulary.{Test, is_closing, is_named, is_open, is_refused, is_silent, at_found, at_place, class_for}
-use Rattle.osi_fair.proofs.Vocabulary.{closing_phase, connection_after, course_after, course_after_none, found, found_on, half_after}
+use Rattle.osi_fair.proofs.Vocabulary.{closing_phase, connection_after, course_after, found, found_on, half_after}
 use Rattle.osi_fair.proofs.Vocabulary.{in_doubt, none_told, one_told, Outcome, reached, route, route_in, routed, Traffic, takes}
 use Rattle.osi_fair.proofs.Vocabulary.{unnamed_by, unnamed_told, uses_source, Connection, Course, Right, Finding, Broke, Kept, NotJudged}
-use Rattle.osi_fair.proofs.Vocabulary.{Outside, TooMany, Reach, Rule, Half, Phase}
+use Rattle.osi_fair.proofs.Vocabulary.{Outside, TooMany, Reach, Rule, Half, Phase, noted}
 use Rattle.osi_rules.specs.declared.findings.Reach.TheVariants as reach
 use Rattle.osi_rules.specs.declared.findings.Rule.TheVariants as rule
 use Rattle.osi_rules.specs.Sides.{sends}
@@ -18,11 +18,12 @@ use Rattle.osi_fair.proofs.no_two_open_connections_have_one_peer.{left_open, rig
 use Rattle.osi_fair.proofs.each_connection_has_its_line.{is_tracked}
 use Rattle.osi_fair.proofs.what_keeps_names_apart.{Sound}
 use Rattle.osi_fair.proofs.what_stays_of_each_connection.{right_judged, right_own}
-use Rattle.osi_fair.proofs.what_lasts_at_the_tap.{IsCalm}
-use Rattle.osi_fair.proofs.what_the_other_side_closes.{not_calm, soft, unknown_not_calm}
+use Rattle.osi_fair.proofs.what_lasts_at_the_tap.{IsCalm, calm_noted}
+use Rattle.osi_fair.proofs.what_the_other_side_closes.{not_calm, soft, unknown_not}
 use Rattle.osi_fair.proofs.which_units_are_for_a_connection.{is_dc}
 use Rattle.osi_fair.proofs.while_no_class_is_selected.{named_where}
 use Rattle.osi_fair.proofs.one_request_waits.{reached_class}
+use Rattle.osi_fair.proofs.an_end_has_broken_no_rule.{er_idle, not_broken}
 
 -- ---- for which connection it is
 
@@ -50,52 +51,47 @@ not_judged : (loose : Bool) → (if loose then in_doubt NotJudged else NotJudged
 not_judged true = refl
 not_judged false = refl
 
-idle_by : (b : Bool) (m source : ℕ) (s : Traffic) → s.course.strays ≡ b →
+idle_by : (b : Bool) (m source : ℕ) (s : Traffic) → s.course.strays ≡ b → s.course.left_erred ≡ false →
     IsCalm (unnamed_told Right (disconnected m source) s).state.course →
     IsIdle (disconnected m source) s (unnamed_told Right (disconnected m source) s)
-idle_by true m source s e h = record {
+idle_by true m source s e fine h = record {
   m = m;
   source = source;
   dc = refl;
   strays = e;
-  same = ap (λ (f : Finding). record s { course = reached Right (reach_of (class_for Right s.course) f) s.course })
+  same = ap (λ (f : Finding). record s { course = noted Right f (reached Right (reach_of (class_for Right s.course) f) s.course) })
       (ap (λ (b : Bool). if s.course.loose then in_doubt (unnamed_by b (disconnected m source)) else unnamed_by b (disconnected m source)) e
       ∙ not_judged s.course.loose);
 }
-idle_by false m source s e h =
-    unknown_not_calm (class_for Right s.course) s.course.loose s.course
-    (subst (λ (b : Bool). IsCalm (reached Right (reach_of (class_for Right s.course)
-    (if s.course.loose then in_doubt (unnamed_by b (disconnected m source)) else unnamed_by b (disconnected m source))) s.course)) e h)
-
-unknown_not : {A : Type 0} (v : Value) (s : Traffic) → ((b : Bool) → unnamed_by b v ≡ Broke rule.UnknownReference) →
-    IsCalm (unnamed_told Right v s).state.course → A
-unknown_not v s is h =
-    let c = course_after_none v s.course in
-    unknown_not_calm (class_for Right c) s.course.loose c
-    (subst (λ (f : Finding). IsCalm (reached Right (reach_of (class_for Right c) (if s.course.loose then in_doubt f else f)) c))
-    (is s.course.strays) h)
+idle_by false m source s e fine h =
+    unknown_not (disconnected m source) s (ap (λ (b : Bool). unnamed_by b (disconnected m source)) e) fine h
 
 by_bool : (v : Value) → unnamed_by true v ≡ Broke rule.UnknownReference → unnamed_by false v ≡ Broke rule.UnknownReference →
     (b : Bool) → unnamed_by b v ≡ Broke rule.UnknownReference
 by_bool v h k b = grind arith
 
-none_idle : (v : Value) (s : Traffic) → IsCalm (unnamed_told Right v s).state.course → IsIdle v s (unnamed_told Right v s)
-none_idle (disconnected m source) s h = idle_by s.course.strays m source s refl h
-none_idle v s h = unknown_not v s (by_bool v refl refl) h
+none_idle : (v : Value) (s : Traffic) → s.course.left_erred ≡ false → IsCalm (unnamed_told Right v s).state.course →
+    IsIdle v s (unnamed_told Right v s)
+none_idle (disconnected m source) s fine h = idle_by s.course.strays m source s refl fine h
+none_idle v s fine h = unknown_not v s (by_bool v refl refl s.course.strays) fine h
 
-module _ (s : Traffic) where
+-- the end has broken no rule
+module _ (s : Traffic) (fine : s.course.left_erred ≡ false) where
   abbrev Comes : Value → Outcome → Type 0
   Comes v o = IsCalm o.state.course → Told v s o ⊎ IsIdle v s o
 
   at_name : (v : Value) (n : ℕ) (o : Option ℕ) → position (is_named Right n) s.connections ≡ o → destination_of v ≡ Some n →
       Comes v (at_place Right v s o)
-  at_name v n None e d h = inr (none_idle v s h)
+  at_name v n None e d h = inr (none_idle v s fine h)
   at_name v n (Some q) e d h =
       let (c, at, named) = named_where s.connections n q e in
       inl (record { n = n; q = q; c = c; dest = d; at = at; named = named; is = ap (λ (o : Option Connection). at_found Right v s q o) at })
 
   wrong : (v : Value) → Comes v (none_told Right (Broke rule.UnexpectedUnit) s)
-  wrong v h = not_calm (class_for Right s.course) rule.UnexpectedUnit s.course refl refl h
+  wrong v h =
+      let f = Broke rule.UnexpectedUnit in
+      not_calm (class_for Right s.course) rule.UnexpectedUnit s.course refl refl
+      (calm_noted Right f (reached Right (reach_of (class_for Right s.course) f) s.course) h)
 
   by_class : (k : Option Class) → (k ≡ None) ⊎ (k ≡ Some Two) → (v : Value) → Comes v (routed Right v s (route_in k Right false v))
   by_class (Some Zero) (inl e) v h = absurd (cc e)
@@ -130,7 +126,8 @@ module _ (s : Traffic) where
   comes_for v left right class =
       let so : takes Right v s ≡ routed Right v s (route_in s.course.class Right false v) =
       ap (λ (b : Bool). if b then none_told Right NotJudged s else routed Right v s (route Right s.course v)) right
-      ∙ ap (λ (b : Bool). routed Right v s (route_in s.course.class Right b v)) left in
+      ∙ ap (λ (b : Bool). routed Right v s (route_in s.course.class Right b v))
+      (not_broken s.course.left_stopped s.course.left_erred left fine) in
       subst (Comes v) (sym so) (by_class s.course.class class v)
 
 -- ---- what it does to its connection
@@ -168,8 +165,8 @@ dc_early : (due silent strays : Bool) → due ≡ false → silent ≡ true →
     ≡ Broke rule.UnknownReference)
 dc_early due silent strays h k = grind arith
 
-er_kept : (a : Bool) → a ≡ true → first_failed ((a, Broke rule.WrongForm) ∷ []) ≡ Kept
-er_kept a h = grind arith
+er_kept : (a erred : Bool) → a ≡ true → first_failed ((a || not erred, NotJudged) ∷ (a, Broke rule.WrongForm) ∷ []) ≡ Kept
+er_kept a erred h = grind arith
 
 -- what is found of a CC for a connection that waits
 pub data Ruled (f : Finding) : Type 0 where
@@ -199,7 +196,7 @@ module _ (s : Traffic) (c : Connection) (judged : c.is_judged ≡ true) (sound :
   next v = connection_after Right v (is_applied (finding v)) (how_far v) c
 
   abbrev course : Value → Course
-  course v = reached Right (how_far v) (course_after Right c v (is_applied (finding v)) s.course)
+  course v = noted Right (finding v) (reached Right (how_far v) (course_after Right c v (is_applied (finding v)) s.course))
 
   is_found : (v : Value) → finding v ≡ found Right s.course (uses_source Right s.connections v) c v
   is_found v = judged_same c.is_judged (found Right s.course (uses_source Right s.connections v) c v) judged
@@ -210,9 +207,10 @@ module _ (s : Traffic) (c : Connection) (judged : c.is_judged ≡ true) (sound :
   broke : {A : Type 0} (v : Value) (r : Rule) → finding v ≡ Broke r → passes_over r ≡ false → is_of_connection r ≡ false →
       IsCalm (course v) → A
   broke v r e past hard h =
-      not_calm (class_for Right s.course) r (course_after Right c v (is_applied (finding v)) s.course) past hard
-      (subst (λ (f : Finding). IsCalm (reached Right (reach_of (class_for Right s.course) f)
-      (course_after Right c v (is_applied (finding v)) s.course))) e h)
+      let mid = course_after Right c v (is_applied (finding v)) s.course in
+      not_calm (class_for Right s.course) r mid past hard
+      (subst (λ (f : Finding). IsCalm (reached Right (reach_of (class_for Right s.course) f) mid)) e
+      (calm_noted Right (finding v) (reached Right (how_far v) mid) h))
 
   -- ---- a connection that is open stays so
 
@@ -277,10 +275,11 @@ module _ (s : Traffic) (c : Connection) (judged : c.is_judged ≡ true) (sound :
   cc_far destination x h p =
       let v = confirm destination x in
       let e = cc_wrong destination x h in
+      let mid = course_after Right c v (is_applied (finding v)) s.course in
       ap (λ (f : Finding). reach_of (class_for Right s.course) f) e
-      ∙ (soft (class_for Right s.course) rule.WrongForm (course_after Right c v (is_applied (finding v)) s.course) refl
-      (subst (λ (f : Finding). IsCalm (reached Right (reach_of (class_for Right s.course) f)
-      (course_after Right c v (is_applied (finding v)) s.course))) e p)).0
+      ∙ (soft (class_for Right s.course) rule.WrongForm mid refl
+      (subst (λ (f : Finding). IsCalm (reached Right (reach_of (class_for Right s.course) f) mid)) e
+      (calm_noted Right (finding v) (reached Right (how_far v) mid) p))).0
 
   pub cc_lost : (destination : ℕ) (x : Connect) → is_silent c.right.phase ≡ false → IsCalm (course (confirm destination x)) →
       (next (confirm destination x)).is_judged ≡ false
@@ -309,7 +308,7 @@ module _ (s : Traffic) (c : Connection) (judged : c.is_judged ≡ true) (sound :
   open_stays (data0 end user) n e h = absurd (cc e)
   open_stays (error destination cause) n e h =
       idle_open (error destination cause)
-      (ap is_applied (is_found (error destination cause) ∙ form_broke (is_silent c.right.phase) [] (not_silent h))) h
+      (ap is_applied (is_found (error destination cause)) ∙ er_idle (is_silent c.right.phase) s.course.left_erred (not_silent h)) h
   open_stays v n e h =
       same_by v (is_applied (finding v)) refl refl refl h
 
@@ -411,6 +410,6 @@ module _ (s : Traffic) (c : Connection) (judged : c.is_judged ≡ true) (sound :
       (drop 1 (acknowledge_tests Right c number credit)) h) refl refl p
   answered (error destination cause) n e h z p =
       let v = error destination cause in
-      let kept = is_found v ∙ er_kept (is_silent c.right.phase) h in
+      let kept = is_found v ∙ er_kept (is_silent c.right.phase) s.course.left_erred h in
       refused (ap (λ (x : Half). is_refused x.phase) (right_by v true (ap is_applied kept))) (kept_judged v kept) (λ m x k. cc k)
   answered _ n e h z p = absurd (cc e)

@@ -9,6 +9,7 @@ use Rattle.osi_fair.proofs.Vocabulary.{course_after_none, course_begins, found, 
 use Rattle.osi_fair.proofs.Vocabulary.{route_in, routed, Traffic as State, takes, unnamed_by, unnamed_told}
 use Rattle.osi_fair.proofs.Vocabulary.{Connection, Course, Direction, Right, Finding, Broke, Kept, NotJudged, Reach, Phase, Route}
 use Rattle.osi_fair.proofs.Vocabulary.{Named, passes, Passing}
+use Rattle.osi_fair.proofs.Vocabulary.{has_broken}
 use Rattle.osi_rules.specs.declared.findings.Rule.TheVariants as rule
 use Rattle.osi_fair.proofs.small_facts_that_many_lemmas_use.{or_first}
 use Rattle.osi_fair.proofs.what_is_right_passes_each_test.{is_right}
@@ -52,11 +53,11 @@ at_any : (d : Direction) (s : State) (n source : ℕ) (p : Option ℕ) → s.cou
 at_any d s n source p h = grind (arith, unnamed_so, at_one)
 
 two_routes : (d : Direction) (s : State) (n source : ℕ) → s.course.strays ≡ true →
-    Spared (routed d (disconnected n source) s (route_in (Some Two) d (is_stopped (other d) s.course) (disconnected n source)))
+    Spared (routed d (disconnected n source) s (route_in (Some Two) d (has_broken (other d) s.course) (disconnected n source)))
 two_routes d s n source h = grind (arith, at_any)
 
 dc_by : (stopped : Bool) (d : Direction) (s : State) (n source : ℕ) (r : Route) →
-    r ≡ route_in (Some Two) d (is_stopped (other d) s.course) (disconnected n source) → s.course.strays ≡ true →
+    r ≡ route_in (Some Two) d (has_broken (other d) s.course) (disconnected n source) → s.course.strays ≡ true →
     Spared (if stopped then none_told d NotJudged s else routed d (disconnected n source) s r)
 dc_by stopped d s n source r e h = grind (arith, two_routes)
 
@@ -123,7 +124,7 @@ stray_by : (d : Direction) (s : State) (n source reason : ℕ) (user : List ℕ)
 stray_by d s n source reason user none = grind (arith, reached_strays)
 
 pub two_named : (d : Direction) (s : State) (n source reason : ℕ) (user : List ℕ) →
-    route_in (Some Two) d (is_stopped (other d) s.course) (disconnect n source reason user) ≡ Named n
+    route_in (Some Two) d (has_broken (other d) s.course) (disconnect n source reason user) ≡ Named n
 two_named d s n source reason user = grind arith
 
 pub dr_strays : (d : Direction) (s : State) (n source reason : ℕ) (user : List ℕ) → is_stopped d s.course ≡ false →

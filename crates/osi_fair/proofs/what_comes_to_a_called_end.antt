@@ -289,7 +289,7 @@ module _ (local : Local) (w : Whole) (f : Called local w) (apart : AreApart w.ta
     subst (λ (s : Traffic). AreNamedApart s.connections) (sym same) named,
   )
 
-  pub comes_so : AllAfter
-  comes_so =
+  pub comes_so : w.tap.course.right_erred ≡ false → AllAfter
+  comes_so fine =
       let before = calm local w f apart named v ranges calm_after in
-      by_came (came_so v w.tap before.left before.right calm_after)
+      by_came (came_so v w.tap before.left before.right (λ m k e. fine) calm_after)

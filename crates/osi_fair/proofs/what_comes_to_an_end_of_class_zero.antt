@@ -49,11 +49,12 @@ there_started Silent h = cc
 there_started Refused h = cc
 there_started _ h = refl
 
-wrong_applied : {A : Type 0} (j a : Bool) → a ≡ false → is_applied (if j then first_failed ((a, Broke rule.WrongForm)
-    ∷ []) else NotJudged) ≡ true → A
-wrong_applied true true e h = absurd (cc e)
-wrong_applied true false e h = absurd (cc h)
-wrong_applied false a e h = absurd (cc h)
+wrong_applied : {A : Type 0} (j a erred : Bool) → a ≡ false → is_applied (if j then first_failed ((a || not erred, NotJudged)
+    ∷ (a, Broke rule.WrongForm) ∷ []) else NotJudged) ≡ true → A
+wrong_applied true true erred e h = absurd (cc e)
+wrong_applied true false true e h = absurd (cc h)
+wrong_applied true false false e h = absurd (cc h)
+wrong_applied false a erred e h = absurd (cc h)
 
 sent_left : (v : Value) (c : Connection) → (sent_on Left v c).left ≡ half_after v c.left
 sent_left (request x) c = refl
@@ -65,7 +66,8 @@ there_half s c (confirm destination x) e h = refl
 there_half s c (disconnect destination source reason user) e h =
     closing_there (is_silent c.left.phase) c.left (there_started c.left.phase h)
 there_half s c (disconnected destination source) e h = refl
-there_half s c (error destination cause) e h = wrong_applied c.is_judged (is_silent c.left.phase) (there_started c.left.phase h) e
+there_half s c (error destination cause) e h =
+    wrong_applied c.is_judged (is_silent c.left.phase) s.course.right_erred (there_started c.left.phase h) e
 there_half s c _ e h = h
 
 size_sent : (v : Value) (c : Connection) → ((m : ℕ) (x : Connect) → v ≡ confirm m x → ⊥) → (sent_on Left v c).size ≡ c.size
@@ -293,10 +295,11 @@ module _ (w : Whole) (apart : AreApart w.tap.connections) (judged : HoldsOfEach 
   selected_by_came f (only q e at seen is) = selected_one q e at is f
   selected_by_came f (lost dc strays same) = selected_same same f
 
-  pub selecting_comes : IsCalm (takes Left v w.tap).state.course → (local : Local) → Selecting local w → Selecting local after
-  selecting_comes after_it local f =
-      let was = calm after_it in selecting_by local f (came_so v w.tap was.left was.right after_it)
+  pub selecting_comes : w.tap.course.right_erred ≡ false → IsCalm (takes Left v w.tap).state.course → (local : Local) →
+      Selecting local w → Selecting local after
+  selecting_comes fine after_it local f =
+      let was = calm after_it in selecting_by local f (came_so v w.tap was.left was.right (λ m k e. fine) after_it)
 
-  pub selected_comes : IsCalm (takes Left v w.tap).state.course → Selected w → Selected after
-  selected_comes after_it f =
-      let was = calm after_it in selected_by_came f (came_so v w.tap was.left was.right after_it)
+  pub selected_comes : w.tap.course.right_erred ≡ false → IsCalm (takes Left v w.tap).state.course → Selected w → Selected after
+  selected_comes fine after_it f =
+      let was = calm after_it in selected_by_came f (came_so v w.tap was.left was.right (λ m k e. fine) after_it)

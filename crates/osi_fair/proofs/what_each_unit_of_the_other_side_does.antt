@@ -14,7 +14,7 @@ use Rattle.osi_fair.specs.Lines.{passes_other}
 use Rattle.osi_fair.proofs.small_facts_that_many_lemmas_use.{and_first, and_second}
 use Rattle.osi_fair.proofs.what_holds_of_a_line.{Tally, Ordered, PutsAt, TakesAt, Holds, is_there, tapped}
 use Rattle.osi_fair.proofs.what_passes_of_the_other_side.{Went, goes_same, data_goes, ack_goes, ends_goes}
-use Rattle.osi_fair.proofs.Vocabulary.{refl, Kept}
+use Rattle.osi_fair.proofs.Vocabulary.{refl}
 
 -- ---- what comes of a finding
 
@@ -77,6 +77,11 @@ disconnected_fate : (due told strays : Bool) →
     (let f = first_failed ((due || not strays, NotJudged) ∷ (told, Broke rule.UnknownReference) ∷ (due, Broke rule.NothingToAnswer) ∷ []) in
     (Leaves f) ⊎ (Loses f ⊎ ((due ≡ true) × Applies f)))
 disconnected_fate due told strays h = grind arith
+
+-- an ER on a connection that its sender has answered is wrong, or may answer a break of the end
+error_fate : (silent erred : Bool) → silent ≡ false →
+    (let f = first_failed ((silent || not erred, NotJudged) ∷ (silent, Broke rule.WrongForm) ∷ []) in (Leaves f) ⊎ (Loses f))
+error_fate silent erred h = grind arith
 
 first_fails : (b : Bool) (rest : Finding) → b ≡ false → (if b then rest else Broke rule.WrongForm) ≡ Broke rule.WrongForm
 first_fails b rest e = ap (λ (x : Bool). if x then rest else Broke rule.WrongForm) e
@@ -151,6 +156,13 @@ module _ (r peer limit : ℕ) (x : Tally) (noted : ℕ) (tap : Connection) (put 
   disconnected_by destination source f (inr (inl loses)) judged = absurd (lost_after f (disconnected destination source) tap loses judged)
   disconnected_by destination source f (inr (inr (due, applies))) judged = grind (arith, and_first, applied_after, ends_goes, not_closing)
 
+  -- an ER
+  error_by : (destination cause : ℕ) (f : Finding) → (Leaves f) ⊎ (Loses f) →
+      (after_finding Right f (error destination cause) tap).is_judged ≡ true →
+      Goes (error destination cause) (after_finding Right f (error destination cause) tap)
+  error_by destination cause f (inl leaves) judged = grind (arith, left_after, goes_same)
+  error_by destination cause f (inr loses) judged = absurd (lost_after f (error destination cause) tap loses judged)
+
   pub unit_goes : (course : Course) (in_use : Bool) (unit : Value) → HasFieldsInRange unit → destination_of unit ≡ Some r →
       reach_of (Some Two) (found Right course in_use tap unit) ≢ reach.Everything →
       (after_finding Right (found Right course in_use tap unit) unit tap).is_judged ≡ true →
@@ -160,9 +172,8 @@ module _ (r peer limit : ℕ) (x : Tally) (noted : ℕ) (tap : Connection) (put 
       let wrong : f ≡ Broke rule.WrongForm = first_fails (is_silent tap.right.phase) _ (there_not_silent tap.right.phase t.there) in
       absurd (lost_after f (confirm destination c) tap (loses_as f (Broke rule.WrongForm) wrong (refl, refl)) judged)
   unit_goes course in_use (error destination cause) range named some judged =
-      let f = found Right course in_use tap (error destination cause) in
-      let wrong : f ≡ Broke rule.WrongForm = first_fails (is_silent tap.right.phase) Kept (there_not_silent tap.right.phase t.there) in
-      absurd (lost_after f (error destination cause) tap (loses_as f (Broke rule.WrongForm) wrong (refl, refl)) judged)
+      error_by destination cause (found Right course in_use tap (error destination cause))
+      (error_fate (is_silent tap.right.phase) course.left_erred (there_not_silent tap.right.phase t.there)) judged
   unit_goes course in_use (disconnect destination source reason user) range named some judged =
       disconnect_by destination source reason user (found Right course in_use tap (disconnect destination source reason user))
       (disconnect_fate tap.right.phase t.there)

@@ -7,11 +7,11 @@ use Rattle.osi_fair.proofs.Vocabulary.{is_refused, is_silent, asked_by, asks_by,
 use Rattle.osi_fair.proofs.Vocabulary.{closing_phase, connection_after, found, found_on, half_after, is_stopped, judged_on, none_told}
 use Rattle.osi_fair.proofs.Vocabulary.{Outcome, request_tests, route, route_in, routed, sent_on, sized, Traffic as State, takes}
 use Rattle.osi_fair.proofs.Vocabulary.{Connection, Direction, Left, Right, Finding, Broke, Kept, NotJudged, Reach, Half, Route, Asks}
-use Rattle.osi_fair.proofs.Vocabulary.{Named, Only, Unnamed, Two, Zero}
+use Rattle.osi_fair.proofs.Vocabulary.{Named, Only, Unnamed, Two, Zero, has_broken}
 use Rattle.osi_rules.specs.declared.findings.Rule.TheVariants as rule
 use Rattle.osi_rules.specs.Sides.{own, sends}
 use Rattle.osi_fair.proofs.small_facts_that_many_lemmas_use.{closing_same, differ, or_left, sized_judged}
-use Rattle.osi_fair.proofs.a_reference_names_one_connection.{applied_found, form_test}
+use Rattle.osi_fair.proofs.a_reference_names_one_connection.{applied_found, error_test}
 use Rattle.osi_fair.proofs.what_holds_of_one_item.{HoldsOfEach, after_add, after_set, each_add, each_set}
 
 -- ---- the halves of a connection after a unit
@@ -78,7 +78,8 @@ half_started s (disconnect destination source reason user) c h k =
     closing_started (is_silent c.left.phase) c.left (or_left (is_silent c.left.phase) (is_refused c.left.phase) k)
 half_started s (disconnected destination source) c h k = refl
 half_started s (error destination cause) c h k = differ (is_silent c.left.phase)
-    (form_test (is_silent c.left.phase) (applied_found c.is_judged (found Left s.course false c (error destination cause)) h))
+    (error_test (is_silent c.left.phase) s.course.right_erred
+    (applied_found c.is_judged (found Left s.course false c (error destination cause)) h))
     (or_left (is_silent c.left.phase) (is_refused c.left.phase) k)
 half_started s _ c h k = k
 
@@ -231,7 +232,7 @@ module _ (P : Connection → Type 0) where
 
   right_routes : (v : Value) (s : State) → StaysAfter Right v s → HoldsOfEach P s.connections → AreDistinct s.connections →
       AllSo (routed Right v s (route Right s.course v))
-  right_routes (request x) s k h a = right_asks (class_for Right s.course) (is_stopped Left s.course) x s h a
+  right_routes (request x) s k h a = right_asks (class_for Right s.course) (has_broken Left s.course) x s h a
   right_routes v s k h a =
       right_other v s (route Right s.course v) k h a (h, a)
 

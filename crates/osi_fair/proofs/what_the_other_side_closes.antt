@@ -8,7 +8,7 @@ use Rattle.osi_fair.proofs.Vocabulary.{first_failed, is_due, is_closed, is_closi
 use Rattle.osi_fair.proofs.Vocabulary.{at_place, class_for, connection_after, course_after, course_after_none, found, found_on, half_after}
 use Rattle.osi_fair.proofs.Vocabulary.{in_doubt, is_stray, none_told, one_told, Outcome, reached, route, route_in, routed}
 use Rattle.osi_fair.proofs.Vocabulary.{Traffic as State, takes, unnamed_by, unnamed_told, uses_source, Connection, Course, Right, Finding}
-use Rattle.osi_fair.proofs.Vocabulary.{Broke, NotJudged, TooMany, Reach, Rule, Half, Phase}
+use Rattle.osi_fair.proofs.Vocabulary.{Broke, NotJudged, TooMany, Reach, Rule, Half, Phase, noted, unnamed}
 use Rattle.osi_rules.specs.declared.findings.Reach.TheVariants as reach
 use Rattle.osi_rules.specs.declared.findings.Rule.TheVariants as rule
 use Rattle.osi_fair.proofs.small_facts_that_many_lemmas_use.{and_first, both, closing_not_silent, closing_shuts, differ, not_not, or_first}
@@ -21,7 +21,8 @@ use Rattle.osi_fair.proofs.while_no_class_is_selected.{after_change, named_where
 use Rattle.osi_fair.proofs.what_stays_of_each_connection.{AreDistinct, IsLively, IsStarted, is_there, left_then, right_judged, right_own}
 use Rattle.osi_fair.proofs.what_a_side_knows_stays.{form_first}
 use Rattle.osi_fair.proofs.names_of_right_stay_apart_though_one_is_lost.{ArePeersApart, each_sound}
-use Rattle.osi_fair.proofs.what_lasts_at_the_tap.{IsCalm}
+use Rattle.osi_fair.proofs.what_lasts_at_the_tap.{IsCalm, calm_noted}
+use Rattle.osi_fair.proofs.an_end_has_broken_no_rule.{no_report, not_broken}
 pub use Rattle.osi_fair.proofs.small_facts_that_many_lemmas_use.{judged_same}
 
 -- both sides are judged, class 0 is not selected, and each DR has closed something
@@ -112,12 +113,26 @@ pub unknown_not_calm : {A : Type 0} (k : Option Class) (loose : Bool) (c : Cours
 unknown_not_calm k true c h = doubt_not_calm k c h
 unknown_not_calm k false c h = not_calm k rule.UnknownReference c refl refl h
 
-none_bad : {A : Type 0} (v : Value) (s : State) → s.course.strays ≡ false → IsPlain (unnamed_told Right v s).state.course → A
-none_bad v s plain h =
+-- what is found of one, if the end has broken no rule
+pub unknown_is : (v : Value) (c : Course) → c.left_erred ≡ false →
+    unnamed Right c v ≡ (if c.loose then in_doubt (unnamed_by c.strays v) else unnamed_by c.strays v)
+unknown_is v c fine =
+    ap (λ (b : Bool). if b then NotJudged else (if c.loose then in_doubt (unnamed_by c.strays v) else unnamed_by c.strays v))
+    (no_report c.left_erred v fine)
+
+pub unknown_not : {A : Type 0} (v : Value) (s : State) → unnamed_by s.course.strays v ≡ Broke rule.UnknownReference →
+    s.course.left_erred ≡ false → IsCalm (unnamed_told Right v s).state.course → A
+unknown_not v s is fine h =
     let c = course_after_none v s.course in
+    let so = unknown_is v s.course fine ∙ ap (λ (f : Finding). if s.course.loose then in_doubt f else f) is in
     unknown_not_calm (class_for Right c) s.course.loose c
-    (subst (λ (f : Finding). IsCalm (reached Right (reach_of (class_for Right c) (if s.course.loose then in_doubt f else f)) c))
-    (ap (λ (b : Bool). unnamed_by b v) plain ∙ none_rule v) (calm_of (unnamed_told Right v s).state.course h))
+    (subst (λ (f : Finding). IsCalm (reached Right (reach_of (class_for Right c) f) c)) so
+    (calm_noted Right (unnamed Right s.course v) (reached Right (reach_of (class_for Right c) (unnamed Right s.course v)) c) h))
+
+none_bad : {A : Type 0} (v : Value) (s : State) → s.course.strays ≡ false → s.course.left_erred ≡ false →
+    IsPlain (unnamed_told Right v s).state.course → A
+none_bad v s plain fine h =
+    unknown_not v s (ap (λ (b : Bool). unnamed_by b v) plain ∙ none_rule v) fine (calm_of (unnamed_told Right v s).state.course h)
 
 reached_plain : (r : Reach) (c : Course) → (reached Right r c).strays ≡ false → c.strays ≡ false
 reached_plain r c h = grind arith
@@ -138,7 +153,7 @@ still_open p q a b c h = grind arith
 
 module _ (L : ℕ → Type 0) (s : State) (q : ℕ) (c : Connection) (at : slice_get s.connections q ≡ Some c)
     (sound : Sound c) (started : IsStarted c) (distinct : AreDistinct s.connections)
-    (lively : HoldsOfEach (IsLively L) s.connections) (plain : s.course.strays ≡ false) where
+    (lively : HoldsOfEach (IsLively L) s.connections) (plain : s.course.strays ≡ false) (fine : s.course.left_erred ≡ false) where
   abbrev finding : Value → Finding
   finding v = found_on Right s c v
 
@@ -149,7 +164,7 @@ module _ (L : ℕ → Type 0) (s : State) (q : ℕ) (c : Connection) (at : slice
   after v = connection_after Right v (is_applied (finding v)) (how_far v) c
 
   abbrev course : Value → Course
-  course v = reached Right (how_far v) (course_after Right c v (is_applied (finding v)) s.course)
+  course v = noted Right (finding v) (reached Right (how_far v) (course_after Right c v (is_applied (finding v)) s.course))
 
   -- if it closes the connection
   less_by : (v : Value) (n : ℕ) → c.left.reference ≡ n →
@@ -290,7 +305,9 @@ module _ (L : ℕ → Type 0) (s : State) (q : ℕ) (c : Connection) (at : slice
     wrong_lost : (v : Value) (r : Rule) → finding v ≡ Broke r → passes_over r ≡ false → IsPlain (course v) → (after v).is_judged ≡ false
     wrong_lost v r e past h =
         let calm = subst (λ (f : Finding). IsCalm (reached Right (reach_of (class_for Right s.course) f)
-        (course_after Right c v (is_applied (finding v)) s.course))) e (calm_of (course v) h) in
+        (course_after Right c v (is_applied (finding v)) s.course))) e
+        (calm_noted Right (finding v) (reached Right (how_far v) (course_after Right c v (is_applied (finding v)) s.course))
+        (calm_of (course v) h)) in
         let far = ap (λ (f : Finding). reach_of (class_for Right s.course) f) e
         ∙ (soft (class_for Right s.course) r (course_after Right c v (is_applied (finding v)) s.course) past calm).0 in
         ap (λ (k : Reach). (connection_after Right v (is_applied (finding v)) k c).is_judged) far ∙ lost_by v (is_applied (finding v))
@@ -334,9 +351,12 @@ module _ (L : ℕ → Type 0) (s : State) (q : ℕ) (c : Connection) (at : slice
 
     -- ---- an ER
 
-    er_by : (silent : Bool) → (is_applied (first_failed ((silent, Broke rule.WrongForm) ∷ [])) ≡ true)
-        ⊎ (first_failed ((silent, Broke rule.WrongForm) ∷ []) ≡ Broke rule.WrongForm)
-    er_by silent = grind arith
+    er_by : (silent erred : Bool) → erred ≡ false →
+        (is_applied (first_failed ((silent || not erred, NotJudged) ∷ (silent, Broke rule.WrongForm) ∷ [])) ≡ true)
+        ⊎ (first_failed ((silent || not erred, NotJudged) ∷ (silent, Broke rule.WrongForm) ∷ []) ≡ Broke rule.WrongForm)
+    er_by true erred h = inl refl
+    er_by false false h = inr refl
+    er_by false true h = absurd (cc)
 
     refuses_by : (destination cause : ℕ) → c.left.reference ≡ destination → (is_applied (finding (error destination cause)) ≡ true)
         ⊎ (finding (error destination cause) ≡ Broke rule.WrongForm) → IsPlain (course (error destination cause)) →
@@ -348,7 +368,9 @@ module _ (L : ℕ → Type 0) (s : State) (q : ℕ) (c : Connection) (at : slice
 
     er_found : (destination cause : ℕ) → (is_applied (finding (error destination cause)) ≡ true)
         ⊎ (finding (error destination cause) ≡ Broke rule.WrongForm)
-    er_found destination cause = grind (arith, is_found, er_by)
+    er_found destination cause =
+        subst (λ (f : Finding). (is_applied f ≡ true) ⊎ (f ≡ Broke rule.WrongForm)) (sym (is_found (error destination cause)))
+        (er_by (is_silent c.right.phase) s.course.left_erred fine)
 
     -- ---- any
 
@@ -380,18 +402,18 @@ pub is_name : (c : Connection) (n : ℕ) → Sound c → is_named Right n c ≡ 
 is_name c n sound h = grind (arith, named_so, eqb-true)
 
 module _ (L : ℕ → Type 0) (s : State) (sane : IsSane s) (peers : ArePeersApart s.connections)
-    (lively : HoldsOfEach (IsLively L) s.connections) (before : IsPlain s.course) where
+    (lively : HoldsOfEach (IsLively L) s.connections) (before : IsPlain s.course) (fine : s.course.left_erred ≡ false) where
   abbrev Comes : Value → Outcome → Type 0
   Comes v o = IsPlain o.state.course → Came L v s o.state
 
   one_by : (v : Value) (q : ℕ) (c : Connection) → slice_get s.connections q ≡ Some c →
       ((n : ℕ) → closed_by v ≡ Some n → c.left.reference ≡ n) → (b : Bool) → c.is_judged ≡ b → Comes v (at_found Right v s q (Some c))
   one_by v q c at is true j h =
-      one_came L s q c at (each_sound s.connections sane.apart peers q c at) (sane.started q c at) sane.distinct lively before.strays j v
-      is h
+      one_came L s q c at (each_sound s.connections sane.apart peers q c at) (sane.started q c at) sane.distinct lively before.strays
+      fine j v is h
   one_by v q c at is false j h =
-      lost_came L s q c at (each_sound s.connections sane.apart peers q c at) (sane.started q c at) sane.distinct lively before.strays j v
-      is h
+      lost_came L s q c at (each_sound s.connections sane.apart peers q c at) (sane.started q c at) sane.distinct lively before.strays
+      fine j v is h
 
   at_one : (v : Value) (q : ℕ) (c : Connection) → slice_get s.connections q ≡ Some c →
       ((n : ℕ) → closed_by v ≡ Some n → is_named Right n c ≡ true) → Comes v (at_found Right v s q (Some c))
@@ -404,14 +426,16 @@ module _ (L : ℕ → Type 0) (s : State) (sane : IsSane s) (peers : ArePeersApa
 
   at_name : (v : Value) (n : ℕ) (o : Option ℕ) → position (is_named Right n) s.connections ≡ o →
       ((m : ℕ) → closed_by v ≡ Some m → n ≡ m) → Comes v (at_place Right v s o)
-  at_name v n None e same h = none_bad v s before.strays h
+  at_name v n None e same h = none_bad v s before.strays fine h
   at_name v n (Some q) e same h =
       let (c, at, named) = named_where s.connections n q e in
       there v q c at (λ m k. subst (λ (i : ℕ). is_named Right i c ≡ true) (same m k) named) h
 
   wrong : (v : Value) → Comes v (none_told Right (Broke rule.UnexpectedUnit) s)
-  wrong v h = not_calm (class_for Right s.course) rule.UnexpectedUnit s.course refl refl
-      (calm_of (none_told Right (Broke rule.UnexpectedUnit) s).state.course h)
+  wrong v h =
+      let f = Broke rule.UnexpectedUnit in
+      not_calm (class_for Right s.course) rule.UnexpectedUnit s.course refl refl
+      (calm_noted Right f (reached Right (reach_of (class_for Right s.course) f) s.course) (calm_of (none_told Right f s).state.course h))
 
   same_number : (n m : ℕ) → Some n ≡ Some m → n ≡ m
   same_number n m e = cc
@@ -452,5 +476,6 @@ module _ (L : ℕ → Type 0) (s : State) (sane : IsSane s) (peers : ArePeersApa
   what_came v =
       let so : takes Right v s ≡ routed Right v s (route_in s.course.class Right false v) =
       ap (λ (b : Bool). if b then none_told Right NotJudged s else routed Right v s (route Right s.course v)) before.right
-      ∙ ap (λ (b : Bool). routed Right v s (route_in s.course.class Right b v)) before.left in
+      ∙ ap (λ (b : Bool). routed Right v s (route_in s.course.class Right b v))
+      (not_broken s.course.left_stopped s.course.left_erred before.left fine) in
       subst (Comes v) (sym so) (by_class s.course.class refl v)

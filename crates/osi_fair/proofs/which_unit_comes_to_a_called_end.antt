@@ -5,15 +5,17 @@ use Rattle.osi_fair.proofs.Vocabulary.{true, ℕ, ◌∙◌, ◌∷◌, ◌≡�
 use Rattle.osi_fair.proofs.Vocabulary.{confirm, Connect, data0, data2, destination_of, disconnect, disconnected, error, request, Value}
 use Rattle.osi_fair.proofs.Vocabulary.{Class, Two, Zero, is_of_connection, passes_over, reach_by, reach_of, reach_past, first_failed}
 use Rattle.osi_fair.proofs.Vocabulary.{is_free, is_live, is_named, is_over, uses, asks_by, asks_kept, asks_of, at_found, at_place}
-use Rattle.osi_fair.proofs.Vocabulary.{class_for, course_after_none, has_place, in_doubt, is_not_judged, is_stopped, none_told, one_told}
+use Rattle.osi_fair.proofs.Vocabulary.{class_for, course_after_none, has_place, in_doubt, is_not_judged, none_told, one_told}
 use Rattle.osi_fair.proofs.Vocabulary.{Outcome, reached, request_tests, route, route_in, routed, Traffic, takes, unnamed_by, unnamed_told}
 use Rattle.osi_fair.proofs.Vocabulary.{Connection, Course, Left, Right, Finding, Broke, Kept, NotJudged, Outside, TooMany, Rule}
+use Rattle.osi_fair.proofs.Vocabulary.{has_broken, is_report, noted, unnamed}
 use Rattle.osi_rules.specs.declared.findings.Reach.TheVariants as reach
 use Rattle.osi_rules.specs.declared.findings.Rule.TheVariants as rule
 use Rattle.osi_fair.proofs.small_facts_that_many_lemmas_use.{differ}
+use Rattle.osi_fair.proofs.an_end_has_broken_no_rule.{not_broken}
 use Rattle.osi_fair.proofs.each_connection_of_a_called_end.{IsDc}
 use Rattle.osi_fair.proofs.what_holds_of_one_item.{first_true}
-pub use Rattle.osi_fair.proofs.what_lasts_at_the_tap.{IsCalm, calm_before}
+pub use Rattle.osi_fair.proofs.what_lasts_at_the_tap.{IsCalm, calm_before, calm_noted}
 
 -- ---- what is wrong is not calm
 
@@ -89,13 +91,15 @@ request_by a b c d f e = grind (arith, bad, differ)
 not_kept : (x : Connect) (s : Traffic) (f : Finding) → (f ≡ Kept → ⊥) → asks_by Left f x s ≡ none_told Left f s
 not_kept x s f h = grind arith
 
-module _ (v : Value) (s : Traffic) (left : s.course.left_stopped ≡ false) (right : s.course.right_stopped ≡ false) where
+module _ (v : Value) (s : Traffic) (left : s.course.left_stopped ≡ false) (right : s.course.right_stopped ≡ false)
+    (fine : (m cause : ℕ) → v ≡ error m cause → s.course.right_erred ≡ false) where
   abbrev Comes : Outcome → Type 0
   Comes o = IsCalm o.state.course → Came v s o
 
   none_calm : {A : Type 0} (f : Finding) → ((k : Option Class) (course : Course) → IsCalm (reached Left (reach_of k f) course) → ⊥) →
       IsCalm (none_told Left f s).state.course → A
-  none_calm f h k = absurd (h s.course.class_seen s.course k)
+  none_calm f h k =
+      absurd (h s.course.class_seen s.course (calm_noted Left f (reached Left (reach_of s.course.class_seen f) s.course) k))
 
   asks_by_case : (x : Connect) → v ≡ request x → (s.course.class_seen ≡ Some Zero → ⊥) → ((first_failed (request_tests s x)) ≡ Kept)
       ⊎ (((k : Option Class) (course : Course) → IsCalm (reached Left (reach_of k (first_failed (request_tests s x))) course) → ⊥)
@@ -118,10 +122,15 @@ module _ (v : Value) (s : Traffic) (left : s.course.left_stopped ≡ false) (rig
   doubt_bad false k f r c hard is h = bad k r c hard (subst (λ (g : Finding). IsCalm (reached Left (reach_of k g) c)) is h)
 
   unknown_bad : {A : Type 0} (w : Value) → unnamed_by s.course.strays w ≡ Broke rule.UnknownReference →
-      IsCalm (unnamed_told Left w s).state.course → A
-  unknown_bad w is h =
+      is_report s.course.right_erred w ≡ false → IsCalm (unnamed_told Left w s).state.course → A
+  unknown_bad w is none h =
       let mid = course_after_none w s.course in
-      doubt_bad s.course.loose (class_for Left mid) (unnamed_by s.course.strays w) rule.UnknownReference mid (refl, refl) is h
+      let doubt = if s.course.loose then in_doubt (unnamed_by s.course.strays w) else unnamed_by s.course.strays w in
+      let so : unnamed Left s.course w ≡ doubt =
+      ap (λ (b : Bool). if b then NotJudged else doubt) none in
+      doubt_bad s.course.loose (class_for Left mid) (unnamed_by s.course.strays w) rule.UnknownReference mid (refl, refl) is
+      (calm_noted Left doubt (reached Left (reach_of (class_for Left mid) doubt) mid)
+      (subst (λ (f : Finding). IsCalm (noted Left f (reached Left (reach_of (class_for Left mid) f) mid))) so h))
 
   -- a DC for no connection
   dc_none : (m n : ℕ) → v ≡ disconnected m n → (b : Bool) → s.course.strays ≡ b → Comes (unnamed_told Left (disconnected m n) s)
@@ -131,7 +140,10 @@ module _ (v : Value) (s : Traffic) (left : s.course.left_stopped ≡ false) (rig
   unknown_by b w none = grind arith
 
   unnamed_case : (w : Value) → v ≡ w → Comes (unnamed_told Left w s)
-  unnamed_case v e h = grind (arith, dc_none, unknown_bad, unknown_by)
+  unnamed_case (disconnected m n) e h = dc_none m n e s.course.strays refl h
+  unnamed_case (error m cause) e h =
+      unknown_bad (error m cause) (unknown_by s.course.strays (error m cause) (λ k n d. cc d)) (fine m cause e) h
+  unnamed_case w e h = unknown_bad w (unknown_by s.course.strays w (λ k n d. cc d)) refl h
 
   unnamed_came : Comes (unnamed_told Left v s)
   unnamed_came h = unnamed_case v refl h
@@ -147,7 +159,8 @@ module _ (v : Value) (s : Traffic) (left : s.course.left_stopped ≡ false) (rig
   at_name n (Some q) e d h = at_item n q (slice_get s.connections q) refl e d h
 
   wrong : (r : Rule) → IsHard r → Comes (none_told Left (Broke r) s)
-  wrong r e h = bad s.course.class_seen r s.course e h
+  wrong r e h =
+      bad s.course.class_seen r s.course e (calm_noted Left (Broke r) (reached Left (reach_of s.course.class_seen (Broke r)) s.course) h)
 
   at_live : (q : ℕ) (o : Option Connection) → slice_get s.connections q ≡ o → s.course.class_seen ≡ Some Zero →
       Comes (at_found Left v s q o)
@@ -160,20 +173,22 @@ module _ (v : Value) (s : Traffic) (left : s.course.left_stopped ≡ false) (rig
 
   zero_wrong : (r : Rule) → passes_over r ≡ false → s.course.class_seen ≡ Some Zero → Comes (none_told Left (Broke r) s)
   zero_wrong r e zero h = side_bad (passes_over r) (is_of_connection r) s.course e
-      (subst (λ (k : Option Class). IsCalm (reached Left (reach_of k (Broke r)) s.course)) zero h)
+      (subst (λ (k : Option Class). IsCalm (reached Left (reach_of k (Broke r)) s.course)) zero
+      (calm_noted Left (Broke r) (reached Left (reach_of s.course.class_seen (Broke r)) s.course) h))
 
-  error_wrong : (destination cause : ℕ) → s.course.class_seen ≡ Some Zero →
-      Comes (routed Left v s (route_in (Some Zero) Left (is_stopped Right s.course)
-      (error destination cause)))
-  error_wrong destination cause zero = grind (arith, zero_wrong)
+  error_wrong : (destination cause : ℕ) → v ≡ error destination cause → s.course.class_seen ≡ Some Zero →
+      Comes (routed Left v s (route_in (Some Zero) Left (has_broken Right s.course) (error destination cause)))
+  error_wrong destination cause e zero =
+      subst (λ (b : Bool). Comes (routed Left v s (route_in (Some Zero) Left b (error destination cause))))
+      (sym (not_broken s.course.right_stopped s.course.right_erred right (fine destination cause e))) (zero_wrong rule.WrongForm refl zero)
 
   routes : (k : Option Class) → s.course.class_seen ≡ k → (w : Value) → v ≡ w →
-      Comes (routed Left v s (route_in k Left (is_stopped Right s.course) w))
+      Comes (routed Left v s (route_in k Left (has_broken Right s.course) w))
   routes (Some Zero) h (request x) e = wrong rule.OneConnection (refl, refl)
   routes (Some Zero) h (disconnected destination source) e =
       at_name destination (position (is_named Left destination) s.connections) refl (ap destination_of e)
   routes (Some Zero) h (data0 end user) e = at_only (position (is_live Left) s.connections) h
-  routes (Some Zero) h (error destination cause) e = error_wrong destination cause h
+  routes (Some Zero) h (error destination cause) e = error_wrong destination cause e h
   routes (Some Zero) h _ e = zero_wrong rule.WrongForm refl h
   routes None h (request x) e = subst (λ (u : Value). Comes (asks_of Left u s)) (sym e) (asks_came x e (λ zero. cc (sym h ∙ zero)))
   routes None h (disconnected destination source) e =

@@ -11,6 +11,7 @@ use Rattle.osi_fair.proofs.Vocabulary.{is_silent, asked_by, asks_by, at_found, a
 use Rattle.osi_fair.proofs.Vocabulary.{course_after, found, found_on, offer_of, Outcome, placed, reached, sent_on, Traffic as State, takes}
 use Rattle.osi_fair.proofs.Vocabulary.{unnamed_told, uses_source, Connection, Offer, Course, Direction, Left, Right, Finding, Broke, Kept}
 use Rattle.osi_fair.proofs.Vocabulary.{NotJudged, Outside, TooMany, Reach, Half, Phase, Open, Silent}
+use Rattle.osi_fair.proofs.Vocabulary.{noted, is_break}
 use Rattle.osi_rules.specs.declared.findings.Reach.TheVariants as reach
 use Rattle.osi_rules.specs.declared.findings.Rule.TheVariants as rule
 use Rattle.osi_fair.proofs.small_facts_that_many_lemmas_use.{begins_judged, begun_left, begun_right, both, judged_same, judged_so, not_both}
@@ -61,7 +62,16 @@ added_there (z ∷ xs) x = added_there xs x
 -- ---- no class is selected, and both sides are judged
 
 abbrev pub calm : Bool → Course
-calm strays = record { class = None; class_seen = None; strays = strays; loose = false; left_stopped = false; right_stopped = false }
+calm strays = record {
+  class = None;
+  class_seen = None;
+  strays = strays;
+  loose = false;
+  left_stopped = false;
+  right_stopped = false;
+  left_erred = false;
+  right_erred = false;
+}
 
 abbrev pub calm_tap : List Connection → Bool → State
 calm_tap cs strays = record { connections = cs; course = calm strays }
@@ -166,9 +176,9 @@ IsRefusal r (disconnect destination source reason user) = destination ≡ r
 IsRefusal r (error destination cause) = destination ≡ r
 IsRefusal r _ = ⊥
 
--- after the CC for the connection at this place
-abbrev pub confirmed_tap : (p destination : ℕ) → Connect → Connection → List Connection → Bool → State
-confirmed_tap p destination x c cs strays = record {
+-- after the CC for the connection at this place, which may break a rule: it may select a larger size
+abbrev pub confirmed_tap : (p destination : ℕ) → Connect → Connection → List Connection → (strays erred : Bool) → State
+confirmed_tap p destination x c cs strays erred = record {
   connections = set cs p (sent_on Right (confirm destination x) c);
   course = record {
     class = Some (class_of x);
@@ -177,13 +187,15 @@ confirmed_tap p destination x c cs strays = record {
     loose = false;
     left_stopped = false;
     right_stopped = false;
+    left_erred = false;
+    right_erred = erred;
   };
 }
 
 -- a CC selects a class that is offered, a refusal leaves none that waits, and a DC changes nothing
 pub data Answer (r p : ℕ) (o : Offer) (cs : List Connection) (strays : Bool) (v : Value) (s : State) : Type 0 where
-  confirms : (destination : ℕ) (x : Connect) → v ≡ confirm destination x → (c : Connection) → slice_get cs p ≡ Some c →
-      s ≡ confirmed_tap p destination x c cs strays → is_offered o None x ≡ true → is_inside x ≡ true → Answer r p o cs strays v s
+  confirms : (destination : ℕ) (x : Connect) → v ≡ confirm destination x → (c : Connection) → slice_get cs p ≡ Some c → (erred : Bool) →
+      s ≡ confirmed_tap p destination x c cs strays erred → is_offered o None x ≡ true → is_inside x ≡ true → Answer r p o cs strays v s
   refuses : IsRefusal r v → (after : List Connection) (more : Bool) → s ≡ calm_tap after more → HoldsOfEach IsDone after →
       Answer r p o cs strays v s
   says_nothing : OnlyDc v cs strays s → Answer r p o cs strays v s
@@ -192,7 +204,7 @@ pub data Answer (r p : ℕ) (o : Offer) (cs : List Connection) (strays : Bool) (
 abbrev by_finding : (p : ℕ) → Connection → List Connection → Bool → Value → Finding → State
 by_finding p c cs strays v f = record {
   connections = set cs p (connection_after Right v (is_applied f) (reach_of None f) c);
-  course = reached Right (reach_of None f) (course_after Right c v (is_applied f) (calm strays));
+  course = noted Right f (reached Right (reach_of None f) (course_after Right c v (is_applied f) (calm strays)));
 }
 
 -- it is taken, and is an answer that the CR allows; or nothing more is judged
@@ -214,7 +226,8 @@ by_reach p destination x c cs strays applied far = record {
 
 confirmed_by : (p destination : ℕ) (x : Connect) (c : Connection) (cs : List Connection) (strays offered inside : Bool) (f : Finding) →
     Confirms offered inside f → GoesOn (by_finding p c cs strays (confirm destination x) f) →
-    (by_finding p c cs strays (confirm destination x) f ≡ confirmed_tap p destination x c cs strays) × (offered ≡ true) × (inside ≡ true)
+    (by_finding p c cs strays (confirm destination x) f ≡ confirmed_tap p destination x c cs strays (is_break f))
+    × (offered ≡ true) × (inside ≡ true)
 confirmed_by p destination x c cs strays offered inside f k h = grind (arith, differ)
 
 module _ (r p : ℕ) (o : Offer) (cs : List Connection) (strays : Bool) (w : Waits r p o cs) where
@@ -241,7 +254,8 @@ module _ (r p : ℕ) (o : Offer) (cs : List Connection) (strays : Bool) (w : Wai
       let so = subst (λ (f : Finding). Confirms (is_offered c.offer None x) (is_inside x) f) (sym is) tests in
       let (after, offered, inside) = confirmed_by p destination x c cs strays (is_offered c.offer None x) (is_inside x)
       (finding (confirm destination x)) so h in
-      confirms destination x refl c w.at after (ap (λ (y : Offer). is_offered y None x) (sym w.offer) ∙ offered) inside
+      confirms destination x refl c w.at (is_break (finding (confirm destination x))) after
+      (ap (λ (y : Offer). is_offered y None x) (sym w.offer) ∙ offered) inside
 
   refused_one : (new e : Connection) (i : ℕ) → IsDone new →
       ((i ≡ p) × (e ≡ new)) ⊎ ((i ≡ p → ⊥) × (slice_get cs i ≡ Some e)) → IsDone e
@@ -274,6 +288,9 @@ module _ (r p : ℕ) (o : Offer) (cs : List Connection) (strays : Bool) (w : Wai
       (course_after Right c v true (calm strays)).strays refl
       (w.judged, ap (λ (b : Bool). is_refused (closing_phase b c.right).phase) silent_so)
 
+  kept_er : (a erred : Bool) → a ≡ true → first_failed ((a || not erred, NotJudged) ∷ (a, Broke rule.WrongForm) ∷ []) ≡ Kept
+  kept_er a erred h = grind arith
+
   to_error : (destination cause : ℕ) → destination ≡ r →
       Answer r p o cs strays (error destination cause)
       (by_finding p c cs strays (error destination cause) (finding (error destination cause)))
@@ -281,7 +298,7 @@ module _ (r p : ℕ) (o : Offer) (cs : List Connection) (strays : Bool) (w : Wai
       let v = error destination cause in
       refusing v e (finding v)
       (judged_so c.is_judged (found Right (calm strays) false c v) Kept w.judged
-      (kept_so (is_silent c.right.phase) (Broke rule.WrongForm) silent_so))
+      (kept_er (is_silent c.right.phase) false silent_so))
       strays refl (w.judged, refl)
 
   not_due : (source : ℕ) → is_due Right c source ≡ false
@@ -304,7 +321,12 @@ module _ (r p : ℕ) (o : Offer) (cs : List Connection) (strays : Bool) (w : Wai
       GoesOn (by_finding p c cs strays (disconnected destination source) (finding (disconnected destination source))) →
       Answer r p o cs strays (disconnected destination source)
       (by_finding p c cs strays (disconnected destination source) (finding (disconnected destination source)))
-  to_dc destination source h = grind (arith, judged_same, dc_after, dc_found, not_due, not_told)
+  to_dc destination source h =
+      let v = disconnected destination source in
+      let is : finding v ≡ (if strays then NotJudged else Broke rule.UnknownReference) =
+      judged_same c.is_judged (found Right (calm strays) false c v) w.judged
+      ∙ dc_found (is_due Right c source) (not (is_silent c.right.phase)) strays (not_due source) not_told in
+      says_nothing (tt, dc_after destination source strays (finding v) is h)
 
   abbrev Answers : Value → State → Type 0
   Answers v after = GoesOn after → Answer r p o cs strays v after

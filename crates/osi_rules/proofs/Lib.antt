@@ -1,3 +1,5 @@
 pub mod each_item_is_changed_in_turn
 pub mod a_unit_changes_one_connection
 pub mod a_stop_is_said
+pub mod a_break_is_noted
+pub mod an_er_after_a_break_is_no_break

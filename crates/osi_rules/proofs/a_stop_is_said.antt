@@ -73,7 +73,7 @@ to_none d f s e = reached_says d (reach_of (class_for d s.course) f) s.course e
 to_unnamed : (d : Direction) (v : Value) (s : State) → IsSaid d s (unnamed_told d v s)
 to_unnamed d v s e =
     let c = course_after_none v s.course in
-    then_says d (reach_of (class_for d c) (unnamed s.course v)) c s.course e (keeps_none v s.course e)
+    then_says d (reach_of (class_for d c) (unnamed d s.course v)) c s.course e (keeps_none v s.course e)
 
 to_one : (d : Direction) (p : ℕ) (c : Connection) (v : Value) (s : State) → IsSaid d s (one_told d p c v s)
 to_one d p c v s e =

@@ -52,3 +52,8 @@ is_applied (Broke NoCredit) = true
 is_applied (Broke SizeExceeded) = true
 is_applied (Broke LargerSize) = true
 is_applied finding = false
+
+-- its sender has broken a rule
+abbrev pub is_break : Finding → Bool
+is_break (Broke rule) = true
+is_break finding = false

@@ -145,6 +145,8 @@ disconnected_tests d c source strays =
     (is_due d c source || not strays, NotJudged) ∷ (not (is_silent (own d c).phase), Broke rule.UnknownReference)
     ∷ (is_due d c source, Broke rule.NothingToAnswer) ∷ []
 
--- ER: it refuses the CR (X.224 section 6.22)
-abbrev pub error_tests : Direction → Connection → List Test
-error_tests d c = (is_silent (own d c).phase, Broke rule.WrongForm) ∷ []
+-- ER: it refuses the CR, or answers a break of the other side. Which break that is is not looked at, so after any it is not
+-- judged (X.224 section 6.22).
+abbrev pub error_tests : Direction → (other_erred : Bool) → Connection → List Test
+error_tests d other_erred c =
+    (is_silent (own d c).phase || not other_erred, NotJudged) ∷ (is_silent (own d c).phase, Broke rule.WrongForm) ∷ []

@@ -22,7 +22,7 @@ use Rattle.osi_rules.specs.declared.halves.Half.{Half}
 use Rattle.osi_rules.specs.declared.halves.Phase.TheVariants.{Silent, Open, Refused, Closing, Closed}
 use Rattle.osi_rules.specs.declared.routes.Route.{Route}
 use Rattle.osi_rules.specs.declared.routes.Route.TheVariants.{Asks, Named, Only, Unnamed}
-use Rattle.osi_rules.specs.Reaches.{reach_of, reach_by, is_applied}
+use Rattle.osi_rules.specs.Reaches.{reach_of, reach_by, is_applied, is_break}
 use Rattle.osi_rules.specs.Rows.{Test, first_failed, confirm_tests, data0_tests, data2_tests, acknowledge_tests, disconnect_tests, disconnected_tests, error_tests, offers_zero, offers_two, offers_others, asks_expedited, code_named}
 use Rattle.osi_rules.specs.Sides.{other, is_silent, is_open, is_closing, own, theirs, sends, begins, is_over, is_live, is_free, is_named, uses}
 
@@ -36,22 +36,38 @@ pub record State : Type 0 where
   pub course : Course
 
 abbrev pub fresh_course : Course
-fresh_course = record { class = None; class_seen = None; strays = false; loose = false; left_stopped = false; right_stopped = false }
+fresh_course = record {
+  class = None;
+  class_seen = None;
+  strays = false;
+  loose = false;
+  left_stopped = false;
+  right_stopped = false;
+  left_erred = false;
+  right_erred = false;
+}
 
 abbrev pub fresh : State
 fresh = record { connections = []; course = fresh_course }
 
 -- ---- what is of no single connection
 
+-- that of left or that of right
+abbrev pub of_side : {A : Type 0} → Direction → A → A → A
+of_side Left left right = left
+of_side Right left right = right
+
 -- nothing more of this side is judged
 abbrev pub is_stopped : Direction → Course → Bool
-is_stopped Left c = c.left_stopped
-is_stopped Right c = c.right_stopped
+is_stopped d c = of_side d c.left_stopped c.right_stopped
+
+-- a unit of this side has broken a rule
+abbrev pub has_erred : Direction → Course → Bool
+has_erred d c = of_side d c.left_erred c.right_erred
 
 -- the class, as far as this side may know it: right's CC selects it
 abbrev pub class_for : Direction → Course → Option Class
-class_for Left c = c.class_seen
-class_for Right c = c.class
+class_for d c = of_side d c.class_seen c.class
 
 -- a packet of this side begins
 abbrev pub course_begins : Direction → Course → Course
@@ -72,6 +88,13 @@ reached d reach.Connection c = record c { loose = true }
 reached d reach.Side c = stops d c
 reached d reach.Everything c = stops_all c
 
+-- this has been found of a unit of this side
+abbrev pub noted : Direction → Finding → Course → Course
+noted d finding c = record c {
+  left_erred = (is_break finding && of_side d true false) || c.left_erred;
+  right_erred = (is_break finding && of_side d false true) || c.right_erred;
+}
+
 -- ---- for which connection a unit is
 
 -- before the class is known: a CR, and the answers to it
@@ -84,13 +107,13 @@ route_before d (disconnected destination source) = Named destination
 route_before d v = Unnamed (Broke rule.UnexpectedUnit)
 
 -- class 0 has only DTs after its CC; an ER may report a break of the other side
-abbrev pub route_zero : Direction → (other_stopped : Bool) → Value → Route
-route_zero Left other_stopped (request c) = Unnamed (Broke rule.OneConnection)
-route_zero Right other_stopped (request c) = Unnamed (Broke rule.UnexpectedUnit)
-route_zero d other_stopped (data0 end user) = Only
-route_zero d other_stopped (disconnected destination source) = Named destination
+abbrev pub route_zero : Direction → (other_broke : Bool) → Value → Route
+route_zero Left other_broke (request c) = Unnamed (Broke rule.OneConnection)
+route_zero Right other_broke (request c) = Unnamed (Broke rule.UnexpectedUnit)
+route_zero d other_broke (data0 end user) = Only
+route_zero d other_broke (disconnected destination source) = Named destination
 route_zero d true (error destination cause) = Unnamed Kept
-route_zero d other_stopped v = Unnamed (Broke rule.WrongForm)
+route_zero d other_broke v = Unnamed (Broke rule.WrongForm)
 
 abbrev pub route_two : Direction → Value → Route
 route_two Left (request c) = Asks
@@ -103,13 +126,17 @@ route_two d (data2 destination number end user) = Named destination
 route_two d (acknowledge credit destination number) = Named destination
 route_two d (error destination cause) = Named destination
 
-abbrev pub route_in : Option Class → Direction → (other_stopped : Bool) → Value → Route
-route_in None d other_stopped v = route_before d v
-route_in (Some Zero) d other_stopped v = route_zero d other_stopped v
-route_in (Some Two) d other_stopped v = route_two d v
+abbrev pub route_in : Option Class → Direction → (other_broke : Bool) → Value → Route
+route_in None d other_broke v = route_before d v
+route_in (Some Zero) d other_broke v = route_zero d other_broke v
+route_in (Some Two) d other_broke v = route_two d v
+
+-- this side has broken a rule: by a unit, or by octets that can't be read
+abbrev pub has_broken : Direction → Course → Bool
+has_broken d c = is_stopped d c || has_erred d c
 
 abbrev pub route : Direction → Course → Value → Route
-route d c v = route_in (class_for d c) d (is_stopped (other d) c) v
+route d c v = route_in (class_for d c) d (has_broken (other d) c) v
 
 -- ---- a unit for a connection
 
@@ -121,7 +148,7 @@ found d course in_use c (disconnected destination source) = first_failed (discon
 found d course in_use c (data0 end user) = first_failed (data0_tests d c (length user))
 found d course in_use c (data2 destination number end user) = first_failed (data2_tests d c number (length user))
 found d course in_use c (acknowledge credit destination number) = first_failed (acknowledge_tests d c number credit)
-found d course in_use c (error destination cause) = first_failed (error_tests d c)
+found d course in_use c (error destination cause) = first_failed (error_tests d (has_erred (other d) course) c)
 found d course in_use c v = Broke rule.WrongForm
 
 -- what it means if it has its effect
@@ -209,7 +236,7 @@ none_told d finding s =
     let how_far = reach_of (class_for d s.course) finding in
     record {
       told = record { finding = finding; meaning = meaning.Nothing; place = None; reach = how_far };
-      state = record s { course = reached d how_far s.course };
+      state = record s { course = noted d finding (reached d how_far s.course) };
     }
 
 -- right has given the reference that its CC names to another connection
@@ -229,7 +256,7 @@ one_told d place c v s =
       told = record { finding = finding; meaning = meaning_if (is_applied finding) (meant v); place = Some place; reach = how_far };
       state = record {
         connections = slice_set s.connections place (connection_after d v (is_applied finding) how_far c);
-        course = reached d how_far (course_after d c v (is_applied finding) s.course);
+        course = noted d finding (reached d how_far (course_after d c v (is_applied finding) s.course));
       };
     }
 
@@ -243,11 +270,18 @@ abbrev pub in_doubt : Finding → Finding
 in_doubt (Broke rule) = TooMany
 in_doubt finding = finding
 
-abbrev pub unnamed : Course → Value → Finding
-unnamed course v = if course.loose then in_doubt (unnamed_by course.strays v) else unnamed_by course.strays v
+-- an ER, which may answer a break of the other side
+abbrev pub is_report : (other_erred : Bool) → Value → Bool
+is_report other_erred (error destination cause) = other_erred
+is_report other_erred v = false
+
+abbrev pub unnamed : Direction → Course → Value → Finding
+unnamed d course v =
+    if is_report (has_erred (other d) course) v then NotJudged
+    else (if course.loose then in_doubt (unnamed_by course.strays v) else unnamed_by course.strays v)
 
 abbrev pub unnamed_told : Direction → Value → State → Outcome
-unnamed_told d v s = none_told d (unnamed s.course v) (record s { course = course_after_none v s.course })
+unnamed_told d v s = none_told d (unnamed d s.course v) (record s { course = course_after_none v s.course })
 
 abbrev pub at_found : Direction → Value → State → (place : ℕ) → Option Connection → Outcome
 at_found d v s place None = unnamed_told d v s

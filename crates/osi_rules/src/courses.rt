@@ -1,10 +1,10 @@
 //! What has passed on a byte connection apart from its connections.
 
 ghost use Rattle.std.specs.Prelude.{◌≡◌};
-ghost use Rattle.osi_rules.specs.Traffic.{fresh_course, is_stopped, class_for, course_begins, reached};
+ghost use Rattle.osi_rules.specs.Traffic.{fresh_course, is_stopped, has_erred, has_broken, class_for, course_begins, reached, noted};
 
 use crate::directions::Direction;
-use crate::findings::Reach;
+use crate::findings::{Finding, Reach};
 use osi_class::Class;
 
 /// What has passed on a byte connection apart from its connections.
@@ -22,6 +22,10 @@ pub struct Course {
     pub(crate) left_stopped: bool,
     /// Nothing more of right is judged.
     pub(crate) right_stopped: bool,
+    /// A unit of left has broken a rule.
+    pub(crate) left_erred: bool,
+    /// A unit of right has broken a rule.
+    pub(crate) right_erred: bool,
 }
 
 impl Course {
@@ -36,6 +40,8 @@ impl Course {
             loose: false,
             left_stopped: false,
             right_stopped: false,
+            left_erred: false,
+            right_erred: false,
         }
     }
 
@@ -47,6 +53,23 @@ impl Course {
             Direction::Left => self.left_stopped,
             Direction::Right => self.right_stopped,
         }
+    }
+
+    /// Whether a unit of this side has broken a rule.
+    pub(crate) fn has_erred(&self, direction: Direction) -> bool
+        ensures { result ≡ has_erred direction self.now }
+    {
+        match direction {
+            Direction::Left => self.left_erred,
+            Direction::Right => self.right_erred,
+        }
+    }
+
+    /// Whether this side has broken a rule: by a unit, or by octets that can't be read.
+    pub(crate) fn has_broken(&self, direction: Direction) -> bool
+        ensures { result ≡ has_broken direction self.now }
+    {
+        self.is_stopped(direction) || self.has_erred(direction)
     }
 
     /// The class, as far as this side may know it.
@@ -82,6 +105,19 @@ impl Course {
                 self.left_stopped = true;
                 self.right_stopped = true;
             }
+        }
+    }
+
+    /// This has been found of a unit of this side.
+    pub(crate) fn note(&mut self, direction: Direction, finding: Finding)
+        ensures { self.new ≡ noted direction finding self.old }
+    {
+        if !finding.is_break() {
+            return;
+        }
+        match direction {
+            Direction::Left => self.left_erred = true,
+            Direction::Right => self.right_erred = true,
         }
     }
 }

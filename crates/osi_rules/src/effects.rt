@@ -183,7 +183,7 @@ impl Connection {
             Tpdu::Dt0(data) => self.data0(direction, data.user.len()),
             Tpdu::Dt2(data) => self.data2(direction, data.number, data.user.len()),
             Tpdu::Ak(ack) => self.acknowledge(direction, ack.number, ack.credit),
-            Tpdu::Er(_) => self.error(direction),
+            Tpdu::Er(_) => self.error(direction, course.has_erred(direction.other())),
             Tpdu::Cr(_) => Finding::Broke(Rule::WrongForm),
         }
     }

@@ -1,7 +1,7 @@
 //! What is found of a transport unit, and what it means.
 
 ghost use Rattle.std.specs.Prelude.{◌≡◌};
-ghost use Rattle.osi_rules.specs.Reaches.{reach_of, is_applied};
+ghost use Rattle.osi_rules.specs.Reaches.{reach_of, is_applied, is_break};
 
 use osi_class::Class;
 use thiserror::Error;
@@ -113,6 +113,13 @@ pub struct Told {
 }
 
 impl Finding {
+    /// Whether its sender has broken a rule.
+    pub(crate) fn is_break(self) -> bool
+        ensures { result ≡ is_break self }
+    {
+        matches!(self, Finding::Broke(_))
+    }
+
     /// Whether the unit has its effect: it is right, or a break that the other side does not look at.
     pub(crate) fn is_applied(self) -> bool
         ensures { result ≡ is_applied self }

@@ -1,8 +1,10 @@
 //! What holds of all units and connections. Each law is the contract of a function that does nothing.
 
-ghost use Rattle.std.specs.Prelude.{◌≡◌, ◌<◌, ◌≢◌, ◌||◌, ℕ, Some, true, length, slice_get};
-ghost use Rattle.osi_tpdu.specs.Value.{Value};
-ghost use Rattle.osi_rules.specs.Traffic.{State, is_stopped, none_told, stops_by, takes};
+ghost use Rattle.std.specs.Prelude.{◌≡◌, ◌<◌, ◌≢◌, ◌||◌, ℕ, None, Some, true, false, length, slice_get};
+ghost use Rattle.osi_tpdu.specs.Value.{Value, error};
+ghost use Rattle.osi_rules.specs.Reaches.{is_break};
+ghost use Rattle.osi_rules.specs.Sides.{other};
+ghost use Rattle.osi_rules.specs.Traffic.{State, class_for, has_erred, is_stopped, none_told, noted, stops_by, takes};
 
 use crate::directions::Direction;
 use crate::findings::Finding;
@@ -18,6 +20,19 @@ pub fn a_unit_changes_one_connection()
 pub fn a_stop_is_said()
     ensures { (d : Direction) (v : Value) (s : State) (e : Direction)
         → is_stopped e (takes d v s).state.course ≡ (stops_by d (takes d v s).told.reach e || is_stopped e s.course) }
+{}
+
+/// A break is kept: a side has broken a rule after a unit exactly if it had before, or the unit is its own and breaks one.
+pub fn a_break_is_kept()
+    ensures { (d : Direction) (v : Value) (s : State) (e : Direction)
+        → has_erred e (takes d v s).state.course ≡ has_erred e (noted d (takes d v s).told.finding s.course) }
+{}
+
+/// An ER breaks no rule after a unit of the other side has broken one, once its sender may know the class: it may answer that
+/// break (X.224 section 6.22).
+pub fn an_er_after_a_break_is_no_break()
+    ensures { (d : Direction) (destination cause : ℕ) (s : State) → class_for d s.course ≢ None
+        → has_erred (other d) s.course ≡ true → is_break (takes d (error destination cause) s).told.finding ≡ false }
 {}
 
 /// A side of which nothing more is judged changes nothing.

@@ -3,7 +3,7 @@
 ghost use Rattle.std.specs.Prelude.{◌≡◌};
 ghost use Rattle.osi_tpdu.specs.View.{value};
 ghost use Rattle.osi_rules.specs.Sides.{other};
-ghost use Rattle.osi_rules.specs.Traffic.{route_before, route_zero, route_two, route, unnamed, unnamed_by, in_doubt};
+ghost use Rattle.osi_rules.specs.Traffic.{route_before, route_zero, route_two, route, unnamed, unnamed_by, in_doubt, is_report};
 
 use crate::courses::Course;
 use crate::directions::Direction;
@@ -46,8 +46,8 @@ fn route_before(direction: Direction, unit: &Tpdu<'_>) -> Route
 }
 
 /// Class 0 has only DTs after its CC; an ER may report a break of the other side.
-fn route_zero(direction: Direction, other_stopped: bool, unit: &Tpdu<'_>) -> Route
-    ensures { result ≡ route_zero direction other_stopped (value unit.now) }
+fn route_zero(direction: Direction, other_broke: bool, unit: &Tpdu<'_>) -> Route
+    ensures { result ≡ route_zero direction other_broke (value unit.now) }
 {
     match (direction, unit) {
         (Direction::Left, Tpdu::Cr(_)) => broke(Rule::OneConnection),
@@ -55,7 +55,7 @@ fn route_zero(direction: Direction, other_stopped: bool, unit: &Tpdu<'_>) -> Rou
         (_, Tpdu::Dt0(_)) => Route::Only,
         (_, Tpdu::Dc(confirm)) => Route::Named(confirm.destination),
         (_, Tpdu::Er(_)) => {
-            if other_stopped {
+            if other_broke {
                 return Route::Unnamed(Finding::Kept);
             }
             broke(Rule::WrongForm)
@@ -86,7 +86,7 @@ pub(crate) fn route_for(direction: Direction, course: &Course, unit: &Tpdu<'_>) 
 {
     match course.class_for(direction) {
         None => route_before(direction, unit),
-        Some(Class::Zero) => route_zero(direction, course.is_stopped(direction.other()), unit),
+        Some(Class::Zero) => route_zero(direction, course.has_broken(direction.other()), unit),
         Some(Class::Two) => route_two(direction, unit),
     }
 }
@@ -106,6 +106,16 @@ fn unnamed_by(strays: bool, unit: &Tpdu<'_>) -> Finding
     }
 }
 
+/// Whether a unit is an ER that may answer a break of the other side.
+fn is_report(other_erred: bool, unit: &Tpdu<'_>) -> bool
+    ensures { result ≡ is_report other_erred (value unit.now) }
+{
+    match unit {
+        Tpdu::Er(_) => other_erred,
+        _ => false,
+    }
+}
+
 /// What is found in place of this if a connection is not judged any more, which may have got the reference since.
 fn in_doubt(finding: Finding) -> Finding
     ensures { result ≡ in_doubt finding }
@@ -117,9 +127,12 @@ fn in_doubt(finding: Finding) -> Finding
 }
 
 /// What is found of a unit for a reference of no connection.
-pub(crate) fn unnamed(course: &Course, unit: &Tpdu<'_>) -> Finding
-    ensures { result ≡ unnamed course.now (value unit.now) }
+pub(crate) fn unnamed(direction: Direction, course: &Course, unit: &Tpdu<'_>) -> Finding
+    ensures { result ≡ unnamed direction course.now (value unit.now) }
 {
+    if is_report(course.has_erred(direction.other()), unit) {
+        return Finding::NotJudged;
+    }
     let finding = unnamed_by(course.strays, unit);
     if course.loose {
         return in_doubt(finding);

@@ -255,12 +255,15 @@ impl Connection {
         Finding::Broke(Rule::NothingToAnswer)
     }
 
-    /// ER.
-    pub(crate) fn error(&self, direction: Direction) -> Finding
-        ensures { result ≡ first_failed (error_tests direction self.now) }
+    /// ER. `other_erred`: a unit of the other side has broken a rule, which this ER may answer.
+    pub(crate) fn error(&self, direction: Direction, other_erred: bool) -> Finding
+        ensures { result ≡ first_failed (error_tests direction other_erred self.now) }
     {
         if self.own(direction).phase.is_silent() {
             return Finding::Kept;
+        }
+        if other_erred {
+            return Finding::NotJudged;
         }
         Finding::Broke(Rule::WrongForm)
     }

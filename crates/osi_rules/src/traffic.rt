@@ -155,6 +155,7 @@ impl Traffic {
     {
         let reach = finding.reach(self.course.class_for(direction));
         self.course.reach(direction, reach);
+        self.course.note(direction, finding);
         Told {
             finding,
             meaning: Meaning::Nothing,
@@ -167,7 +168,7 @@ impl Traffic {
     fn take_unnamed(&mut self, direction: Direction, unit: &Tpdu<'_>) -> Told
         ensures { outcome result self.new ≡ unnamed_told direction (value unit.now) self.old }
     {
-        let finding = unnamed(&self.course, unit);
+        let finding = unnamed(direction, &self.course, unit);
         self.course = self.course.after_none(unit);
         self.tell(direction, finding)
     }
@@ -203,6 +204,7 @@ impl Traffic {
         self.connections[place] = connection.after(direction, unit, applied, reach);
         self.course = self.course.after(direction, connection, unit, applied);
         self.course.reach(direction, reach);
+        self.course.note(direction, finding);
         Told {
             finding,
             meaning: meaning_if(applied, meant(unit)),

@@ -238,9 +238,59 @@ const CLASS_0: [Step; 6] = [
     Step::Sends(LEFT, REQUEST, Finding::Broke(Rule::OneConnection)),
 ];
 
+/// An ER of left, and one of right.
+const REPORT: &[u8] = &[4, 0x70, 0, 7, 0];
+
+const REPORT_BACK: &[u8] = &[4, 0x70, 0, 1, 0];
+/// A CR that names 128 octets, and a CC of class 2 that selects 256.
+const REQUEST_128: &[u8] = &[9, 0xe3, 0, 0, 0, 1, 0x20, 0xc0, 1, 7];
+
+const CONFIRM_256: &[u8] = &[9, 0xd2, 0, 1, 0, 7, 0x20, 0xc0, 1, 8];
+
+/// An ER may answer a break that the other side passes over. Who has broken no rule is sent none.
+const REPORTED: [Step; 5] = [
+    Step::Sends(LEFT, REQUEST_128, KEPT),
+    Step::Sends(RIGHT, CONFIRM_256, Finding::Broke(Rule::LargerSize)),
+    Step::Sends(LEFT, REPORT, UNSEEN),
+    Step::Sends(LEFT, DATA_0, KEPT),
+    Step::Sends(RIGHT, REPORT_BACK, Finding::Broke(Rule::WrongForm)),
+];
+
+/// Also on a connection that is gone for its sender.
+const REPORTED_LATE: [Step; 6] = [
+    Step::Sends(LEFT, REQUEST, KEPT),
+    Step::Sends(RIGHT, CONFIRM, KEPT),
+    Step::Sends(LEFT, CLOSE, KEPT),
+    Step::Sends(LEFT, DATA_0, Finding::Broke(Rule::Closed)),
+    Step::Sends(RIGHT, CLOSED, KEPT),
+    Step::Sends(RIGHT, REPORT_BACK, UNSEEN),
+];
+
+/// An ER still refuses a CR then.
+const REFUSED_LATER: [Step; 6] = [
+    Step::Sends(LEFT, REQUEST, KEPT),
+    Step::Sends(RIGHT, CONFIRM, KEPT),
+    Step::Sends(LEFT, CLOSE, KEPT),
+    Step::Sends(LEFT, CLOSE, Finding::Broke(Rule::Closed)),
+    Step::Sends(LEFT, &[6, 0xe3, 0, 0, 0, 2, 0x20], KEPT),
+    Step::Sends(RIGHT, &[4, 0x70, 0, 2, 0], KEPT),
+];
+
+/// The same in class 0.
+const REPORTED_0: [Step; 4] = [
+    Step::Sends(LEFT, &[9, 0xe0, 0, 0, 0, 1, 0, 0xc0, 1, 7], KEPT),
+    Step::Sends(
+        RIGHT,
+        &[9, 0xd0, 0, 1, 0, 7, 0, 0xc0, 1, 8],
+        Finding::Broke(Rule::LargerSize),
+    ),
+    Step::Sends(LEFT, REPORT, KEPT),
+    Step::Sends(RIGHT, REPORT_BACK, Finding::Broke(Rule::WrongForm)),
+];
+
 const CALLED_ASKS: [Step; 1] = [Step::Sends(RIGHT, REQUEST, Finding::Broke(Rule::UnexpectedUnit))];
 
-const ROWS: [&[Step]; 17] = [
+const ROWS: [&[Step]; 21] = [
     &CREDIT,
     &NUMBERS,
     &EARLY,
@@ -257,6 +307,10 @@ const ROWS: [&[Step]; 17] = [
     &OUTSIDE,
     &LARGER,
     &CLASS_0,
+    &REPORTED,
+    &REPORTED_LATE,
+    &REFUSED_LATER,
+    &REPORTED_0,
     &CALLED_ASKS,
 ];
 

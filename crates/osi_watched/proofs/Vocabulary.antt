@@ -97,7 +97,7 @@ pub use Rattle.osi_rules.specs.Sides.{begins, is_closed, is_closing, is_free, is
 pub use Rattle.osi_rules.specs.Sides.{is_silent, own, seen, uses}
 pub use Rattle.osi_rules.specs.Traffic.{asked_by, asks_by, asks_kept, asks_of, at_found, at_place, class_for, class_of, closing_phase}
 pub use Rattle.osi_rules.specs.Traffic.{connection_after, course_after, course_after_none, course_begins, found, found_on, fresh}
-pub use Rattle.osi_rules.specs.Traffic.{half_after, in_doubt, is_stopped, judged_on, meaning_if}
+pub use Rattle.osi_rules.specs.Traffic.{half_after, has_broken, in_doubt, is_report, is_stopped, judged_on, meaning_if, noted}
 pub use Rattle.osi_rules.specs.Traffic.{meant, none_told, one_told, Outcome, refused_reach}
 pub use Rattle.osi_rules.specs.Traffic.{request_tests, route, route_in, route_zero, routed, sent_on, silent_half, State as Traffic}
 pub use Rattle.osi_rules.specs.Traffic.{stops_by, takes, unnamed, unnamed_by, unnamed_told, uses_source}

@@ -107,8 +107,8 @@ to_unnamed : (d : Direction) (v : Value) (s : State) → IsReached d s (unnamed_
 to_unnamed d v s =
     let c = course_after_none v s.course in
     record {
-      loose = reached_loose d (reach_of (class_for d c) (unnamed s.course v)) c s.course.loose (none_loose v s.course);
-      far = ap (λ (k : Option Class). reach_of k (unnamed s.course v)) (none_class d v s.course);
+      loose = reached_loose d (reach_of (class_for d c) (unnamed d s.course v)) c s.course.loose (none_loose v s.course);
+      far = ap (λ (k : Option Class). reach_of k (unnamed d s.course v)) (none_class d v s.course);
     }
 
 to_one : (d : Direction) (place : ℕ) (c : Connection) (v : Value) (s : State) → IsReached d s (one_told d place c v s)

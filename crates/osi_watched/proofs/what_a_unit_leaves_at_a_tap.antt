@@ -54,7 +54,7 @@ to_none d f s = reaches f d (class_for d s.course) s.course s.course.loose refl
 to_unnamed : (d : Direction) (v : Value) (s : State) → IsMeant s (unnamed_told d v s)
 to_unnamed d v s =
     let c = course_after_none v s.course in
-    reaches (unnamed s.course v) d (class_for d c) c s.course.loose (none_loose v s.course)
+    reaches (unnamed d s.course v) d (class_for d c) c s.course.loose (none_loose v s.course)
 
 to_one : (d : Direction) (place : ℕ) (c : Connection) (v : Value) (s : State) → IsMeant s (one_told d place c v s)
 to_one d place c v s =

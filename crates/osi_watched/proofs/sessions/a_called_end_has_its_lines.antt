@@ -11,7 +11,7 @@ use Rattle.osi_watched.proofs.Vocabulary.{only, packet, passes, Passing, rubbish
 use Rattle.osi_watched.proofs.Vocabulary.{passes_rubbish, Whole, Joint}
 use Rattle.osi_judge.specs.declared.directions.Direction.TheVariants as side
 use Rattle.osi_rules.specs.declared.directions.Direction.TheVariants.{Left, Right}
-use Rattle.osi_rules.specs.Traffic.{reached}
+use Rattle.osi_rules.specs.Traffic.{noted, reached}
 use Rattle.osi_rules.specs.declared.findings.Rule.TheVariants as rule
 use Rattle.osi_fair.specs.Wholes.{begin, begins_other, begins_own, passes_other, passes_own}
 use Rattle.osi_fair.proofs.a_called_end_is_fair.{Joined, Stage, all_joined, first_joined}
@@ -59,12 +59,18 @@ form_not None c h = differ true refl h.left
 form_not (Some Zero) c h = differ true refl h.left
 form_not (Some Two) c h = differ true refl h.firm
 
+-- whatever is noted of a unit
+firm_noted : (f : Finding) (c : Rules) → IsFirm (noted Left f c) → IsFirm c
+firm_noted f c h = record { firm = h.firm; left = h.left; right = h.right }
+
 one_wrong : {A : Type 0} (n : ℕ) (x : Connect) (s : Traffic) (q : ℕ) (c : Connection) → c.is_judged ≡ true →
     IsFirm (one_told Left q c (confirm n x) s).state.course → A
 one_wrong n x s q c judged firm =
     let after = course_after Left c (confirm n x) (is_applied (found_on Left s c (confirm n x))) s.course in
     form_not s.course.class_seen after
-    (subst (λ (f : Finding). IsFirm (reached Left (reach_of s.course.class_seen f) after)) (found_wrong n x s c judged) firm)
+    (firm_noted (Broke rule.WrongForm) (reached Left (reach_of s.course.class_seen (Broke rule.WrongForm)) after)
+    (subst (λ (f : Finding). IsFirm (noted Left f (reached Left (reach_of s.course.class_seen f) after)))
+    (found_wrong n x s c judged) firm))
 
 cc_by : {A : Type 0} (n : ℕ) (x : Connect) (s : Traffic) (o : Outcome) →
     ((i : ℕ) (c : Connection) → slice_get s.connections i ≡ Some c → c.is_judged ≡ true) → IsFirm o.state.course →
@@ -80,7 +86,7 @@ no_cc : (v : Value) (s : Traffic) → AreJudged s → IsFirm s.course → IsFirm
 no_cc v s judged calm after n x is =
     cc_by n x s (takes Left (confirm n x) s) (judged calm.firm)
     (subst (λ (u : Value). IsFirm (takes Left u s).state.course) is after)
-    (came_so (confirm n x) s calm.left calm.right
+    (came_so (confirm n x) s calm.left calm.right (λ m k e. absurd (cc e))
     (calm_if (takes Left (confirm n x) s).state.course (subst (λ (u : Value). IsFirm (takes Left u s).state.course) is after)))
 
 record HasNoCc (w : Whole) : Type 0 where

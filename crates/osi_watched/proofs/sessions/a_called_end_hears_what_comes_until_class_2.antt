@@ -42,6 +42,7 @@ use Rattle.osi_watched.proofs.sessions.what_is_in_flight_to_an_end.{flight_same,
 use Rattle.osi_watched.proofs.sessions.what_passes_leaves_all_standing as in_two
 use Rattle.osi_watched.proofs.sessions.what_passes_leaves_all_standing.{IsHeard}
 use Rattle.osi_watched.proofs.sessions.what_stands_of_a_connection.{Known}
+use Rattle.osi_rules.specs.Traffic.{has_broken}
 
 -- ---- what holds
 
@@ -134,15 +135,15 @@ still_plain (acknowledge credit n number) s h = absurd h
 -- ---- left knows no class yet
 
 module _ (s : State) (goes : is_stopped way.Left s.course ≡ false) (seen : s.course.class_seen ≡ None) where
-  takes_early : (v : Value) → takes way.Left v s ≡ routed way.Left v s (route_in None way.Left (is_stopped way.Right s.course) v)
+  takes_early : (v : Value) → takes way.Left v s ≡ routed way.Left v s (route_in None way.Left (has_broken way.Right s.course) v)
   takes_early v =
       ap (λ (b : Bool). if b then none_told way.Left NotJudged s else routed way.Left v s (route way.Left s.course v)) goes
-      ∙ ap (λ (k : Option Class). routed way.Left v s (route_in k way.Left (is_stopped way.Right s.course) v)) seen
+      ∙ ap (λ (k : Option Class). routed way.Left v s (route_in k way.Left (has_broken way.Right s.course) v)) seen
 
   only_asking : (v : Value) → IsMild v (takes way.Left v s).told.finding → IsAsking v
   only_asking v mild = by v (subst (λ (o : Outcome). IsMild v o.told.finding) (takes_early v) mild)
     where
-      by : (v : Value) → IsMild v (routed way.Left v s (route_in None way.Left (is_stopped way.Right s.course) v)).told.finding →
+      by : (v : Value) → IsMild v (routed way.Left v s (route_in None way.Left (has_broken way.Right s.course) v)).told.finding →
           IsAsking v
       by (request x) mild = tt
       by (disconnected n source) mild = tt

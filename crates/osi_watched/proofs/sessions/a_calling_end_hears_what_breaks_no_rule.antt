@@ -42,6 +42,7 @@ use Rattle.osi_watched.proofs.sessions.units_written_alike_are_for_the_same.{non
 use Rattle.osi_watched.proofs.sessions.what_is_left_for_an_end.{known_left, left_grows, left_same}
 use Rattle.osi_watched.proofs.sessions.what_passes_leaves_all_standing.{IsHeard, other_stands}
 use Rattle.osi_watched.proofs.sessions.what_stands_of_a_connection.{Known, Stands, lives, past, unnamed}
+use Rattle.osi_rules.specs.Traffic.{has_broken}
 
 -- ---- units that are no break, or a break that is passed over
 
@@ -66,7 +67,7 @@ fine_plain b at (v ∷ vs) c (fine, clear, more) = (one_plain b v c fine, fine_p
 -- the other side gives no reference of this one
 gives_none : (v : Value) (c : Course) → IsTakeable Right v c → GivesNew Left v c.sessions
 gives_none (request x) c fine =
-    cr_broke (class_for way.Right c.traffic.course) (is_stopped way.Left c.traffic.course) x c.traffic
+    cr_broke (class_for way.Right c.traffic.course) (has_broken way.Left c.traffic.course) x c.traffic
     (goes_on (request x) (is_stopped way.Right c.traffic.course) c.traffic
     (routed way.Right (request x) c.traffic (route way.Right c.traffic.course (request x))) fine.goes fine.none)
 gives_none (confirm n x) c fine = tt
@@ -121,7 +122,7 @@ module _ (local : Local) (deeds : ℕ → Deeds) (is_live : ℕ → Bool) (put :
   unit_heard coming (disconnected n source) c fine clear w a distinct =
       λ r later sure. left_same is_live coming (disconnected n source) r later refl sure
   unit_heard coming (data0 end user) c fine clear w a distinct =
-      zero_broke (class_for way.Right c.traffic.course) (is_stopped way.Left c.traffic.course) end user c.traffic fine.two
+      zero_broke (class_for way.Right c.traffic.course) (has_broken way.Left c.traffic.course) end user c.traffic fine.two
       (goes_on (data0 end user) (is_stopped way.Right c.traffic.course) c.traffic
       (routed way.Right (data0 end user) c.traffic (route way.Right c.traffic.course (data0 end user))) fine.goes fine.none)
   unit_heard coming (acknowledge credit n number) c fine clear w a distinct =

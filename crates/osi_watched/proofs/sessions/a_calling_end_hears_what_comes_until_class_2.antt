@@ -66,6 +66,7 @@ use Rattle.osi_watched.proofs.sessions.what_passes_leaves_all_standing.{IsHeard}
 use Rattle.osi_watched.proofs.sessions.what_stands_of_a_connection.{Known, Stands, lives, unnamed as unanswered, waiting_for}
 use Rattle.osi_watched.proofs.sessions.what_stands_of_a_connection as standing
 use Rattle.osi_watched.proofs.sessions.what_the_stage_of_a_calling_end_says.{AwaitsAnswer, awaits, cc_comes, gone, one_early}
+use Rattle.osi_rules.specs.Traffic.{has_broken}
 
 -- ---- what holds
 
@@ -187,7 +188,7 @@ units_none_before at (v ∷ vs) c none = none_before Right at v c (units_none_be
 -- the other side asks for nothing
 not_cr : (b : ℕ) (v : Value) (c : Course) → IsTolerable Right v c → IsUpTo Left b v
 not_cr b (request x) c right =
-    cr_broke (class_for way.Right c.traffic.course) (is_stopped way.Left c.traffic.course) x c.traffic
+    cr_broke (class_for way.Right c.traffic.course) (has_broken way.Left c.traffic.course) x c.traffic
     (goes_on (request x) (is_stopped way.Right c.traffic.course) c.traffic
     (routed way.Right (request x) c.traffic (route way.Right c.traffic.course (request x))) right.goes right.mild)
 not_cr b (confirm n x) c right = tt
@@ -216,16 +217,16 @@ IsEarlyBreak (disconnected n source) = ⊥
 IsEarlyBreak (error n cause) = ⊥
 
 module _ (s : State) (goes : is_stopped way.Right s.course ≡ false) (class : s.course.class ≡ None) where
-  takes_early : (v : Value) → takes way.Right v s ≡ routed way.Right v s (route_in None way.Right (is_stopped way.Left s.course) v)
+  takes_early : (v : Value) → takes way.Right v s ≡ routed way.Right v s (route_in None way.Right (has_broken way.Left s.course) v)
   takes_early v =
       ap (λ (b : Bool). if b then none_told way.Right NotJudged s else routed way.Right v s (route way.Right s.course v)) goes
-      ∙ ap (λ (k : Option Class). routed way.Right v s (route_in k way.Right (is_stopped way.Left s.course) v)) class
+      ∙ ap (λ (k : Option Class). routed way.Right v s (route_in k way.Right (has_broken way.Left s.course) v)) class
 
   early_break : {A : Type 0} (v : Value) → IsEarlyBreak v → IsMild v (takes way.Right v s).told.finding → A
   early_break v h mild = by v h (subst (λ (o : Outcome). IsMild v o.told.finding) (takes_early v) mild)
     where
       by : {A : Type 0} (v : Value) → IsEarlyBreak v →
-          IsMild v (routed way.Right v s (route_in None way.Right (is_stopped way.Left s.course) v)).told.finding → A
+          IsMild v (routed way.Right v s (route_in None way.Right (has_broken way.Left s.course) v)).told.finding → A
       by (request x) h mild = absurd mild
       by (data0 end user) h mild = absurd mild
       by (data2 n number end user) h mild = absurd mild
@@ -249,7 +250,7 @@ module _ (s : State) (goes : is_stopped way.Right s.course ≡ false) (class : s
   nowhere_class : (v : Value) → (at_place way.Right v s None).state.course.class ≡ s.course.class
   nowhere_class v =
       let after = course_after_none v s.course in
-      reached_class way.Right (reach_of (class_for way.Right after) (unnamed s.course v)) after ∙ (none_same v s.course).0
+      reached_class way.Right (reach_of (class_for way.Right after) (unnamed way.Right s.course v)) after ∙ (none_same v s.course).0
 
   found_class : (v : Value) → IsQuiet v → (p : ℕ) (o : Option Connection) → (at_found way.Right v s p o).state.course.class ≡ s.course.class
   found_class v h p None = nowhere_class v
@@ -266,7 +267,7 @@ module _ (s : State) (goes : is_stopped way.Right s.course ≡ false) (class : s
   quiet_class v h = ap (λ (o : Outcome). o.state.course.class) (takes_early v) ∙ by v h
     where
       by : (v : Value) → IsQuiet v →
-          (routed way.Right v s (route_in None way.Right (is_stopped way.Left s.course) v)).state.course.class ≡ s.course.class
+          (routed way.Right v s (route_in None way.Right (has_broken way.Left s.course) v)).state.course.class ≡ s.course.class
       by (disconnect n source reason user) h =
           place_class (disconnect n source reason user) tt (position (is_named way.Right n) s.connections)
       by (disconnected n source) h = place_class (disconnected n source) tt (position (is_named way.Right n) s.connections)

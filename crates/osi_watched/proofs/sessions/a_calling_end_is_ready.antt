@@ -43,6 +43,7 @@ use Rattle.osi_watched.proofs.sessions.nothing_is_done_before_a_cr_passes.{may_t
 use Rattle.osi_watched.proofs.sessions.steps_leave_all_standing.{Heard, all_heard, one_heard}
 use Rattle.osi_watched.proofs.sessions.what_passes_leaves_all_standing.{IsReady}
 use Rattle.osi_watched.proofs.sessions.what_stands_of_a_connection.{Known}
+use Rattle.osi_rules.specs.Traffic.{has_broken}
 
 -- ---- what comes in class 2
 
@@ -70,11 +71,11 @@ IsPlain b v = IsNoZero v × IsUpTo Left b v
 pub right_plain : (b : ℕ) (v : Value) (s : State) → is_stopped way.Right s.course ≡ false → (class_for way.Right s.course ≡ Some Zero → ⊥) →
     IsMild v (takes way.Right v s).told.finding → IsPlain b v
 right_plain b (request x) s goes two none =
-    cr_broke (class_for way.Right s.course) (is_stopped way.Left s.course) x s
+    cr_broke (class_for way.Right s.course) (has_broken way.Left s.course) x s
     (goes_on (request x) (is_stopped way.Right s.course) s
     (routed way.Right (request x) s (route way.Right s.course (request x))) goes none)
 right_plain b (data0 end user) s goes two none =
-    zero_broke (class_for way.Right s.course) (is_stopped way.Left s.course) end user s two
+    zero_broke (class_for way.Right s.course) (has_broken way.Left s.course) end user s two
     (goes_on (data0 end user) (is_stopped way.Right s.course) s
     (routed way.Right (data0 end user) s (route way.Right s.course (data0 end user))) goes none)
 right_plain b (confirm n x) s goes two none = (tt, tt)

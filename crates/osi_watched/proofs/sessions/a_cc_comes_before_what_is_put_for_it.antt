@@ -33,6 +33,7 @@ use Rattle.osi_watched.proofs.sessions.connections_have_the_same_places.{at_same
 use Rattle.osi_watched.proofs.sessions.what_is_left_for_an_end.{known_left, left_same}
 use Rattle.osi_watched.proofs.sessions.what_passes_leaves_all_standing.{IsHeard}
 use Rattle.osi_watched.proofs.sessions.what_stands_of_a_connection.{is_for, waiting_for}
+use Rattle.osi_rules.specs.Traffic.{has_broken}
 
 -- ---- a CC that is no break, or has too large a size
 
@@ -97,7 +98,7 @@ module _ (n : ℕ) (x : Connect) (s : State) (firm : s.course.loose ≡ false) (
   pub cc_new : is_stopped way.Right s.course ≡ false → IsMild (confirm n x) (takes way.Right (confirm n x) s).told.finding →
       uses_source way.Right s.connections (confirm n x) ≡ false
   cc_new goes none =
-      cc_routed (class_for way.Right s.course) (is_stopped way.Left s.course)
+      cc_routed (class_for way.Right s.course) (has_broken way.Left s.course)
       (goes_on (is_stopped way.Right s.course) (routed way.Right (confirm n x) s (route way.Right s.course (confirm n x))) goes none)
 
 -- ---- so no connection that is open has its reference

@@ -40,6 +40,7 @@ use Rattle.osi_watched.proofs.sessions.connections_have_the_same_places.{at_same
 use Rattle.osi_watched.proofs.sessions.each_cr_that_passes_gives_a_new_reference.{AreUpTo, IsWithin}
 use Rattle.osi_watched.proofs.sessions.references_of_an_end_are_distinct.{AreDistinct}
 use Rattle.osi_watched.proofs.sessions.what_a_unit_does_at_its_place.{Does, asks_again, asks_more, nowhere, somewhere, unit_does}
+use Rattle.osi_rules.specs.Traffic.{has_broken}
 
 -- ---- small facts
 
@@ -148,7 +149,7 @@ module _ (n : ℕ) (x : Connect) (s : State) (goes : is_stopped Right s.course �
   takes_so : takes Right v s ≡ at_place Right v s (position (is_named Right n) s.connections)
   takes_so =
       ap (λ (b : Bool). if b then none_told Right NotJudged s else routed Right v s (route Right s.course v)) goes
-      ∙ ap (λ (k : Option Class). routed Right v s (route_in k Right (is_stopped Left s.course) v)) class
+      ∙ ap (λ (k : Option Class). routed Right v s (route_in k Right (has_broken Left s.course) v)) class
 
   -- if it is no break, or is passed over
   pub has_effect : IsMild v (takes Right v s).told.finding → HasEffect s (class_of x) (takes Right v s)

@@ -6,6 +6,7 @@ use Rattle.osi_watched.proofs.Vocabulary.{is_over, is_over_by, is_refused, own, 
 use Rattle.osi_watched.proofs.Vocabulary.{one_told, route, route_in, route_zero, routed, Traffic as State, takes, Connection, Way}
 use Rattle.osi_watched.proofs.Vocabulary.{NotJudged, Phase, other, Direction, Left, Right, Joined, reference_of, way_of, only_first}
 use Rattle.osi_watched.proofs.Vocabulary.{AreJudged, NamesApart as AreApart, Sound, IsOneOf, named_by}
+use Rattle.osi_watched.proofs.Vocabulary.{has_broken}
 use Rattle.osi_rules.specs.declared.directions.Direction.TheVariants as way
 use Rattle.osi_rules.specs.declared.halves.Phase.TheVariants as phase
 use Rattle.osi_rules.specs.Sides as sides
@@ -89,10 +90,10 @@ module _ (s : State) (judged : AreJudged s) (firm : s.course.loose ≡ false) (a
 -- ---- a unit in class 0
 
 pub zero_takes : (d : Way) (v : Value) (s : State) → is_stopped d s.course ≡ false → class_for d s.course ≡ Some Zero →
-    takes d v s ≡ routed d v s (route_zero d (is_stopped (sides.other d) s.course) v)
+    takes d v s ≡ routed d v s (route_zero d (has_broken (sides.other d) s.course) v)
 zero_takes d v s goes class =
     ap (λ (b : Bool). if b then none_told d NotJudged s else routed d v s (route d s.course v)) goes
-    ∙ ap (λ (k : Option Class). routed d v s (route_in k d (is_stopped (sides.other d) s.course) v)) class
+    ∙ ap (λ (k : Option Class). routed d v s (route_in k d (has_broken (sides.other d) s.course) v)) class
 
 data_routed : (d : Way) (b end : Bool) (user : List ℕ) (s : State) →
     routed d (data0 end user) s (route_zero d b (data0 end user)) ≡ at_place d (data0 end user) s (position (is_live d) s.connections)
@@ -107,7 +108,7 @@ pub dt_takes : (d : Way) (end : Bool) (user : List ℕ) (s : State) → AreJudge
     takes d (data0 end user) s ≡ one_told d o.place o.connection (data0 end user) s
 dt_takes d end user s judged firm apart o goes class =
     zero_takes d (data0 end user) s goes class
-    ∙ data_routed d (is_stopped (sides.other d) s.course) end user s
+    ∙ data_routed d (has_broken (sides.other d) s.course) end user s
     ∙ ap (at_place d (data0 end user) s) (only_place s judged firm apart o d class)
     ∙ ap (at_found d (data0 end user) s o.place) o.there
 

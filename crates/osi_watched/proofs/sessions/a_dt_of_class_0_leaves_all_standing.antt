@@ -35,6 +35,7 @@ use Rattle.osi_watched.proofs.sessions.right_units_leave_all_standing.{StaysElse
 use Rattle.osi_watched.proofs.sessions.what_a_tap_shows_goes_on.{named_added}
 use Rattle.osi_watched.proofs.sessions.what_stands_of_a_connection.{Known, Stands, lives, past, stands_elsewhere, stands_other_none}
 use Rattle.osi_watched.proofs.sessions.what_stands_of_a_connection.{stands_other_part, stands_part, unnamed}
+use Rattle.osi_rules.specs.Traffic.{has_broken}
 
 -- ---- small facts
 
@@ -191,7 +192,7 @@ routed_breaks d b (error n cause) s h none = absurd h
 
 is_break : {A : Type 0} (e : Direction) (v : Value) (s : State) → IsZero e s → Breaks v → IsMild v (takes (way_of e) v s).told.finding → A
 is_break e v s z h mild =
-    routed_breaks (way_of e) (is_stopped (sides.other (way_of e)) s.course) v s h
+    routed_breaks (way_of e) (has_broken (sides.other (way_of e)) s.course) v s h
     (subst (λ (o : Outcome). IsMild v o.told.finding) (zero_takes (way_of e) v s z.goes z.zero) mild)
 
 own_break : {A : Type 0} (e : Direction) (v : Value) (s : State) → IsZero e s → Breaks v → IsNoBreak (takes (way_of e) v s).told.finding → A

@@ -8,6 +8,9 @@ use Rattle.osi_watched.proofs.Vocabulary.{in_doubt, takes, unnamed_by, uses_sour
 use Rattle.osi_watched.proofs.Vocabulary.{Way, Finding, Broke, Kept, NotJudged, Rule}
 use Rattle.osi_watched.proofs.Vocabulary.{Capture, Direction, user_of, marked, marks_of, moved, unread_mark, unread_moment, way_of}
 use Rattle.osi_watched.proofs.Vocabulary.{comes_to, Cause, no_item, AreJudged, still_judged, packet, rubbish, unit}
+use Rattle.osi_watched.proofs.Vocabulary.{has_broken}
+use Rattle.osi_watched.proofs.Vocabulary.{is_report}
+use Rattle.osi_watched.proofs.Vocabulary.{unnamed}
 use Rattle.osi_rules.specs.declared.directions.Direction.TheVariants as way
 use Rattle.osi_rules.specs.declared.findings.Rule.TheVariants as rule
 use Rattle.osi_rules.specs.Sides as sides
@@ -67,16 +70,26 @@ loose_clear : (b : Bool) (f : Finding) → b ≡ false → IsClear f → IsClear
 loose_clear true f h k = absurd (cc)
 loose_clear false f h k = k
 
+report_clear : (b : Bool) (f : Finding) → b ≡ false → IsClear f → IsClear (if b then NotJudged else f)
+report_clear true f h k = absurd (cc)
+report_clear false f h k = k
+
 module _ (d : Way) (v : Value) (s : State) (firm : s.course.loose ≡ false) (judged : AreJudged s)
-    (nowhere : IsClear (unnamed_by s.course.strays v))
+    (plain : is_report (traffic.has_erred (sides.other d) s.course) v ≡ false) (nowhere : IsClear (unnamed_by s.course.strays v))
     (clear : (c : Connection) → IsClear (found d s.course (uses_source d s.connections v) c v)) where
+  nowhere_clear : IsClear (unnamed d s.course v)
+  nowhere_clear =
+      report_clear (is_report (traffic.has_erred (sides.other d) s.course) v)
+      (if s.course.loose then in_doubt (unnamed_by s.course.strays v) else unnamed_by s.course.strays v) plain
+      (loose_clear s.course.loose (unnamed_by s.course.strays v) firm nowhere)
+
   clear_one : (i : ℕ) (o : Option Connection) → slice_get s.connections i ≡ o → IsClear (at_found d v s i o).told.finding
-  clear_one i None e = loose_clear s.course.loose (unnamed_by s.course.strays v) firm nowhere
+  clear_one i None e = nowhere_clear
   clear_one i (Some c) e =
       judged_clear c.is_judged (found d s.course (uses_source d s.connections v) c v) (judged firm i c e) (clear c)
 
   pub clear_any : (o : Option ℕ) → IsClear (at_place d v s o).told.finding
-  clear_any None = loose_clear s.course.loose (unnamed_by s.course.strays v) firm nowhere
+  clear_any None = nowhere_clear
   clear_any (Some i) = clear_one i (slice_get s.connections i) refl
 
 nowhere_two : (b : Bool) (n number : ℕ) (end : Bool) (user : List ℕ) → IsClear (unnamed_by b (data2 n number end user))
@@ -95,19 +108,19 @@ routed_two None way.Right b n number end user s firm judged = inr (rule.Unexpect
 routed_two (Some Zero) way.Left b n number end user s firm judged = inr (rule.WrongForm, refl)
 routed_two (Some Zero) way.Right b n number end user s firm judged = inr (rule.WrongForm, refl)
 routed_two (Some Two) way.Left b n number end user s firm judged =
-    clear_any way.Left (data2 n number end user) s firm judged (nowhere_two s.course.strays n number end user)
+    clear_any way.Left (data2 n number end user) s firm judged refl (nowhere_two s.course.strays n number end user)
     (λ c. found_two way.Left n number end user s.course false c) (position (is_named way.Left n) s.connections)
 routed_two (Some Two) way.Right b n number end user s firm judged =
-    clear_any way.Right (data2 n number end user) s firm judged (nowhere_two s.course.strays n number end user)
+    clear_any way.Right (data2 n number end user) s firm judged refl (nowhere_two s.course.strays n number end user)
     (λ c. found_two way.Right n number end user s.course false c) (position (is_named way.Right n) s.connections)
 
 routed_zero : (k : Option Class) (d : Way) (b : Bool) (end : Bool) (user : List ℕ) (s : State) → s.course.loose ≡ false → AreJudged s →
     IsClear (routed d (data0 end user) s (route_in k d b (data0 end user))).told.finding
 routed_zero (Some Zero) way.Left b end user s firm judged =
-    clear_any way.Left (data0 end user) s firm judged (nowhere_zero s.course.strays end user)
+    clear_any way.Left (data0 end user) s firm judged refl (nowhere_zero s.course.strays end user)
     (λ c. found_zero way.Left end user s.course false c) (position (is_live way.Left) s.connections)
 routed_zero (Some Zero) way.Right b end user s firm judged =
-    clear_any way.Right (data0 end user) s firm judged (nowhere_zero s.course.strays end user)
+    clear_any way.Right (data0 end user) s firm judged refl (nowhere_zero s.course.strays end user)
     (λ c. found_zero way.Right end user s.course false c) (position (is_live way.Right) s.connections)
 routed_zero _ way.Left b end user s firm judged = inr (rule.UnexpectedUnit, refl)
 routed_zero _ way.Right b end user s firm judged = inr (rule.UnexpectedUnit, refl)
@@ -121,10 +134,10 @@ pub dt_clear : (d : Way) (v : Value) (end : Bool) (s : State) → unit_parts v �
     s.course.loose ≡ false → AreJudged s → IsClear (takes d v s).told.finding
 dt_clear d (data0 e user) end s parts goes firm judged =
     goes_clear (is_stopped d s.course) d s (routed d (data0 e user) s (route d s.course (data0 e user))) goes
-    (routed_zero (class_for d s.course) d (is_stopped (sides.other d) s.course) e user s firm judged)
+    (routed_zero (class_for d s.course) d (has_broken (sides.other d) s.course) e user s firm judged)
 dt_clear d (data2 n number e user) end s parts goes firm judged =
     goes_clear (is_stopped d s.course) d s (routed d (data2 n number e user) s (route d s.course (data2 n number e user))) goes
-    (routed_two (class_for d s.course) d (is_stopped (sides.other d) s.course) n number e user s firm judged)
+    (routed_two (class_for d s.course) d (has_broken (sides.other d) s.course) n number e user s firm judged)
 dt_clear d _ end s parts goes firm judged = absurd (cc)
 
 right_by : (f : Finding) → IsClear f → ((r : Rule) → f ≡ Broke r → ⊥) → f ≡ Kept

@@ -28,7 +28,7 @@ use Rattle.osi_rules.specs.Rows.{Test, first_failed, fits_size, fits_tsdu, has_c
 use Rattle.osi_rules.specs.Sides.{is_closed, is_closing, is_live, is_named, is_open, is_over_by, is_refused, is_silent, own, uses}
 use Rattle.osi_rules.specs.Sides as sides
 use Rattle.osi_rules.specs.Traffic.{Outcome, State, at_found, at_place, class_for, found, is_stopped, meaning_if, meant, none_told}
-use Rattle.osi_rules.specs.Traffic.{in_doubt, route, route_in, routed, takes, unnamed_by, uses_source}
+use Rattle.osi_rules.specs.Traffic.{in_doubt, is_report, route, route_in, routed, takes, unnamed_by, uses_source}
 use Rattle.osi_rules.specs.Traffic as traffic
 use Rattle.osi_fair.specs.Naming.{packet, rubbish, unit}
 use Rattle.osi_fair.proofs.a_reference_names_one_connection.{fresh_apart, passes_apart}
@@ -41,6 +41,7 @@ use Rattle.osi_watched.specs.ShownPlaces.{HaveSamePlaces, IsJoinedAt, IsOneOf, n
 use Rattle.osi_watched.proofs.what_passes_keeps_a_claim.{IsClaim, after_kept}
 use Rattle.osi_watched.proofs.sessions.a_unit_is_joined_where_it_is_named.{joined_named}
 use Rattle.osi_watched.proofs.sessions.connections_have_the_same_places.{at_same, joined_there, marked_traffic, unit_knows}
+use Rattle.osi_rules.specs.Traffic.{has_broken}
 
 -- ---- a DT that is right
 
@@ -84,15 +85,16 @@ never_known false (acknowledge credit n number) h = absurd (cc)
 never_known true (error n cause) h = absurd (cc)
 never_known false (error n cause) h = absurd (cc)
 
-never_unnamed : {A : Type 0} (loose strays : Bool) (v : Value) →
-    is_applied (if loose then in_doubt (unnamed_by strays v) else unnamed_by strays v) ≡ true → A
-never_unnamed true strays v h = never_known strays v (doubt_applied (unnamed_by strays v) h)
-never_unnamed false strays v h = never_known strays v h
+never_unnamed : {A : Type 0} (reports loose strays : Bool) (v : Value) →
+    is_applied (if reports then NotJudged else (if loose then in_doubt (unnamed_by strays v) else unnamed_by strays v)) ≡ true → A
+never_unnamed true loose strays v h = absurd (cc)
+never_unnamed false true strays v h = never_known strays v (doubt_applied (unnamed_by strays v) h)
+never_unnamed false false strays v h = never_known strays v h
 
 module _ (d : Way) (v : Value) (end : Bool) (s : State) (adds : AddsTo v end) where
   placed_one : (i : ℕ) (o : Option Connection) → slice_get s.connections i ≡ o → is_applied (at_found d v s i o).told.finding ≡ true →
       IsPlaced d v end s (at_found d v s i o)
-  placed_one i None e h = never_unnamed s.course.loose s.course.strays v h
+  placed_one i None e h = never_unnamed (is_report (traffic.has_erred (sides.other d) s.course) v) s.course.loose s.course.strays v h
   placed_one i (Some c) e h =
       let (judged, applied) = judged_applied c.is_judged (found d s.course (uses_source d s.connections v) c v) h in
       record {
@@ -106,7 +108,7 @@ module _ (d : Way) (v : Value) (end : Bool) (s : State) (adds : AddsTo v end) wh
       }
 
   placed_any : (o : Option ℕ) → is_applied (at_place d v s o).told.finding ≡ true → IsPlaced d v end s (at_place d v s o)
-  placed_any None h = never_unnamed s.course.loose s.course.strays v h
+  placed_any None h = never_unnamed (is_report (traffic.has_erred (sides.other d) s.course) v) s.course.loose s.course.strays v h
   placed_any (Some i) h = placed_one i (slice_get s.connections i) refl h
 
   stopped_or : (b : Bool) (r : Route) → (is_applied (routed d v s r).told.finding ≡ true → IsPlaced d v end s (routed d v s r)) →
@@ -147,14 +149,14 @@ pub two_placed : (d : Way) (n number : ℕ) (end : Bool) (user : List ℕ) (s : 
 two_placed d n number end user s h =
     let v = data2 n number end user in
     stopped_or d v end s refl (is_stopped d s.course) (route d s.course v)
-    (two_routed (class_for d s.course) d (is_stopped (sides.other d) s.course) n number end user s) h
+    (two_routed (class_for d s.course) d (has_broken (sides.other d) s.course) n number end user s) h
 
 pub zero_placed : (d : Way) (end : Bool) (user : List ℕ) (s : State) → (takes d (data0 end user) s).told.finding ≡ Kept →
     IsPlaced d (data0 end user) end s (takes d (data0 end user) s)
 zero_placed d end user s h =
     let v = data0 end user in
     stopped_or d v end s refl (is_stopped d s.course) (route d s.course v)
-    (zero_routed (class_for d s.course) d (is_stopped (sides.other d) s.course) end user s) (ap is_applied h)
+    (zero_routed (class_for d s.course) d (has_broken (sides.other d) s.course) end user s) (ap is_applied h)
 
 -- its sender has not closed the connection
 second_test : (a b : Bool) (more : List Test) →

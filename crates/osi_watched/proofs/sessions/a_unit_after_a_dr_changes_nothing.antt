@@ -14,6 +14,8 @@ use Rattle.osi_watched.proofs.Vocabulary.{unnamed_by, Traffic as State, Connecti
 use Rattle.osi_watched.proofs.Vocabulary.{Phase, Closed, Closing, Open, Refused, Silent, Route, Asks, Named, Only, Unnamed, other}
 use Rattle.osi_watched.proofs.Vocabulary.{Direction, AreJudged, Joined, reference_of, unit_passes, way_of, HaveSamePlaces}
 use Rattle.osi_watched.proofs.Vocabulary.{IsOneOf}
+use Rattle.osi_watched.proofs.Vocabulary.{has_broken}
+use Rattle.osi_watched.proofs.Vocabulary.{is_report}
 use Rattle.osi_rules.specs.Rows.{confirm_tests, disconnected_tests, error_tests, given_again}
 use Rattle.osi_rules.specs.Traffic.{in_doubt}
 use Rattle.osi_rules.specs.Sides as sides
@@ -82,8 +84,10 @@ found_follows way.Left course in_use c (data0 end user) h =
     absurd (first_other (data0_tests way.Left c (length user)) (λ e. cc e, (λ e. cc e, tt)) h)
 found_follows way.Right course in_use c (data0 end user) h =
     absurd (first_other (data0_tests way.Right c (length user)) (λ e. cc e, (λ e. cc e, tt)) h)
-found_follows way.Left course in_use c (error n cause) h = absurd (first_other (error_tests way.Left c) (λ e. cc e, tt) h)
-found_follows way.Right course in_use c (error n cause) h = absurd (first_other (error_tests way.Right c) (λ e. cc e, tt) h)
+found_follows way.Left course in_use c (error n cause) h =
+    absurd (first_other (error_tests way.Left course.right_erred c) (λ e. cc e, (λ e. cc e, tt)) h)
+found_follows way.Right course in_use c (error n cause) h =
+    absurd (first_other (error_tests way.Right course.left_erred c) (λ e. cc e, (λ e. cc e, tt)) h)
 
 -- a route that finds it finds it of a connection
 abbrev IsOther : Route → Type 0
@@ -118,16 +122,21 @@ route_other (Some Two) way.Right b (request x) = λ e. cc e
 route_other (Some Two) way.Right b (data0 end user) = λ e. cc e
 route_other (Some Two) way.Right b _ = tt
 
-unnamed_not : (loose strays : Bool) (v : Value) →
+unknown_not : (loose strays : Bool) (v : Value) →
     IsFound (if loose then in_doubt (unnamed_by strays v) else unnamed_by strays v) → ⊥
-unnamed_not true true (disconnected n source) h = cc
-unnamed_not true false (disconnected n source) h = cc
-unnamed_not true true _ h = cc
-unnamed_not true false _ h = cc
-unnamed_not false true (disconnected n source) h = cc
-unnamed_not false false (disconnected n source) h = cc
-unnamed_not false true _ h = cc
-unnamed_not false false _ h = cc
+unknown_not true true (disconnected n source) h = cc
+unknown_not true false (disconnected n source) h = cc
+unknown_not true true _ h = cc
+unknown_not true false _ h = cc
+unknown_not false true (disconnected n source) h = cc
+unknown_not false false (disconnected n source) h = cc
+unknown_not false true _ h = cc
+unknown_not false false _ h = cc
+
+unnamed_not : (reports loose strays : Bool) (v : Value) →
+    IsFound (if reports then NotJudged else (if loose then in_doubt (unnamed_by strays v) else unnamed_by strays v)) → ⊥
+unnamed_not true loose strays v h = cc
+unnamed_not false loose strays v h = unknown_not loose strays v h
 
 -- a CR is not found so
 asks_not : (d : Way) (s : State) (x : Connect) (f : Finding) → (IsFound f → ⊥) → IsFound (asks_by d f x s).told.finding → ⊥
@@ -147,10 +156,14 @@ plain_course d c (disconnect n source reason user) course not = absurd (not tt)
 plain_course d c (confirm n x) course not = refl
 plain_course d c _ course not = refl
 
--- nothing, unless it is a DR; and it is for a connection
-record Goes (v : Value) (s : State) (o : Outcome) : Type 0 where
+-- it is noted that its sender has broken a rule
+abbrev pub noted_closed : Way → State → State
+noted_closed d s = record s { course = traffic.noted d (Broke rule.Closed) s.course }
+
+-- nothing else, unless it is a DR; and it is for a connection
+record Goes (d : Way) (v : Value) (s : State) (o : Outcome) : Type 0 where
   follows : MayFollow v
-  same : (IsDr v → ⊥) → o.state ≡ s
+  same : (IsDr v → ⊥) → o.state ≡ noted_closed d s
   placed : o.told.place ≡ None → ⊥
 
 module _ (d : Way) (v : Value) (s : State) where
@@ -162,40 +175,42 @@ module _ (d : Way) (v : Value) (s : State) where
       by false h = absurd (cc)
 
   found_goes : (i : ℕ) (o : Option Connection) → slice_get s.connections i ≡ o → IsFound (at_found d v s i o).told.finding →
-      Goes v s (at_found d v s i o)
-  found_goes i None e h = absurd (unnamed_not s.course.loose s.course.strays v h)
+      Goes d v s (at_found d v s i o)
+  found_goes i None e h = absurd (unnamed_not (is_report (traffic.has_erred (sides.other d) s.course) v) s.course.loose s.course.strays v h)
   found_goes i (Some c) e h = record {
     follows = on_follows c h;
     same = λ not.
         ap (λ (f : Finding). record s {
           connections = set s.connections i (connection_after d v (is_applied f) (reach_of (class_for d s.course) f) c);
-          course = traffic.reached d (reach_of (class_for d s.course) f) (course_after d c v (is_applied f) s.course);
+          course = traffic.noted d f (traffic.reached d (reach_of (class_for d s.course) f) (course_after d c v (is_applied f) s.course));
         }) h
-        ∙ ap (λ (l : List Connection). record s { connections = l; course = course_after d c v false s.course })
-        (set_same s.connections i c e)
-        ∙ ap (λ (k : Rules). record s { course = k }) (plain_course d c v s.course not);
+        ∙ ap (λ (l : List Connection). record s {
+          connections = l;
+          course = traffic.noted d (Broke rule.Closed) (course_after d c v false s.course);
+        }) (set_same s.connections i c e)
+        ∙ ap (λ (k : Rules). record s { course = traffic.noted d (Broke rule.Closed) k }) (plain_course d c v s.course not);
     placed = λ none. cc none;
   }
 
-  place_goes : (o : Option ℕ) → IsFound (at_place d v s o).told.finding → Goes v s (at_place d v s o)
-  place_goes None h = absurd (unnamed_not s.course.loose s.course.strays v h)
+  place_goes : (o : Option ℕ) → IsFound (at_place d v s o).told.finding → Goes d v s (at_place d v s o)
+  place_goes None h = absurd (unnamed_not (is_report (traffic.has_erred (sides.other d) s.course) v) s.course.loose s.course.strays v h)
   place_goes (Some i) h = found_goes i (slice_get s.connections i) refl h
 
-  routed_goes : (r : Route) → IsOther r → IsFound (routed d v s r).told.finding → Goes v s (routed d v s r)
+  routed_goes : (r : Route) → IsOther r → IsFound (routed d v s r).told.finding → Goes d v s (routed d v s r)
   routed_goes Asks a h = absurd (asks_none d v s h)
   routed_goes (Named n) a h = place_goes (position (is_named d n) s.connections) h
   routed_goes Only a h = place_goes (position (is_live d) s.connections) h
   routed_goes (Unnamed f) a h = absurd (a h)
 
   goes_by : (b : Bool) (r : Route) → IsOther r → IsFound (if b then none_told d NotJudged s else routed d v s r).told.finding →
-      Goes v s (if b then none_told d NotJudged s else routed d v s r)
+      Goes d v s (if b then none_told d NotJudged s else routed d v s r)
   goes_by true r a h = absurd (cc)
   goes_by false r a h = routed_goes r a h
 
-  goes : IsFound (takes d v s).told.finding → Goes v s (takes d v s)
+  goes : IsFound (takes d v s).told.finding → Goes d v s (takes d v s)
   goes h =
       goes_by (is_stopped d s.course) (route d s.course v)
-      (route_other (class_for d s.course) d (is_stopped (sides.other d) s.course) v) h
+      (route_other (class_for d s.course) d (has_broken (sides.other d) s.course) v) h
 
 -- ---- a DT or an AK after a DR of its sender
 
@@ -249,11 +264,12 @@ pub after_two : (e : Direction) (v : Value) (c : Course) → IsAfterDr e v c →
 after_two e v c a =
     let d = way_of e in
     let s = c.traffic in
-    link_two d (is_stopped (sides.other d) s.course) (class_for d s.course) s v a.n a.link
+    link_two d (has_broken (sides.other d) s.course) (class_for d s.course) s v a.n a.link
     (judged_so (is_stopped d s.course) d v s (route d s.course v) a.closed)
 
--- it changes nothing
-pub same_traffic : (e : Direction) (at : ℕ) (v : Value) (c : Course) → IsAfterDr e v c → (unit_passes e at v c).traffic ≡ c.traffic
+-- it changes nothing else
+pub same_traffic : (e : Direction) (at : ℕ) (v : Value) (c : Course) → IsAfterDr e v c →
+    (unit_passes e at v c).traffic ≡ noted_closed (way_of e) c.traffic
 same_traffic e at v c a = unit_knows e at v c ∙ (goes (way_of e) v c.traffic a.closed).same (link_not v a.n a.link)
 
 pub same_sessions : (e : Direction) (at : ℕ) (v : Value) (c : Course) → IsAfterDr e v c → (unit_passes e at v c).sessions ≡ c.sessions

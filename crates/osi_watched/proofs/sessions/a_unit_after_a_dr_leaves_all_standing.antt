@@ -4,9 +4,10 @@
 use Rattle.osi_watched.proofs.Vocabulary.{[], ap, Bool, false, List, refl, Some, subst, sym, true, ℕ, ◌++◌, ◌==◌, ◌∙◌, ◌∷◌, ◌≡◌, eqb-true}
 use Rattle.osi_watched.proofs.Vocabulary.{acknowledge, data2, Value, Part, other, Direction, Deeds, unit_passes, AreJudged, HaveSamePlaces}
 use Rattle.osi_watched.proofs.Vocabulary.{parts_of, picked_rest, Sessions, Traffic as State}
+use Rattle.osi_watched.proofs.Vocabulary.{way_of}
 use Rattle.osi_tap.specs.Courses.{Course}
 use Rattle.osi_fair.proofs.small_facts_that_many_lemmas_use.{number_is}
-use Rattle.osi_watched.proofs.sessions.a_unit_after_a_dr_changes_nothing.{IsAfterDr, is_there, same_sessions, same_traffic}
+use Rattle.osi_watched.proofs.sessions.a_unit_after_a_dr_changes_nothing.{IsAfterDr, is_there, noted_closed, same_sessions, same_traffic}
 use Rattle.osi_watched.proofs.sessions.all_connections_stand.{AllStand, like_same}
 use Rattle.osi_watched.proofs.sessions.nothing_is_done_before_a_cr_passes.{known_from}
 use Rattle.osi_watched.proofs.sessions.right_units_leave_all_standing.{IsLink, ak, dt, other_twice, rests_on}
@@ -35,10 +36,10 @@ link_keeps is_live coming v n link some r later = by (n == r) refl
 
 -- ---- all connections
 
-all_keep : (d : Direction) (deeds : ℕ → Deeds) (known then_known : Known) (put : List Value) (b : Bool) (s : State) (t : Sessions) →
+all_keep : (d e : Direction) (deeds : ℕ → Deeds) (known then_known : Known) (put : List Value) (b : Bool) (s : State) (t : Sessions) →
     ((r : ℕ) (later : List Part) → known r later → then_known r later) → AllStand d deeds known put b s t →
-    AllStand d deeds then_known put b s t
-all_keep d deeds known then_known put b s t keeps a = record {
+    AllStand d deeds then_known put b (noted_closed (way_of e) s) t
+all_keep d e deeds known then_known put b s t keeps a = record {
   places = a.places;
   apart = a.apart;
   judged = a.judged;
@@ -66,13 +67,19 @@ module _ (d : Direction) (is_live : ℕ → Bool) (coming : List Value) (at : �
       let then_known : Known = known_from is_live (coming ++ v ∷ []) in
       subst (λ (s : State). AllStand d deeds then_known put b s (unit_passes (other d) at v c).sessions)
       (sym (same_traffic (other d) at v c a))
-      (subst (λ (t : Sessions). AllStand d deeds then_known put b c.traffic t) (sym (same_sessions (other d) at v c a))
-      (all_keep d deeds (known_from is_live coming) then_known put b c.traffic c.sessions
+      (subst (λ (t : Sessions). AllStand d deeds then_known put b (noted_closed (way_of (other d)) c.traffic) t)
+      (sym (same_sessions (other d) at v c a))
+      (all_keep d (other d) deeds (known_from is_live coming) then_known put b c.traffic c.sessions
       (λ r later sure. (sure.0, link_keeps is_live coming v a.n a.link (came_after all.places all.judged) r later sure.1)) all))
+
+  noted_shut : AreShut d is_live (coming ++ v ∷ []) c.traffic c.sessions →
+      AreShut d is_live (coming ++ v ∷ []) (noted_closed (way_of (other d)) c.traffic) c.sessions
+  noted_shut g = record { each = g.each }
 
   pub after_shut : AreShut d is_live (coming ++ v ∷ []) (unit_passes (other d) at v c).traffic (unit_passes (other d) at v c).sessions
   after_shut =
       subst (λ (s : State). AreShut d is_live (coming ++ v ∷ []) s (unit_passes (other d) at v c).sessions)
       (sym (same_traffic (other d) at v c a))
-      (subst (λ (t : Sessions). AreShut d is_live (coming ++ v ∷ []) c.traffic t) (sym (same_sessions (other d) at v c a))
-      (same_shut d is_live coming (v ∷ []) c.traffic c.sessions h))
+      (subst (λ (t : Sessions). AreShut d is_live (coming ++ v ∷ []) (noted_closed (way_of (other d)) c.traffic) t)
+      (sym (same_sessions (other d) at v c a))
+      (noted_shut (same_shut d is_live coming (v ∷ []) c.traffic c.sessions h)))

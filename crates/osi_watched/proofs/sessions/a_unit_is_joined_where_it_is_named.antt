@@ -7,6 +7,7 @@ use Rattle.osi_watched.proofs.Vocabulary.{is_refused, is_silent, at_found, at_pl
 use Rattle.osi_watched.proofs.Vocabulary.{routed, Traffic as State, takes, Connection, Way, Finding, NotJudged, Phase, Route, Named}
 use Rattle.osi_watched.proofs.Vocabulary.{Unnamed, other, Direction, Left, Right, Joined, reference_of, way_of, first_true, HaveSamePlaces}
 use Rattle.osi_watched.proofs.Vocabulary.{IsOneOf, named_by}
+use Rattle.osi_watched.proofs.Vocabulary.{has_broken}
 use Rattle.osi_rules.specs.declared.directions.Direction.TheVariants as way
 use Rattle.osi_rules.specs.declared.halves.Phase.TheVariants as phase
 use Rattle.osi_rules.specs.Sides as sides
@@ -84,7 +85,7 @@ module _ (d : Way) (v : Value) (s : State) (n i : ℕ) (c : Connection) (there :
   pub names_there : destination_of v ≡ Some n → (takes d v s).told.place ≡ Some i → is_named d n c ≡ true
   names_there e h =
       taken_named (is_stopped d s.course) (route d s.course v)
-      (how_routed (class_for d s.course) d (is_stopped (sides.other d) s.course) v n e) h
+      (how_routed (class_for d s.course) d (has_broken (sides.other d) s.course) v n e) h
 
 -- ---- the reference that the other side gave
 

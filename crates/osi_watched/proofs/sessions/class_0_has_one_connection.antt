@@ -14,6 +14,8 @@ use Rattle.osi_watched.proofs.Vocabulary.{unlike, applied_found, applied_judged,
 use Rattle.osi_watched.proofs.Vocabulary.{begun_live, each_add, each_map, each_set, first_true, HoldsOfEach, one_added, one_changed}
 use Rattle.osi_watched.proofs.Vocabulary.{one_mapped, one_put, passes_each, NamesApart as AreApart, Sound, lasts_passing, set_there}
 use Rattle.osi_watched.proofs.Vocabulary.{HoldsOfOne, packet, passes, Passing, rubbish, unit}
+use Rattle.osi_watched.proofs.Vocabulary.{has_broken}
+use Rattle.osi_watched.proofs.Vocabulary.{noted}
 use Rattle.osi_rules.specs.declared.directions.Direction.TheVariants.{Left, Right}
 use Rattle.osi_rules.specs.declared.findings.Reach.TheVariants as reach
 use Rattle.osi_rules.specs.declared.findings.Rule.TheVariants as rule
@@ -142,12 +144,12 @@ with_course s c class seen n = record {
 none_narrow : (d : Direction) (f : Finding) (s : State) → Narrow s → Narrow (none_told d f s).state
 none_narrow d f s n =
     let r = reach_of (class_for d s.course) f in
-    with_course s (reached d r s.course) (reached_class d r s.course) (reached_seen d r s.course) n
+    with_course s (noted d f (reached d r s.course)) (reached_class d r s.course) (reached_seen d r s.course) n
 
 unnamed_narrow : (d : Direction) (v : Value) (s : State) → Narrow s → Narrow (unnamed_told d v s).state
 unnamed_narrow d v s n =
     let (class, seen) = none_same v s.course in
-    none_narrow d (unnamed s.course v) (record s { course = course_after_none v s.course })
+    none_narrow d (unnamed d s.course v) (record s { course = course_after_none v s.course })
     (with_course s (course_after_none v s.course) class seen n)
 
 -- ---- one connection changes
@@ -231,9 +233,11 @@ one_test : (b : Bool) → is_applied (first_failed ((b, Broke rule.Closed) ∷ [
 one_test true h = refl
 one_test false h = absurd (cc)
 
-form_test : (b : Bool) → is_applied (first_failed ((b, Broke rule.WrongForm) ∷ [])) ≡ true → b ≡ true
-form_test true h = refl
-form_test false h = absurd (cc)
+error_test : (b erred : Bool) → is_applied (first_failed ((b || not erred, NotJudged) ∷ (b, Broke rule.WrongForm) ∷ [])) ≡ true →
+    b ≡ true
+error_test true erred h = refl
+error_test false true h = absurd (cc)
+error_test false false h = absurd (cc)
 
 due_test : (due told strays : Bool) →
     is_applied (first_failed ((due || not strays, NotJudged) ∷ (told, Broke rule.UnknownReference) ∷ (due, Broke rule.NothingToAnswer)
@@ -287,7 +291,8 @@ module _ (s : State) (c : Connection) (in_use : Bool) (up : is_open c.left.phase
       let due = due_test (is_due Left c source) (not (is_silent c.left.phase)) s.course.strays h in
       let closing = due_closing (is_open c.left.phase) (is_closing c.seen_by_left.phase) (source == c.left.reference) due in
       differ (is_closing c.right.phase) (sound.left_knows.closing closing) answers.closing
-  left_fits (error destination cause) may live h = absurd (open_silent c.left.phase up (form_test (is_silent c.left.phase) h))
+  left_fits (error destination cause) may live h =
+      absurd (open_silent c.left.phase up (error_test (is_silent c.left.phase) s.course.right_erred h))
   left_fits v may live h =
       left_same (half_after v c.left) refl live
 
@@ -342,7 +347,7 @@ module _ (s : State) (c : Connection) (in_use : Bool) (up : is_open c.left.phase
       absurd (open_closing c.left.phase up (sound.right_knows.closing closing))
   right_fits (error destination cause) may h =
       right_refuses (half_after (error destination cause) c.right) refl
-      (silent_closed c.right.phase (form_test (is_silent c.right.phase) h))
+      (silent_closed c.right.phase (error_test (is_silent c.right.phase) s.course.left_erred h))
   right_fits v may h = right_same (half_after v c.right) refl
 
   both_fits : (d : Direction) (v : Value) → MayBe v d s → is_over d c ≡ false → is_applied (found d s.course in_use c v) ≡ true →
@@ -364,8 +369,8 @@ same_fits s course c class up answers none = record {
 -- ---- by the way that a unit takes
 
 class_reached : (s : State) (d : Direction) (r : Reach) (course : Rules) (c new : Connection) → Fits s course c new →
-    Fits s (reached d r course) c new
-class_reached s d r course c new f = record {
+    (finding : Finding) → Fits s (noted d finding (reached d r course)) c new
+class_reached s d r course c new f finding = record {
   up = f.up;
   answers = f.answers;
   live = f.live;
@@ -378,23 +383,24 @@ module _ (d : Direction) (v : Value) (s : State) (apart : AreApart s.connections
       is_applied (found_on d s c v) ≡ x →
       Narrow (record {
         connections = set s.connections p (connection_after d v x r c);
-        course = reached d r (course_after d c v x s.course);
+        course = noted d (found_on d s c v) (reached d r (course_after d c v x s.course));
       })
   one_by true p c r there live e =
       let judged = applied_judged c.is_judged (found d s.course (uses_source d s.connections v) c v) e in
       let course = course_after d c v true s.course in
-      changed_narrow s p c (judged_on r (sent_on d v c)) (reached d r course) there
+      changed_narrow s p c (judged_on r (sent_on d v c)) (noted d (found_on d s c v) (reached d r course)) there
       (reached_seen d r course ∙ after_seen d c v true s.course)
       (class_reached s d r course c (judged_on r (sent_on d v c)) (judged_fits s course c (sent_on d v c) r
       (both_fits s c (uses_source d s.connections v) (n.asked p c there) (n.answered p c there) (apart.sound p c there judged)
       (λ h. n.none h p c there) d v may live
-      (applied_found c.is_judged (found d s.course (uses_source d s.connections v) c v) e)))) n
+      (applied_found c.is_judged (found d s.course (uses_source d s.connections v) c v) e))) (found_on d s c v)) n
   one_by false p c r there live e =
       let course = course_after d c v false s.course in
-      changed_narrow s p c (judged_on r c) (reached d r course) there
+      changed_narrow s p c (judged_on r c) (noted d (found_on d s c v) (reached d r course)) there
       (reached_seen d r course ∙ after_seen d c v false s.course)
       (class_reached s d r course c (judged_on r c) (judged_fits s course c c r
-      (same_fits s course c (after_false d c v s.course) (n.asked p c there) (n.answered p c there) (λ h. n.none h p c there)))) n
+      (same_fits s course c (after_false d c v s.course) (n.asked p c there) (n.answered p c there) (λ h. n.none h p c there)))
+      (found_on d s c v)) n
 
   found_narrow : (p : ℕ) (o : Option Connection) → slice_get s.connections p ≡ o →
       ((e : Connection) → slice_get s.connections p ≡ Some e → is_over d e ≡ false) → Narrow (at_found d v s p o).state
@@ -517,10 +523,10 @@ module _ (s : State) (apart : AreApart s.connections) (n : Narrow s) where
   unit_narrow : (d : Direction) (v : Value) → (s.course.class ≡ Some Two → ⊥) → Narrow (takes d v s).state
   unit_narrow Left v not_two =
       goes_narrow (is_stopped Left s.course) Left v (route Left s.course v)
-      (left_routed s.course.class_seen (is_stopped Right s.course) v refl)
+      (left_routed s.course.class_seen (has_broken Right s.course) v refl)
   unit_narrow Right v not_two =
       goes_narrow (is_stopped Right s.course) Right v (route Right s.course v)
-      (right_routed s.course.class (is_stopped Left s.course) v refl not_two)
+      (right_routed s.course.class (has_broken Left s.course) v refl not_two)
 
 -- ---- a packet begins
 

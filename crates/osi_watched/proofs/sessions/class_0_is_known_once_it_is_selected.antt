@@ -42,7 +42,7 @@ to_none d f s = reached_seen d (reach_of (class_for d s.course) f) s.course
 to_unnamed : (d : Way) (v : Value) (s : Traffic) → Keeps s (unnamed_told d v s)
 to_unnamed d v s =
     let course = course_after_none v s.course in
-    reached_seen d (reach_of (class_for d course) (unnamed s.course v)) course ∙ none_seen v s.course
+    reached_seen d (reach_of (class_for d course) (unnamed d s.course v)) course ∙ none_seen v s.course
 
 to_one : (d : Way) (v : Value) (s : Traffic) (p : ℕ) (o : Option Connection) → Keeps s (at_found d v s p o)
 to_one d v s p None = to_unnamed d v s

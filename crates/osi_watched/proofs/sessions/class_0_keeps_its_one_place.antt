@@ -32,6 +32,7 @@ use Rattle.osi_watched.proofs.sessions.all_connections_stand.{map_of}
 use Rattle.osi_watched.proofs.sessions.class_0_has_one_connection.{set_other}
 use Rattle.osi_watched.proofs.sessions.each_cr_that_passes_gives_a_new_reference.{named_adds}
 use Rattle.osi_watched.proofs.sessions.what_a_unit_does_at_its_place.{Does, asks_again, asks_more, nowhere, somewhere, unit_does}
+use Rattle.osi_rules.specs.Traffic.{has_broken}
 
 -- The called side has not refused the connection at this place, to which this side gave this reference. Of each other one, the reference
 -- of this side is gone.
@@ -109,7 +110,7 @@ module _ (e : Direction) (s : State) (goes : is_stopped (way_of e) s.course ≡ 
     (zero : class_for (way_of e) s.course ≡ Some Zero) where
   breaks_so : {A : Type 0} (v : Value) → Breaks v → IsMild v (takes (way_of e) v s).told.finding → A
   breaks_so v h mild =
-      routed_breaks (way_of e) (is_stopped (sides.other (way_of e)) s.course) v s h
+      routed_breaks (way_of e) (has_broken (sides.other (way_of e)) s.course) v s h
       (subst (λ (o : Outcome). IsMild v o.told.finding) (zero_takes (way_of e) v s goes zero) mild)
 
   -- every other unit is a break that is not passed over
@@ -118,7 +119,7 @@ module _ (e : Direction) (s : State) (goes : is_stopped (way_of e) s.course ≡ 
   zero_still (disconnected n source) mild = tt
   zero_still (error n cause) mild =
       ap (λ (o : Outcome). o.told.place) (zero_takes (way_of e) (error n cause) s goes zero)
-      ∙ error_nowhere (way_of e) (is_stopped (sides.other (way_of e)) s.course) n cause s
+      ∙ error_nowhere (way_of e) (has_broken (sides.other (way_of e)) s.course) n cause s
   zero_still (request x) mild = breaks_so (request x) tt mild
   zero_still (confirm n x) mild = breaks_so (confirm n x) tt mild
   zero_still (disconnect n source reason user) mild = breaks_so (disconnect n source reason user) tt mild

@@ -122,9 +122,11 @@ one_test : (b : Bool) → is_applied (first_failed ((b, finding.Broke rule.Close
 one_test true h = refl
 one_test false h = cc
 
-form_test : (b : Bool) → is_applied (first_failed ((b, finding.Broke rule.WrongForm) ∷ [])) ≡ true → b ≡ true
-form_test true h = refl
-form_test false h = cc
+error_test : (b erred : Bool) →
+    is_applied (first_failed ((b || not erred, finding.NotJudged) ∷ (b, finding.Broke rule.WrongForm) ∷ [])) ≡ true → b ≡ true
+error_test true erred h = refl
+error_test false true h = cc
+error_test false false h = cc
 
 due_test : (due told strays : Bool) →
     is_applied (first_failed ((due || not strays, finding.NotJudged) ∷ (told, finding.Broke rule.UnknownReference)
@@ -189,7 +191,7 @@ module _ (course : Rules) (in_use : Bool) (at : ℕ) (c : Connection) (j : Joine
   left_one (acknowledge credit destination number) k =
       left_half (half_after (acknowledge credit destination number) c.left) j refl h.asks refl refl
   left_one (error destination cause) k =
-      differ (is_silent c.left.phase) (form_test (is_silent c.left.phase) k) (or_first (is_silent c.left.phase)
+      differ (is_silent c.left.phase) (error_test (is_silent c.left.phase) course.right_erred k) (or_first (is_silent c.left.phase)
       (is_refused c.left.phase) h.asks)
   left_one _ k = absurd (cc)
 
@@ -224,7 +226,7 @@ module _ (course : Rules) (in_use : Bool) (at : ℕ) (c : Connection) (j : Joine
       right_half (half_after (acknowledge credit destination number) c.right) j refl refl refl
   right_one (error destination cause) k =
       right_half (half_after (error destination cause) c.right) (shut j)
-      (refused_so c.right c.right.phase refl (form_test (is_silent c.right.phase) k)) refl refl
+      (refused_so c.right c.right.phase refl (error_test (is_silent c.right.phase) course.left_erred k)) refl refl
 
   both_one : (d : Direction) (v : Value) → is_applied (found (way_of d) course in_use c v) ≡ true →
       IsOneOf (sent_on (way_of d) v c) (joined.meant d at v (meant v) j)

@@ -31,7 +31,7 @@ module _ (d : Way) (v : Value) (s : State) where
   unnamed_seen : SeenSame s (unnamed_told d v s)
   unnamed_seen =
       let course = course_after_none v s.course in
-      reached_seen d (reach_of (class_for d course) (unnamed s.course v)) course ∙ (none_same v s.course).1
+      reached_seen d (reach_of (class_for d course) (unnamed d s.course v)) course ∙ (none_same v s.course).1
 
   found_seen : (p : ℕ) (o : Option Connection) → SeenSame s (at_found d v s p o)
   found_seen p None = unnamed_seen

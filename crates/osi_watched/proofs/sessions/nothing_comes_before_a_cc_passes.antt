@@ -24,6 +24,7 @@ use Rattle.osi_watched.proofs.sessions.steps_leave_all_standing.{IsTakeable}
 use Rattle.osi_watched.proofs.sessions.what_a_unit_does_at_its_place.{Does, asks_again, asks_more, nowhere, somewhere, unit_does}
 use Rattle.osi_watched.proofs.sessions.what_passes_leaves_all_standing.{ack_clear, cc_broke, goes_on, zero_broke}
 use Rattle.osi_watched.proofs.sessions.what_stands_of_a_connection.{is_for, waiting_for}
+use Rattle.osi_rules.specs.Traffic.{has_broken}
 
 -- ---- what has come
 
@@ -98,7 +99,7 @@ module _ (b at : ℕ) (c : Course) (judged : AreJudged c.traffic) (places : Have
   left_below (acknowledge credit n number) fine =
       ack_below credit n number fine (unit_does Left at (acknowledge credit n number) c.traffic c.sessions places)
   left_below (data0 end user) fine =
-      zero_broke (class_for way.Left c.traffic.course) way.Left (is_stopped way.Right c.traffic.course) end user c.traffic fine.two
+      zero_broke (class_for way.Left c.traffic.course) way.Left (has_broken way.Right c.traffic.course) end user c.traffic fine.two
       (goes_on (data0 end user) (is_stopped way.Left c.traffic.course) way.Left c.traffic
       (routed way.Left (data0 end user) c.traffic (route way.Left c.traffic.course (data0 end user))) fine.goes fine.none)
   left_below (request x) fine = tt
@@ -110,7 +111,7 @@ module _ (b at : ℕ) (c : Course) (judged : AreJudged c.traffic) (places : Have
   -- it is no CC
   pub no_cc_of_left : {A : Type 0} (n : ℕ) (x : Connect) → IsTakeable Left (confirm n x) c → A
   no_cc_of_left n x fine =
-      cc_broke (class_for way.Left c.traffic.course) (is_stopped way.Right c.traffic.course) n x c.traffic fine.firm judged
+      cc_broke (class_for way.Left c.traffic.course) (has_broken way.Right c.traffic.course) n x c.traffic fine.firm judged
       (goes_on (confirm n x) (is_stopped way.Left c.traffic.course) way.Left c.traffic
       (routed way.Left (confirm n x) c.traffic (route way.Left c.traffic.course (confirm n x))) fine.goes fine.none)
 

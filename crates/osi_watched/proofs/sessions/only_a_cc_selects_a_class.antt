@@ -26,7 +26,7 @@ module _ (d : Direction) where
   found_keeps : (v : Value) (s : State) (p : ℕ) (o : Option Connection) → IsNoCc v → Keeps s (at_found d v s p o)
   found_keeps v s p None h =
       let c = course_after_none v s.course in
-      reached_class d (reach_of (class_for d c) (unnamed s.course v)) c ∙ unnamed_keeps v s.course
+      reached_class d (reach_of (class_for d c) (unnamed d s.course v)) c ∙ unnamed_keeps v s.course
   found_keeps v s p (Some c) h =
       let f = found_on d s c v in
       reached_class d (reach_of (class_for d s.course) f) (course_after d c v (is_applied f) s.course)
@@ -35,7 +35,7 @@ module _ (d : Direction) where
   place_keeps : (v : Value) (s : State) (o : Option ℕ) → IsNoCc v → Keeps s (at_place d v s o)
   place_keeps v s None h =
       let c = course_after_none v s.course in
-      reached_class d (reach_of (class_for d c) (unnamed s.course v)) c ∙ unnamed_keeps v s.course
+      reached_class d (reach_of (class_for d c) (unnamed d s.course v)) c ∙ unnamed_keeps v s.course
   place_keeps v s (Some p) h = found_keeps v s p (slice_get s.connections p) h
 
   asks_keeps : (v : Value) (s : State) → Keeps s (asks_of d v s)

@@ -38,6 +38,7 @@ use Rattle.osi_watched.proofs.sessions.all_connections_stand.{own_part}
 use Rattle.osi_watched.proofs.sessions.all_connections_stand.{own_plain, quiet, rests}
 use Rattle.osi_watched.proofs.sessions.what_stands_of_a_connection.{Known, Stands, is_for, names_it, stands_elsewhere}
 use Rattle.osi_watched.proofs.sessions.what_stands_of_a_connection.{stands_other_none}
+use Rattle.osi_rules.specs.Traffic.{has_broken}
 
 -- ---- an AK that is right
 
@@ -90,7 +91,7 @@ pub ack_placed : {A : Type 0} (d : Way) (credit n number : ℕ) (s : State) →
     (takes d (acknowledge credit n number) s).told.place ≡ None → A
 ack_placed d credit n number s h e =
     ack_goes d credit n number s (is_stopped d s.course) (route d s.course (acknowledge credit n number))
-    (ack_routed (class_for d s.course) d (is_stopped (sides.other d) s.course) credit n number s) h e
+    (ack_routed (class_for d s.course) d (has_broken (sides.other d) s.course) credit n number s) h e
 
 second_test : (a b : Bool) (more : List Test) →
     is_applied (first_failed ((a, Broke rule.UnknownReference) ∷ (b, Broke rule.Closed) ∷ more)) ≡ true → b ≡ true

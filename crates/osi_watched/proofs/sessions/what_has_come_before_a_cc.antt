@@ -353,7 +353,8 @@ module _ (local : Local) (v : Value) (w : Whole) (j : Follows local w)
 
   tracked_now : (r : ℕ) → MayOpen w.end r → IsForOne r v → Tracked w.tap.connections r
   tracked_now r may one =
-      tracked_of r may one (comes_for w.tap v clear.sure.left clear.sure.right (j.followed (going_on w.tap.course clear)).zero
+      let going = going_on w.tap.course clear in
+      tracked_of r may one (comes_for w.tap (j.fine going) v clear.sure.left clear.sure.right (j.followed going).zero
       (going_on (takes way.Right v w.tap).state.course then_clear).sure)
 
 -- one that right is closing has its CC too, if it may open

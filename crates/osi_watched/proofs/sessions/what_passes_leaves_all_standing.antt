@@ -37,6 +37,7 @@ use Rattle.osi_watched.proofs.sessions.ccs_and_crs_leave_all_standing.{other_cc,
 use Rattle.osi_watched.proofs.sessions.connections_have_the_same_places.{unit_joins, unit_knows}
 use Rattle.osi_watched.proofs.sessions.right_units_leave_all_standing.{StaysElsewhere, other_close, other_dt, own_ack, own_close, own_dt}
 use Rattle.osi_watched.proofs.sessions.what_stands_of_a_connection.{Known, waiting_for}
+use Rattle.osi_rules.specs.Traffic.{has_broken}
 
 -- ---- what is no break
 
@@ -65,17 +66,17 @@ routed_ack None way.Right b credit n number s firm judged = inr (rule.Unexpected
 routed_ack (Some Zero) way.Left b credit n number s firm judged = inr (rule.WrongForm, refl)
 routed_ack (Some Zero) way.Right b credit n number s firm judged = inr (rule.WrongForm, refl)
 routed_ack (Some Two) way.Left b credit n number s firm judged =
-    clear_any way.Left (acknowledge credit n number) s firm judged (nowhere_ack s.course.strays credit n number)
+    clear_any way.Left (acknowledge credit n number) s firm judged refl (nowhere_ack s.course.strays credit n number)
     (found_ack way.Left credit n number s) (position (is_named way.Left n) s.connections)
 routed_ack (Some Two) way.Right b credit n number s firm judged =
-    clear_any way.Right (acknowledge credit n number) s firm judged (nowhere_ack s.course.strays credit n number)
+    clear_any way.Right (acknowledge credit n number) s firm judged refl (nowhere_ack s.course.strays credit n number)
     (found_ack way.Right credit n number s) (position (is_named way.Right n) s.connections)
 
 pub ack_clear : (d : Way) (credit n number : ℕ) (s : State) → is_stopped d s.course ≡ false → s.course.loose ≡ false → AreJudged s →
     IsClear (takes d (acknowledge credit n number) s).told.finding
 ack_clear d credit n number s goes firm judged =
     goes_clear (is_stopped d s.course) d s (routed d (acknowledge credit n number) s (route d s.course (acknowledge credit n number))) goes
-    (routed_ack (class_for d s.course) d (is_stopped (sides.other d) s.course) credit n number s firm judged)
+    (routed_ack (class_for d s.course) d (has_broken (sides.other d) s.course) credit n number s firm judged)
 
 -- a DT of class 0 is a break in class 2, and before a class is known
 pub zero_broke : {A : Type 0} (k : Option Class) (d : Way) (b : Bool) (end : Bool) (user : List ℕ) (s : State) → (k ≡ Some Zero → ⊥) →
@@ -161,7 +162,7 @@ module _ (deeds : ℕ → Deeds) (known : Known) (at : ℕ) (rest : List Value) 
       (ap is_applied (kept_of (takes (way_of d) (acknowledge credit n number) s).told.finding
       (ack_clear (way_of d) credit n number s goes firm a.judged) none))
   own_goes d (data0 end user) goes two none ready a =
-      zero_broke (class_for (way_of d) s.course) (way_of d) (is_stopped (sides.other (way_of d)) s.course) end user s two
+      zero_broke (class_for (way_of d) s.course) (way_of d) (has_broken (sides.other (way_of d)) s.course) end user s two
       (goes_on (data0 end user) (is_stopped (way_of d) s.course) (way_of d) s (under (way_of d) (data0 end user)) goes
       (mild_of (data0 end user) (takes (way_of d) (data0 end user) s).told.finding none))
   own_goes d (disconnect n source reason user) goes two none ready a =
@@ -172,12 +173,12 @@ module _ (deeds : ℕ → Deeds) (known : Known) (at : ℕ) (rest : List Value) 
       own_close d deeds known at (error n cause) rest s t a (λ b. tt) (λ o. refl) (λ x e. cc e)
   own_goes Left (request x) goes two none ready a = own_cr deeds known at x rest s t ready.0 ready.1 ready.2
   own_goes Right (request x) goes two none ready a =
-      cr_broke (class_for way.Right s.course) (is_stopped way.Left s.course) x s
+      cr_broke (class_for way.Right s.course) (has_broken way.Left s.course) x s
       (goes_on (request x) (is_stopped way.Right s.course) way.Right s (under way.Right (request x)) goes
       (mild_of (request x) (takes way.Right (request x) s).told.finding none))
   own_goes Right (confirm n x) goes two none ready a = own_cc deeds known at n x rest s t ready.0 ready.1 ready.2 a
   own_goes Left (confirm n x) goes two none ready a =
-      cc_broke (class_for way.Left s.course) (is_stopped way.Right s.course) n x s firm a.judged
+      cc_broke (class_for way.Left s.course) (has_broken way.Right s.course) n x s firm a.judged
       (goes_on (confirm n x) (is_stopped way.Left s.course) way.Left s (under way.Left (confirm n x)) goes
       (mild_of (confirm n x) (takes way.Left (confirm n x) s).told.finding none))
 
@@ -219,7 +220,7 @@ module _ (deeds : ℕ → Deeds) (known then_known : Known) (at : ℕ) (put : Li
   other_goes d (acknowledge credit n number) goes two none heard a =
       other_close d deeds known then_known at (acknowledge credit n number) put b s t a (λ x. tt) (λ x e. cc e) heard
   other_goes d (data0 end user) goes two none heard a =
-      zero_broke (class_for (way_of (other d)) s.course) (way_of (other d)) (is_stopped (sides.other (way_of
+      zero_broke (class_for (way_of (other d)) s.course) (way_of (other d)) (has_broken (sides.other (way_of
       (other d))) s.course) end user s two
       (goes_on (data0 end user) (is_stopped (way_of (other d)) s.course) (way_of (other d)) s
       (routed (way_of (other d)) (data0 end user) s (route (way_of (other d)) s.course (data0 end user))) goes none)
@@ -231,12 +232,12 @@ module _ (deeds : ℕ → Deeds) (known then_known : Known) (at : ℕ) (put : Li
       other_close d deeds known then_known at (error n cause) put b s t a (λ x. tt) (λ x e. cc e) heard
   other_goes Right (request x) goes two none heard a = other_cr deeds known then_known at x put b s t heard
   other_goes Left (request x) goes two none heard a =
-      cr_broke (class_for way.Right s.course) (is_stopped way.Left s.course) x s
+      cr_broke (class_for way.Right s.course) (has_broken way.Left s.course) x s
       (goes_on (request x) (is_stopped way.Right s.course) way.Right s (routed way.Right (request x) s (route way.Right s.course
       (request x))) goes none)
   other_goes Left (confirm n x) goes two none heard a = other_cc deeds known then_known at n x put b s t heard.0 heard.1
   other_goes Right (confirm n x) goes two none heard a =
-      cc_broke (class_for way.Left s.course) (is_stopped way.Right s.course) n x s firm a.judged
+      cc_broke (class_for way.Left s.course) (has_broken way.Right s.course) n x s firm a.judged
       (goes_on (confirm n x) (is_stopped way.Left s.course) way.Left s (routed way.Left (confirm n x) s (route way.Left s.course
       (confirm n x))) goes none)
 
