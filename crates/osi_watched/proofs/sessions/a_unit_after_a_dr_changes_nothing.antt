@@ -1,5 +1,5 @@
--- A DT or an AK that a side sends on a connection that it has closed by a DR changes nothing at the tap, and is for a connection that this
--- side is closing, in class 2. No other unit but a second DR is found so.
+-- A DT or an AK that a side sends on a connection that it has closed by a DR changes nothing at the tap but that this side has broken
+-- a rule, and is for a connection that this side is closing, in class 2. No other unit but a second DR is found so.
 -- For the sessions of an end after such a unit of the other side.
 use Rattle.osi_watched.proofs.Vocabulary.{[], ap, Bool, false, if◌then◌else◌, List, None, not, Option, refl, Some, sym, true, ℕ, ◌&&◌, ◌∙◌}
 use Rattle.osi_watched.proofs.Vocabulary.{◌∷◌, ◌≡◌, ◌||◌, AllByRecursion, drop, length, position, set, set_same, slice_get, subst}
