@@ -42,7 +42,7 @@ pub record IsOngoing (c : Course) : Type 0 where
 pub going_of : (c : Course) → IsPlain c → IsOngoing c
 going_of c h = record { sure = calm_of c h; two = h.two }
 
--- both sides are judged, and no connection has lost its judgement
+-- Both sides are judged, and no connection has lost its judgement: what laws on sessions, above this crate, have to ask.
 pub record IsFirm (c : Course) : Type 0 where
   pub firm : c.loose ≡ false
   pub left : c.left_stopped ≡ false
