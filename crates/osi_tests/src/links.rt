@@ -103,27 +103,29 @@ fn gives(link: &mut impl Link, wanted: Given) -> Result<(), Fail> {
     Ok(())
 }
 
-/// Whether this TSDU was handed out, or none.
-fn is_handed(handed: &Option<Vec<u8>>, wanted: Option<&[u8]>) -> bool {
-    match handed {
+/// This TSDU was handed out, or none.
+fn is_handed(handed: &Option<Vec<u8>>, wanted: Option<&[u8]>) -> Result<(), Fail> {
+    let is_wanted = match handed {
         None => wanted.is_none(),
         Some(tsdu) => wanted == Some(tsdu.as_slice()),
-    }
-}
-
-fn hands_out(link: &mut impl Link, wanted: Option<&[u8]>) -> Result<(), Fail> {
-    if !is_handed(&link.next_tsdu(), wanted) {
+    };
+    if !is_wanted {
         return Err(Fail::from("another TSDU"));
     }
     Ok(())
 }
 
+fn hands_out(link: &mut impl Link, wanted: Option<&[u8]>) -> Result<(), Fail> {
+    is_handed(&link.next_tsdu(), wanted)
+}
+
 fn receives(link: &mut impl Link, unit: &[u8], wanted: Option<&[u8]>) -> Result<(), Fail> {
-    match (link.receive(&only_unit(unit)?)?, wanted) {
-        (Handed::Nothing, None) => Ok(()),
-        (Handed::Joined(tsdu), Some(wanted)) if tsdu.as_slice() == wanted => Ok(()),
-        _ => Err(Fail::from("another TSDU")),
-    }
+    let tsdu = match link.receive(&only_unit(unit)?)? {
+        Handed::Nothing => None,
+        Handed::Joined(tsdu) => Some(tsdu),
+        Handed::Whole => return Err(Fail::from("a whole TSDU")),
+    };
+    is_handed(&tsdu, wanted)
 }
 
 fn receives_whole(link: &mut impl Link, unit: &[u8]) -> Result<(), Fail> {
