@@ -10,7 +10,6 @@ use Rattle.osi_tpdu.specs.Value.{HasFieldsInRange, Value, acknowledge, confirm, 
 use Rattle.osi_tpdu.specs.Writing.{written}
 use Rattle.osi_class.specs.declared.terms.Local.{Local}
 use Rattle.osi_judge.specs.declared.directions.Direction.TheVariants.{Left, Right}
-use Rattle.osi_rules.specs.declared.connections.Connection.{Connection}
 use Rattle.osi_rules.specs.declared.directions.Direction.TheVariants as way
 use Rattle.osi_rules.specs.Traffic.{State, class_for, is_stopped, route, routed, takes}
 use Rattle.osi_fair.specs.Wholes.{Whole}
@@ -20,8 +19,7 @@ use Rattle.osi_fair.proofs.each_connection_has_its_line.{IsOwned}
 use Rattle.osi_fair.proofs.what_the_other_side_closes.{IsClear}
 use Rattle.osi_honest.specs.Courses.{Deeds}
 use Rattle.osi_honest.proofs.reading.what_is_written_is_read_again.{CanBeWritten}
-use Rattle.osi_tap.specs.declared.rooms.Room.TheVariants.{All}
-use Rattle.osi_tap.specs.Connections.{Joined, Sessions}
+use Rattle.osi_tap.specs.Connections.{Sessions}
 use Rattle.osi_tap.specs.Courses.{Course, unit_passes, units_pass}
 use Rattle.osi_watched.proofs.what_a_taker_passes_over.{applied_of}
 use Rattle.osi_watched.proofs.sessions.a_calling_end_is_ready.{IsPlain, cr_broke, goes_on, right_plain, zero_broke}
@@ -31,7 +29,7 @@ use Rattle.osi_watched.proofs.sessions.a_right_dt_has_one_place.{two_placed}
 use Rattle.osi_watched.proofs.sessions.a_unit_after_a_dr_changes_nothing.{IsAfterDr, same_sessions}
 use Rattle.osi_watched.proofs.sessions.a_unit_after_a_dr_leaves_all_standing.{after_shut, after_stand}
 use Rattle.osi_watched.proofs.sessions.a_unit_is_joined_where_it_is_named.{joined_named}
-use Rattle.osi_watched.proofs.sessions.all_connections_stand.{AllStand, there_too}
+use Rattle.osi_watched.proofs.sessions.all_connections_stand.{AllStand, all_room}
 use Rattle.osi_watched.proofs.sessions.connections_have_the_same_places.{at_same, unit_joins, unit_knows}
 use Rattle.osi_watched.proofs.sessions.nothing_is_done_before_a_cr_passes.{known_from}
 use Rattle.osi_watched.proofs.sessions.references_of_an_end_are_distinct.{AreDistinct, GivesNew, stays_so, unit_distinct}
@@ -40,8 +38,7 @@ use Rattle.osi_watched.proofs.sessions.steps_leave_all_standing.{IsTakeable}
 use Rattle.osi_watched.proofs.sessions.the_dr_of_the_other_side_is_in_flight.{AreShut, HaveRoom, other_shut}
 use Rattle.osi_watched.proofs.sessions.units_written_alike_are_for_the_same.{none_written_so}
 use Rattle.osi_watched.proofs.sessions.what_is_left_for_an_end.{known_left, left_grows, left_same}
-use Rattle.osi_watched.proofs.sessions.what_passes_leaves_all_standing.{IsHeard, other_stands}
-use Rattle.osi_watched.proofs.sessions.what_stands_of_a_connection.{Known, Stands, lives, past, unnamed}
+use Rattle.osi_watched.proofs.sessions.what_passes_leaves_all_standing.{IsHeardFirm, other_stands_firm}
 
 -- ---- units that are no break, or a break that is passed over
 
@@ -77,12 +74,6 @@ gives_none (data2 n number end user) c fine = tt
 gives_none (acknowledge credit n number) c fine = tt
 gives_none (error n cause) c fine = tt
 
-pub room_of : (deeds : ℕ → Deeds) (known : Known) (put : List Value) (b : Bool) (c : Connection) (j : Joined) →
-    Stands Left deeds known put b c j → j.room ≡ All
-room_of deeds known put b c j (unnamed none mine theirs room) = room
-room_of deeds known put b c j (lives r o is live later sure h) = h.room
-room_of deeds known put b c j (past r closed waiting later sure h) = h.room
-
 -- a whole end with this tap, which has put units that are written as these
 pub record IsBehind (local : Local) (put : List Value) (c : Course) : Type 0 where
   pub whole : Whole
@@ -98,7 +89,7 @@ module _ (local : Local) (deeds : ℕ → Deeds) (is_live : ℕ → Bool) (put :
 
   unit_heard : (coming : List Value) (v : Value) (c : Course) → IsTakeable Right v c → IsClear c.traffic.course → IsBehind local put c →
       Stand coming c → AreDistinct Left c.sessions →
-      IsHeard Left (known_left is_live coming) (known_left is_live (coming ++ v ∷ [])) v put c.traffic c.sessions
+      IsHeardFirm Left (known_left is_live coming) (known_left is_live (coming ++ v ∷ [])) v put c.traffic c.sessions
   unit_heard coming (data2 n number end user) c fine clear w a distinct =
       let v : Value = data2 n number end user in
       let kept = applied_of v (takes way.Right v c.traffic).told.finding (λ dr. dr)
@@ -130,8 +121,8 @@ module _ (local : Local) (deeds : ℕ → Deeds) (is_live : ℕ → Bool) (put :
       λ r later sure. left_same is_live coming (error n cause) r later refl sure
 
   heard_from : (coming : List Value) (v : Value) (s : State) (t : Sessions) →
-      IsHeard Left (known_left is_live coming) (known_left is_live (coming ++ v ∷ [])) v put s t →
-      IsHeard Left (known_from is_live coming) (known_from is_live (coming ++ v ∷ [])) v put s t
+      IsHeardFirm Left (known_left is_live coming) (known_left is_live (coming ++ v ∷ [])) v put s t →
+      IsHeardFirm Left (known_from is_live coming) (known_from is_live (coming ++ v ∷ [])) v put s t
   heard_from coming (data2 n number end user) s t h = (
     λ later sure. (sure.0, h.0 later sure.1),
     record {
@@ -165,30 +156,27 @@ module _ (local : Local) (deeds : ℕ → Deeds) (is_live : ℕ → Bool) (put :
     pub shut : AreShut Left is_live coming c.traffic c.sessions
 
   rooms : (coming : List Value) (c : Course) → AreHeard coming c → HaveRoom c.sessions
-  rooms coming c h i j here =
-      let a = h.stand in
-      let (k, there) = there_too c.traffic.connections c.sessions.live i j a.places here in
-      room_of deeds (known_from is_live coming) put b k j (a.live i k j there here)
+  rooms coming c h i j here = all_room Left deeds (known_from is_live coming) put b c.traffic c.sessions h.stand i j here
 
   one_heard : (coming : List Value) (v : Value) (c : Course) → IsTakeable Right v c ⊎ IsAfterDr Right v c → IsClear c.traffic.course →
       IsBehind local put c → AreHeard coming c → AreHeard (coming ++ v ∷ []) (unit_passes Right at v c)
   one_heard coming v c (inl one) clear w h =
       let a = h.stand in
       record {
-        stand = other_stands Left deeds (known_from is_live coming) (known_from is_live (coming ++ v ∷ [])) at v put b c one.firm one.goes
-            one.two one.none (heard_from coming v c.traffic c.sessions (unit_heard coming v c one clear w a h.distinct)) a;
+        stand = other_stands_firm Left deeds (known_from is_live coming) (known_from is_live (coming ++ v ∷ [])) at v put b c one.firm
+            one.goes one.two one.none (heard_from coming v c.traffic c.sessions (unit_heard coming v c one clear w a h.distinct)) a;
         distinct = subst (AreDistinct Left) (sym (unit_joins Right at v c))
             (unit_distinct Left Right at v c.traffic c.sessions a.places h.distinct (gives_none v c one) (rooms coming c h));
         shut = subst (λ (s : State). AreShut Left is_live (coming ++ v ∷ []) s (unit_passes Right at v c).sessions)
             (sym (unit_knows Right at v c))
             (subst (λ (t : Sessions). AreShut Left is_live (coming ++ v ∷ []) (takes way.Right v c.traffic).state t)
             (sym (unit_joins Right at v c))
-            (other_shut Left at is_live coming c.traffic c.sessions a.places (rooms coming c h) a.judged one.firm h.shut v));
+            (other_shut Left at is_live coming c.traffic c.sessions a.places (rooms coming c h) h.shut v));
       }
   one_heard coming v c (inr after) clear w h = record {
-    stand = after_stand Left is_live coming at v c after clear.sure.firm h.shut deeds put b h.stand;
+    stand = after_stand Left is_live coming at v c after h.shut deeds put b h.stand;
     distinct = subst (AreDistinct Left) (sym (same_sessions Right at v c after)) h.distinct;
-    shut = after_shut Left is_live coming at v c after clear.sure.firm h.shut;
+    shut = after_shut Left is_live coming at v c after h.shut;
   }
 
   -- so it is after these units

@@ -11,20 +11,21 @@ use Rattle.osi_honest.specs.Courses.{Course}
 use Rattle.osi_tap.specs.Courses.{Course as Passed, packet_begins}
 use Rattle.osi_watched.proofs.small_facts_that_many_lemmas_use.{can_more as all_more, ranges_of}
 use Rattle.osi_watched.proofs.what_is_put_is_what_is_written.{none_written}
-use Rattle.osi_watched.proofs.sessions.a_calling_end_hears_what_breaks_no_rule.{AreFine, IsBehind, fine_plain, room_of, units_heard}
+use Rattle.osi_watched.proofs.sessions.a_calling_end_hears_what_breaks_no_rule.{AreFine, IsBehind, fine_plain, units_heard}
 use Rattle.osi_watched.proofs.sessions.a_calling_end_is_ready.{IsCalling, begins_other_calling, begins_own_calling, is_ready}
 use Rattle.osi_watched.proofs.sessions.a_calling_end_is_ready.{passes_other_plain, passes_own_calling, turns_calling, whole_followed}
 use Rattle.osi_watched.proofs.sessions.a_calling_end_is_ready.{whole_joined}
 use Rattle.osi_watched.proofs.sessions.a_calling_end_takes_what_is_in_flight.{calling_dr, calling_takes}
 use Rattle.osi_watched.proofs.sessions.a_turn_leaves_all_standing.{Turns}
 use Rattle.osi_watched.proofs.sessions.a_turn_does_what_its_deeds_say.{units_join}
-use Rattle.osi_watched.proofs.sessions.all_connections_stand.{AllStand, one_at, there_too}
+use Rattle.osi_watched.proofs.sessions.all_connections_stand.{AllStand, all_room, one_at}
+use Rattle.osi_watched.proofs.sessions.a_right_dt_has_one_place.{judged_apart}
 use Rattle.osi_watched.proofs.sessions.connections_have_the_same_places.{unit_joins, unit_knows}
 use Rattle.osi_watched.proofs.sessions.each_unit_of_a_turn_has_one_connection.{IsMarked, puts_wait}
 use Rattle.osi_watched.proofs.sessions.each_cr_that_passes_gives_a_new_reference.{gives_new}
 use Rattle.osi_watched.proofs.sessions.nothing_is_done_before_a_cr_passes.{known_from, may_take}
 use Rattle.osi_watched.proofs.sessions.references_of_an_end_are_distinct.{AreDistinct, begins_distinct, unit_distinct}
-use Rattle.osi_watched.proofs.sessions.steps_leave_all_standing.{IsFine, Standing, step_begins_other, step_begins_own, step_passes_own}
+use Rattle.osi_watched.proofs.sessions.steps_leave_all_standing.{IsFine, Standing, step_begins_other, step_begins_own, step_passes_own_firm}
 use Rattle.osi_watched.proofs.sessions.steps_leave_all_standing.{step_turns}
 use Rattle.osi_watched.proofs.sessions.the_dr_of_the_other_side_is_in_flight.{AreShut, HaveRoom, begins_shut, own_shut, turn_shut}
 use Rattle.osi_watched.proofs.sessions.what_is_left_for_an_end.{known_left}
@@ -88,9 +89,7 @@ module _ (local : Local) (two : local.class2 ≡ true) (proper : AllProper) wher
 
   rooms : (deeds : ℕ → Deeds) (j : Joint) → StandsCalling deeds j → HaveRoom j.course.sessions
   rooms deeds j h i k here =
-      let a = h.standing.all in
-      let (c, there) = there_too j.course.traffic.connections j.course.sessions.live i k a.places here in
-      room_of deeds (known_at j) j.put j.begun c k (a.live i c k there here)
+      all_room Left deeds (known_at j) j.put j.begun j.course.traffic j.course.sessions h.standing.all i k here
 
   pub passes_own_stands : (deeds : ℕ → Deeds) (at : ℕ) (unit : Value) (old new : Joint) → Steps Left (passes_own at unit) old new →
       IsFine Left unit old.course → IsClear old.course.traffic.course → StandsCalling deeds old → StandsCalling deeds new
@@ -100,7 +99,7 @@ module _ (local : Local) (two : local.class2 ≡ true) (proper : AllProper) wher
       let a = h.standing.all in
       subst (StandsCalling deeds) (sym is) (record {
         calling = passes_own_calling local two proper deeds at unit old mid step a.places h.calling;
-        standing = step_passes_own Left deeds (known_at old) at unit old mid step fine
+        standing = step_passes_own_firm Left deeds (known_at old) at unit old mid step fine
             (is_ready local two deeds at unit old mid step clear h.calling) h.standing;
         distinct = subst (AreDistinct Left) (sym (unit_joins Left at unit old.course))
             (unit_distinct Left Left at unit old.course.traffic old.course.sessions a.places h.distinct
@@ -155,7 +154,8 @@ module _ (local : Local) (two : local.class2 ≡ true) (proper : AllProper) wher
       let f = h.calling.ahead.followed in
       let turns : Turns Left on.more (known_at old) (known_at new) t.units old.course.traffic old.course.sessions = record {
         puts = λ i c j r there here mine live.
-            puts_wait Left deeds (known_at old) old.put old.begun old.course.traffic old.course.sessions a clear.sure.firm h.distinct i c j
+            puts_wait Left deeds (known_at old) old.put old.begun old.course.traffic old.course.sessions a
+            (judged_apart Left old.course.traffic.connections a.apart (a.judged clear.sure.firm)) h.distinct i c j
             r there here mine live (h.calling.ahead.below.live i j r here mine).0 on.put marked (on.more r).put
             (on.own r (h.calling.ahead.below.live i j r here mine).0)
             ∙ ap (waiting_for (reference_of Right j)) (sym units);

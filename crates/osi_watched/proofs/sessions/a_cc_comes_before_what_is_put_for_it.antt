@@ -31,7 +31,7 @@ use Rattle.osi_watched.proofs.what_a_taker_passes_over.{IsMild}
 use Rattle.osi_watched.proofs.sessions.a_right_dt_has_one_place.{still_used}
 use Rattle.osi_watched.proofs.sessions.connections_have_the_same_places.{at_same}
 use Rattle.osi_watched.proofs.sessions.what_is_left_for_an_end.{known_left, left_same}
-use Rattle.osi_watched.proofs.sessions.what_passes_leaves_all_standing.{IsHeard}
+use Rattle.osi_watched.proofs.sessions.what_passes_leaves_all_standing.{IsHeardFirm}
 use Rattle.osi_watched.proofs.sessions.what_stands_of_a_connection.{is_for, waiting_for}
 
 -- ---- a CC that is no break, or has too large a size
@@ -160,5 +160,5 @@ module _ (n : ℕ) (x : Connect) (s : State) (t : Sessions) (firm : s.course.loo
 
   -- what waits are the units of a whole end, or units that are for the same connections
   pub cc_heard : (is_live : ℕ → Bool) (coming put : List Value) → waiting_for (Some x.source) put ≡ [] →
-      IsHeard Left (known_left is_live coming) (known_left is_live (coming ++ confirm n x ∷ [])) (confirm n x) put s t
+      IsHeardFirm Left (known_left is_live coming) (known_left is_live (coming ++ confirm n x ∷ [])) (confirm n x) put s t
   cc_heard is_live coming put unheard = (unheard, λ r later sure. left_same is_live coming (confirm n x) r later refl sure)

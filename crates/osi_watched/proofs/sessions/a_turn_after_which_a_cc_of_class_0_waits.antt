@@ -106,7 +106,10 @@ module _ (local : Local) (j : Joint) (f : IsFollowed Right (first local) j) (n :
       StandsCalledEarly deeds r end units begun coming j.course → (x.class ≡ 2 → ⊥) → Selecting local f.whole
   selects can sure class deeds r end units begun coming e not =
       by (answers_or_selects local j f can
-      (record { sure = sure; two = λ zero_is. none_some j.course.traffic.course.class Zero class zero_is }) e.all.places)
+      (record {
+        calm = record { left = sure.left; right = sure.right };
+        two = λ zero_is. none_some j.course.traffic.course.class Zero class zero_is;
+      }) e.all.places)
     where
       by : AllByRecursion AnswersTwo j.put ⊎ Selecting local f.whole → Selecting local f.whole
       by (inl two) = absurd (not (subst (AllByRecursion AnswersTwo) put two).0)

@@ -1,6 +1,7 @@
 -- A turn of an end leaves all its connections standing at a tap; and while they stand, no session of the end is to blame.
 -- For the session of each connection of an end.
-use Rattle.osi_watched.proofs.Vocabulary.{[], ap, Bool, false, List, map, Some, true, ℕ, ◌++◌, ◌≡◌, slice_get, Value, Part, End, is_open}
+use Rattle.osi_watched.proofs.Vocabulary.{[], ap, Bool, false, List, map, refl, Some, true, ℕ, ◌++◌, ◌≡◌, slice_get, Value, Part, End}
+use Rattle.osi_watched.proofs.Vocabulary.{is_open}
 use Rattle.osi_watched.proofs.Vocabulary.{own, Traffic as State, Connection, AsSent, AsParts, CalledLaw, CallerLaw, other, broke_session}
 use Rattle.osi_watched.proofs.Vocabulary.{begin_of, Direction, Deeds, then_did, IsToBlame, Joined, reference_of, Sessions, spoken, way_of}
 use Rattle.osi_watched.proofs.Vocabulary.{heard, told, told_of, calls_from, IsShownNow}
@@ -36,9 +37,10 @@ all_turn d deeds more known then_known put units b s t some turns a = record {
   apart = a.apart;
   judged = a.judged;
   room = a.room;
-  live = λ i c j there here.
+  live = λ i c j there here judged.
       stands_turns d deeds more known then_known put units b c j some (λ r named live. turns.puts i c j r there here named live)
-      (λ r later named sure. turns.takes r later sure) (a.live i c j there here);
+      (λ r later named sure. turns.takes r later sure) (a.live i c j there here judged);
+  lost = a.lost;
   done = λ i j here. rests_turns d deeds more known then_known j turns.takes (a.done i j here);
 }
 
@@ -65,12 +67,17 @@ module _ (known_of : AsSent) (parts : AsParts) (caller : CallerLaw) (called : Ca
   rests_blameless j (quiet none mine theirs) blame = unsaid_so j mine blame
   rests_blameless j (rests r waiting later sure h) blame = shown_so r waiting later false j h blame
 
+  either_blameless : (s : State) (t : Sessions) → AllStand d deeds known put b s t → (i : ℕ) (c : Connection) (j : Joined) →
+      slice_get s.connections i ≡ Some c → slice_get t.live i ≡ Some j → (x : Bool) → c.is_judged ≡ x → IsToBlame d j → ⊥
+  either_blameless s t a i c j there here true judged blame = stands_blameless c j (a.live i c j there here judged) blame
+  either_blameless s t a i c j there here false lost blame = (a.lost i c j there here lost).none blame
+
   -- of all connections
   pub all_blameless : (s : State) (t : Sessions) → AllStand d deeds known put b s t →
       ((i : ℕ) (j : Joined) → slice_get t.live i ≡ Some j → IsToBlame d j → ⊥)
       × ((i : ℕ) (j : Joined) → slice_get t.done i ≡ Some j → IsToBlame d j → ⊥)
   all_blameless s t a = (
     λ i j here blame. let (c, there) = there_too s.connections t.live i j a.places here in
-        stands_blameless c j (a.live i c j there here) blame,
+        either_blameless s t a i c j there here c.is_judged refl blame,
     λ i j here blame. rests_blameless j (a.done i j here) blame,
   )

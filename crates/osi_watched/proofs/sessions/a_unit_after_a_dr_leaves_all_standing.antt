@@ -2,7 +2,7 @@
 -- in flight: the tap joins nothing, and what is left over for the end stays, since the unit comes after the DR.
 -- For the sessions of an end after such a unit of the other side.
 use Rattle.osi_watched.proofs.Vocabulary.{[], ap, Bool, false, List, refl, Some, subst, sym, true, ℕ, ◌++◌, ◌==◌, ◌∙◌, ◌∷◌, ◌≡◌, eqb-true}
-use Rattle.osi_watched.proofs.Vocabulary.{acknowledge, data2, Value, Part, other, Direction, Deeds, unit_passes, AreJudged, HaveSamePlaces}
+use Rattle.osi_watched.proofs.Vocabulary.{acknowledge, data2, Value, Part, other, Direction, Deeds, unit_passes, HaveSamePlaces}
 use Rattle.osi_watched.proofs.Vocabulary.{parts_of, picked_rest, Sessions, Traffic as State}
 use Rattle.osi_tap.specs.Courses.{Course}
 use Rattle.osi_fair.proofs.small_facts_that_many_lemmas_use.{number_is}
@@ -43,20 +43,26 @@ all_keep d deeds known then_known put b s t keeps a = record {
   apart = a.apart;
   judged = a.judged;
   room = a.room;
-  live = λ i c j there here.
+  live = λ i c j there here judged.
       stands_other_none d deeds known then_known put b c c j j (like_same d j) refl refl (λ r later named. keeps r later)
-      (a.live i c j there here);
+      (a.live i c j there here judged);
+  lost = a.lost;
   done = λ i j here. rests_on d deeds known then_known j (λ r later named. keeps r later) (a.done i j here);
 }
 
 module _ (d : Direction) (is_live : ℕ → Bool) (coming : List Value) (at : ℕ) (v : Value) (c : Course) (a : IsAfterDr (other d) v c)
-    (firm : c.traffic.course.loose ≡ false) (h : AreShut d is_live coming c.traffic c.sessions) where
-  came_after : HaveSamePlaces c.traffic.connections c.sessions.live → AreJudged c.traffic → is_live a.n ≡ true → has_dr a.n coming ≡ true
-  came_after places judged =
-      let p = is_there (other d) at v c a judged firm places in
-      let k = h.each p.place p.connection p.joined p.there p.here p.closing in
+    (h : AreShut d is_live coming c.traffic c.sessions) where
+  came_after : HaveSamePlaces c.traffic.connections c.sessions.live → is_live a.n ≡ true → has_dr a.n coming ≡ true
+  came_after places =
+      let p = is_there (other d) at v c a places in
+      let k = h.each p.place p.connection p.joined p.there p.here p.judged p.closing in
       subst (λ (m : ℕ). is_live m ≡ true → has_dr m coming ≡ true)
       (number_is k.r a.n (sym k.named ∙ sym (other_twice d p.joined) ∙ p.named)) k.dr
+
+  -- so what is known of the parts that are left over stays
+  pub after_keeps : HaveSamePlaces c.traffic.connections c.sessions.live → (r : ℕ) (later : List Part) →
+      known_left is_live coming r later → known_left is_live (coming ++ v ∷ []) r later
+  after_keeps places r later sure = link_keeps is_live coming v a.n a.link (came_after places) r later sure
 
   pub after_stand : (deeds : ℕ → Deeds) (put : List Value) (b : Bool) →
       AllStand d deeds (known_from is_live coming) put b c.traffic c.sessions →
@@ -68,7 +74,7 @@ module _ (d : Direction) (is_live : ℕ → Bool) (coming : List Value) (at : �
       (sym (same_traffic (other d) at v c a))
       (subst (λ (t : Sessions). AllStand d deeds then_known put b c.traffic t) (sym (same_sessions (other d) at v c a))
       (all_keep d deeds (known_from is_live coming) then_known put b c.traffic c.sessions
-      (λ r later sure. (sure.0, link_keeps is_live coming v a.n a.link (came_after all.places all.judged) r later sure.1)) all))
+      (λ r later sure. (sure.0, after_keeps all.places r later sure.1)) all))
 
   pub after_shut : AreShut d is_live (coming ++ v ∷ []) (unit_passes (other d) at v c).traffic (unit_passes (other d) at v c).sessions
   after_shut =

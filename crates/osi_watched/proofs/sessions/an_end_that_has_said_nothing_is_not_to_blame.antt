@@ -107,7 +107,7 @@ module _ (d e : Direction) (at : ℕ) (v : Value) (s : State) (t : Sessions) (no
   mute_by : Does e at v s t (takes (way_of e) v s) →
       IsMute d (taken e at v (takes (way_of e) v s).told.meaning (takes (way_of e) v s).told.place t)
   mute_by (nowhere place cs ts) = subst (IsMute d) (sym ts) h
-  mute_by (somewhere p c k b r place there here one finding is cs ts) =
+  mute_by (somewhere p c k b r place there here one finding is far cs ts) =
       let new : Joined = joined.meant e at v (meaning_if b (meant v)) k in
       let none : IsUnsaid d new = said_meant d e at v b k not ∙ h.live p k here in
       subst (IsMute d) (sym ts) (record {
@@ -120,7 +120,7 @@ module _ (d e : Direction) (at : ℕ) (v : Value) (s : State) (t : Sessions) (no
         live = λ i j here. one_or (length t.live) i new j (said_asked d number x.source t.room) (after_add t.live i new j here);
         done = h.done;
       })
-  mute_by (asks_again x is number p k here cs ts) =
+  mute_by (asks_again x is number p k here free cs ts) =
       let new : Joined = asked number x.source t.room in
       subst (IsMute d) (sym ts) (record {
         live = λ i j here. one_or p i new j (said_asked d number x.source t.room) (after_set t.live p i new j here);

@@ -78,9 +78,9 @@ pub own_cr : (deeds : ℕ → Deeds) (known : Known) (at : ℕ) (x : Connect) (r
     Leaves Left deeds known known (request x ∷ rest) rest true false Left at (request x) s t
 own_cr deeds known at x rest s t put none sure = record {
   all = λ e c j h. stands_elsewhere Left deeds known (request x) rest true c j (λ live. refl) h;
-  elsewhere = λ p i first c k j apart place there one at_k finding at_c at_j another h.
+  elsewhere = λ p i first c k j apart place there one at_k finding at_c at_j another judged h.
       stands_elsewhere Left deeds known (request x) rest true c j (λ live. refl) h;
-  here = λ p c j b r place there at_j one finding is h. own_plain Left deeds known at (request x) rest b true r c j tt h;
+  here = λ p c j b r place there at_j one finding is far on judged h. own_plain Left deeds known at (request x) rest b true r c j tt h;
   asked_so = λ y number is. asked_one y number (request_is x y is);
   others = λ y is c j h. stands_elsewhere Left deeds known (request x) rest true c j (λ live. refl) h;
   moves = λ y is j h. h;
@@ -106,9 +106,9 @@ pub other_cr : (deeds : ℕ → Deeds) (known then_known : Known) (at : ℕ) (x 
 other_cr deeds known then_known at x put b s t stays = record {
   all = λ e c j h. stands_other_none Right deeds known then_known put b c c j j (like_same Right j) refl refl
       (λ r later is. stays r later) h;
-  elsewhere = λ p i first c k j apart place there one at_k finding at_c at_j another h.
+  elsewhere = λ p i first c k j apart place there one at_k finding at_c at_j another judged h.
       stands_other_none Right deeds known then_known put b c c j j (like_same Right j) refl refl (λ r later is. stays r later) h;
-  here = λ p c j y r place there at_j one finding is h.
+  here = λ p c j y r place there at_j one finding is far on judged h.
       other_plain Right deeds known then_known at (request x) put y b r c j tt (λ n later is. stays n later) h;
   asked_so = λ y number is. unnamed refl (record { said = refl; begun = refl; since = refl })
       (record { said = refl; begun = refl; since = refl }) refl;
@@ -137,9 +137,9 @@ pub own_cc : (deeds : ℕ → Deeds) (known : Known) (at n : ℕ) (x : Connect) 
     Leaves Right deeds known known (confirm n x ∷ rest) rest true false Right at (confirm n x) s t
 own_cc deeds known at n x rest s t put none sure a = record {
   all = λ e c j h. stands_elsewhere Right deeds known (confirm n x) rest true c j (λ live. refl) h;
-  elsewhere = λ p i first c k j apart place there one at_k finding at_c at_j another h.
+  elsewhere = λ p i first c k j apart place there one at_k finding at_c at_j another judged h.
       stands_elsewhere Right deeds known (confirm n x) rest true c j (λ live. refl) h;
-  here = λ p c j b r place there at_j one finding is h. by b p c j r is place at_j one h;
+  here = λ p c j b r place there at_j one finding is far on judged h. by b p c j r is place at_j one h;
   asked_so = λ y number is. absurd (cc);
   others = λ y is c j h. absurd (cc);
   moves = λ y is j h. h;
@@ -184,9 +184,9 @@ pub other_cc : (deeds : ℕ → Deeds) (known then_known : Known) (at n : ℕ) (
     Leaves Left deeds known then_known put put b b Right at (confirm n x) s t
 other_cc deeds known then_known at n x put b s t unheard stays = record {
   all = λ e c j h. stands_other_none Left deeds known then_known put b c c j j (like_same Left j) refl refl (λ r later is. stays r later) h;
-  elsewhere = λ p i first c k j apart place there one at_k finding at_c at_j another h.
+  elsewhere = λ p i first c k j apart place there one at_k finding at_c at_j another judged h.
       stands_other_none Left deeds known then_known put b c c j j (like_same Left j) refl refl (λ r later is. stays r later) h;
-  here = λ p c j y r place there at_j one finding is h. by y c j r is one h;
+  here = λ p c j y r place there at_j one finding is far on judged h. by y c j r is one h;
   asked_so = λ y number is. absurd (cc);
   others = λ y is c j h. absurd (cc);
   moves = λ y is j h. absurd (cc);

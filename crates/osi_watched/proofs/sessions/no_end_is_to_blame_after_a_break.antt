@@ -1,4 +1,4 @@
--- No session of an end is to blame, also after breaks of the other side that a taker passes over, whichever class is selected.
+-- No session of an end is to blame, also after breaks of the other side, whichever class is selected.
 -- For the law that no session of an end is blamed after such a break.
 use Rattle.std.specs.Prelude.{slice_get}
 use Rattle.std.proofs.Common.{◌⊎◌, ℕ, inl, inr, ◌≡◌, refl, ◌^◌, ◌<◌, Bool, false, true, List, length, Option, Some}
@@ -17,14 +17,16 @@ use Rattle.osi_honest.specs.Turns.{Run, Turn}
 use Rattle.osi_honest.proofs.courses.what_sessions_hear_of_it.{Known}
 use Rattle.osi_tap.specs.Blaming.{IsToBlame}
 use Rattle.osi_tap.specs.Connections.{Joined}
-use Rattle.osi_tap.specs.Courses.{Course}
+use Rattle.osi_rules.specs.Traffic.{is_stopped}
+use Rattle.osi_tap.specs.Courses.{Course, way_of}
 use Rattle.osi_tap.specs.Tapping.{comes_to}
-use Rattle.osi_watched.specs.Judging.{IsJudgedWhole}
+use Rattle.osi_watched.specs.Judging.{AreBothJudged, IsJudgedWhole}
 use Rattle.osi_watched.specs.Passing.{AreOctets}
 use Rattle.osi_watched.proofs.a_capture_is_steps.{capture_steps}
 use Rattle.osi_watched.proofs.in_class_0_one_side_alone_is_judged.{JudgesLess}
-use Rattle.osi_watched.proofs.no_unit_of_a_whole_end_is_a_break.{called_is_fair, called_is_fair_in_class_0, calling_is_fair}
-use Rattle.osi_watched.proofs.no_unit_of_a_whole_end_is_a_break.{calling_is_fair_in_class_0}
+use Rattle.osi_watched.proofs.no_unit_of_a_whole_end_is_a_break.{called_is_fair, called_is_fair_in_class_0}
+use Rattle.osi_watched.proofs.no_unit_of_a_whole_end_is_a_break.{called_is_fair_throughout, calling_is_fair, calling_is_fair_in_class_0}
+use Rattle.osi_fair.proofs.small_facts_that_many_lemmas_use.{differ}
 use Rattle.osi_watched.proofs.small_facts_that_many_lemmas_use.{zero_two}
 use Rattle.osi_watched.proofs.what_the_turns_among_steps_do.{ComesByDoing}
 use Rattle.osi_watched.proofs.sessions.a_called_end_stands_until_class_2.{StandsCalledUntilTwo}
@@ -38,6 +40,8 @@ use Rattle.osi_watched.proofs.sessions.no_session_of_a_called_end_breaks_first.{
 use Rattle.osi_watched.proofs.sessions.no_session_of_a_calling_end_breaks_first.{StandsQuiet, calling_keeps}
 use Rattle.osi_watched.proofs.sessions.no_session_of_an_end_breaks_first.{unless_zero}
 use Rattle.osi_watched.proofs.sessions.no_session_of_an_end_is_to_blame.{ends_well, nobody_of_well}
+use Rattle.osi_watched.proofs.sessions.no_session_of_an_end_is_to_blame_after_a_loss.{never_to_blame}
+use Rattle.osi_watched.proofs.sessions.a_loss_is_in_class_2_at_a_tap.{capture_two, firm_in_zero}
 use Rattle.osi_watched.proofs.sessions.steps_of_either_class_leave_all_standing.{zero_by}
 
 module _ (known : Known) (known_of : AsSent) (parts : AsParts) (caller : CallerLaw) (called : CalledLaw) (local : Local)
@@ -60,22 +64,27 @@ module _ (known : Known) (known_of : AsSent) (parts : AsParts) (caller : CallerL
   -- ---- in class 0, and while it is not selected
 
   module _ (few : length course.past < 2 ^ 64) (begin : Holding) where
-    called_ends : IsFresh false local begin → ComesByDoing Right false capture begin → EndsWell Right
-    called_ends fresh comes = zero_by selected in_zero without
+    called_nobody : IsFresh false local begin → ComesByDoing Right false capture begin → AreBothJudged Right course →
+        NoneIsToBlame Right course.sessions
+    called_nobody fresh comes both = zero_by selected in_zero without
       where
-        in_zero : selected ≡ Some Zero → EndsWell Right
+        by_class_0 : selected ≡ Some Zero → EndsWell Right → NoneIsToBlame Right course.sessions
+        by_class_0 zero (inl none) = none
+        by_class_0 zero (inr (inl loose)) = differ course.traffic.course.loose loose (firm_in_zero course zero (capture_two capture))
+        by_class_0 zero (inr (inr a)) = differ (is_stopped (way_of Right) course.traffic.course) (both zero a.stopped) a.own
+
+        in_zero : selected ≡ Some Zero → NoneIsToBlame Right course.sessions
         in_zero zero =
-            ends_well known.proper Two Right local (called_is_fair local) (called_is_fair_in_class_0 local)
+            by_class_0 zero
+            (ends_well known.proper Two Right local (called_is_fair local) (called_is_fair_in_class_0 local)
             (StandsCalledUntilTwo local known.proper)
             (called_early_keeps local known.proper known_of parts caller called) begin capture fresh comes
-            (record { not = λ two. zero_two selected zero two; few = few })
+            (record { not = λ two. zero_two selected zero two; few = few }))
 
-        without : (selected ≡ Some Zero → ⊥) → EndsWell Right
+        without : (selected ≡ Some Zero → ⊥) → NoneIsToBlame Right course.sessions
         without not =
-            ends_well known.proper Zero Right local (called_is_fair local) (called_is_fair_in_class_0 local)
-            (StandsOrSelected local known.proper)
-            (unless_zero Right local (StandsOrSelected local known.proper)
-            (called_keeps local known.proper known_of parts caller called)) begin capture fresh comes (record { not = not; few = few })
+            never_to_blame known.proper Right local (called_is_fair_throughout local) (StandsOrSelected local known.proper)
+            (called_keeps local known.proper known_of parts caller called) begin capture fresh comes (record { not = not; few = few })
 
     calling_ends : IsFresh true local begin → ComesByDoing Left true capture begin → EndsWell Left
     calling_ends fresh comes = zero_by selected in_zero (λ not. without not local.class2 refl)
@@ -106,12 +115,11 @@ module _ (known : Known) (known_of : AsSent) (parts : AsParts) (caller : CallerL
   among d i j nobody (inr here) blame = nobody.done i j here blame
 
   pub called_later : (begin end : Holding) (turns : List Turn) (i : ℕ) (j : Joined) → IsFresh false local begin → Run begin turns end →
-      AreOctets capture → IsSeen Right turns capture → IsAssumed Right →
+      AreOctets capture → IsSeen Right turns capture → length course.past < 2 ^ 64 → AreBothJudged Right course →
       (slice_get course.sessions.live i ≡ Some j) ⊎ (slice_get course.sessions.done i ≡ Some j) → IsToBlame Right j → ⊥
-  called_later begin end turns i j fresh run octets seen h there =
+  called_later begin end turns i j fresh run octets seen few both there =
       among Right i j
-      (nobody_of_well Right course
-      (called_ends h.few begin fresh (capture_steps known Right false local begin end turns capture fresh run octets seen)) h.whole) there
+      (called_nobody few begin fresh (capture_steps known Right false local begin end turns capture fresh run octets seen) both) there
 
   pub calling_later : (begin end : Holding) (turns : List Turn) (i : ℕ) (j : Joined) → IsFresh true local begin → Run begin turns end →
       AreOctets capture → IsSeen Left turns capture → IsAssumed Left →

@@ -39,7 +39,8 @@ standing_first known h = record {
     apart = fresh_apart;
     judged = λ firm i c at. no_item i c at;
     room = refl;
-    live = λ i c j there here. absurd (cc here);
+    live = λ i c j there here judged. absurd (cc here);
+    lost = λ i c j there here lost. absurd (cc here);
     done = λ i j here. absurd (cc here);
   };
 }

@@ -67,7 +67,7 @@ pub record IsDone (d : Direction) (c : Passed) : Type 0 where
   pub over : IsOver c
   pub none : NoneIsToBlame d c.sessions
 
-done_claim : (d : Direction) → IsClaim (IsDone d)
+pub done_claim : (d : Direction) → IsClaim (IsDone d)
 done_claim d = record {
   begins = λ e c h. record { over = begins_over e c h.over; none = none_begins d e c.sessions h.none };
   passes = λ e at v c h. record {

@@ -16,9 +16,11 @@ use Rattle.osi_watched.specs.Joint.{Joint, Steps, TakesTurn, begins_other, begin
 use Rattle.osi_watched.specs.Shown.{calls_from}
 use Rattle.osi_watched.proofs.the_first_break_is_not_of_an_end.{IsNoBreak}
 use Rattle.osi_watched.proofs.what_a_taker_passes_over.{IsMild}
+use Rattle.osi_watched.proofs.sessions.a_right_dt_has_one_place.{AreUsedApart}
 use Rattle.osi_watched.proofs.sessions.a_turn_leaves_all_standing.{Turns, all_turn}
 use Rattle.osi_watched.proofs.sessions.all_connections_stand.{AllStand, all_begin_other, all_begin_own}
-use Rattle.osi_watched.proofs.sessions.what_passes_leaves_all_standing.{IsHeard, IsReady, other_stands, own_stands}
+use Rattle.osi_watched.proofs.sessions.what_passes_leaves_all_standing.{IsHeardFirm, IsReady, LinksGoOn, other_stands_firm}
+use Rattle.osi_watched.proofs.sessions.what_passes_leaves_all_standing.{own_stands, own_stands_firm}
 use Rattle.osi_watched.proofs.sessions.what_stands_of_a_connection.{Known}
 
 -- all connections stand at a tap, beside what was done at the end
@@ -31,6 +33,13 @@ pub record IsFine (d : Direction) (v : Value) (c : Passed) : Type 0 where
   pub goes : is_stopped (way_of d) c.traffic.course ≡ false
   pub two : class_for (way_of d) c.traffic.course ≢ Some Zero
   pub none : IsNoBreak (takes (way_of d) v c.traffic).told.finding
+
+-- or a connection may have lost its judgement; then all judging ends with no DT or AK
+pub record IsProper (d : Direction) (v : Value) (c : Passed) : Type 0 where
+  pub goes : is_stopped (way_of d) c.traffic.course ≡ false
+  pub two : class_for (way_of d) c.traffic.course ≢ Some Zero
+  pub none : IsNoBreak (takes (way_of d) v c.traffic).told.finding
+  pub links : LinksGoOn d v c.traffic
 
 -- and it is one that its taker passes over, if it is a break
 pub record IsTakeable (d : Direction) (v : Value) (c : Passed) : Type 0 where
@@ -56,13 +65,29 @@ module _ (d : Direction) (deeds : ℕ → Deeds) (known : Known) where
         all = all_begin_other d deeds known old.put old.begun old.course.traffic old.course.sessions h.all;
       })
 
-  pub step_passes_own : (at : ℕ) (unit : Value) (old new : Joint) → Steps d (passes_own at unit) old new → IsFine d unit old.course →
-      IsReady d deeds known unit new.put old.course.traffic old.course.sessions → Standing d deeds known old → Standing d deeds known new
-  step_passes_own at unit old new step fine ready h =
+  -- one that is to pass
+  next_stands : (at : ℕ) (unit : Value) (old new : Joint) → Steps d (passes_own at unit) old new → Standing d deeds known old →
+      AllStand d deeds known (unit ∷ new.put) true old.course.traffic old.course.sessions
+  next_stands at unit old new step h =
+      subst (λ (l : List Value). AllStand d deeds known l true old.course.traffic old.course.sessions) step.2
+      (subst (λ (b : Bool). AllStand d deeds known old.put b old.course.traffic old.course.sessions) step.3 h.all)
+
+  pub step_passes_own : (at : ℕ) (unit : Value) (old new : Joint) → Steps d (passes_own at unit) old new → IsProper d unit old.course →
+      AreUsedApart d old.course.traffic.connections → IsReady d deeds known unit new.put old.course.traffic old.course.sessions →
+      Standing d deeds known old → Standing d deeds known new
+  step_passes_own at unit old new step proper apart ready h =
       subst (Standing d deeds known) (sym step.4) (record {
-        all = own_stands d deeds known at unit new.put old.course fine.firm fine.goes fine.two fine.none ready
-            (subst (λ (l : List Value). AllStand d deeds known l true old.course.traffic old.course.sessions) step.2
-            (subst (λ (b : Bool). AllStand d deeds known old.put b old.course.traffic old.course.sessions) step.3 h.all));
+        all = own_stands d deeds known at unit new.put old.course apart proper.goes proper.two proper.none proper.links ready
+            (next_stands at unit old new step h);
+      })
+
+  pub step_passes_own_firm : (at : ℕ) (unit : Value) (old new : Joint) → Steps d (passes_own at unit) old new →
+      IsFine d unit old.course → IsReady d deeds known unit new.put old.course.traffic old.course.sessions → Standing d deeds known old →
+      Standing d deeds known new
+  step_passes_own_firm at unit old new step fine ready h =
+      subst (Standing d deeds known) (sym step.4) (record {
+        all = own_stands_firm d deeds known at unit new.put old.course fine.firm fine.goes fine.two fine.none ready
+            (next_stands at unit old new step h);
       })
 
   -- what a turn of the end does
@@ -87,7 +112,7 @@ module _ (d : Direction) (deeds : ℕ → Deeds) (known : Known) where
 pub data Heard (d : Direction) (put : List Value) (at : ℕ) : (known then_known : Known) → List Value → Passed → Type 1 where
   all_heard : (known : Known) (c : Passed) → Heard d put at known known [] c
   one_heard : (known mid then_known : Known) (v : Value) (vs : List Value) (c : Passed) → IsTakeable (other d) v c →
-      IsHeard d known mid v put c.traffic c.sessions → Heard d put at mid then_known vs (unit_passes (other d) at v c) →
+      IsHeardFirm d known mid v put c.traffic c.sessions → Heard d put at mid then_known vs (unit_passes (other d) at v c) →
       Heard d put at known then_known (v ∷ vs) c
 
 pub units_stand : (d : Direction) (deeds : ℕ → Deeds) (put : List Value) (b : Bool) (at : ℕ) (known then_known : Known) (vs : List Value)
@@ -96,7 +121,7 @@ pub units_stand : (d : Direction) (deeds : ℕ → Deeds) (put : List Value) (b 
 units_stand d deeds put b at _ _ _ _ (all_heard known c) a = a
 units_stand d deeds put b at _ _ _ _ (one_heard known mid then_known v vs c fine heard more) a =
     units_stand d deeds put b at mid then_known vs (unit_passes (other d) at v c) more
-    (other_stands d deeds known mid at v put b c fine.firm fine.goes fine.two fine.none heard a)
+    (other_stands_firm d deeds known mid at v put b c fine.firm fine.goes fine.two fine.none heard a)
 
 pub step_passes_other : (d : Direction) (deeds : ℕ → Deeds) (known then_known : Known) (at : ℕ) (packet : List ℕ) (units : List Value)
     (old new : Joint) → Steps d (passes_other at packet units) old new → Heard d old.put at known then_known units old.course →

@@ -37,7 +37,6 @@ use Rattle.osi_fair.specs.Wholes.{Whole}
 use Rattle.osi_fair.specs.Wholes as wholes
 use Rattle.osi_fair.proofs.a_calling_end_is_fair_in_class_2.{Joined as Follows, next_joined}
 use Rattle.osi_fair.proofs.a_dr_for_what_is_gone.{before_clear}
-use Rattle.osi_fair.proofs.all_are_judged_unless_one_broke.{AreJudged}
 use Rattle.osi_fair.proofs.each_connection_has_its_line.{Followed, IsAnswer, Tracked, all_so, is_tracked}
 use Rattle.osi_fair.proofs.no_two_open_connections_have_one_peer.{both, differ, left_open}
 use Rattle.osi_fair.proofs.what_becomes_of_a_connection.{IsIdle, Told, comes_for}
@@ -241,7 +240,7 @@ module _ (local : Local) (v : Value) (w : Whole) (rest : List Value) (put : w.pu
   own_closed : (d : Does Left 0 v w.tap t (takes way.Left v w.tap)) → HoldsOfEach (λ (c : Connection). IsPast w.end c.left)
       own_after.tap.connections
   own_closed (nowhere place cs ts) p x at = q.closed p x (ap (λ (l : List Connection). slice_get l p) (sym cs) ∙ at)
-  own_closed (somewhere i c k b r place there here one finding is cs ts) p x at =
+  own_closed (somewhere i c k b r place there here one finding is far cs ts) p x at =
       by (after_set w.tap.connections i p (connection_after way.Left v b r c) x (ap (λ (l : List Connection). slice_get l p) (sym cs) ∙ at))
     where
       by : ((p ≡ i) × (x ≡ connection_after way.Left v b r c)) ⊎ (slice_get w.tap.connections p ≡ Some x) → IsPast w.end x.left
@@ -256,7 +255,7 @@ module _ (local : Local) (v : Value) (w : Whole) (rest : List Value) (put : w.pu
       by : ((p ≡ length w.tap.connections) × (x ≡ asked_by y)) ⊎ (slice_get w.tap.connections p ≡ Some x) → IsPast w.end x.left
       by (inr was) = q.closed p x was
       by (inl (same, new)) = λ shut may. asked_open x y new shut
-  own_closed (asks_again y is number i k here cs ts) p x at =
+  own_closed (asks_again y is number i k here free cs ts) p x at =
       by (after_set w.tap.connections i p (asked_by y) x (ap (λ (l : List Connection). slice_get l p) (sym cs) ∙ at))
     where
       by : ((p ≡ i) × (x ≡ asked_by y)) ⊎ (slice_get w.tap.connections p ≡ Some x) → IsPast w.end x.left
@@ -380,10 +379,10 @@ link_one r n v link one = same_name (destination_of v) n r (link_names v n link)
 
 -- so it has if a DT or an AK for it comes after a DR
 after_tracked : (end : Carrier) (coming : List Value) (v : Value) (c : Course) → IsAfterDr Right v c →
-    IsQuiet end coming c.traffic → AreJudged c.traffic → c.traffic.course.loose ≡ false →
+    IsQuiet end coming c.traffic →
     HaveSamePlaces c.traffic.connections c.sessions.live → (r : ℕ) → MayOpen end r → IsForOne r v → Tracked c.traffic.connections r
-after_tracked end coming v c after q judged firm places r may one =
-    let p = is_there Right 0 v c after judged firm places in
+after_tracked end coming v c after q places r may one =
+    let p = is_there Right 0 v c after places in
     let same : p.connection.left.reference ≡ r =
     same_one p.connection.left.reference r (ap (λ (n : ℕ). Some n) (sym p.one.calling) ∙ p.named
     ∙ ap (λ (n : ℕ). Some n) (link_one r after.n v after.link one)) in
@@ -439,8 +438,7 @@ fine_tracked local v w c (inl one) places clear then_clear j same q r may for_it
     (subst (λ (s : State). IsClear s.course) (sym same) clear) then_clear q r may for_it
 fine_tracked local v w c (inr after) places clear then_clear j same q r may for_it =
     subst (λ (s : State). Tracked s.connections r) (sym same)
-    (after_tracked w.end w.coming v c after (subst (IsQuiet w.end w.coming) same q) (subst AreJudged same j.kept.sane.judged)
-    clear.sure.firm places r may for_it)
+    (after_tracked w.end w.coming v c after (subst (IsQuiet w.end w.coming) same q) places r may for_it)
 
 units_quiet : (local : Local) (at : ℕ) (vs : List Value) (w : Whole) (c : Course) → AreFine at vs c → Agree c →
     IsClear (units_pass Right at vs c).traffic.course → AllByRecursion HasFieldsInRange vs → Follows local w → w.tap ≡ c.traffic →
