@@ -23,6 +23,7 @@ pub mod when_a_connection_has_a_name
 pub mod what_keeps_names_apart
 pub mod a_reference_names_one_connection
 pub mod names_stay_apart_though_one_is_lost
+pub mod names_of_right_stay_apart_though_one_is_lost
 pub mod a_right_unit_is_not_blamed
 pub mod what_a_side_knows_stays
 pub mod all_are_judged_unless_one_broke
@@ -51,9 +52,11 @@ pub mod what_stays_of_each_connection
 pub mod what_the_other_side_closes
 pub mod what_a_calling_end_still_has
 pub mod which_units_are_for_a_connection
+pub mod what_a_line_keeps_though_it_is_lost
 pub mod each_connection_has_its_line
 pub mod no_two_open_connections_have_one_peer
 pub mod a_unit_of_a_whole_end_passes
+pub mod a_unit_that_is_not_judged_passes
 pub mod a_dc_for_a_stray_dr_passes
 pub mod what_becomes_of_a_connection
 pub mod a_dr_for_what_is_gone
@@ -77,7 +80,6 @@ pub mod what_is_live_at_a_called_end
 pub mod each_connection_of_a_called_end
 pub mod what_a_called_end_closes_is_to_pass
 pub mod how_a_unit_of_right_passes
-pub mod what_a_line_keeps_though_it_is_lost
 pub mod a_unit_of_a_called_end_passes
 pub mod what_a_called_end_does_to_its_lines
 pub mod what_a_called_end_leaves_alone

@@ -1,23 +1,22 @@
--- A whole calling end is fair as long as the other side has broken no rule, whatever classes it offers: by its stages.
+-- A whole calling end is fair as long as the other side is judged, whatever classes it offers: by its stages.
 -- For the law of that name.
 use Rattle.osi_fair.proofs.Vocabulary.{[], ap, Bool, Connection, Traffic, Zero, false, inl, List, refl, Some, subst, sym, true, ◌∙◌, ◌∷◌}
-use Rattle.osi_fair.proofs.Vocabulary.{◌≡◌, ◌⊎◌, AllByRecursion, request}
-use Rattle.osi_fair.proofs.Vocabulary.{Value, Two, Local, is_stopped, takes, Course, Left, Right, Kept, NotJudged, TooMany, passes, rubbish}
-use Rattle.osi_fair.proofs.Vocabulary.{unit as passing, arrives, begin, calls, Event, HappenAlong, Happens, passes_rubbish, Whole}
+use Rattle.osi_fair.proofs.Vocabulary.{◌≡◌, ◌⊎◌, request, Value, Two, Local, is_stopped, takes, Course, Left, Right, Kept, NotJudged}
+use Rattle.osi_fair.proofs.Vocabulary.{TooMany, passes, rubbish, unit as passing, arrives, begin, calls, Event, HappenAlong, Happens}
+use Rattle.osi_fair.proofs.Vocabulary.{passes_rubbish, Whole}
 use Rattle.osi_fair.specs.Wholes.{begins_other, begins_own, passes_other, passes_own}
 use Rattle.osi_fair.proofs.a_calling_end_goes_on_in_class_zero.{IsZeroed, zeroed_passes}
-use Rattle.osi_fair.proofs.a_calling_end_is_fair_in_class_2.{IsFine, Joined, fine_by, fine_request, first_joined, mild_of, next_joined}
-use Rattle.osi_fair.proofs.each_connection_has_its_line.{IsOwned}
+use Rattle.osi_fair.proofs.a_calling_end_is_fair_in_class_2.{IsFine, Joined, fine_request, first_joined, goes, mild_of, next_joined}
 use Rattle.osi_fair.proofs.how_requests_go_on.{Stage, asks, known, zero, answered, ended, quiet, refused, waits}
 use Rattle.osi_fair.proofs.no_request_is_blamed.{Holds as Staged, holds_first, holds_next, is_right}
 use Rattle.osi_fair.proofs.the_end_is_judged_as_the_other_side_is.{other_judged, own_judged, rubbish_judged}
 use Rattle.osi_fair.proofs.what_lasts_at_the_tap.{lasts_passing}
-use Rattle.osi_fair.proofs.what_the_other_side_closes.{IsClear}
+use Rattle.osi_fair.proofs.what_the_other_side_closes.{IsOngoing}
 use Rattle.osi_fair.proofs.while_no_class_is_selected.{calm_tap}
 
 -- as long as the other side is judged, the end is
 abbrev IsJudged : Course → Type 0
-IsJudged c = c.loose ≡ false → c.right_stopped ≡ false → c.left_stopped ≡ false
+IsJudged c = c.right_stopped ≡ false → c.left_stopped ≡ false
 
 record Stands (local : Local) (w : Whole) : Type 0 where
   staged : Staged local w
@@ -32,14 +31,13 @@ none_put v rest put e none = absurd (cc (sym e ∙ none))
 first_of : (u v : Value) (xs ys : List Value) → u ∷ xs ≡ v ∷ ys → v ≡ u
 first_of u v xs ys e = cc
 
-clear_two : (c : Course) → c.class ≡ Some Two → c.loose ≡ false → c.left_stopped ≡ false → c.right_stopped ≡ false → IsClear c
-clear_two c two firm left right =
-    record { sure = record { firm = firm; left = left; right = right }; two = λ zero. cc (sym two ∙ zero) }
+going_two : (c : Course) → c.class ≡ Some Two → c.left_stopped ≡ false → c.right_stopped ≡ false → IsOngoing c
+going_two c two left right = record { sure = record { left = left; right = right }; two = λ zero. cc (sym two ∙ zero) }
 
 module _ (local : Local) (w : Whole) (v : Value) (rest : List Value) (j : Stands local w) (e : w.put ≡ v ∷ rest) (begun : w.begun ≡ true)
-    (firm : w.tap.course.loose ≡ false) (right : w.tap.course.right_stopped ≡ false) where
+    (right : w.tap.course.right_stopped ≡ false) where
   left : w.tap.course.left_stopped ≡ false
-  left = j.judged firm right
+  left = j.judged right
 
   by_stage : Stage local w → IsFine w v
   by_stage (ended none h) = none_put v rest w.put e none
@@ -55,9 +53,7 @@ module _ (local : Local) (w : Whole) (v : Value) (rest : List Value) (j : Stands
       (subst (λ (l : List Value). IsZeroed w.end l true w.tap) e
       (subst (λ b. IsZeroed w.end w.put b w.tap) begun z))).0
   by_stage (known two seen has) =
-      let t = j.two has in
-      let clear = clear_two w.tap.course two firm left right in
-      fine_by local w v rest t e begun clear (subst (AllByRecursion (IsOwned w.tap)) e (t.followed clear).owned).0
+      (goes local w (j.two has) v rest e begun (going_two w.tap.course two left right)).fine
 
   is_fine : IsFine w v
   is_fine = by_stage (j.staged.stage left)
@@ -66,18 +62,17 @@ module _ (local : Local) (w : Whole) (v : Value) (rest : List Value) (j : Stands
 
 own_stays : (local : Local) (w : Whole) (v : Value) (rest : List Value) → Stands local w → w.put ≡ v ∷ rest → w.begun ≡ true →
     IsJudged (takes Left v w.tap).state.course
-own_stays local w v rest j e begun firm right =
+own_stays local w v rest j e begun right =
     let l = lasts_passing (passing Left v) w.tap in
-    own_judged v w.tap (mild_of w v (is_fine local w v rest j e begun (l.firm firm) (l.right right))) (j.judged (l.firm firm) (l.right right))
-    right
+    own_judged v w.tap (mild_of w v (is_fine local w v rest j e begun (l.right right))) (j.judged (l.right right)) right
 
 other_stays : (local : Local) (w : Whole) (v : Value) → Stands local w → IsJudged (takes Right v w.tap).state.course
-other_stays local w v j firm right =
-    let l = lasts_passing (passing Right v) w.tap in other_judged v w.tap (j.judged (l.firm firm) (l.right right)) right
+other_stays local w v j right =
+    let l = lasts_passing (passing Right v) w.tap in other_judged v w.tap (j.judged (l.right right)) right
 
 rubbish_stays : (local : Local) (w : Whole) → Stands local w → IsJudged (passes (rubbish Right) w.tap).course
-rubbish_stays local w j firm right =
-    let l = lasts_passing (rubbish Right) w.tap in rubbish_judged w.tap (j.judged (l.firm firm) (l.right right)) right
+rubbish_stays local w j right =
+    let l = lasts_passing (rubbish Right) w.tap in rubbish_judged w.tap (j.judged (l.right right)) right
 
 next_judged : (local : Local) (event : Event) (w new : Whole) → Happens Left event w new → Stands local w → IsJudged new.tap.course
 next_judged local arrives w new (u, coming, is) j = subst (λ (x : Whole). IsJudged x.tap.course) (sym is) j.judged
@@ -99,14 +94,14 @@ all_stand local (event ∷ events) w new (mid, first, more) j = all_stand local 
 })
 
 first_stands : (local : Local) → Stands local (begin true local)
-first_stands local = record { staged = holds_first local; two = λ has. first_joined local has; judged = λ firm right. refl }
+first_stands local = record { staged = holds_first local; two = λ has. first_joined local has; judged = λ right. refl }
 
 pub calling_fair : (local : Local) (events : List Event) (w : Whole) (v : Value) (rest : List Value) →
     HappenAlong Left (begin true local) events w → w.begun ≡ true → w.put ≡ v ∷ rest → is_stopped Right w.tap.course ≡ false →
-    w.tap.course.loose ≡ false → ((takes Left v w.tap).told.finding ≡ Kept) ⊎ (((takes Left v w.tap).told.finding ≡ TooMany)
-    ⊎ (((takes Left v w.tap).told.finding ≡ NotJudged) × (w.tap.course.strays ≡ true)))
-calling_fair local events w v rest along begun e right firm =
-    is_fine local w v rest (all_stand local events (begin true local) w along (first_stands local)) e begun firm right
+    ((takes Left v w.tap).told.finding ≡ Kept) ⊎ (((takes Left v w.tap).told.finding ≡ TooMany)
+    ⊎ (((takes Left v w.tap).told.finding ≡ NotJudged) × ((w.tap.course.strays ≡ true) ⊎ (w.tap.course.loose ≡ true))))
+calling_fair local events w v rest along begun e right =
+    is_fine local w v rest (all_stand local events (begin true local) w along (first_stands local)) e begun right
 
 -- ---- in class 0
 

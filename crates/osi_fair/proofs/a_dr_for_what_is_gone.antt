@@ -1,13 +1,11 @@
 -- A DR that a whole calling end takes for a reference that is gone closed nothing at the tap, whatever happens.
 -- For the law of that name.
-use Rattle.osi_fair.proofs.Vocabulary.{[], ap, arith, Bool, false, inl, inr, is_some, List, map, None, Option, refl, Some, subst, sym, true}
-use Rattle.osi_fair.proofs.Vocabulary.{ℕ, ◌++◌, ◌+◌, ◌<◌, ◌∙◌, ◌∷◌, ◌≡◌, ◌≤◌, ◌⊎◌, flat_map-append, append-nil, AllByRecursion, ◌==◌}
-use Rattle.osi_fair.proofs.Vocabulary.{confirm, Connect, disconnect, request, Value, Class, Two, Zero, Local, open_link, react, value_at}
-use Rattle.osi_fair.proofs.Vocabulary.{breaks, closes_call as closes, connects, sends, sends_all, user as by_user, user_does, UserCall}
-use Rattle.osi_fair.proofs.Vocabulary.{Live, begins, is_silent, asked_by, Outcome}
-use Rattle.osi_fair.proofs.Vocabulary.{packet_begins, Traffic, takes, Connection, Course, Direction, Left, Right, asked_in}
-use Rattle.osi_fair.proofs.Vocabulary.{asks_with, packet, passes, Passing, rubbish, unit as passing, put_by, put_for, arrives, begin, calls}
-use Rattle.osi_fair.proofs.Vocabulary.{Event, Happens, passes_rubbish, Whole}
+use Rattle.osi_fair.proofs.Vocabulary.{[], ap, arith, Bool, false, is_some, List, map, None, Option, refl, Some, subst, sym, true, ℕ, ◌++◌}
+use Rattle.osi_fair.proofs.Vocabulary.{◌+◌, ◌<◌, ◌∙◌, ◌∷◌, ◌≡◌, ◌≤◌, flat_map-append, append-nil, AllByRecursion, Connect, disconnect}
+use Rattle.osi_fair.proofs.Vocabulary.{request, Value, Local, open_link, react, value_at, breaks, closes_call as closes, connects, sends}
+use Rattle.osi_fair.proofs.Vocabulary.{sends_all, user as by_user, user_does, UserCall, Live, begins, asked_by, packet_begins, Traffic}
+use Rattle.osi_fair.proofs.Vocabulary.{takes, Connection, Direction, Left, Right, asked_in, asks_with, packet, passes, Passing, rubbish}
+use Rattle.osi_fair.proofs.Vocabulary.{unit as passing, put_by, put_for, arrives, begin, calls, Event, Happens, passes_rubbish, Whole}
 use Rattle.osi_carrier.specs.State.{State}
 use Rattle.osi_fair.specs.Wholes.{begins_other, begins_own, passes_other, passes_own}
 use Rattle.osi_fair.proofs.small_facts_that_many_lemmas_use.{begins_reference, none_of}
@@ -20,17 +18,14 @@ use Rattle.osi_fair.proofs.class_0_stays_selected.{zero_stays}
 use Rattle.osi_fair.proofs.what_a_calling_end_still_has.{OffersTwo, SelectsTwo, all_last, call_after, closed_lasts, ended_lasts, new_live}
 use Rattle.osi_fair.proofs.what_a_calling_end_still_has.{sent_lasts, unit_after}
 use Rattle.osi_fair.proofs.what_holds_of_one_item.{HoldsOfEach, after_map, each_map}
-use Rattle.osi_fair.proofs.what_lasts_at_the_tap.{lasts_passing}
+use Rattle.osi_fair.proofs.what_lasts_at_the_tap.{calm_before, lasts_passing}
 use Rattle.osi_fair.proofs.what_stays_of_each_connection.{AreDistinct, IfAsked, IsLively, IsStarted, left_passes, lively_stays}
 use Rattle.osi_fair.proofs.what_stays_of_each_connection.{right_passes, started_stays}
-use Rattle.osi_fair.proofs.what_becomes_of_a_connection.{Answered, IsIdle, Told, answered, cc_waits, comes_for, not_selected}
-use Rattle.osi_fair.proofs.what_keeps_names_apart.{Sound}
-use Rattle.osi_fair.proofs.what_the_other_side_closes.{Came, IsClear, IsDr, IsFirm, IsPlain, IsSane, Less, clear_of, closed_by}
+use Rattle.osi_fair.proofs.names_of_right_stay_apart_though_one_is_lost.{ArePeersApart}
+use Rattle.osi_fair.proofs.what_the_other_side_closes.{Came, IsClear, IsOngoing, IsDr, IsPlain, IsSane, Less, going_of, closed_by}
 use Rattle.osi_fair.proofs.what_the_other_side_closes.{closes as closes_one, stays, what_came}
-use Rattle.osi_fair.proofs.which_units_are_for_a_connection.{is_dc}
 use Rattle.osi_fair.proofs.which_requests_are_put.{asked_among, call_asks, unit_asks}
 use Rattle.osi_fair.proofs.what_is_live_at_a_called_end.{IsLive}
-use Rattle.osi_fair.proofs.Vocabulary.{is_applied, reach_of, class_for, course_after, found_on, reached}
 
 -- ---- what has come
 
@@ -109,7 +104,7 @@ pub record Lively (w : Whole) : Type 0 where
   pub known : AreKnown w.end.given w.coming
 
 lively_more : (L K : ℕ → Type 0) (cs : List Connection) → ((m : ℕ) → L m → K m) → HoldsOfEach (IsLively L) cs → HoldsOfEach (IsLively K) cs
-lively_more L K cs h a i c at there = h c.left.reference (a i c at there)
+lively_more L K cs h a i c at judged there = h c.left.reference (a i c at judged there)
 
 -- ---- the end takes a unit, and its user makes a call
 
@@ -120,7 +115,7 @@ lasted unit s b e h = grind (arith, none_of, over_takes)
 no_more : (put more : List Value) → asked_among more ≡ [] → asked_among put ≡ asked_among (put ++ more)
 no_more put more none = grind (arith, append-nil, flat_map-append)
 
-taking : (w : Whole) (unit : Value) (later : List Value) → w.coming ≡ unit ∷ later → OffersTwo w.end → SelectsTwo unit →
+taking : (w : Whole) (unit : Value) (later : List Value) → w.coming ≡ unit ∷ later → OffersTwo w.end → SelectsTwo w.end unit →
     (react unit w.end).ended ≡ None →
     Lively w → Lively (record w { end = react unit w.end; put = w.put ++ put_for unit w.end; coming = later })
 taking w unit later e o two lasts l =
@@ -224,7 +219,7 @@ own w v put e n distinct l =
     let requests = subst (λ (u : List Value). AllSo L (asked_among u)) e l.requests in
     record {
       tap = (left_passes (IsLively L) v w.tap (lively_stays L v w.tap)
-          (above w v put e n (IsLively L) (λ x is there. head_so L v put x is requests)) l.tap distinct).0;
+          (above w v put e n (IsLively L) (λ x is judged there. head_so L v put x is requests)) l.tap distinct).0;
       requests = tail_so L v put requests;
       firsts = l.firsts;
       known = l.known;
@@ -280,10 +275,13 @@ came w v n l (closes_one q e p c at is dr tap) =
 pub record Holds (w : Whole) : Type 0 where
   pub newer : Newer w
   pub sane : IsSane w.tap
-  -- the CCs that have come select class 2
-  pub offers : IsClear w.tap.course → OffersTwo w.end
-  pub selects : IsClear w.tap.course → AllByRecursion SelectsTwo w.coming
+  pub offers : IsOngoing w.tap.course → OffersTwo w.end
   pub lively : IsPlain w.tap.course → w.end.ended ≡ None → Lively w
+
+-- what is known besides: the references of right are apart, and the next unit selects class 2 if it is a CC that the end awaits
+pub record Known (w : Whole) : Type 0 where
+  pub peers : IsOngoing w.tap.course → ArePeersApart w.tap.connections
+  pub selects : IsOngoing w.tap.course → (u : Value) (later : List Value) → w.coming ≡ u ∷ later → SelectsTwo w.end u
 
 begun_started : (d : Direction) (c : Connection) → IsStarted c → IsStarted (begins d c)
 begun_started d c h = grind arith
@@ -329,62 +327,27 @@ sane_rubbish s h = search (arith, passes_apart, still_judged)
 before_passing : (p : Passing) (s : Traffic) → IsPlain (passes p s).course → IsPlain s.course
 before_passing p s h =
     let l = lasts_passing p s in record {
-      firm = l.firm h.firm;
       left = l.left h.left;
       right = l.right h.right;
       strays = l.strays h.strays;
       two = λ zero. h.two (zero_stays p s zero);
     }
 
-pub before_firm : (p : Passing) (s : Traffic) → IsFirm (passes p s).course → IsFirm s.course
-before_firm p s h =
-    let l = lasts_passing p s in record { firm = l.firm h.firm; left = l.left h.left; right = l.right h.right }
+-- both sides were judged, and class 0 was not selected
+pub before_going : (p : Passing) (s : Traffic) → IsOngoing (passes p s).course → IsOngoing s.course
+before_going p s h = record {
+  sure = calm_before s.course (passes p s).course (lasts_passing p s) h.sure;
+  two = λ zero. h.two (zero_stays p s zero);
+}
 
--- and that class 0 is not selected
+-- and no connection had lost its judgement
 pub before_clear : (p : Passing) (s : Traffic) → IsClear (passes p s).course → IsClear s.course
-before_clear p s h = record { sure = before_firm p s h.sure; two = λ zero. h.two (zero_stays p s zero) }
-
--- ---- a CC of the other side passes
-
-two_of : (k : Option Class) → (k ≡ Some Zero → ⊥) → (k ≡ None) ⊎ (k ≡ Some Two)
-two_of k h = grind arith
-
-class_of : (c : Course) → IsClear c → (c.class ≡ None) ⊎ (c.class ≡ Some Two)
-class_of c h = two_of c.class h.two
-
-same_content : (i m : ℕ) (y x : Connect) → confirm i y ≡ confirm m x → x ≡ y
-same_content i m y x e = cc
-
-same_class : (i m : ℕ) (y x : Connect) → confirm i y ≡ confirm m x → (y.class == 2) ≡ true → (x.class == 2) ≡ true
-same_class i m y x e h = ap (λ (z : Connect). z.class == 2) (same_content i m y x e) ∙ h
-
-module _ (s : Traffic) (sane : IsSane s) (clear : IsClear s.course) (v : Value) (after : IsClear (takes Right v s).state.course) where
-  by_answer : (t : Told v s (takes Right v s)) → (judged : t.c.is_judged ≡ true) (sound : Sound t.c) → Answered s t.c judged sound v →
-      SelectsTwo v
-  by_answer t judged sound k m x is = grind (arith, same_class)
-
-  cc_by : (t : Told v s (takes Right v s)) → (judged : t.c.is_judged ≡ true) (sound : Sound t.c) → (b : Bool) →
-      is_silent t.c.right.phase ≡ b → SelectsTwo v
-  cc_by t judged sound true e m x is =
-      let course_is = ap (λ (o : Outcome). o.state.course) t.is in
-      by_answer t judged sound (answered s t.c judged sound v t.n t.dest e
-      (not_selected s t.c judged sound v (λ h. after.two (ap (λ (k : Course). k.class) course_is ∙ h)))
-      (subst IsFirm course_is after.sure)) m x is
-  cc_by t judged sound false e m x is =
-      absurd (cc_waits s t.c judged sound m x e
-      (subst (λ (u : Value). IsFirm (reached Right (reach_of (class_for Right s.course) (found_on Right s t.c u))
-      (course_after Right t.c u (is_applied (found_on Right s t.c u)) s.course))) is
-      (subst IsFirm (ap (λ (o : Outcome). o.state.course) t.is) after.sure)))
-
-  by_told : Told v s (takes Right v s) ⊎ IsIdle v s (takes Right v s) → SelectsTwo v
-  by_told (inl t) =
-      let judged = sane.judged clear.sure.firm t.q t.c t.at in
-      cc_by t judged (sane.apart.sound t.q t.c t.at judged) (is_silent t.c.right.phase) refl
-  by_told (inr idle) = λ m x is. absurd (cc (sym (ap is_dc is) ∙ ap is_dc idle.dc))
-
-  selects_two : SelectsTwo v
-  selects_two =
-      by_told (comes_for s clear.sure.firm v clear.sure.left clear.sure.right (class_of s.course clear) after.sure)
+before_clear p s h =
+    let l = lasts_passing p s in
+    record {
+      sure = record { firm = l.firm h.sure.firm; left = l.left h.sure.left; right = l.right h.sure.right };
+      two = λ zero. h.two (zero_stays p s zero);
+    }
 
 not_over : (call : UserCall) (s : State) → (user_does call s).ended ≡ None → s.ended ≡ None
 not_over call s h = grind (arith, sent_lasts, all_last, closed_lasts, ended_lasts)
@@ -392,17 +355,16 @@ not_over call s h = grind (arith, sent_lasts, all_last, closed_lasts, ended_last
 abbrev pub after_arriving : Whole → Value → List Value → Whole
 after_arriving w unit later = record w { end = react unit w.end; put = w.put ++ put_for unit w.end; coming = later }
 
-holds_taking : (w : Whole) (unit : Value) (later : List Value) → w.coming ≡ unit ∷ later → Holds w →
+holds_taking : (w : Whole) (unit : Value) (later : List Value) → w.coming ≡ unit ∷ later → Known w → Holds w →
     Newer (record w { end = react unit w.end; put = w.put ++ put_for unit w.end; coming = later }) →
     Holds (record w { end = react unit w.end; put = w.put ++ put_for unit w.end; coming = later })
-holds_taking w unit later e h n = record {
+holds_taking w unit later e k h n = record {
   newer = n;
-  offers = λ clear. (unit_after unit w.end (h.offers clear) (subst (AllByRecursion SelectsTwo) e (h.selects clear)).0).offers;
-  selects = λ clear. (subst (AllByRecursion SelectsTwo) e (h.selects clear)).1;
+  offers = λ going. (unit_after unit w.end (h.offers going) (k.selects going unit later e)).offers;
   sane = h.sane;
   lively = λ plain lasts.
-      taking w unit later e (h.offers (clear_of w.tap.course plain))
-      (subst (AllByRecursion SelectsTwo) e (h.selects (clear_of w.tap.course plain))).0 lasts
+      let going = going_of w.tap.course plain in
+      taking w unit later e (h.offers going) (k.selects going unit later e) lasts
       (h.lively plain (lasted unit w.end (is_some w.end.ended) refl lasts));
 }
 
@@ -410,73 +372,60 @@ holds_calling : (w : Whole) (call : UserCall) → Holds w → Newer (after_calli
 holds_calling w call h n = record {
   newer = n;
   sane = h.sane;
-  offers = λ clear. (call_after call w.end (h.offers clear)).offers;
-  selects = h.selects;
+  offers = λ going. (call_after call w.end (h.offers going)).offers;
   lively = λ plain lasts.
-      calling_by call w ((call_after call w.end (h.offers (clear_of w.tap.course plain))).live lasts)
+      calling_by call w ((call_after call w.end (h.offers (going_of w.tap.course plain))).live lasts)
       (h.lively plain (not_over call w.end lasts));
 }
 
 started_asked : (v : Value) (x : Connect) → v ≡ request x → IsStarted (asked_by x)
 started_asked v x e = refl
 
-selects_add : (vs : List Value) (v : Value) → AllByRecursion SelectsTwo vs → SelectsTwo v → AllByRecursion SelectsTwo (vs ++ v ∷ [])
-selects_add [] v h k = (k, tt)
-selects_add (u ∷ vs) v (one, more) k = (one, selects_add vs v more k)
-
-pub next_holds : (event : Event) (w new : Whole) → Happens Left event w new → Holds w → Holds new
-next_holds arrives w new (unit, coming, is) h =
-    subst Holds (sym is) (holds_taking w unit new.coming coming h
+pub next_holds : (event : Event) (w new : Whole) → Happens Left event w new → Known w → Holds w → Holds new
+next_holds arrives w new (unit, coming, is) k h =
+    subst Holds (sym is) (holds_taking w unit new.coming coming k h
     (still_newer arrives w (after_arriving w unit new.coming) (unit, coming, refl) h.newer))
-next_holds (calls call) w new (may, is) h =
+next_holds (calls call) w new (may, is) k h =
     subst Holds (sym is) (holds_calling w call h (still_newer (calls call) w (after_calling w call) (may, refl) h.newer))
-next_holds begins_own w new (some, not_begun, is) h =
+next_holds begins_own w new (some, not_begun, is) k h =
     let after = record w { begun = true; tap = packet_begins Left w.tap } in
     subst Holds (sym is) (record {
       newer = still_newer begins_own w after (some, not_begun, refl) h.newer;
-      offers = λ clear. h.offers (before_clear (packet Left) w.tap clear);
-      selects = λ clear. h.selects (before_clear (packet Left) w.tap clear);
+      offers = λ going. h.offers (before_going (packet Left) w.tap going);
       sane = sane_begins Left w.tap h.sane;
       lively = λ plain lasts. beginning Left w true (h.lively (before_passing (packet Left) w.tap plain) lasts);
     })
-next_holds passes_own w new (v, put, begun, is) h =
+next_holds passes_own w new (v, put, begun, is) k h =
     let after = record w { put = new.put; begun = false; tap = (takes Left v w.tap).state } in
     subst Holds (sym is) (record {
       newer = still_newer passes_own w after (v, put, begun, refl) h.newer;
-      offers = λ clear. h.offers (before_clear (passing Left v) w.tap clear);
-      selects = λ clear. h.selects (before_clear (passing Left v) w.tap clear);
+      offers = λ going. h.offers (before_going (passing Left v) w.tap going);
       sane = sane_left v w.tap (above w v new.put put h.newer IsStarted (started_asked v)) h.sane;
       lively = λ plain lasts. own w v new.put put h.newer h.sane.distinct (h.lively (before_passing (passing Left v) w.tap plain) lasts);
     })
-next_holds begins_other w new is h =
+next_holds begins_other w new is k h =
     let after = record w { tap = packet_begins Right w.tap } in
     subst Holds (sym is) (record {
       newer = still_newer begins_other w after refl h.newer;
-      offers = λ clear. h.offers (before_clear (packet Right) w.tap clear);
-      selects = λ clear. h.selects (before_clear (packet Right) w.tap clear);
+      offers = λ going. h.offers (before_going (packet Right) w.tap going);
       sane = sane_begins Right w.tap h.sane;
       lively = λ plain lasts. beginning Right w w.begun (h.lively (before_passing (packet Right) w.tap plain) lasts);
     })
-next_holds (passes_other v) w new (ranges, is) h =
+next_holds (passes_other v) w new (ranges, is) k h =
     subst Holds (sym is) (record {
       newer = still_newer (passes_other v) w (after_other w v) (ranges, refl) h.newer;
-      offers = λ clear. h.offers (before_clear (passing Right v) w.tap clear);
-      selects = λ clear_after.
-          let clear = before_clear (passing Right v) w.tap clear_after in
-          selects_add w.coming v (h.selects clear) (selects_two w.tap h.sane clear v clear_after);
+      offers = λ going. h.offers (before_going (passing Right v) w.tap going);
       sane = sane_right v w.tap h.sane;
       lively = λ plain lasts.
           let before = before_passing (passing Right v) w.tap plain in
           let l = h.lively before lasts in
-          came w v h.newer l (what_came
-          (Held w.end w.coming) w.tap h.sane l.tap before.firm before.strays before.left v before.right plain);
+          came w v h.newer l (what_came (Held w.end w.coming) w.tap h.sane (k.peers (going_of w.tap.course before)) l.tap before v plain);
     })
-next_holds passes_rubbish w new is h =
+next_holds passes_rubbish w new is k h =
     let after = record w { tap = passes (rubbish Right) w.tap } in
     subst Holds (sym is) (record {
       newer = still_newer passes_rubbish w after refl h.newer;
-      offers = λ clear. h.offers (before_clear (rubbish Right) w.tap clear);
-      selects = λ clear. h.selects (before_clear (rubbish Right) w.tap clear);
+      offers = λ going. h.offers (before_going (rubbish Right) w.tap going);
       sane = sane_rubbish w.tap h.sane;
       lively = λ plain lasts.
           let l = h.lively (before_passing (rubbish Right) w.tap plain) lasts in
@@ -492,11 +441,11 @@ gone_not : {A : Type 0} (o : Option Live) → is_some o ≡ true → o ≡ None 
 gone_not o h e = grind arith
 
 strays_by : (b : Bool) (w : Whole) (n source reason : ℕ) (user : List ℕ) (more : List Value) → w.tap.course.strays ≡ b → Holds w →
-    w.coming ≡ disconnect n source reason user ∷ more → w.end.ended ≡ None → value_at n w.end.live ≡ None → IsClear w.tap.course →
+    w.coming ≡ disconnect n source reason user ∷ more → w.end.ended ≡ None → value_at n w.end.live ≡ None → IsOngoing w.tap.course →
     b ≡ true
-strays_by b w n source reason user more e h coming lasts gone clear = search (arith, gone_not)
+strays_by b w n source reason user more e h coming lasts gone going = search (arith, gone_not)
 
 pub gone_strays : (w : Whole) (n source reason : ℕ) (user : List ℕ) (more : List Value) → Holds w →
-    w.coming ≡ disconnect n source reason user ∷ more → w.end.ended ≡ None → value_at n w.end.live ≡ None → IsClear w.tap.course →
+    w.coming ≡ disconnect n source reason user ∷ more → w.end.ended ≡ None → value_at n w.end.live ≡ None → IsOngoing w.tap.course →
     w.tap.course.strays ≡ true
-gone_strays w n source reason user more h coming lasts gone clear = grind (arith, strays_by)
+gone_strays w n source reason user more h coming lasts gone going = grind (arith, strays_by)

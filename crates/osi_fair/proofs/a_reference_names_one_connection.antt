@@ -1,16 +1,15 @@
 -- A reference names one connection at most of those that are judged, whatever passes.
 -- For the law of that name. By the way that a unit takes, as in a_unit_is_an_act_of_its_line.
-use Rattle.osi_fair.proofs.Vocabulary.{arith}
-use Rattle.osi_fair.proofs.Vocabulary.{[], Bool, false, if◌then◌else◌, List, None, Option, option_map, refl, Some, subst, sym}
-use Rattle.osi_fair.proofs.Vocabulary.{true, ℕ, ◌^◌, ◌∙◌, ◌∷◌, ◌≡◌, eqb-true, list_any, nat_le, not, position, slice_get, slice_set, ◌&&◌}
-use Rattle.osi_fair.proofs.Vocabulary.{◌==◌, ◌||◌, confirm, Connect, disconnect, disconnected, error, request, Value, Class, is_applied}
+use Rattle.osi_fair.proofs.Vocabulary.{arith, [], Bool, false, if◌then◌else◌, List, None, Option, option_map, refl, Some, subst, sym, true}
+use Rattle.osi_fair.proofs.Vocabulary.{ℕ, ◌^◌, ◌∙◌, ◌∷◌, ◌≡◌, eqb-true, list_any, nat_le, not, position, slice_get, slice_set, ◌&&◌, ◌==◌}
+use Rattle.osi_fair.proofs.Vocabulary.{◌||◌, confirm, Connect, disconnect, disconnected, error, request, Value, Class, is_applied}
 use Rattle.osi_fair.proofs.Vocabulary.{reach_of, code_named, first_failed, given_again, is_inside, is_offered, is_closing, is_free}
-use Rattle.osi_fair.proofs.Vocabulary.{is_named, is_open, is_over, is_over_by, is_refused, is_silent, seen, uses, asked_by}
-use Rattle.osi_fair.proofs.Vocabulary.{asks_by, asks_kept, asks_of, at_found, at_place, class_for, closing_phase, connection_after, found}
-use Rattle.osi_fair.proofs.Vocabulary.{found_on, fresh, half_after, is_stopped, judged_on, none_told, Outcome, request_tests, route, routed}
-use Rattle.osi_fair.proofs.Vocabulary.{sent_on, Traffic as State, uses_source, Connection, Course, Direction, Left, Right}
-use Rattle.osi_fair.proofs.Vocabulary.{Finding, Broke, Kept, NotJudged, Outside, Reach, Half, Phase, Closed, Open, Refused, Route}
-use Rattle.osi_fair.proofs.Vocabulary.{Asks, Named, Only, Unnamed, all_passed, HoldsOfOne, packet, passes, Passing, rubbish, unit}
+use Rattle.osi_fair.proofs.Vocabulary.{is_named, is_open, is_over, is_over_by, is_refused, is_silent, seen, uses, asked_by, asks_by}
+use Rattle.osi_fair.proofs.Vocabulary.{asks_kept, asks_of, at_found, at_place, class_for, closing_phase, connection_after, found, found_on}
+use Rattle.osi_fair.proofs.Vocabulary.{fresh, half_after, is_stopped, judged_on, none_told, Outcome, request_tests, route, routed, sent_on}
+use Rattle.osi_fair.proofs.Vocabulary.{Traffic as State, uses_source, Connection, Course, Direction, Left, Right, Finding, Broke, Kept}
+use Rattle.osi_fair.proofs.Vocabulary.{NotJudged, Outside, Reach, Half, Phase, Closed, Open, Refused, Route, Asks, Named, Only, Unnamed}
+use Rattle.osi_fair.proofs.Vocabulary.{all_passed, HoldsOfOne, packet, passes, Passing, rubbish, unit, is_due, ap, is_live}
 use Rattle.osi_rules.specs.declared.findings.Reach.TheVariants as reach
 use Rattle.osi_rules.specs.declared.findings.Rule.TheVariants as rule
 use Rattle.osi_fair.proofs.small_facts_that_many_lemmas_use.{and_first, and_second, judged_same, or_first, or_last}
@@ -19,8 +18,6 @@ use Rattle.osi_fair.proofs.what_holds_of_one_item.{first_true, none_true}
 use Rattle.osi_fair.proofs.when_a_connection_has_a_name.{HalfMoves, earlier_same}
 use Rattle.osi_fair.proofs.what_keeps_names_apart.{AreApart, IsNew, Lessens, Sound, apart_add, apart_begins, apart_opens, apart_put}
 use Rattle.osi_fair.proofs.what_keeps_names_apart.{apart_set, left_lessens, lessens_on, right_lessens, same_lessens}
-use Rattle.osi_fair.proofs.Vocabulary.{is_due}
-use Rattle.osi_fair.proofs.Vocabulary.{ap, is_live}
 pub use Rattle.osi_fair.proofs.small_facts_that_many_lemmas_use.{differ}
 
 -- ---- what a side has sent after a unit that has its effect
@@ -64,7 +61,7 @@ due_test : (due told strays : Bool) →
     due ≡ true
 due_test due told strays h = grind arith
 
-confirm_test : (a b i u loose z : Bool) →
+pub confirm_test : (a b i u loose z : Bool) →
     is_applied (first_failed ((a, Broke rule.WrongForm) ∷ (b, Broke rule.BadAnswer) ∷ (i, Outside) ∷ (u, given_again loose)
     ∷ (z, Broke rule.LargerSize) ∷ [])) ≡ true →
     (a ≡ true) × (u ≡ true) × ((k : Option Class) →
@@ -81,6 +78,18 @@ module _ (course : Course) (in_use : Bool) (c : Connection) where
   left_sent (request x) h j s live = cc
   left_sent (confirm destination x) h j s live = cc
   left_sent v h j s live = grind (arith, left_effect, left_lessens)
+
+  right_effect : (v : Value) → ((m : ℕ) (x : Connect) → v ≡ confirm m x → ⊥) → is_applied (found Right course in_use c v) ≡ true →
+      Effect c.right c.seen_by_right (half_after v c.right)
+  right_effect (confirm destination x) none h = absurd (none destination x refl)
+  right_effect v none h = grind (arith, closes_so, one_test, answers_so, due_test, refuses_so, form_test, same_phase)
+
+  -- a unit of right that is no CC
+  pub right_goes : (v : Value) → ((m : ℕ) (x : Connect) → v ≡ confirm m x → ⊥) → is_applied (found Right course in_use c v) ≡ true →
+      c.is_judged ≡ true → Sound c → is_over_by c.right c.seen_by_right ≡ false → Lessens c (sent_on Right v c)
+  right_goes (request x) none h j s live = cc
+  right_goes (confirm destination x) none h j s live = absurd (none destination x refl)
+  right_goes v none h j s live = grind (arith, right_effect, right_lessens)
 
   right_by : (v : Value) (cs : List Connection) (p : ℕ) (r : Reach) → AreApart cs → slice_get cs p ≡ Some c → c.is_judged ≡ true → Sound c →
       is_over_by c.right c.seen_by_right ≡ false → Effect c.right c.seen_by_right (half_after v c.right) →

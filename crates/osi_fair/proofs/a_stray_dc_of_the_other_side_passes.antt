@@ -1,11 +1,9 @@
 -- A DC of the other side passes that answers nothing: the lines of its connection may take it, and nothing else changes.
 -- For the law on a whole end.
-use Rattle.osi_fair.proofs.Vocabulary.{arith}
-use Rattle.osi_fair.proofs.Vocabulary.{[], ap, Bool, false, List, not, refl, Some, subst, sym, true, ◌++◌, ◌∙◌, ◌∷◌, ◌≡◌, ◌≢◌, ◌&&◌, ◌==◌}
-use Rattle.osi_fair.proofs.Vocabulary.{Connect, destination_of, HasFieldsInRange, request, Value, Two, Local, reach_of, is_due, is_closing}
-use Rattle.osi_fair.proofs.Vocabulary.{is_open, is_silent, found, Traffic, takes}
-use Rattle.osi_fair.proofs.Vocabulary.{Connection, Right, Finding, NotJudged, after_finding, finding_of}
-use Rattle.osi_fair.proofs.Vocabulary.{Line, Whole}
+use Rattle.osi_fair.proofs.Vocabulary.{arith, [], ap, Bool, false, if◌then◌else◌, List, not, refl, Some, subst, sym, true, ◌++◌, ◌∙◌, ◌∷◌}
+use Rattle.osi_fair.proofs.Vocabulary.{◌≡◌, ◌≢◌, ◌&&◌, ◌==◌, Connect, destination_of, HasFieldsInRange, request, Value, Two, Local}
+use Rattle.osi_fair.proofs.Vocabulary.{reach_of, is_due, is_closing, is_open, is_silent, found, Traffic, takes, Connection, Right, Finding}
+use Rattle.osi_fair.proofs.Vocabulary.{NotJudged, after_finding, finding_of, Line, Whole}
 use Rattle.osi_rules.specs.declared.findings.Reach.TheVariants as reach
 use Rattle.osi_fair.specs.Lines.{passes_other}
 use Rattle.osi_fair.proofs.small_facts_that_many_lemmas_use.{and_first, and_second, differ, is_false, judged_same, open_or_closing}
@@ -17,11 +15,12 @@ use Rattle.osi_fair.proofs.each_connection_has_its_line.{AreGiven, Followed, Fol
 use Rattle.osi_fair.proofs.each_connection_has_its_line.{tracks_on}
 use Rattle.osi_fair.proofs.what_becomes_of_a_connection.{IsIdle}
 use Rattle.osi_fair.proofs.what_keeps_names_apart.{Sound}
+use Rattle.osi_fair.proofs.names_of_right_stay_apart_though_one_is_lost.{ArePeersApart, each_sound}
 use Rattle.osi_fair.proofs.what_the_other_side_closes.{IsSane}
 use Rattle.osi_fair.proofs.which_units_are_for_a_connection.{is_dc, named_is, names}
 use Rattle.osi_fair.proofs.what_is_live_at_a_called_end.{all_add}
 
-module _ (local : Local) (w : Whole) (f : Followed local w) (sane : IsSane w.tap) (firm : w.tap.course.loose ≡ false) (v : Value)
+module _ (local : Local) (w : Whole) (f : Followed local w) (sane : IsSane w.tap) (peers : ArePeersApart w.tap.connections) (v : Value)
     (ranges : HasFieldsInRange v) (t : IsIdle v w.tap (takes Right v w.tap)) where
   abbrev more : List Value
   more = w.coming ++ v ∷ []
@@ -29,9 +28,12 @@ module _ (local : Local) (w : Whole) (f : Followed local w) (sane : IsSane w.tap
   dc : is_dc v ≡ true
   dc = ap is_dc t.dc
 
-  -- it is not due on a connection that left has not closed
-  spared : (c : Connection) → c.is_judged ≡ true → Sound c → is_tracked c ≡ true → finding_of Right w.tap.course false c v ≡ NotJudged
-  spared c judged sound tracked =
+  -- it is not due on a connection that left has not closed, nor judged on one that has lost its judgement
+  spared : (c : Connection) → Sound c → is_tracked c ≡ true → (j : Bool) → c.is_judged ≡ j →
+      finding_of Right w.tap.course false c v ≡ NotJudged
+  spared c sound tracked false lost =
+      ap (λ (j : Bool). if j then found Right w.tap.course false c v else NotJudged) lost
+  spared c sound tracked true judged =
       let none : is_due Right c t.source ≡ false = is_false (is_due Right c t.source) (λ h.
       open_or_closing c.left.phase (left_open c tracked) (sound.right_knows.closing
       (and_first (is_closing c.seen_by_right.phase) (t.source == c.right.reference)
@@ -43,13 +45,13 @@ module _ (local : Local) (w : Whole) (f : Followed local w) (sane : IsSane w.tap
   not_all : (g : Finding) → g ≡ NotJudged → reach_of (Some Two) g ≢ reach.Everything
   not_all g e h = cc (sym (ap (λ (x : Finding). reach_of (Some Two) x) e) ∙ h)
 
-  line_takes : (c : Connection) → c.is_judged ≡ true → Sound c → is_tracked c ≡ true →
+  line_takes : (c : Connection) → Sound c → is_tracked c ≡ true →
       (g : Following local w.put w.begun w.tap.course.strays w.end w.coming c) → names g.r v ≡ true →
       Following local w.put w.begun w.tap.course.strays w.end more c
-  line_takes c judged sound tracked g named =
+  line_takes c sound tracked g named =
       let line : Line = record g.line { coming = g.line.coming ++ v ∷ [] } in
       let is : finding_of Right w.tap.course false g.line.tap v ≡ NotJudged =
-      ap (λ (x : Connection). finding_of Right w.tap.course false x v) g.tap ∙ spared c judged sound tracked in
+      ap (λ (x : Connection). finding_of Right w.tap.course false x v) g.tap ∙ spared c sound tracked c.is_judged refl in
       record {
         r = g.r;
         peer = g.peer;
@@ -73,14 +75,14 @@ module _ (local : Local) (w : Whole) (f : Followed local w) (sane : IsSane w.tap
         gone = g.gone;
         begun_is = g.begun_is;
         row = row_add local w.end w.coming g.r g.peer g.line line v named refl refl g.row;
-        calm = all_add IsNoCc g.line.coming v g.calm (dc_no_cc v dc);
+        calm = λ j. all_add IsNoCc g.line.coming v (g.calm j) (dc_no_cc v dc);
       }
 
-  line_idle : (c : Connection) → c.is_judged ≡ true → Sound c → is_tracked c ≡ true →
+  line_idle : (c : Connection) → Sound c → is_tracked c ≡ true →
       (g : Following local w.put w.begun w.tap.course.strays w.end w.coming c) → (b : Bool) → names g.r v ≡ b →
       Following local w.put w.begun w.tap.course.strays w.end more c
-  line_idle c judged sound tracked g true e = line_takes c judged sound tracked g e
-  line_idle c judged sound tracked g false e =
+  line_idle c sound tracked g true e = line_takes c sound tracked g e
+  line_idle c sound tracked g false e =
       following_other local w.put w.begun w.tap.course.strays w.tap.course.strays w.end w.coming c v (λ h. h) g e
 
   still_asking : (x : Connect) → IsAsking local w.end w.coming x → IsAsking local w.end more x
@@ -89,13 +91,13 @@ module _ (local : Local) (w : Whole) (f : Followed local w) (sane : IsSane w.tap
   idle_so : Followed local (record w { coming = more })
   idle_so = record {
     lines = λ i c at tracked.
-        let judged = sane.judged firm i c at in
         let g = f.lines i c at tracked in
-        line_idle c judged (sane.apart.sound i c at judged) tracked g (names g.r v) refl;
+        line_idle c (each_sound w.tap.connections sane.apart peers i c at) tracked g (names g.r v) refl;
     waiting = λ i c at waits. waiting_dc local w.end w.coming c v dc (f.waiting i c at waits);
     owned = f.owned;
     linked = f.linked;
-    answers = all_add (λ u. IsAnswer w.tap.connections w.end u) w.coming v f.answers (λ m x e lasts. absurd (dc_no_cc v dc m x e));
+    answers = all_add (λ u. IsAnswer w.tap.course.loose w.tap.connections w.end u) w.coming v f.answers
+        (λ m x e lasts why. absurd (dc_no_cc v dc m x e));
     requests = all_so (λ u. (x : Connect) → u ≡ request x → IsAsking local w.end w.coming x)
         (λ u. (x : Connect) → u ≡ request x → IsAsking local w.end more x) w.put (λ u h x e. still_asking x (h x e)) f.requests;
     two = f.two;
@@ -105,7 +107,12 @@ module _ (local : Local) (w : Whole) (f : Followed local w) (sane : IsSane w.tap
     few = all_add (AreGiven w.end.given) w.coming v f.few (λ none m e. differ (is_dc v) dc none);
     seen = f.seen;
     settled = f.settled;
+    lost = f.lost;
+    shut = f.shut;
   }
 
   pub idle_passes : Followed local (record w { tap = (takes Right v w.tap).state; coming = more })
   idle_passes = subst (λ (s : Traffic). Followed local (record w { tap = s; coming = more })) (sym t.same) idle_so
+
+  pub idle_peers : ArePeersApart (takes Right v w.tap).state.connections
+  idle_peers = subst (λ (s : Traffic). ArePeersApart s.connections) (sym t.same) peers

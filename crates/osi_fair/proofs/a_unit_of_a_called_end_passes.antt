@@ -1,15 +1,15 @@
 -- A unit of a whole called end passes: a CC, a DR that refuses a CR, or a unit of an open connection. Each is right.
 -- For the law on a whole called end.
-use Rattle.osi_fair.proofs.Vocabulary.{[], ap, arith, Bool, drop, false, inl, inr, List, None, Option, refl, set, Some, subst, sym}
-use Rattle.osi_fair.proofs.Vocabulary.{true, ℕ, ◌++◌, ◌<◌, ◌∙◌, ◌∷◌, ◌≡◌, ◌≤◌, ◌⊎◌, eq-eqb, AllByRecursion, list_any, position_or_len}
-use Rattle.osi_fair.proofs.Vocabulary.{position, slice_get, ◌&&◌, ◌==◌, ◌||◌, confirm, Connect, destination_of, disconnect, error, Value}
-use Rattle.osi_fair.proofs.Vocabulary.{Standing, Class, Two, Local, acceptance, opened_link, confirm_tests}
-use Rattle.osi_fair.proofs.Vocabulary.{is_named, is_open, is_over, is_refused, is_silent, other, uses, course_after, found}
-use Rattle.osi_fair.proofs.Vocabulary.{found_on, half_after, is_stopped, route, sent_on, silent_half, takes, uses_source, Connection}
-use Rattle.osi_fair.proofs.Vocabulary.{Course, Left, Right, Kept, NotJudged, Half, Refused, Named, ActsAlong, after_finding}
-use Rattle.osi_fair.proofs.Vocabulary.{finding_of, IsRight, IsRightNow, Line, opened_half, opened_line, unit as passing, Whole}
-use Rattle.osi_fair.proofs.Vocabulary.{acknowledge, Broke, class_for, connection_after, data0, data2, disconnected, Finding, first_failed}
-use Rattle.osi_fair.proofs.Vocabulary.{if◌then◌else◌, is_applied, is_over_by, not, one_told, Outcome, reach_of, reached, request, Traffic}
+use Rattle.osi_fair.proofs.Vocabulary.{[], ap, arith, Bool, drop, false, inl, inr, List, None, Option, refl, set, Some, subst, sym, true}
+use Rattle.osi_fair.proofs.Vocabulary.{ℕ, ◌++◌, ◌<◌, ◌∙◌, ◌∷◌, ◌≡◌, ◌≤◌, ◌⊎◌, eq-eqb, AllByRecursion, list_any, position_or_len, position}
+use Rattle.osi_fair.proofs.Vocabulary.{slice_get, ◌&&◌, ◌==◌, ◌||◌, confirm, Connect, destination_of, disconnect, error, Value, Standing}
+use Rattle.osi_fair.proofs.Vocabulary.{Class, Two, Local, acceptance, opened_link, confirm_tests, is_named, is_open, is_over, is_refused}
+use Rattle.osi_fair.proofs.Vocabulary.{is_silent, other, uses, course_after, found, found_on, half_after, is_stopped, route, sent_on}
+use Rattle.osi_fair.proofs.Vocabulary.{silent_half, takes, uses_source, Connection, Course, Left, Right, Kept, NotJudged, Half, Refused}
+use Rattle.osi_fair.proofs.Vocabulary.{Named, ActsAlong, after_finding, finding_of, IsRight, IsRightNow, Line, opened_half, opened_line}
+use Rattle.osi_fair.proofs.Vocabulary.{unit as passing, Whole, acknowledge, Broke, class_for, connection_after, data0, data2, disconnected}
+use Rattle.osi_fair.proofs.Vocabulary.{Finding, first_failed, if◌then◌else◌, is_applied, is_over_by, not, one_told, Outcome, reach_of}
+use Rattle.osi_fair.proofs.Vocabulary.{reached, request, Traffic}
 use Rattle.osi_rules.specs.declared.findings.Reach.TheVariants as reach
 use Rattle.osi_rules.specs.declared.findings.Rule.TheVariants as rule
 use Rattle.osi_fair.specs.Lines.{passes_own}
@@ -33,11 +33,11 @@ use Rattle.osi_fair.proofs.what_is_put_before_the_cc_passes.{acts_join}
 use Rattle.osi_fair.proofs.what_keeps_names_apart.{AreApart}
 use Rattle.osi_fair.proofs.what_lasts_at_the_tap.{Lasts, lasts_passing}
 use Rattle.osi_fair.proofs.what_stays_of_each_connection.{left_then, right_own}
-use Rattle.osi_fair.proofs.which_units_are_for_a_connection.{AllNamed, line_named, names_in as is_at}
+use Rattle.osi_fair.proofs.which_units_are_for_a_connection.{AllNamed, AllOurs, line_named, names_in as is_at}
 use Rattle.osi_fair.proofs.while_no_class_is_selected.{after_change, set_same}
-use Rattle.osi_fair.proofs.how_a_unit_of_right_passes.{no_list, use_so, route_confirm, route_dr, route_two_so, class_seen_same, strays_more}
-use Rattle.osi_fair.proofs.how_a_unit_of_right_passes.{above_next, half_keeps, half_started, open_started, half_not_refused, wrong_form}
-use Rattle.osi_fair.proofs.how_a_unit_of_right_passes.{there_not, finding_kept, conns_kept, course_kept, takes_so}
+use Rattle.osi_fair.proofs.how_a_unit_of_right_passes.{no_list, use_so, route_confirm, route_dr, route_two_so, class_seen_same}
+use Rattle.osi_fair.proofs.how_a_unit_of_right_passes.{strays_more, above_next, half_keeps, half_started, open_started, half_not_refused}
+use Rattle.osi_fair.proofs.how_a_unit_of_right_passes.{wrong_form, there_not, finding_kept, conns_kept, course_kept, takes_so}
 use Rattle.osi_fair.proofs.a_unit_of_a_whole_end_passes.{put_open as open_of}
 
 -- ---- small facts
@@ -492,8 +492,8 @@ module _ (local : Local) (w : Whole) (f : Called local w) (apart : AreApart w.ta
 
     module _ (g : Running f.shut w.end w.coming (units_at p f.tagged) (w.begun && first_at p f.tagged) (f.refs p) c)
         (asks : units_at p f.came ≡ []) (is_lost : c.is_judged ≡ false) where
-      keeps : Keeps g.peer g.line
-      keeps = line_keeps g.r g.peer g.first g.line g.acts g.opened g.along
+      keeps : Keeps Right g.r g.peer g.line
+      keeps = line_keeps Right g.r g.peer g.first g.line g.acts g.opened g.along
 
       lost_begun : g.line.begun ≡ true
       lost_begun = g.begun_is ∙ begins
@@ -502,12 +502,12 @@ module _ (local : Local) (w : Whole) (f : Called local w) (apart : AreApart w.ta
       lost_put = g.put ∙ mine_is
 
       lost_dest : destination_of u ≡ Some g.peer
-      lost_dest = (subst (AllNamed g.peer) lost_put keeps.named).0
+      lost_dest = (subst (AllOurs g.r g.peer) lost_put keeps.ours).0.named
 
       lost_named : is_named Right g.peer c ≡ true
       lost_named =
           let (there, is) = subst (λ (x : Connection). (is_silent x.seen_by_right.phase ≡ false) × (x.seen_by_right.reference ≡ g.peer))
-          g.tap (keeps.seen lost_begun) in
+          g.tap (keeps.seen_so lost_begun) in
           name_so (is_over Right c) (is_silent c.seen_by_right.phase) (c.seen_by_right.reference == g.peer)
           (ap (λ (b : Bool). b && is_over_by c.right c.seen_by_right) is_lost) there (eq-eqb c.seen_by_right.reference g.peer is)
 

@@ -1,25 +1,28 @@
--- A unit of a whole calling end passes: a CR, whose connection waits then, or a unit of an open connection, which is right.
+-- A unit of a whole calling end passes: a CR, whose connection waits then, or a unit of an open connection that is judged, which is right.
 -- For the law on a whole end.
-use Rattle.osi_fair.proofs.Vocabulary.{arith}
-use Rattle.osi_fair.proofs.Vocabulary.{[], ap, Bool, false, if◌then◌else◌, inl, inr, List, None, Option, refl, set, Some, subst}
+use Rattle.osi_fair.proofs.Vocabulary.{arith, [], ap, Bool, false, if◌then◌else◌, inl, inr, List, None, Option, refl, set, Some, subst}
 use Rattle.osi_fair.proofs.Vocabulary.{sym, true, ℕ, ◌++◌, ◌∙◌, ◌∷◌, ◌≡◌, ◌⊎◌, eqb-true, AllByRecursion, position_or_len, not, position}
-use Rattle.osi_fair.proofs.Vocabulary.{slice_get, ◌&&◌, ◌==◌, confirm, Connect, destination_of, request, Value, Standing, Class, Two}
-use Rattle.osi_fair.proofs.Vocabulary.{Local, value_at, asked, Live, linked, is_applied, reach_of, is_free}
-use Rattle.osi_fair.proofs.Vocabulary.{is_named, is_open, is_over, is_silent, asked_by, asks_by, found, none_told}
-use Rattle.osi_fair.proofs.Vocabulary.{Outcome, placed, route_in, routed, Traffic, takes, uses_source, Connection}
-use Rattle.osi_fair.proofs.Vocabulary.{Left, Right, Finding, Kept, NotJudged, Half, IsAtPlace, after_finding, finding_of, IsRight}
-use Rattle.osi_fair.proofs.Vocabulary.{IsRightNow, Line, unit as passing, Whole}
+use Rattle.osi_fair.proofs.Vocabulary.{half_after, is_closing, sent_on, slice_get, ◌&&◌, ◌==◌, ◌||◌, confirm, Connect, destination_of}
+use Rattle.osi_fair.proofs.Vocabulary.{request, Value, Standing, Class, Two, Local, value_at, asked, Live, linked, is_applied, reach_of}
+use Rattle.osi_fair.proofs.Vocabulary.{is_free, is_named, is_open, is_over, is_silent, asked_by, asks_by, found, none_told, Outcome}
+use Rattle.osi_fair.proofs.Vocabulary.{placed, route_in, routed, Traffic, takes, uses_source, Connection, Left, Right, Finding, Kept}
+use Rattle.osi_fair.proofs.Vocabulary.{NotJudged, Half, IsAtPlace, after_finding, finding_of, IsRight, IsRightNow, Line, unit as passing}
+use Rattle.osi_fair.proofs.Vocabulary.{Whole}
+use Rattle.osi_rules.specs.Sides.{sends}
 use Rattle.osi_carrier.specs.State.{State}
 use Rattle.osi_fair.specs.Lines.{passes_own}
 use Rattle.osi_fair.proofs.small_facts_that_many_lemmas_use.{and_false, and_first, and_second, both, differ, first_is, no_list, rest_is}
-use Rattle.osi_fair.proofs.small_facts_that_many_lemmas_use.{set_other, some_same as item_is}
+use Rattle.osi_fair.proofs.small_facts_that_many_lemmas_use.{set_other, sized_judged, some_same as item_is}
+use Rattle.osi_fair.proofs.a_reference_names_one_connection.{not_first}
+use Rattle.osi_fair.proofs.names_of_right_stay_apart_though_one_is_lost.{ArePeersApart, asked_set, each_sound, left_set, only_named}
 use Rattle.osi_fair.proofs.a_right_unit_is_not_blamed.{first_there, is_first, named_of}
 use Rattle.osi_fair.proofs.a_unit_is_an_act_of_its_line.{after_is, found_is}
 use Rattle.osi_fair.proofs.an_end_closes_last.{waits_open}
 use Rattle.osi_fair.proofs.an_open_end_is_fair.{open_is_fair}
 use Rattle.osi_fair.proofs.each_connection_has_its_line.{followed_at, Followed, Following, IsAnswer, IsAsking, IsOwned, Row, Tracked}
 use Rattle.osi_fair.proofs.each_connection_has_its_line.{Tracks, Waiting, AreSettled, IsSettled, IsSpare, all_so, asking, asks, closes}
-use Rattle.osi_fair.proofs.each_connection_has_its_line.{is_tracked, is_waiting, no_spare, of, over, stray, talks, tracks_hold, tracks_on}
+use Rattle.osi_fair.proofs.each_connection_has_its_line.{is_tracked, is_waiting, no_spare, of, over, put_some, stray, why_before, talks}
+use Rattle.osi_fair.proofs.each_connection_has_its_line.{tracks_hold, tracks_on}
 use Rattle.osi_fair.proofs.what_holds_of_a_line.{PutsAt, Tally}
 use Rattle.osi_fair.proofs.what_holds_of_one_item.{after_add, after_set, first_true}
 use Rattle.osi_fair.proofs.what_lasts_at_the_tap.{lasts_passing}
@@ -30,7 +33,8 @@ use Rattle.osi_fair.proofs.which_units_are_for_a_connection.{IsOf, picked_first,
 use Rattle.osi_fair.proofs.which_units_are_for_a_connection.{picked_each}
 use Rattle.osi_fair.proofs.what_belongs_to_no_open_connection.{strays_last}
 use Rattle.osi_fair.proofs.while_no_class_is_selected.{after_change, set_there}
-use Rattle.osi_fair.proofs.no_two_open_connections_have_one_peer.{added_still, one_peer, right_there, there_not_silent, tracked_over}
+use Rattle.osi_fair.proofs.no_two_open_connections_have_one_peer.{added_still, left_open, one_peer, right_there, there_not_silent}
+use Rattle.osi_fair.proofs.no_two_open_connections_have_one_peer.{tracked_over}
 use Rattle.osi_fair.proofs.a_dt_of_class_zero_passes.{unlike}
 
 -- ---- a CR
@@ -69,8 +73,8 @@ stays_placed new cs (Some q) h i e at busy =
 
 pub row_same : (local : Local) (end : State) (coming : List Value) (r peer : ℕ) (line after : Line) → after.link ≡ line.link →
     after.coming ≡ line.coming → Row local end coming r peer line → Row local end coming r peer after
-row_same local end coming r peer line after link same (asks there x source early dcs first is) =
-    asks there x source early dcs (first ∙ ap (λ (l : List Value). early ++ confirm r x ∷ l) (sym same)) (link ∙ is)
+row_same local end coming r peer line after link same (asks there x source two early dcs first is) =
+    asks there x source two early dcs (first ∙ ap (λ (l : List Value). early ++ confirm r x ∷ l) (sym same)) (link ∙ is)
 row_same local end coming r peer line after link same (talks l there is all) = talks l there (link ∙ is) (all ∙ sym same)
 row_same local end coming r peer line after link same (closes o there q e is all) = closes o there q e (link ∙ is) (all ∙ sym same)
 row_same local end coming r peer line after link same (over h) = over h
@@ -91,7 +95,13 @@ pub all_two : (P Q R : Value → Type 0) (vs : List Value) → ((v : Value) → 
 all_two P Q R [] h a b = tt
 all_two P Q R (v ∷ vs) h (one, more) (first, others) = (h v one first, all_two P Q R vs h more others)
 
-module _ (local : Local) (w : Whole) (f : Followed local w) (sane : IsSane w.tap) (firm : w.tap.course.loose ≡ false) where
+own_sees : (u : Value) (c : Connection) → (sent_on Left u c).seen_by_left ≡ c.seen_by_left
+own_sees u c = grind arith
+
+own_seen : (u : Value) (c : Connection) → (sent_on Left u c).seen_by_right ≡ c.seen_by_right
+own_seen u c = grind arith
+
+module _ (local : Local) (w : Whole) (f : Followed local w) (sane : IsSane w.tap) (peers : ArePeersApart w.tap.connections) where
   abbrev cs : List Connection
   cs = w.tap.connections
 
@@ -110,7 +120,7 @@ module _ (local : Local) (w : Whole) (f : Followed local w) (sane : IsSane w.tap
   request_stays x i e (inr is) at tracked =
       ap (λ (l : List Connection). slice_get l i) is
       ∙ stays_placed (asked_by x) cs (position is_free cs) refl i e at
-      (λ free. tracked_over e (sane.apart.sound i e at (sane.judged firm i e at)) tracked
+      (λ free. tracked_over e (each_sound cs sane.apart peers i e at) tracked
       (and_first (is_over Left e) (is_over Right e) free))
 
   tracked_still : (x : Connect) (r : ℕ) → Tracked cs r → Tracked (takes Left (request x) w.tap).state.connections r
@@ -172,6 +182,17 @@ module _ (local : Local) (w : Whole) (f : Followed local w) (sane : IsSane w.tap
   seen_still x i c tracked known (inr at) =
       (lasts_passing (passing Left (request x)) w.tap).seen (f.two c.left.reference (i, c, at, tracked, refl)) (f.seen i c at tracked known)
 
+  request_lost : (x : Connect) (i : ℕ) (c : Connection) → c.is_judged ≡ false → (c ≡ asked_by x) ⊎ (slice_get cs i ≡ Some c) →
+      (is_open c.right.phase || is_closing c.right.phase) ≡ true
+  request_lost x i c lost (inl is) = differ c.is_judged (ap (λ (e : Connection). e.is_judged) is) lost
+  request_lost x i c lost (inr at) = f.lost i c at lost
+
+  request_shut : (x : Connect) → w.end.ended ≡ None → (i : ℕ) (c : Connection) → is_open c.left.phase ≡ false →
+      value_at c.left.reference w.end.live ≡ Some asked → (c ≡ asked_by x) ⊎ (slice_get cs i ≡ Some c) → ⊥
+  request_shut x lasts i c closed row (inl is) =
+      differ (is_open c.left.phase) (ap (λ (e : Connection). is_open e.left.phase) is) closed
+  request_shut x lasts i c closed row (inr at) = f.shut lasts i c at closed row
+
   pub request_passes : (x : Connect) (rest : List Value) → w.put ≡ request x ∷ rest → Followed local (after_request x rest)
   request_passes x rest e =
       let (first, requests) = subst (AllByRecursion (λ (v : Value). (y : Connect) → v ≡ request y → IsAsking local w.end w.coming y)) e
@@ -186,8 +207,12 @@ module _ (local : Local) (w : Whole) (f : Followed local w) (sane : IsSane w.tap
         owned = all_so (λ v. IsOwned w.tap v) (λ v. IsOwned (takes Left (request x) w.tap).state v) rest
             (λ v. owned_still x v) owned;
         linked = λ lasts r peer link h. let (t, two) = f.linked lasts r peer link h in (tracked_still x r t, two);
-        answers = all_so (λ v. IsAnswer cs w.end v) (λ v. IsAnswer (takes Left (request x) w.tap).state.connections w.end v) w.coming
-            (λ v h n y k lasts. let (t, row) = h n y k lasts in (tracked_still x n t, row)) f.answers;
+        answers = all_so (λ v. IsAnswer w.tap.course.loose cs w.end v) (λ v. IsAnswer (takes Left (request x) w.tap).state.course.loose
+            (takes Left (request x) w.tap).state.connections w.end v) w.coming
+            (λ v h n y k lasts why.
+            let (t, row) = h n y k lasts (why_before w.tap.course.loose (takes Left (request x) w.tap).state.course.loose
+            (lasts_passing (passing Left (request x)) w.tap).firm why) in
+            (tracked_still x n t, row)) f.answers;
         requests = requests;
         two = λ r t.
             let (p, c, at, tracked, is) = t in
@@ -201,17 +226,27 @@ module _ (local : Local) (w : Whole) (f : Followed local w) (sane : IsSane w.tap
         settled = all_so (AreSettled cs w.put w.end.given)
             (AreSettled (takes Left (request x) w.tap).state.connections rest w.end.given) rest
             (λ v h. settled_still x rest e v h) settled;
+        lost = λ i c at lost. request_lost x i c lost (request_item x i c does at);
+        shut = λ lasts i c at closed row. request_shut x lasts i c closed row (request_item x i c does at);
       }
+
+  peers_by : (x : Connect) (o : Outcome) → Request x cs o → ArePeersApart o.state.connections
+  peers_by x o (inl is) = subst ArePeersApart (sym is) peers
+  peers_by x o (inr is) = subst ArePeersApart (sym is) (asked_set cs x (position is_free cs) peers)
+
+  pub request_peers : (x : Connect) → ArePeersApart (takes Left (request x) w.tap).state.connections
+  request_peers x = peers_by x (takes Left (request x) w.tap) (request_does x w.tap)
 
   -- ---- a unit of an open connection passes
 
-  name_first : (n p : ℕ) (c : Connection) → slice_get cs p ≡ Some c → is_named Left n c ≡ true → position (is_named Left n) cs ≡ Some p
+  pub name_first : (n p : ℕ) (c : Connection) → slice_get cs p ≡ Some c → is_named Left n c ≡ true →
+      position (is_named Left n) cs ≡ Some p
   name_first n p c at named =
       let q = position_or_len (is_named Left n) cs in
       let first = is_first (is_named Left n) cs p c at named in
       let (e, there) = first_there (is_named Left n) cs p q c first in
       let so = first_true (is_named Left n) cs q e first there in
-      let same : p ≡ q = sane.apart.named_left n p q c e at there (sane.judged firm p c at) (sane.judged firm q e there) named so in
+      let same : p ≡ q = only_named cs n peers p q c e at there named so in
       first ∙ ap (λ (i : ℕ). Some i) (sym same)
 
   named_parts : (a b d : Bool) → (not a && (not b && d)) ≡ true → b ≡ false
@@ -221,14 +256,14 @@ module _ (local : Local) (w : Whole) (f : Followed local w) (sane : IsSane w.tap
   judged_so j g h e = grind arith
 
   -- the first of the units with the references of a line is the line's
-  put_first : (u : Value) (others line spare : List Value) → u ∷ others ≡ line ++ spare → (line ≡ [] → spare ≡ []) →
+  pub put_first : (u : Value) (others line spare : List Value) → u ∷ others ≡ line ++ spare → (line ≡ [] → spare ≡ []) →
       (vs : List Value) × ((line ≡ u ∷ vs) × (others ≡ vs ++ spare))
   put_first u others [] spare e none = absurd (no_list u others (e ∙ none refl))
   put_first u others (v ∷ vs) spare e none = grind (arith, first_is, rest_is)
 
   module _ (u : Value) (rest : List Value) (p : ℕ) (c : Connection) (e : w.put ≡ u ∷ rest) (begun : w.begun ≡ true)
       (left : w.tap.course.left_stopped ≡ false) (at : slice_get cs p ≡ Some c) (tracked : is_tracked c ≡ true)
-      (own : IsOf c.left.reference c.right.reference u) where
+      (own : IsOf c.left.reference c.right.reference u) (judged : c.is_judged ≡ true) where
     abbrev g : Following local w.put w.begun w.tap.course.strays w.end w.coming c
     g = f.lines p c at tracked
 
@@ -237,9 +272,6 @@ module _ (local : Local) (w : Whole) (f : Followed local w) (sane : IsSane w.tap
 
     named : destination_of u ≡ Some n
     named = own.named
-
-    judged : c.is_judged ≡ true
-    judged = sane.judged firm p c at
 
     own_line : IsOf g.r g.peer u
     own_line = subst (λ (i : ℕ). IsOf i g.peer u) g.left (subst (λ (i : ℕ). IsOf c.left.reference i u) g.right own)
@@ -259,7 +291,8 @@ module _ (local : Local) (w : Whole) (f : Followed local w) (sane : IsSane w.tap
     first_put = parts.1.0
 
     line_begun : g.line.begun ≡ true
-    line_begun = grind (arith, both, named_by)
+    line_begun = g.begun_is (put_some u still g.spare g.line.put first_put)
+        ∙ ap (λ (l : List Value). w.begun && leads (is_ours g.r g.peer) l) e ∙ both w.begun (is_ours g.r g.peer u) begun named_by
 
     right : IsRight Left c u
     right =
@@ -275,7 +308,7 @@ module _ (local : Local) (w : Whole) (f : Followed local w) (sane : IsSane w.tap
     seen = f.seen p c at tracked (named_parts (is_over Left c) (is_silent c.seen_by_left.phase) (c.seen_by_left.reference == n) is_its_name)
 
     place : IsAtPlace Left w.tap n p c
-    place = search (arith, judged, seen, name_first, is_its_name)
+    place = record { judged = left; class = seen; first = name_first n p c at is_its_name; is = at }
 
     abbrev in_use : Bool
     in_use = uses_source Left cs u
@@ -298,221 +331,250 @@ module _ (local : Local) (w : Whole) (f : Followed local w) (sane : IsSane w.tap
     next_all : (takes Left u w.tap).state.connections ≡ set cs p next
     next_all = after_is Left u w.tap n p c place named
 
-    module _ (sane_after : IsSane after.tap) (firm_after : after.tap.course.loose ≡ false) where
-      abbrev line_after : Line
-      line_after = record g.line {
-        put = still;
-        begun = false;
-        tap = after_finding Left (finding g.line.tap) u g.line.tap;
-      }
+    next_is : next ≡ sent_on Left u c
+    next_is = ap (λ (x : Finding). after_finding Left x u c) kept
 
-      tracks_after : Tracks g.r g.peer line_after
-      tracks_after = tracks_on g.r g.peer g.line line_after (passes_own w.tap.course in_use ∷ []) g.tracks
-          (line_after, (u, first_put, line_begun, refl), refl)
+    next_judged : next.is_judged ≡ true
+    next_judged = ap (λ (x : Connection). x.is_judged) next_is ∙ sized_judged u (sends Left (half_after u c.left) c) ∙ judged
 
-      tap_after : line_after.tap ≡ next
-      tap_after = ap (λ (x : Connection). after_finding Left (finding x) u x) g.tap
+    abbrev line_after : Line
+    line_after = record g.line {
+      put = still;
+      begun = false;
+      tap = after_finding Left (finding g.line.tap) u g.line.tap;
+    }
 
-      next_at : slice_get (takes Left u w.tap).state.connections p ≡ Some next
-      next_at = ap (λ (l : List Connection). slice_get l p) next_all ∙ set_there cs p next c at
+    tracks_after : Tracks g.r g.peer line_after
+    tracks_after = tracks_on g.r g.peer g.line line_after (passes_own w.tap.course in_use ∷ []) g.tracks
+        (line_after, (u, first_put, line_begun, refl), refl)
 
-      line_judged : line_after.tap.is_judged ≡ true
-      line_judged = ap (λ (x : Connection). x.is_judged) tap_after ∙ sane_after.judged firm_after p next next_at
+    tap_after : line_after.tap ≡ next
+    tap_after = ap (λ (x : Connection). after_finding Left (finding x) u x) g.tap
 
-      next_left : next.left.reference ≡ c.left.reference
-      next_left = (own_stays (is_applied (finding c)) w.tap u (reach_of (Some Two) (finding c)) c refl).reference
+    next_at : slice_get (takes Left u w.tap).state.connections p ≡ Some next
+    next_at = ap (λ (l : List Connection). slice_get l p) next_all ∙ set_there cs p next c at
 
-      next_right : next.right ≡ c.right
-      next_right = right_then u (is_applied (finding c)) (reach_of (Some Two) (finding c)) c
+    line_judged : line_after.tap.is_judged ≡ true
+    line_judged = ap (λ (x : Connection). x.is_judged) tap_after ∙ next_judged
 
-      tracked_if : is_open next.left.phase ≡ true → is_tracked next ≡ true
-      tracked_if h = grind (arith, both, right, next_right, right_there)
+    next_left : next.left.reference ≡ c.left.reference
+    next_left = (own_stays (is_applied (finding c)) w.tap u (reach_of (Some Two) (finding c)) c refl).reference
 
-      -- as long as the end has its link, it has not closed the connection
-      linked_open : (link : Standing) → g.line.link ≡ Some link → is_tracked next ≡ true
-      linked_open link h =
-          let held = tracks_hold g.r g.peer line_after tracks_after line_judged in
-          tracked_if (ap (λ (x : Connection). is_open x.left.phase) (sym tap_after)
-          ∙ put_open g.r g.peer held.limit held.tally line_after.tap.left line_after.tap.right line_after.put line_after.link link
-          held.puts h)
+    next_right : next.right ≡ c.right
+    next_right = right_then u (is_applied (finding c)) (reach_of (Some Two) (finding c)) c
 
-      row_open : w.end.ended ≡ None → (o : Option Live) → value_at g.r w.end.live ≡ o → is_held o ≡ true →
-          Row local w.end w.coming g.r g.peer g.line →
-          is_tracked next ≡ true
-      row_open lasts o e held l = grind (arith, linked_open, differ)
+    tracked_if : is_open next.left.phase ≡ true → is_tracked next ≡ true
+    tracked_if h = grind (arith, both, right, next_right, right_there)
 
-      -- the end puts nothing after it has closed the connection
-      none_by : (l : List Value) → still ≡ l → is_tracked next ≡ false → l ≡ []
-      none_by [] e h = refl
-      none_by (v ∷ vs) e h = grind (arith, differ, tracked_if, tap_after, waits_open, tracks_after, line_judged, no_list)
+    -- as long as the end has its link, it has not closed the connection
+    linked_open : (link : Standing) → g.line.link ≡ Some link → is_tracked next ≡ true
+    linked_open link h =
+        let held = tracks_hold g.r g.peer line_after tracks_after line_judged in
+        tracked_if (ap (λ (x : Connection). is_open x.left.phase) (sym tap_after)
+        ∙ put_open g.r g.peer held.limit held.tally line_after.tap.left line_after.tap.right line_after.put line_after.link link
+        held.puts h)
 
-      -- so the units with its references are spare then
-      spare_left : is_tracked next ≡ false → ours g.r g.peer rest ≡ g.spare
-      spare_left h = parts.1.1 ∙ ap (λ (l : List Value). l ++ g.spare) (none_by still refl h)
+    row_open : w.end.ended ≡ None → (o : Option Live) → value_at g.r w.end.live ≡ o → is_held o ≡ true →
+        Row local w.end w.coming g.r g.peer g.line →
+        is_tracked next ≡ true
+    row_open lasts o e held l = grind (arith, linked_open, differ)
 
-      item : (i : ℕ) (x : Connection) → slice_get (takes Left u w.tap).state.connections i ≡ Some x →
-          ((i ≡ p) × (x ≡ next)) ⊎ ((i ≡ p → ⊥) × (slice_get cs i ≡ Some x))
-      item i x h = after_change cs p i next x (ap (λ (l : List Connection). slice_get l i) (sym next_all) ∙ h)
+    -- the end puts nothing after it has closed the connection
+    none_by : (l : List Value) → still ≡ l → is_tracked next ≡ false → l ≡ []
+    none_by [] e h = refl
+    none_by (v ∷ vs) e h = grind (arith, differ, tracked_if, tap_after, waits_open, tracks_after, line_judged, no_list)
 
-      other_at : (i : ℕ) (x : Connection) → (i ≡ p → ⊥) → slice_get cs i ≡ Some x →
-          slice_get (takes Left u w.tap).state.connections i ≡ Some x
-      other_at i x other h = ap (λ (l : List Connection). slice_get l i) next_all ∙ set_other cs p i next x other h
+    -- so the units with its references are spare then
+    spare_left : is_tracked next ≡ false → ours g.r g.peer rest ≡ g.spare
+    spare_left h = parts.1.1 ∙ ap (λ (l : List Value). l ++ g.spare) (none_by still refl h)
 
-      same_one : (i : ℕ) (x : Connection) → i ≡ p → slice_get cs i ≡ Some x → x ≡ c
-      same_one i x same h = item_is c x (sym at ∙ ap (λ (j : ℕ). slice_get cs j) (sym same) ∙ h)
+    item : (i : ℕ) (x : Connection) → slice_get (takes Left u w.tap).state.connections i ≡ Some x →
+        ((i ≡ p) × (x ≡ next)) ⊎ ((i ≡ p → ⊥) × (slice_get cs i ≡ Some x))
+    item i x h = after_change cs p i next x (ap (λ (l : List Connection). slice_get l i) (sym next_all) ∙ h)
 
-      -- ---- lines
+    other_at : (i : ℕ) (x : Connection) → (i ≡ p → ⊥) → slice_get cs i ≡ Some x →
+        slice_get (takes Left u w.tap).state.connections i ≡ Some x
+    other_at i x other h = ap (λ (l : List Connection). slice_get l i) next_all ∙ set_other cs p i next x other h
 
-      line_next : Following local rest false after.tap.course.strays w.end w.coming next
-      line_next = record {
-        r = g.r;
-        peer = g.peer;
-        line = line_after;
-        left = next_left ∙ g.left;
-        right = ap (λ (x : Half). x.reference) next_right ∙ g.right;
-        tracks = tracks_after;
-        tap = tap_after;
-        spare = g.spare;
-        put_is = parts.1.1;
-        spares = spares_still u g.r g.peer g.spare g.spares;
-        gone = g.gone;
-        begun_is = refl;
-        row = row_same local w.end w.coming g.r g.peer g.line line_after refl refl g.row;
-        calm = g.calm;
-      }
+    same_one : (i : ℕ) (x : Connection) → i ≡ p → slice_get cs i ≡ Some x → x ≡ c
+    same_one i x same h = item_is c x (sym at ∙ ap (λ (j : ℕ). slice_get cs j) (sym same) ∙ h)
 
-      line_other : (i : ℕ) (x : Connection) → (i ≡ p → ⊥) → slice_get cs i ≡ Some x → is_tracked x ≡ true →
-          Following local rest false after.tap.course.strays w.end w.coming x
-      line_other i x other there is_there =
-          let k = f.lines i x there is_there in
-          let not_named : is_ours k.r k.peer u ≡ false = ours_not k.r n k.peer u (λ same. other (one_peer w.tap sane firm i p x c there at
-          is_there tracked (k.right ∙ sym same))) named in
-          followed_at k (sym (picked_rest (is_ours k.r k.peer) u rest not_named) ∙ ap (λ (l : List Value). ours k.r k.peer l) (sym e))
-          (spares_still u k.r k.peer k.spare k.spares)
-          (ap (λ (l : List Value). w.begun && leads (is_ours k.r k.peer) l) e ∙ ap (λ (b : Bool). w.begun && b) not_named
-          ∙ and_false w.begun)
-          k.row
+    -- ---- lines
 
-      line_at : (i : ℕ) (x : Connection) → is_tracked x ≡ true →
-          ((i ≡ p) × (x ≡ next)) ⊎ ((i ≡ p → ⊥) × (slice_get cs i ≡ Some x)) →
-          Following local rest false after.tap.course.strays w.end w.coming x
-      line_at i x is_there (inl (same, is)) = grind (arith, line_next)
-      line_at i x is_there (inr (other, there)) = line_other i x other there is_there
+    line_next : Following local rest false after.tap.course.strays w.end w.coming next
+    line_next = record {
+      r = g.r;
+      peer = g.peer;
+      line = line_after;
+      left = next_left ∙ g.left;
+      right = ap (λ (x : Half). x.reference) next_right ∙ g.right;
+      tracks = tracks_after;
+      tap = tap_after;
+      spare = g.spare;
+      put_is = parts.1.1;
+      spares = spares_still u g.r g.peer g.spare g.spares;
+      gone = g.gone;
+      begun_is = λ first. refl;
+      row = row_same local w.end w.coming g.r g.peer g.line line_after refl refl g.row;
+      calm = λ j. g.calm judged;
+    }
 
-      waits_at : (i : ℕ) (x : Connection) → is_waiting x ≡ true →
-          ((i ≡ p) × (x ≡ next)) ⊎ ((i ≡ p → ⊥) × (slice_get cs i ≡ Some x)) → Waiting local w.end w.coming x
-      waits_at i x waits (inl (same, is)) = grind (arith, differ, right, next_right, and_second, there_not_silent, right_there)
-      waits_at i x waits (inr (other, there)) = f.waiting i x there waits
+    line_other : (i : ℕ) (x : Connection) → (i ≡ p → ⊥) → slice_get cs i ≡ Some x → is_tracked x ≡ true →
+        Following local rest false after.tap.course.strays w.end w.coming x
+    line_other i x other there is_there =
+        let k = f.lines i x there is_there in
+        let not_named : is_ours k.r k.peer u ≡ false = ours_not k.r n k.peer u (λ same. other (one_peer w.tap sane peers i p x c there at
+        is_there tracked (k.right ∙ sym same))) named in
+        followed_at k (sym (picked_rest (is_ours k.r k.peer) u rest not_named) ∙ ap (λ (l : List Value). ours k.r k.peer l) (sym e))
+        (spares_still u k.r k.peer k.spare k.spares)
+        (ap (λ (l : List Value). w.begun && leads (is_ours k.r k.peer) l) e ∙ ap (λ (b : Bool). w.begun && b) not_named
+        ∙ and_false w.begun)
+        k.row
 
-      silent_at : (i : ℕ) (x : Connection) → is_silent x.right.phase ≡ true →
-          ((i ≡ p) × (x ≡ next)) ⊎ ((i ≡ p → ⊥) × (slice_get cs i ≡ Some x)) → is_open x.left.phase ≡ true
-      silent_at i x none h = grind (arith, differ, right, next_right, there_not_silent, right_there)
+    line_at : (i : ℕ) (x : Connection) → is_tracked x ≡ true →
+        ((i ≡ p) × (x ≡ next)) ⊎ ((i ≡ p → ⊥) × (slice_get cs i ≡ Some x)) →
+        Following local rest false after.tap.course.strays w.end w.coming x
+    line_at i x is_there (inl (same, is)) = grind (arith, line_next)
+    line_at i x is_there (inr (other, there)) = line_other i x other there is_there
 
-      -- ---- the place of each connection
+    waits_at : (i : ℕ) (x : Connection) → is_waiting x ≡ true →
+        ((i ≡ p) × (x ≡ next)) ⊎ ((i ≡ p → ⊥) × (slice_get cs i ≡ Some x)) → Waiting local w.end w.coming x
+    waits_at i x waits (inl (same, is)) = grind (arith, differ, right, next_right, and_second, there_not_silent, right_there)
+    waits_at i x waits (inr (other, there)) = f.waiting i x there waits
 
-      tracked_one : (r i : ℕ) (x : Connection) → slice_get cs i ≡ Some x → is_tracked x ≡ true → x.left.reference ≡ r →
-          (c.left.reference ≡ r → is_tracked next ≡ true) → (b : Bool) → (i == p) ≡ b → Tracked (takes Left u w.tap).state.connections r
-      tracked_one r i x there is_there is k true h = grind (arith, same_one, eqb-true, next_at, next_left)
-      tracked_one r i x there is_there is k false h = (i, x, other_at i x (unlike i p h) there, is_there, is)
+    silent_at : (i : ℕ) (x : Connection) → is_silent x.right.phase ≡ true →
+        ((i ≡ p) × (x ≡ next)) ⊎ ((i ≡ p → ⊥) × (slice_get cs i ≡ Some x)) → is_open x.left.phase ≡ true
+    silent_at i x none h = grind (arith, differ, right, next_right, there_not_silent, right_there)
 
-      tracked_next : (r : ℕ) → Tracked cs r → (c.left.reference ≡ r → is_tracked next ≡ true) →
-          Tracked (takes Left u w.tap).state.connections r
-      tracked_next r (i, x, there, is_there, is) k = tracked_one r i x there is_there is k (i == p) refl
+    -- ---- the place of each connection
 
-      tracked_was : (r i : ℕ) (x : Connection) → is_tracked x ≡ true → x.left.reference ≡ r →
-          ((i ≡ p) × (x ≡ next)) ⊎ ((i ≡ p → ⊥) × (slice_get cs i ≡ Some x)) → Tracked cs r
-      tracked_was r i x is_there is h = grind (arith, next_left)
+    tracked_one : (r i : ℕ) (x : Connection) → slice_get cs i ≡ Some x → is_tracked x ≡ true → x.left.reference ≡ r →
+        (c.left.reference ≡ r → is_tracked next ≡ true) → (b : Bool) → (i == p) ≡ b → Tracked (takes Left u w.tap).state.connections r
+    tracked_one r i x there is_there is k true h = grind (arith, same_one, eqb-true, next_at, next_left)
+    tracked_one r i x there is_there is k false h = (i, x, other_at i x (unlike i p h) there, is_there, is)
 
-      -- a unit that is still to pass for the connection that has just been closed is a spare DC
-      abbrev IsSpareIf : Value → Type 0
-      IsSpareIf v = is_tracked next ≡ false → is_ours g.r g.peer v ≡ true → IsSpare w.tap.course.strays g.r g.peer v
+    tracked_next : (r : ℕ) → Tracked cs r → (c.left.reference ≡ r → is_tracked next ≡ true) →
+        Tracked (takes Left u w.tap).state.connections r
+    tracked_next r (i, x, there, is_there, is) k = tracked_one r i x there is_there is k (i == p) refl
 
-      of_next : (v : Value) → is_tracked next ≡ true → IsOf c.left.reference c.right.reference v → IsOwned after.tap v
-      of_next v h is = of p next next_at h
-          (subst (λ (x : Half). IsOf next.left.reference x.reference v) (sym next_right)
-          (subst (λ (i : ℕ). IsOf i c.right.reference v) (sym next_left) is))
+    tracked_was : (r i : ℕ) (x : Connection) → is_tracked x ≡ true → x.left.reference ≡ r →
+        ((i ≡ p) × (x ≡ next)) ⊎ ((i ≡ p → ⊥) × (slice_get cs i ≡ Some x)) → Tracked cs r
+    tracked_was r i x is_there is h = grind (arith, next_left)
 
-      owned_one : (v : Value) (i : ℕ) (x : Connection) → slice_get cs i ≡ Some x → is_tracked x ≡ true →
-          IsOf x.left.reference x.right.reference v → IsSpareIf v → (b d : Bool) → (i == p) ≡ b → is_tracked next ≡ d →
-          IsOwned after.tap v
-      owned_one v i x there is_there is k true true h d =
-          of_next v d (subst (λ (y : Connection). IsOf y.left.reference y.right.reference v) (same_one i x (eqb-true i p h) there) is)
-      owned_one v i x there is_there is k true false h d =
-          let so = subst (λ (y : Connection). IsOf y.left.reference y.right.reference v) (same_one i x (eqb-true i p h) there) is in
-          let mine = subst (λ (j : ℕ). IsOf j g.peer v) g.left (subst (λ (j : ℕ). IsOf c.left.reference j v) g.right so) in
-          let spare = k d (ours_so g.r g.peer v mine) in
-          stray g.peer g.r spare.is (strays_still u spare.strays)
-      owned_one v i x there is_there is k false d h e = of i x (other_at i x (unlike i p h) there) is_there is
+    -- a unit that is still to pass for the connection that has just been closed is a spare DC
+    abbrev IsSpareIf : Value → Type 0
+    IsSpareIf v = is_tracked next ≡ false → is_ours g.r g.peer v ≡ true → IsSpare w.tap.course.strays g.r g.peer v
 
-      owned_next : (v : Value) → IsSpareIf v → IsOwned w.tap v → IsOwned after.tap v
-      owned_next v k (asking x e) = asking x e
-      owned_next v k (of i x there is_there is) = owned_one v i x there is_there is k (i == p) (is_tracked next) refl refl
-      owned_next v k (stray m source is strays) = stray m source is (strays_still u strays)
+    of_next : (v : Value) → is_tracked next ≡ true → IsOf c.left.reference c.right.reference v → IsOwned after.tap v
+    of_next v h is = of p next next_at h
+        (subst (λ (x : Half). IsOf next.left.reference x.reference v) (sym next_right)
+        (subst (λ (i : ℕ). IsOf i c.right.reference v) (sym next_left) is))
 
-      owned_rest : (b : Bool) → is_tracked next ≡ b → AllByRecursion (λ (v : Value). IsOwned w.tap v) rest →
-          AllByRecursion (λ (v : Value). IsOwned after.tap v) rest
-      owned_rest true h a =
-          all_so (λ v. IsOwned w.tap v) (λ v. IsOwned after.tap v) rest (λ v o. owned_next v (λ k. differ (is_tracked next) h k) o) a
-      owned_rest false h a =
-          all_two (λ v. IsOwned w.tap v) (λ v. is_ours g.r g.peer v ≡ true → IsSpare w.tap.course.strays g.r g.peer v)
-          (λ v. IsOwned after.tap v) rest (λ v o spare. owned_next v (λ k. spare) o) a
-          (picked_each (IsSpare w.tap.course.strays g.r g.peer) (is_ours g.r g.peer) rest
-          (subst (AllByRecursion (IsSpare w.tap.course.strays g.r g.peer)) (sym (spare_left h)) g.spares))
+    owned_one : (v : Value) (i : ℕ) (x : Connection) → slice_get cs i ≡ Some x → is_tracked x ≡ true →
+        IsOf x.left.reference x.right.reference v → IsSpareIf v → (b d : Bool) → (i == p) ≡ b → is_tracked next ≡ d →
+        IsOwned after.tap v
+    owned_one v i x there is_there is k true true h d =
+        of_next v d (subst (λ (y : Connection). IsOf y.left.reference y.right.reference v) (same_one i x (eqb-true i p h) there) is)
+    owned_one v i x there is_there is k true false h d =
+        let so = subst (λ (y : Connection). IsOf y.left.reference y.right.reference v) (same_one i x (eqb-true i p h) there) is in
+        let mine = subst (λ (j : ℕ). IsOf j g.peer v) g.left (subst (λ (j : ℕ). IsOf c.left.reference j v) g.right so) in
+        let spare = k d (ours_so g.r g.peer v mine) in
+        stray g.peer g.r spare.is (strays_still u spare.strays)
+    owned_one v i x there is_there is k false d h e = of i x (other_at i x (unlike i p h) there) is_there is
 
-      -- ---- the class, and the references that are settled
+    owned_next : (v : Value) → IsSpareIf v → IsOwned w.tap v → IsOwned after.tap v
+    owned_next v k (asking x e) = asking x e
+    owned_next v k (of i x there is_there is) = owned_one v i x there is_there is k (i == p) (is_tracked next) refl refl
+    owned_next v k (stray m source is strays) = stray m source is (strays_still u strays)
 
-      seen_at : (i : ℕ) (x : Connection) → is_tracked x ≡ true → is_silent x.seen_by_left.phase ≡ false →
-          ((i ≡ p) × (x ≡ next)) ⊎ ((i ≡ p → ⊥) × (slice_get cs i ≡ Some x)) → after.tap.course.class_seen ≡ Some Two
-      seen_at i x is_there known (inl (same, so)) =
-          (lasts_passing (passing Left u) w.tap).seen (f.two c.left.reference (p, c, at, tracked, refl)) seen
-      seen_at i x is_there known (inr (other, there)) =
-          (lasts_passing (passing Left u) w.tap).seen (f.two x.left.reference (i, x, there, is_there, refl))
-          (f.seen i x there is_there known)
+    owned_rest : (b : Bool) → is_tracked next ≡ b → AllByRecursion (λ (v : Value). IsOwned w.tap v) rest →
+        AllByRecursion (λ (v : Value). IsOwned after.tap v) rest
+    owned_rest true h a =
+        all_so (λ v. IsOwned w.tap v) (λ v. IsOwned after.tap v) rest (λ v o. owned_next v (λ k. differ (is_tracked next) h k) o) a
+    owned_rest false h a =
+        all_two (λ v. IsOwned w.tap v) (λ v. is_ours g.r g.peer v ≡ true → IsSpare w.tap.course.strays g.r g.peer v)
+        (λ v. IsOwned after.tap v) rest (λ v o spare. owned_next v (λ k. spare) o) a
+        (picked_each (IsSpare w.tap.course.strays g.r g.peer) (is_ours g.r g.peer) rest
+        (subst (AllByRecursion (IsSpare w.tap.course.strays g.r g.peer)) (sym (spare_left h)) g.spares))
 
-      not_waiting : (i : ℕ) (x : Connection) → is_waiting x ≡ true →
-          ((i ≡ p) × (x ≡ next)) ⊎ ((i ≡ p → ⊥) × (slice_get cs i ≡ Some x)) → slice_get cs i ≡ Some x
-      not_waiting i x waits h = grind (arith, differ, right, next_right, and_second, there_not_silent, right_there)
+    -- ---- the class, and the references that are settled
 
-      settled_next : (v : Value) → AreSettled cs w.put w.end.given v → AreSettled after.tap.connections rest w.end.given v
-      settled_next v h m source is =
-          let k = h m source is in
-          record {
-            up = k.up;
-            waits = λ i x there waits same. k.waits i x (not_waiting i x waits (item i x there)) waits same;
-            asks = (subst (AllByRecursion (λ (y : Value). (z : Connect) → y ≡ request z → z.source ≡ source → ⊥)) e k.asks).1;
-          }
+    seen_at : (i : ℕ) (x : Connection) → is_tracked x ≡ true → is_silent x.seen_by_left.phase ≡ false →
+        ((i ≡ p) × (x ≡ next)) ⊎ ((i ≡ p → ⊥) × (slice_get cs i ≡ Some x)) → after.tap.course.class_seen ≡ Some Two
+    seen_at i x is_there known (inl (same, so)) =
+        (lasts_passing (passing Left u) w.tap).seen (f.two c.left.reference (p, c, at, tracked, refl)) seen
+    seen_at i x is_there known (inr (other, there)) =
+        (lasts_passing (passing Left u) w.tap).seen (f.two x.left.reference (i, x, there, is_there, refl))
+        (f.seen i x there is_there known)
 
-      held_at : w.end.ended ≡ None → (r : ℕ) (o : Option Live) → value_at r w.end.live ≡ o → is_held o ≡ true →
-          c.left.reference ≡ r → is_tracked next ≡ true
-      held_at lasts r o there held is =
-          row_open lasts o (ap (λ (j : ℕ). value_at j w.end.live) (sym g.left ∙ is) ∙ there) held g.row
+    not_waiting : (i : ℕ) (x : Connection) → is_waiting x ≡ true →
+        ((i ≡ p) × (x ≡ next)) ⊎ ((i ≡ p → ⊥) × (slice_get cs i ≡ Some x)) → slice_get cs i ≡ Some x
+    not_waiting i x waits h = grind (arith, differ, right, next_right, and_second, there_not_silent, right_there)
 
-      pub own_passes : Followed local after
-      own_passes =
-          let (head, requests) = subst (AllByRecursion (λ (v : Value). (y : Connect) → v ≡ request y → IsAsking local w.end w.coming y)) e
-          f.requests in
-          let (one, owned) = subst (AllByRecursion (λ (v : Value). IsOwned w.tap v)) e f.owned in
-          let (alone, settled) = subst (AllByRecursion (AreSettled cs w.put w.end.given)) e f.settled in
-          record {
-            lines = λ i x there is_there. line_at i x is_there (item i x there);
-            waiting = λ i x there waits. waits_at i x waits (item i x there);
-            owned = owned_rest (is_tracked next) refl owned;
-            linked = λ lasts r peer link h.
-                let (t, two) = f.linked lasts r peer link h in
-                (tracked_next r t (λ is. held_at lasts r (Some (linked peer link)) h refl is), two);
-            answers = all_so (λ v. IsAnswer cs w.end v) (λ v. IsAnswer (takes Left u w.tap).state.connections w.end v) w.coming
-                (λ v h m y k lasts. let (t, row) = h m y k
-                lasts in (tracked_next m t (λ is. held_at lasts m (Some asked) row refl is), row))
-                f.answers;
-            requests = requests;
-            two = λ r t.
-                let (i, x, there, is_there, is) = t in
-                (lasts_passing (passing Left u) w.tap).two (f.two r (tracked_was r i x is_there is (item i x there)));
-            silent = λ i x there none. silent_at i x none (item i x there);
-            zero = subst (λ (k : Option Class). (k ≡ None) ⊎ (k ≡ Some Two)) (sym (left_class u w.tap)) f.zero;
-            some = λ h. absurd (cc h);
-            few = f.few;
-            seen = λ i x there is_there known. seen_at i x is_there known (item i x there);
-            settled = all_so (AreSettled cs w.put w.end.given)
-                (AreSettled after.tap.connections rest w.end.given) rest settled_next settled;
-          }
+    settled_next : (v : Value) → AreSettled cs w.put w.end.given v → AreSettled after.tap.connections rest w.end.given v
+    settled_next v h m source is =
+        let k = h m source is in
+        record {
+          up = k.up;
+          waits = λ i x there waits same. k.waits i x (not_waiting i x waits (item i x there)) waits same;
+          asks = (subst (AllByRecursion (λ (y : Value). (z : Connect) → y ≡ request z → z.source ≡ source → ⊥)) e k.asks).1;
+        }
+
+    held_at : w.end.ended ≡ None → (r : ℕ) (o : Option Live) → value_at r w.end.live ≡ o → is_held o ≡ true →
+        c.left.reference ≡ r → is_tracked next ≡ true
+    held_at lasts r o there held is =
+        row_open lasts o (ap (λ (j : ℕ). value_at j w.end.live) (sym g.left ∙ is) ∙ there) held g.row
+
+    lost_at : (i : ℕ) (x : Connection) → x.is_judged ≡ false →
+        ((i ≡ p) × (x ≡ next)) ⊎ ((i ≡ p → ⊥) × (slice_get cs i ≡ Some x)) → (is_open x.right.phase || is_closing x.right.phase) ≡ true
+    lost_at i x lost (inl (same, is)) = differ x.is_judged (ap (λ (y : Connection). y.is_judged) is ∙ next_judged) lost
+    lost_at i x lost (inr (other, there)) = f.lost i x there lost
+
+    shut_at : w.end.ended ≡ None → (i : ℕ) (x : Connection) → is_open x.left.phase ≡ false →
+        value_at x.left.reference w.end.live ≡ Some asked → ((i ≡ p) × (x ≡ next)) ⊎ ((i ≡ p → ⊥) × (slice_get cs i ≡ Some x)) → ⊥
+    shut_at lasts i x closed row (inl (same, is)) =
+        differ (is_open next.left.phase) (left_open next (held_at lasts c.left.reference (Some asked)
+        (ap (λ (j : ℕ). value_at j w.end.live) (sym (ap (λ (y : Connection). y.left.reference) is ∙ next_left)) ∙ row) refl refl))
+        (ap (λ (y : Connection). is_open y.left.phase) (sym is) ∙ closed)
+    shut_at lasts i x closed row (inr (other, there)) = f.shut lasts i x there closed row
+
+    pub own_passes : Followed local after
+    own_passes =
+        let (head, requests) = subst (AllByRecursion (λ (v : Value). (y : Connect) → v ≡ request y → IsAsking local w.end w.coming y)) e
+        f.requests in
+        let (one, owned) = subst (AllByRecursion (λ (v : Value). IsOwned w.tap v)) e f.owned in
+        let (alone, settled) = subst (AllByRecursion (AreSettled cs w.put w.end.given)) e f.settled in
+        record {
+          lines = λ i x there is_there. line_at i x is_there (item i x there);
+          waiting = λ i x there waits. waits_at i x waits (item i x there);
+          owned = owned_rest (is_tracked next) refl owned;
+          linked = λ lasts r peer link h.
+              let (t, two) = f.linked lasts r peer link h in
+              (tracked_next r t (λ is. held_at lasts r (Some (linked peer link)) h refl is), two);
+          answers = all_so (λ v. IsAnswer w.tap.course.loose cs w.end v)
+              (λ v. IsAnswer after.tap.course.loose after.tap.connections w.end v) w.coming
+              (λ v h m y k lasts why.
+              let (t, row) = h m y k lasts (why_before w.tap.course.loose after.tap.course.loose
+              (lasts_passing (passing Left u) w.tap).firm why) in
+              (tracked_next m t (λ is. held_at lasts m (Some asked) row refl is), row)) f.answers;
+          requests = requests;
+          two = λ r t.
+              let (i, x, there, is_there, is) = t in
+              (lasts_passing (passing Left u) w.tap).two (f.two r (tracked_was r i x is_there is (item i x there)));
+          silent = λ i x there none. silent_at i x none (item i x there);
+          zero = subst (λ (k : Option Class). (k ≡ None) ⊎ (k ≡ Some Two)) (sym (left_class u w.tap)) f.zero;
+          some = λ h. absurd (cc h);
+          few = f.few;
+          seen = λ i x there is_there known. seen_at i x is_there known (item i x there);
+          settled = all_so (AreSettled cs w.put w.end.given)
+              (AreSettled after.tap.connections rest w.end.given) rest settled_next settled;
+          lost = λ i x there lost. lost_at i x lost (item i x there);
+          shut = λ lasts i x there closed row. shut_at lasts i x closed row (item i x there);
+        }
+
+    live : is_over Left c ≡ false
+    live = not_first (is_over Left c) (not (is_silent c.seen_by_left.phase) && (c.seen_by_left.reference == n)) is_its_name
+
+    pub own_peers : ArePeersApart after.tap.connections
+    own_peers = subst ArePeersApart (sym next_all) (left_set w.tap sane.apart peers p c at next live next_judged judged next_right
+        (ap (λ (x : Connection). x.seen_by_left) next_is ∙ own_sees u c) (ap (λ (x : Connection). x.seen_by_right) next_is ∙ own_seen u c))

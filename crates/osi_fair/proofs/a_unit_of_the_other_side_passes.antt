@@ -6,33 +6,37 @@ use Rattle.osi_fair.proofs.Vocabulary.{slice_get, ◌&&◌, ◌==◌, ◌||◌, 
 use Rattle.osi_fair.proofs.Vocabulary.{Class, Two, Zero, Local, agreed_size, opened_link, value_at, asked, is_applied, reach_of, is_closed}
 use Rattle.osi_fair.proofs.Vocabulary.{is_closing, is_open, is_over, is_over_by, is_refused, is_silent, uses, class_for, class_of}
 use Rattle.osi_fair.proofs.Vocabulary.{connection_after, course_after, found_on, half_after, judged_on, Outcome, reached, sent_on, takes}
-use Rattle.osi_fair.proofs.Vocabulary.{uses_source, Connection, Course, Right, Finding, Broke, Kept, Reach, Half, Phase}
-use Rattle.osi_fair.proofs.Vocabulary.{after_finding, finding_of, Line, opened_line, unit as passing, Whole}
+use Rattle.osi_fair.proofs.Vocabulary.{found, not, uses_source, Connection, Course, Right, Finding, Broke, Kept, NotJudged, Reach, Half}
+use Rattle.osi_fair.proofs.Vocabulary.{Phase, after_finding, finding_of, Line, opened_line, unit as passing, Whole}
 use Rattle.osi_rules.specs.declared.findings.Reach.TheVariants as reach
 use Rattle.osi_rules.specs.declared.findings.Rule.TheVariants as rule
 use Rattle.osi_fair.specs.Lines.{passes_other}
+use Rattle.osi_rules.specs.Sides.{sends}
 use Rattle.osi_fair.proofs.small_facts_that_many_lemmas_use.{and_false as none_begun, and_first, and_not, and_second, both, differ, no_two}
-use Rattle.osi_fair.proofs.small_facts_that_many_lemmas_use.{not_both, set_other, some_same as item_is}
+use Rattle.osi_fair.proofs.small_facts_that_many_lemmas_use.{set_other, sized_judged, some_same as item_is}
+use Rattle.osi_fair.proofs.a_reference_names_one_connection.{not_first}
+use Rattle.osi_fair.proofs.names_of_right_stay_apart_though_one_is_lost.{ArePeersApart, each_sound, right_set}
+use Rattle.osi_fair.proofs.names_stay_apart_though_one_is_lost.{applied_ends_none}
 use Rattle.osi_fair.proofs.a_request_of_a_whole_end_is_new.{Newer}
 use Rattle.osi_fair.proofs.no_two_open_connections_have_one_peer.{left_open, right_there, there_not_silent, uses_tracked}
 use Rattle.osi_fair.proofs.a_unit_of_a_whole_end_passes.{all_two}
-use Rattle.osi_fair.proofs.each_connection_has_its_line.{Followed, Following, IsAnswer, IsAsking, IsNoCc, IsOwned, Tracked, AreGiven}
-use Rattle.osi_fair.proofs.each_connection_has_its_line.{AreSettled, Waiting, all_so, asking, asks, is_tracked, is_waiting, of, stray}
-use Rattle.osi_fair.proofs.each_connection_has_its_line.{tracks_on}
+use Rattle.osi_fair.proofs.each_connection_has_its_line.{why_before, Followed, Following, IsAnswer, IsAsking, IsNoCc, IsOwned, Tracked}
+use Rattle.osi_fair.proofs.each_connection_has_its_line.{AreGiven, AreSettled, Waiting, all_so, asking, asks, is_tracked, is_waiting, of}
+use Rattle.osi_fair.proofs.each_connection_has_its_line.{stray, tracks_on}
 use Rattle.osi_fair.proofs.how_a_connection_opens.{calling_opens}
 use Rattle.osi_fair.proofs.references_of_requests_rise.{Rise, rise_from}
 use Rattle.osi_fair.proofs.what_holds_of_one_item.{none_true}
 use Rattle.osi_fair.proofs.what_keeps_names_apart.{Sound}
-use Rattle.osi_fair.proofs.what_lasts_at_the_tap.{lasts_passing}
-use Rattle.osi_fair.proofs.what_stays_of_each_connection.{left_then, right_judged, right_own}
+use Rattle.osi_fair.proofs.what_lasts_at_the_tap.{IsCalm, lasts_passing}
+use Rattle.osi_fair.proofs.what_stays_of_each_connection.{judged_was, left_then, right_judged, right_own}
 use Rattle.osi_fair.proofs.what_belongs_to_no_open_connection.{strays_last}
-use Rattle.osi_fair.proofs.what_the_other_side_closes.{IsFirm, IsSane, is_name}
+use Rattle.osi_fair.proofs.what_the_other_side_closes.{IsSane, is_name}
 use Rattle.osi_fair.proofs.which_requests_are_put.{asked_among}
 use Rattle.osi_fair.proofs.which_units_are_for_a_connection.{IsOf, dc_not_ours, is_dc, is_ours, leads_none, named_not, named_so, names}
 use Rattle.osi_fair.proofs.which_units_are_for_a_connection.{picked_more, ours_not, picked_none, those}
 use Rattle.osi_fair.proofs.while_no_class_is_selected.{after_change, set_there}
-use Rattle.osi_fair.proofs.what_becomes_of_a_connection.{Answered, Told, answered, cc_waits, not_selected, open_stays, opens, refused}
-use Rattle.osi_fair.proofs.what_becomes_of_a_connection.{waits_on}
+use Rattle.osi_fair.proofs.what_becomes_of_a_connection.{Answered, Told, answered, cc_idle, cc_loose, cc_lost, not_selected, open_stays}
+use Rattle.osi_fair.proofs.what_becomes_of_a_connection.{opens, refused, waits_on}
 use Rattle.osi_fair.proofs.what_has_come_with_one_unit_more.{early_other, following_other, row_add, row_or, spares_on, waiting_dc}
 use Rattle.osi_fair.proofs.what_has_come_with_one_unit_more.{waiting_other}
 use Rattle.osi_fair.proofs.how_a_unit_of_right_passes.{half_started}
@@ -69,6 +73,9 @@ course_same : (c : Connection) (v : Value) (b : Bool) (course : Course) → ((m 
     (course_after Right c v b course).class ≡ course.class
 course_same c v b course h = grind arith
 
+course_idle : (c : Connection) (v : Value) (course : Course) → (course_after Right c v false course).class ≡ course.class
+course_idle c v course = grind arith
+
 known_judged : (r : Reach) (c : Connection) → (judged_on r c).seen_by_left ≡ c.seen_by_left
 known_judged r c = grind arith
 
@@ -88,12 +95,12 @@ reached_same r c = grind arith
 
 data Kind (c : Connection) : Type 0 where
   stands : is_tracked c ≡ true → Kind c
-  waits_yet : is_waiting c ≡ true → is_silent c.right.phase ≡ true → is_tracked c ≡ false → Kind c
+  waits_yet : is_waiting c ≡ true → is_silent c.right.phase ≡ true → is_tracked c ≡ false → c.is_judged ≡ true → Kind c
   is_past : is_open c.left.phase ≡ false → is_silent c.right.phase ≡ false → Kind c
 
-module _ (local : Local) (w : Whole) (f : Followed local w) (sane : IsSane w.tap) (firm : w.tap.course.loose ≡ false)
+module _ (local : Local) (w : Whole) (f : Followed local w) (sane : IsSane w.tap) (peers : ArePeersApart w.tap.connections)
     (newer : Newer w) (v : Value) (ranges : HasFieldsInRange v) (t : Told v w.tap (takes Right v w.tap))
-    (firm_after : IsFirm (takes Right v w.tap).state.course) (none_zero : (takes Right v w.tap).state.course.class ≡ Some Zero → ⊥) where
+    (calm_after : IsCalm (takes Right v w.tap).state.course) (none_zero : (takes Right v w.tap).state.course.class ≡ Some Zero → ⊥) where
   abbrev cs : List Connection
   cs = w.tap.connections
 
@@ -106,11 +113,8 @@ module _ (local : Local) (w : Whole) (f : Followed local w) (sane : IsSane w.tap
   abbrev after : Whole
   after = record w { tap = (takes Right v w.tap).state; coming = more }
 
-  judged_c : c.is_judged ≡ true
-  judged_c = sane.judged firm t.q c t.at
-
   sound_c : Sound c
-  sound_c = sane.apart.sound t.q c t.at judged_c
+  sound_c = each_sound cs sane.apart peers t.q c t.at
 
   abbrev found_so : Finding
   found_so = found_on Right w.tap c v
@@ -130,8 +134,8 @@ module _ (local : Local) (w : Whole) (f : Followed local w) (sane : IsSane w.tap
   course_is : (takes Right v w.tap).state.course ≡ course_so
   course_is = ap (λ (o : Outcome). o.state.course) t.is
 
-  firm_so : IsFirm course_so
-  firm_so = subst IsFirm course_is firm_after
+  calm_so : IsCalm course_so
+  calm_so = subst IsCalm course_is calm_after
 
   abbrev strays_after : Bool
   strays_after = (takes Right v w.tap).state.course.strays
@@ -148,41 +152,104 @@ module _ (local : Local) (w : Whole) (f : Followed local w) (sane : IsSane w.tap
   nxt_at : slice_get (takes Right v w.tap).state.connections t.q ≡ Some nxt
   nxt_at = ap (λ (l : List Connection). slice_get l t.q) conns ∙ set_there cs t.q nxt c t.at
 
-  not_over : is_over Right c ≡ true → ⊥
-  not_over gone_so = grind (arith, not_both)
+  live : is_over Right c ≡ false
+  live = not_first (is_over Right c) (not (is_silent c.seen_by_right.phase) && (c.seen_by_right.reference == t.n)) t.named
 
-  over_so : is_over_by c.right c.seen_by_right ≡ true → ⊥
-  over_so h = not_over (both c.is_judged (is_over_by c.right c.seen_by_right) judged_c h)
+  over_so : c.is_judged ≡ true → is_over_by c.right c.seen_by_right ≡ true → ⊥
+  over_so judged h = differ (is_over Right c) (both c.is_judged (is_over_by c.right c.seen_by_right) judged h) live
 
-  by_phase : (p : Phase) → c.right.phase ≡ p → is_open c.left.phase ≡ true → Kind c
-  by_phase p e h = grind (arith, both, and_not, over_so, refused_over, closed_over)
+  -- ---- if the connection has lost its judgement
+
+  lost_found : c.is_judged ≡ false → found_so ≡ NotJudged
+  lost_found lost = ap (λ (j : Bool). if j then found Right w.tap.course (uses_source Right cs v) c v else NotJudged) lost
+
+  lost_same : c.is_judged ≡ false → nxt ≡ c
+  lost_same lost =
+      ap (λ (g : Finding). connection_after Right v (is_applied g) (reach_of (class_for Right w.tap.course) g) c) (lost_found lost)
+
+  -- ---- what it is
+
+  by_phase : (p : Phase) → c.right.phase ≡ p → is_open c.left.phase ≡ true → c.is_judged ≡ true → Kind c
+  by_phase p e h judged = grind (arith, both, and_not, over_so, refused_over, closed_over)
+
+  lost_kind : is_open c.left.phase ≡ true → c.is_judged ≡ false → Kind c
+  lost_kind h lost =
+      stands (both (is_open c.left.phase) (is_open c.right.phase || is_closing c.right.phase) h (f.lost t.q c t.at lost))
+
+  open_kind : (j : Bool) → c.is_judged ≡ j → is_open c.left.phase ≡ true → Kind c
+  open_kind true e h = by_phase c.right.phase refl h e
+  open_kind false e h = lost_kind h e
 
   past_silent : (b : Bool) → is_silent c.right.phase ≡ b → is_open c.left.phase ≡ false → b ≡ false
   past_silent b e h = grind (arith, differ)
 
   kind_by : (b : Bool) → is_open c.left.phase ≡ b → Kind c
-  kind_by true e = by_phase c.right.phase refl e
+  kind_by true e = open_kind c.is_judged refl e
   kind_by false e = is_past e (past_silent (is_silent c.right.phase) refl e)
 
   -- ---- the connection after it
 
+  -- it selects no class
+  abbrev SameClass : Type 0
+  SameClass = course_so.class ≡ w.tap.course.class
+
   data Next : Type 0 where
-    goes_on : is_tracked c ≡ true → is_tracked nxt ≡ true → nxt.right.reference ≡ c.right.reference →
-        ((m : ℕ) (x : Connect) → v ≡ confirm m x → ⊥) → Following local w.put w.begun strays_after w.end more nxt → Next
+    goes_on : is_tracked c ≡ true → is_tracked nxt ≡ true → nxt.right.reference ≡ c.right.reference → SameClass →
+        Following local w.put w.begun strays_after w.end more nxt → Next
     opened : is_tracked c ≡ false → is_silent c.right.phase ≡ true → is_tracked nxt ≡ true →
         Following local w.put w.begun strays_after w.end more nxt →
         (w.end.ended ≡ None → value_at t.n w.end.live ≡ Some asked) → course_so.class ≡ Some Two → Next
     -- a DC that is not judged
     quiet : is_tracked c ≡ false → nxt ≡ c → is_dc v ≡ true → Next
+    -- the end awaits no CC for it
     gone : is_tracked c ≡ false → is_tracked nxt ≡ false → is_silent nxt.right.phase ≡ false →
-        ((m : ℕ) (x : Connect) → v ≡ confirm m x → ⊥) → Next
+        ((m : ℕ) (x : Connect) → v ≡ confirm m x → (is_silent c.right.phase ≡ false)
+        × (w.end.ended ≡ None → value_at t.n w.end.live ≡ Some asked → ⊥)) → SameClass →
+        (nxt.is_judged ≡ false → (is_open nxt.right.phase || is_closing nxt.right.phase) ≡ true) → Next
 
-  no_cc : is_silent c.right.phase ≡ false → (m : ℕ) (x : Connect) → v ≡ confirm m x → ⊥
-  no_cc h m x e = grind (arith, cc_waits, judged_c, sound_c, firm_so)
+  -- a CC has no effect on a connection that was answered
+  cc_none : (j : Bool) → c.is_judged ≡ j → is_silent c.right.phase ≡ false → (m : ℕ) (x : Connect) → v ≡ confirm m x →
+      is_applied found_so ≡ false
+  cc_none true judged there m x e =
+      ap (λ (u : Value). is_applied (found_on Right w.tap c u)) e ∙ cc_idle w.tap c judged sound_c m x there
+  cc_none false lost there m x e = ap is_applied (lost_found lost)
 
-  line_on : (tracked : is_tracked c ≡ true) → nxt.right.reference ≡ c.right.reference → IsNoCc v →
+  -- it ends the judging of that
+  calm_cc : (m : ℕ) (x : Connect) → v ≡ confirm m x → IsCalm (reached Right (reach_of (class_for Right w.tap.course) (found_on Right w.tap c
+      (confirm m x))) (course_after Right c (confirm m x) (is_applied (found_on Right w.tap c (confirm m x))) w.tap.course))
+  calm_cc m x e =
+      subst (λ (u : Value). IsCalm (reached Right (reach_of (class_for Right w.tap.course) (found_on Right w.tap c u))
+      (course_after Right c u (is_applied (found_on Right w.tap c u)) w.tap.course))) e calm_so
+
+  cc_ends : c.is_judged ≡ true → is_silent c.right.phase ≡ false → (m : ℕ) (x : Connect) → v ≡ confirm m x → nxt.is_judged ≡ false
+  cc_ends judged there m x e =
+      ap (λ (u : Value). (connection_after Right u (is_applied (found_on Right w.tap c u)) (reach_of (class_for Right w.tap.course)
+      (found_on Right w.tap c u)) c).is_judged) e ∙ cc_lost w.tap c judged sound_c m x there (calm_cc m x e)
+
+  -- so it comes only if a connection has lost its judgement
+  cc_late : {A : Type 0} → (takes Right v w.tap).state.course.loose ≡ false → is_silent c.right.phase ≡ false → (m : ℕ) (x : Connect) →
+      v ≡ confirm m x → A
+  cc_late firm there m x e =
+      let judged = sane.judged ((lasts_passing (passing Right v) w.tap).firm firm) t.q c t.at in
+      differ course_so.loose (ap (λ (u : Value). (reached Right (reach_of (class_for Right w.tap.course) (found_on Right w.tap c u))
+      (course_after Right c u (is_applied (found_on Right w.tap c u)) w.tap.course)).loose) e
+      ∙ cc_loose w.tap c judged sound_c m x there (calm_cc m x e)) (ap (λ (k : Course). k.loose) (sym course_is) ∙ firm)
+
+  same_by : (b : Bool) → is_applied found_so ≡ b → (b ≡ true → (m : ℕ) (x : Connect) → v ≡ confirm m x → ⊥) → SameClass
+  same_by true e none =
+      reached_same far (course_after Right c v (is_applied found_so) w.tap.course)
+      ∙ course_same c v (is_applied found_so) w.tap.course (none refl)
+  same_by false e none =
+      reached_same far (course_after Right c v (is_applied found_so) w.tap.course)
+      ∙ ap (λ (b : Bool). (course_after Right c v b w.tap.course).class) e ∙ course_idle c v w.tap.course
+
+  class_kept : is_silent c.right.phase ≡ false → SameClass
+  class_kept there = same_by (is_applied found_so) refl
+      (λ applied m x e. differ (is_applied found_so) applied (cc_none c.is_judged refl there m x e))
+
+  line_on : (tracked : is_tracked c ≡ true) → nxt.right.reference ≡ c.right.reference →
       Following local w.put w.begun strays_after w.end more nxt
-  line_on tracked right none =
+  line_on tracked right =
       let g = f.lines t.q c t.at tracked in
       let in_use = uses_source Right cs v in
       let class = f.two c.left.reference (t.q, c, t.at, tracked, refl) in
@@ -198,7 +265,7 @@ module _ (local : Local) (w : Whole) (f : Followed local w) (sane : IsSane w.tap
       let some : reach_of (Some Two) (finding_of Right w.tap.course in_use g.line.tap v) ≢ reach.Everything = λ e.
       differ course_so.left_stopped (ap (λ (r : Reach). (reached Right r (course_after Right c v (is_applied found_so)
       w.tap.course)).left_stopped) (ap (λ (k : Option Class). reach_of k found_so) class
-      ∙ ap (λ (x : Connection). reach_of (Some Two) (finding_of Right w.tap.course in_use x v)) (sym g.tap) ∙ e)) firm_so.left in
+      ∙ ap (λ (x : Connection). reach_of (Some Two) (finding_of Right w.tap.course in_use x v)) (sym g.tap) ∙ e)) calm_so.left in
       record {
         r = g.r;
         peer = g.peer;
@@ -214,25 +281,34 @@ module _ (local : Local) (w : Whole) (f : Followed local w) (sane : IsSane w.tap
         gone = g.gone;
         begun_is = g.begun_is;
         row = row_add local w.end w.coming g.r g.peer g.line line v (named_so g.r v dest) refl refl g.row;
-        calm = all_add IsNoCc g.line.coming v g.calm none;
+        calm = λ j.
+            let judged = judged_was Right v (is_applied found_so) far c j in
+            all_add IsNoCc g.line.coming v (g.calm judged)
+            (λ m x e. differ nxt.is_judged j (cc_ends judged (there_not_silent c.right.phase (right_there c tracked)) m x e));
       }
+
+  stays_open : (j : Bool) → c.is_judged ≡ j → is_tracked c ≡ true →
+      ((is_open nxt.right.phase || is_closing nxt.right.phase) ≡ true) × (nxt.right.reference ≡ c.right.reference)
+  stays_open true judged tracked = open_stays w.tap c judged sound_c v t.n t.dest tracked
+  stays_open false lost tracked = (
+    ap (λ (x : Connection). is_open x.right.phase || is_closing x.right.phase) (lost_same lost) ∙ right_there c tracked,
+    ap (λ (x : Connection). x.right.reference) (lost_same lost),
+  )
 
   goes_so : is_tracked c ≡ true → Next
   goes_so tracked =
-      let (there, right) = open_stays w.tap c judged_c sound_c v t.n t.dest tracked firm_so in
+      let (there, right) = stays_open c.is_judged refl tracked in
       let still = both (is_open nxt.left.phase) (is_open nxt.right.phase || is_closing nxt.right.phase)
       (ap (λ (h : Half). is_open h.phase) nxt_left ∙ left_open c tracked) there in
-      let none = no_cc (there_not_silent c.right.phase (right_there c tracked)) in
-      goes_on tracked still right none (line_on tracked right none)
+      goes_on tracked still right (class_kept (there_not_silent c.right.phase (right_there c tracked))) (line_on tracked right)
 
   -- right uses the reference of the CC for no other connection, so nothing that is to pass names it
   unnamed_by : (x : Connect) (r : ℕ) (u : Value) (i : ℕ) (e : Connection) (b : Bool) → (e.right.reference == x.source) ≡ b →
       list_any (λ (e : Connection). uses Right x.source e) cs ≡ false → slice_get cs i ≡ Some e → is_tracked e ≡ true →
       destination_of u ≡ Some e.right.reference → is_ours r x.source u ≡ false
   unnamed_by x r u i e true same unused there tracked dest =
-      let j = sane.judged firm i e there in
       differ (uses Right x.source e)
-      (uses_tracked e x.source (sane.apart.sound i e there j) tracked (eqb-true e.right.reference x.source same))
+      (uses_tracked e x.source (each_sound cs sane.apart peers i e there) tracked (eqb-true e.right.reference x.source same))
       (none_true (λ (y : Connection). uses Right x.source y) cs i e unused there)
   unnamed_by x r u i e false same unused there tracked dest =
       ours_not r e.right.reference x.source u (unlike e.right.reference x.source same) dest
@@ -290,25 +366,30 @@ module _ (local : Local) (w : Whole) (f : Followed local w) (sane : IsSane w.tap
         put_is = none_put;
         spares = tt;
         gone = λ h. absurd (h refl);
-        begun_is = sym (ap (λ (b : Bool). w.begun && b) none_head ∙ none_begun w.begun);
+        begun_is = λ first. sym (ap (λ (b : Bool). w.begun && b) none_head ∙ none_begun w.begun);
         row = row_or local w.end more k.r x.source line (is_some w.end.ended) refl (λ lasts.
-            asks (k.row lasts) x refl (those k.r w.coming) k.early (picked_more (names k.r) w.coming v named_r
+            asks (k.row lasts) x refl two (those k.r w.coming) k.early (picked_more (names k.r) w.coming v named_r
             ∙ ap (λ (u : Value). those k.r w.coming ++ u ∷ []) (e ∙ ap (λ (i : ℕ). confirm i x) (same_name m x e ∙ sym r_is))) refl);
-        calm = tt;
+        calm = λ j. tt;
       }) (λ lasts. ap (λ (i : ℕ). value_at i w.end.live) (sym r_is) ∙ k.row lasts)
       (reached_same far (course_after Right c v (is_applied found_so) w.tap.course)
       ∙ ap (λ (u : Value). (course_after Right c u (is_applied found_so) w.tap.course).class) e
       ∙ ap (λ (b : Bool). (course_after Right c (confirm m x) b w.tap.course).class) applied
       ∙ ap (λ (a : Class). Some a) (class_opened x two))
 
-  refused_so : is_refused nxt.right.phase ≡ true → is_tracked c ≡ false → ((m : ℕ) (x : Connect) → v ≡ confirm m x → ⊥) → Next
-  refused_so h not_tracked none = grind (arith, refused_parts, and_not)
+  refused_so : is_refused nxt.right.phase ≡ true → nxt.is_judged ≡ true → is_tracked c ≡ false →
+      ((m : ℕ) (x : Connect) → v ≡ confirm m x → ⊥) → Next
+  refused_so h judged not_tracked none =
+      let (not_there, not_silent) = refused_parts nxt.right.phase h in
+      gone not_tracked (and_not (is_open nxt.left.phase) (is_open nxt.right.phase || is_closing nxt.right.phase) not_there) not_silent
+      (λ m x e. absurd (none m x e)) (same_by (is_applied found_so) refl (λ applied. none))
+      (λ lost. differ nxt.is_judged judged lost)
 
-  by_answer : is_waiting c ≡ true → is_tracked c ≡ false → Answered w.tap c judged_c sound_c v → Next
-  by_answer waiting not_tracked (opens m x e right_so two unused) =
+  by_answer : is_waiting c ≡ true → is_tracked c ≡ false → (judged : c.is_judged ≡ true) → Answered w.tap c judged sound_c v → Next
+  by_answer waiting not_tracked judged (opens m x e right_so two unused) =
       opens_so m x e right_so two unused waiting not_tracked (f.waiting t.q c t.at waiting)
-  by_answer waiting not_tracked (refused h none) = refused_so h not_tracked none
-  by_answer waiting not_tracked (waits_on dc same) = quiet not_tracked same dc
+  by_answer waiting not_tracked judged (refused h after none) = refused_so h after not_tracked none
+  by_answer waiting not_tracked judged (waits_on dc same) = quiet not_tracked same dc
 
   right_after : (b : Bool) → is_applied found_so ≡ b → nxt.right ≡ (if b then half_after v c.right else c.right)
   right_after b e = grind (arith, right_own, right_judged)
@@ -317,16 +398,40 @@ module _ (local : Local) (w : Whole) (f : Followed local w) (sane : IsSane w.tap
   still_not_silent true e h = ap (λ (x : Half). is_silent x.phase) (right_after true e) ∙ half_started v c.right h
   still_not_silent false e h = ap (λ (x : Half). is_silent x.phase) (right_after false e) ∙ h
 
+  -- what is not over for right, and was answered
+  past_there : (p : Phase) → c.right.phase ≡ p → c.is_judged ≡ true → is_silent c.right.phase ≡ false →
+      (is_open c.right.phase || is_closing c.right.phase) ≡ true
+  past_there p e judged h = grind (arith, over_so, refused_over, closed_over)
+
+  -- a connection loses its judgement by a unit that has no effect
+  lost_idle : (b : Bool) → is_applied found_so ≡ b → c.is_judged ≡ true → nxt.is_judged ≡ false → b ≡ false
+  lost_idle false e judged lost = refl
+  lost_idle true e judged lost =
+      differ nxt.is_judged (ap (λ (r : Reach). (connection_after Right v (is_applied found_so) r c).is_judged)
+      (applied_ends_none (class_for Right w.tap.course) found_so e)
+      ∙ ap (λ (b : Bool). (connection_after Right v b reach.Nothing c).is_judged) e
+      ∙ sized_judged v (sends Right (half_after v c.right) c) ∙ judged) lost
+
+  past_lost : (j : Bool) → c.is_judged ≡ j → is_silent c.right.phase ≡ false → nxt.is_judged ≡ false →
+      (is_open nxt.right.phase || is_closing nxt.right.phase) ≡ true
+  past_lost false was there lost =
+      ap (λ (x : Connection). is_open x.right.phase || is_closing x.right.phase) (lost_same was) ∙ f.lost t.q c t.at was
+  past_lost true judged there lost =
+      ap (λ (x : Half). is_open x.phase || is_closing x.phase) (right_after false (lost_idle (is_applied found_so) refl judged lost))
+      ∙ past_there c.right.phase refl judged there
+
   by_kind : Kind c → Next
   by_kind (stands tracked) = goes_so tracked
-  by_kind (waits_yet waiting silent not_tracked) =
-      by_answer waiting not_tracked (answered w.tap c judged_c sound_c v t.n t.dest silent
-      (not_selected w.tap c judged_c sound_c v (λ h. none_zero (ap (λ (k : Course). k.class) course_is ∙ h))) firm_so)
+  by_kind (waits_yet waiting silent not_tracked judged) =
+      by_answer waiting not_tracked judged (answered w.tap c judged sound_c v t.n t.dest silent
+      (not_selected w.tap c judged sound_c v (λ h. none_zero (ap (λ (k : Course). k.class) course_is ∙ h))) calm_so)
   by_kind (is_past not_open not_silent_c) =
       gone (no_two (is_open c.left.phase) (is_open c.right.phase || is_closing c.right.phase) not_open)
       (no_two (is_open nxt.left.phase) (is_open nxt.right.phase || is_closing nxt.right.phase)
       (ap (λ (h : Half). is_open h.phase) nxt_left ∙ not_open))
-      (still_not_silent (is_applied found_so) refl not_silent_c) (no_cc not_silent_c)
+      (still_not_silent (is_applied found_so) refl not_silent_c)
+      (λ m x e. (not_silent_c, λ lasts row. f.shut lasts t.q c t.at not_open (ap (λ (i : ℕ). value_at i w.end.live) name_is ∙ row)))
+      (class_kept not_silent_c) (past_lost c.is_judged refl not_silent_c)
 
   next_so : Next
   next_so = by_kind (kind_by (is_open c.left.phase) refl)
@@ -355,11 +460,11 @@ module _ (local : Local) (w : Whole) (f : Followed local w) (sane : IsSane w.tap
       let g = f.lines i x there tracked in
       following_other local w.put w.begun w.tap.course.strays strays_after w.end w.coming x v strays_on g
       (unlike_r i x g.r other there g.left)
-  line_at i x tracked (goes_on a b right none line) (inl (same, is)) =
+  line_at i x tracked (goes_on a b right class line) (inl (same, is)) =
       subst (λ (y : Connection). Following local w.put w.begun strays_after w.end more y) (sym is) line
   line_at i x tracked (opened a silent b line row class) (inl (same, is)) =
       subst (λ (y : Connection). Following local w.put w.begun strays_after w.end more y) (sym is) line
-  line_at i x tracked (gone a b silent none) (inl (same, is)) = differ (is_tracked nxt) (ap is_tracked (sym is) ∙ tracked) b
+  line_at i x tracked (gone a b silent none class lost) (inl (same, is)) = differ (is_tracked nxt) (ap is_tracked (sym is) ∙ tracked) b
   line_at i x tracked (quiet a still dc) (inl (same, is)) = differ (is_tracked c) (ap is_tracked (sym (is ∙ still)) ∙ tracked) a
 
   -- what waits now waited before
@@ -379,11 +484,11 @@ module _ (local : Local) (w : Whole) (f : Followed local w) (sane : IsSane w.tap
   waits_at i x waiting (quiet a still dc) (inl (same, is)) =
       waiting_dc local w.end w.coming x v dc
       (f.waiting i x (was_waiting i x (waits_silent x waiting) (quiet a still dc) (inl (same, is))) waiting)
-  waits_at i x waiting (goes_on a b right none line) (inl (same, is)) =
+  waits_at i x waiting (goes_on a b right class line) (inl (same, is)) =
       not_quiet x waiting (there_not_silent nxt.right.phase (right_there nxt b)) is
   waits_at i x waiting (opened a before b line row class) (inl (same, is)) =
       not_quiet x waiting (there_not_silent nxt.right.phase (right_there nxt b)) is
-  waits_at i x waiting (gone a b later none) (inl (same, is)) = not_quiet x waiting later is
+  waits_at i x waiting (gone a b later none class lost) (inl (same, is)) = not_quiet x waiting later is
 
   -- of a connection that was open
   was_open : (A : Type 0) → is_tracked c ≡ true → (is_tracked nxt ≡ true → nxt.right.reference ≡ c.right.reference → A) → Next → A
@@ -416,34 +521,44 @@ module _ (local : Local) (w : Whole) (f : Followed local w) (sane : IsSane w.tap
   owned_to u (of i x there tracked own) = owned_one u i x there tracked own (i == t.q) refl
   owned_to u (stray m source e strays) = stray m source e (strays_on strays)
 
-  answers_to : Next → IsAnswer (takes Right v w.tap).state.connections w.end v
-  answers_to (goes_on a b right none line) m x e lasts = absurd (none m x e)
-  answers_to (gone a b silent none) m x e lasts = absurd (none m x e)
-  answers_to (quiet a still dc) m x e lasts = absurd (dc_no_cc v dc m x e)
-  answers_to (opened a silent b line row class) m x e lasts =
-      let same = same_name m x e in (
-        (t.q, nxt, nxt_at, b, nxt_reference ∙ name_is ∙ sym same),
-        ap (λ (i : ℕ). value_at i w.end.live) same ∙ row lasts,
-      )
+  same_left : (m : ℕ) (x : Connect) → v ≡ confirm m x → nxt.left.reference ≡ m
+  same_left m x e = nxt_reference ∙ name_is ∙ sym (same_name m x e)
+
+  abbrev Now : ℕ → Type 0
+  Now m = value_at m w.end.live ≡ Some asked
+
+  row_now : (m : ℕ) (x : Connect) → v ≡ confirm m x → Now m → Now t.n
+  row_now m x e row = ap (λ (i : ℕ). value_at i w.end.live) (sym (same_name m x e)) ∙ row
+
+  answers_to : Next → IsAnswer (takes Right v w.tap).state.course.loose (takes Right v w.tap).state.connections w.end v
+  answers_to (goes_on a b right class line) m x e lasts (inl row) = ((t.q, nxt, nxt_at, b, same_left m x e), row)
+  answers_to (goes_on a b right class line) m x e lasts (inr firm) =
+      cc_late firm (there_not_silent c.right.phase (right_there c a)) m x e
+  answers_to (gone a b silent none class lost) m x e lasts (inl row) = absurd ((none m x e).1 lasts (row_now m x e row))
+  answers_to (gone a b silent none class lost) m x e lasts (inr firm) = cc_late firm (none m x e).0 m x e
+  answers_to (quiet a still dc) m x e lasts why = absurd (dc_no_cc v dc m x e)
+  answers_to (opened a silent b line here class) m x e lasts why =
+      ((t.q, nxt, nxt_at, b, same_left m x e), ap (λ (i : ℕ). value_at i w.end.live) (same_name m x e) ∙ here lasts)
 
   class_from : (r i : ℕ) (x : Connection) → is_tracked x ≡ true → x.left.reference ≡ r → Next → Item i x →
       (takes Right v w.tap).state.course.class ≡ Some Two
   class_from r i x tracked is k (inr (other, there)) =
       (lasts_passing (passing Right v) w.tap).two (f.two r (i, x, there, tracked, is))
-  class_from r i x tracked is (goes_on a b right none line) (inl (same, so)) =
+  class_from r i x tracked is (goes_on a b right class line) (inl (same, so)) =
       (lasts_passing (passing Right v) w.tap).two (f.two c.left.reference (t.q, c, t.at, a, refl))
   class_from r i x tracked is (opened a silent b line row class) (inl (same, so)) = ap (λ (k : Course). k.class) course_is ∙ class
-  class_from r i x tracked is (gone a b silent none) (inl (same, so)) = differ (is_tracked nxt) (ap is_tracked (sym so) ∙ tracked) b
+  class_from r i x tracked is (gone a b silent none class lost) (inl (same, so)) =
+      differ (is_tracked nxt) (ap is_tracked (sym so) ∙ tracked) b
   class_from r i x tracked is (quiet a still dc) (inl (same, so)) = differ (is_tracked c) (ap is_tracked (sym (so ∙ still)) ∙ tracked) a
 
-  same_class : ((m : ℕ) (x : Connect) → v ≡ confirm m x → ⊥) → (takes Right v w.tap).state.course.class ≡ w.tap.course.class
-  same_class none = grind (arith, course_is, reached_same, course_same)
+  after_class : SameClass → ((takes Right v w.tap).state.course.class ≡ None) ⊎ ((takes Right v w.tap).state.course.class ≡ Some Two)
+  after_class same =
+      subst (λ (k : Option Class). (k ≡ None) ⊎ (k ≡ Some Two)) (sym (ap (λ (k : Course). k.class) course_is ∙ same)) f.zero
 
   zero_after : Next → ((takes Right v w.tap).state.course.class ≡ None) ⊎ ((takes Right v w.tap).state.course.class ≡ Some Two)
-  zero_after (goes_on a b right none line) =
-      subst (λ (k : Option Class). (k ≡ None) ⊎ (k ≡ Some Two)) (sym (same_class none)) f.zero
-  zero_after (gone a b silent none) = subst (λ (k : Option Class). (k ≡ None) ⊎ (k ≡ Some Two)) (sym (same_class none)) f.zero
-  zero_after (quiet a still dc) = subst (λ (k : Option Class). (k ≡ None) ⊎ (k ≡ Some Two)) (sym (same_class (dc_no_cc v dc))) f.zero
+  zero_after (goes_on a b right class line) = after_class class
+  zero_after (gone a b silent none class lost) = after_class class
+  zero_after (quiet a still dc) = after_class (same_by (is_applied found_so) refl (λ applied. dc_no_cc v dc))
   zero_after (opened a silent b line row class) = inr (ap (λ (k : Course). k.class) course_is ∙ class)
 
   new_request : (u : Value) → ((x : Connect) → u ≡ request x → IsAsking local w.end w.coming x) →
@@ -472,7 +587,7 @@ module _ (local : Local) (w : Whole) (f : Followed local w) (sane : IsSane w.tap
       (takes Right v w.tap).state.course.class_seen ≡ Some Two
   seen_at i x tracked known k (inr (other, there)) =
       (lasts_passing (passing Right v) w.tap).seen (f.two x.left.reference (i, x, there, tracked, refl)) (f.seen i x there tracked known)
-  seen_at i x tracked known (goes_on a b right none line) (inl (same, is)) =
+  seen_at i x tracked known (goes_on a b right class line) (inl (same, is)) =
       let before = ap (λ (h : Half). is_silent h.phase) (sym (known_then v (is_applied found_so) far c))
       ∙ ap (λ (y : Connection). is_silent y.seen_by_left.phase) (sym is) ∙ known in
       (lasts_passing (passing Right v) w.tap).seen (f.two c.left.reference (t.q, c, t.at, a, refl)) (f.seen t.q c t.at a before)
@@ -480,7 +595,8 @@ module _ (local : Local) (w : Whole) (f : Followed local w) (sane : IsSane w.tap
       let before = ap (λ (h : Half). is_silent h.phase) (sym (known_then v (is_applied found_so) far c))
       ∙ ap (λ (y : Connection). is_silent y.seen_by_left.phase) (sym is) ∙ known in
       differ (is_silent c.right.phase) silent (sound_c.left_knows.there before)
-  seen_at i x tracked known (gone a b silent none) (inl (same, is)) = differ (is_tracked nxt) (ap is_tracked (sym is) ∙ tracked) b
+  seen_at i x tracked known (gone a b silent none class lost) (inl (same, is)) =
+      differ (is_tracked nxt) (ap is_tracked (sym is) ∙ tracked) b
   seen_at i x tracked known (quiet a still dc) (inl (same, is)) = differ (is_tracked c) (ap is_tracked (sym (is ∙ still)) ∙ tracked) a
 
   settled_to : (u : Value) → AreSettled cs w.put w.end.given u → AreSettled (takes Right v w.tap).state.connections w.put w.end.given u
@@ -493,15 +609,39 @@ module _ (local : Local) (w : Whole) (f : Followed local w) (sane : IsSane w.tap
         asks = k.asks;
       }
 
+  lost_by : (i : ℕ) (x : Connection) → x.is_judged ≡ false → Next → Item i x → (is_open x.right.phase || is_closing x.right.phase) ≡ true
+  lost_by i x lost k (inr (other, there)) = f.lost i x there lost
+  lost_by i x lost (goes_on a b right class line) (inl (same, is)) =
+      ap (λ (y : Connection). is_open y.right.phase || is_closing y.right.phase) is ∙ right_there nxt b
+  lost_by i x lost (opened a silent b line row class) (inl (same, is)) =
+      ap (λ (y : Connection). is_open y.right.phase || is_closing y.right.phase) is ∙ right_there nxt b
+  lost_by i x lost (quiet a still dc) (inl (same, is)) =
+      ap (λ (y : Connection). is_open y.right.phase || is_closing y.right.phase) (is ∙ still)
+      ∙ f.lost t.q c t.at (ap (λ (y : Connection). y.is_judged) (sym (is ∙ still)) ∙ lost)
+  lost_by i x lost (gone a b silent none class there) (inl (same, is)) =
+      ap (λ (y : Connection). is_open y.right.phase || is_closing y.right.phase) is
+      ∙ there (ap (λ (y : Connection). y.is_judged) (sym is) ∙ lost)
+
+  shut_by : w.end.ended ≡ None → (i : ℕ) (x : Connection) → is_open x.left.phase ≡ false →
+      value_at x.left.reference w.end.live ≡ Some asked → Item i x → ⊥
+  shut_by lasts i x closed row (inr (other, there)) = f.shut lasts i x there closed row
+  shut_by lasts i x closed row (inl (same, is)) =
+      let left : x.left ≡ c.left = ap (λ (y : Connection). y.left) is ∙ nxt_left in
+      f.shut lasts t.q c t.at (ap (λ (h : Half). is_open h.phase) (sym left) ∙ closed)
+      (ap (λ (h : Half). value_at h.reference w.end.live) (sym left) ∙ row)
+
   pub other_passes : Followed local after
   other_passes = record {
     lines = λ i x there tracked. line_at i x tracked next_so (item i x there);
     waiting = λ i x there waiting. waits_at i x waiting next_so (item i x there);
     owned = all_so (λ u. IsOwned w.tap u) (λ u. IsOwned (takes Right v w.tap).state u) w.put owned_to f.owned;
     linked = λ lasts r peer link h. let (k, two) = f.linked lasts r peer link h in (tracked_to r k, two);
-    answers = all_add (λ u. IsAnswer (takes Right v w.tap).state.connections w.end u) w.coming v
-        (all_so (λ u. IsAnswer cs w.end u) (λ u. IsAnswer (takes Right v w.tap).state.connections w.end u) w.coming
-        (λ u h m x e lasts. let (k, row) = h m x e lasts in (tracked_to m k, row)) f.answers) (answers_to next_so);
+    answers = all_add (λ u. IsAnswer after.tap.course.loose after.tap.connections w.end u) w.coming v
+        (all_so (λ u. IsAnswer w.tap.course.loose cs w.end u) (λ u. IsAnswer after.tap.course.loose after.tap.connections w.end u) w.coming
+        (λ u h m x e lasts why.
+        let (k, row) = h m x e lasts (why_before w.tap.course.loose after.tap.course.loose (lasts_passing (passing Right v) w.tap).firm
+        why) in
+        (tracked_to m k, row)) f.answers) (answers_to next_so);
     requests = all_two (λ u. (x : Connect) → u ≡ request x → IsAsking local w.end w.coming x)
         (λ u. (x : Connect) → u ≡ request x → newer.last < x.source)
         (λ u. (x : Connect) → u ≡ request x → IsAsking local w.end more x) w.put
@@ -515,4 +655,9 @@ module _ (local : Local) (w : Whole) (f : Followed local w) (sane : IsSane w.tap
     seen = λ i x there tracked known. seen_at i x tracked known next_so (item i x there);
     settled = all_so (AreSettled cs w.put w.end.given) (AreSettled (takes Right v w.tap).state.connections w.put w.end.given) w.put
         settled_to f.settled;
+    lost = λ i x there lost. lost_by i x lost next_so (item i x there);
+    shut = λ lasts i x there closed row. shut_by lasts i x closed row (item i x there);
   }
+
+  pub other_peers : ArePeersApart (takes Right v w.tap).state.connections
+  other_peers = subst ArePeersApart (sym conns) (right_set w.tap sane.apart peers t.q c t.at v (class_for Right w.tap.course) live)

@@ -1,31 +1,26 @@
 -- A whole calling end ends: it puts nothing then, and what it has put still passes by its lines.
 -- For the law on a whole end.
-use Rattle.osi_fair.proofs.Vocabulary.{[], arith, Bool, Err, false, is_some, List, None, Option, refl, Result, Some}
-use Rattle.osi_fair.proofs.Vocabulary.{true, ℕ, ◌++◌, ◌∙◌, ◌∷◌, ◌≡◌, ◌≤◌, ◌⊎◌, append-nil, AllByRecursion}
-use Rattle.osi_fair.proofs.Vocabulary.{Value, Standing, LinkFault, Class}
-use Rattle.osi_fair.proofs.Vocabulary.{Two, Local, closed_on, closes_in, IsOrderly, before_class, breaks_in, in_two}
-use Rattle.osi_fair.proofs.Vocabulary.{leaves, react, taking, to_connection, to_linked, to_unknown}
-use Rattle.osi_fair.proofs.Vocabulary.{user_does, UserCall, Live, Connection, put_at, put_before}
-use Rattle.osi_fair.proofs.Vocabulary.{put_by, put_for, put_in_two, put_leaving, put_linked, put_taking, MayCall, Whole}
+use Rattle.osi_fair.proofs.Vocabulary.{[], arith, Bool, Err, false, is_some, List, None, Option, refl, Result, Some, true, ℕ, ◌++◌, ◌∙◌}
+use Rattle.osi_fair.proofs.Vocabulary.{◌∷◌, ◌≡◌, ◌≤◌, ◌⊎◌, append-nil, AllByRecursion, Value, Standing, LinkFault, Class, Two, Local}
+use Rattle.osi_fair.proofs.Vocabulary.{closed_on, closes_in, IsOrderly, before_class, breaks_in, in_two, leaves, react, taking}
+use Rattle.osi_fair.proofs.Vocabulary.{to_connection, to_linked, to_unknown, user_does, UserCall, Live, Connection, put_at, put_before}
+use Rattle.osi_fair.proofs.Vocabulary.{put_by, put_for, put_in_two, put_leaving, put_linked, put_taking, MayCall, Whole, Connect, request}
+use Rattle.osi_fair.proofs.Vocabulary.{subst, sym}
 use Rattle.osi_carrier.specs.State.{State}
 use Rattle.osi_fair.proofs.small_facts_that_many_lemmas_use.{none_of as no_end}
 use Rattle.osi_fair.proofs.a_request_of_a_whole_end_is_new.{Newer, unit_gives}
 use Rattle.osi_fair.proofs.a_whole_end_makes_a_call.{end_calls, nothing_so, same_up}
 use Rattle.osi_fair.proofs.a_whole_end_takes_a_unit.{end_takes}
 use Rattle.osi_fair.proofs.what_a_unit_leaves_at_a_calling_end.{two_puts, two_reacts}
-use Rattle.osi_fair.proofs.each_connection_has_its_line.{followed_at, AreGiven, Followed, Following, all_so}
-use Rattle.osi_fair.proofs.each_connection_has_its_line.{over}
-use Rattle.osi_fair.proofs.how_a_calling_end_asks.{Idle, over_calls, over_takes, put_is as put_calling}
-use Rattle.osi_fair.proofs.how_a_calling_end_asks.{react_is as react_calling}
+use Rattle.osi_fair.proofs.each_connection_has_its_line.{followed_at, AreGiven, Followed, Following, all_so, over, AreSettled, IsAnswer}
+use Rattle.osi_fair.proofs.each_connection_has_its_line.{IsAsking}
+use Rattle.osi_fair.proofs.how_a_calling_end_asks.{Idle, over_calls, over_takes, put_is as put_calling, react_is as react_calling}
 use Rattle.osi_fair.proofs.references_of_requests_rise.{all_gives, closed_gives, ended_gives, sent_gives}
 use Rattle.osi_fair.proofs.what_a_calling_end_still_has.{OffersTwo, SelectsTwo, all_last, over_not, sent_lasts}
+use Rattle.osi_fair.proofs.names_of_right_stay_apart_though_one_is_lost.{ArePeersApart}
 use Rattle.osi_fair.proofs.what_the_other_side_closes.{IsDr, IsSane, closed_by}
-use Rattle.osi_fair.proofs.which_units_are_for_a_connection.{IsDc, keep, those}
+use Rattle.osi_fair.proofs.which_units_are_for_a_connection.{IsDc, keep, those, names}
 use Rattle.osi_fair.proofs.what_is_live_at_a_called_end.{IsLive}
-use Rattle.osi_fair.proofs.Vocabulary.{Connect, request}
-use Rattle.osi_fair.proofs.each_connection_has_its_line.{AreSettled, IsAnswer, IsAsking}
-use Rattle.osi_fair.proofs.Vocabulary.{subst, sym}
-use Rattle.osi_fair.proofs.which_units_are_for_a_connection.{names}
 
 -- ---- as it ends it puts nothing
 
@@ -99,7 +94,7 @@ is_over local w f t later h early few up = record {
       };
   owned = f.owned;
   linked = λ lasts. over_not t.ended h lasts;
-  answers = all_made (λ v. IsAnswer w.tap.connections t v) later (λ v n x e lasts. over_not t.ended h lasts);
+  answers = all_made (λ v. IsAnswer w.tap.course.loose w.tap.connections t v) later (λ v n x e lasts why. over_not t.ended h lasts);
   requests = all_so (λ v. (x : Connect) → v ≡ request x → IsAsking local w.end w.coming x)
       (λ v. (x : Connect) → v ≡ request x → IsAsking local t later x) w.put
       (λ v k x e. let a = k x e in record {
@@ -118,6 +113,8 @@ is_over local w f t later h early few up = record {
       let a = k m source e in
       let before = a.up in
       record { up = omega arith; waits = a.waits; asks = a.asks }) f.settled;
+  lost = f.lost;
+  shut = λ lasts. over_not t.ended h lasts;
 }
 
 with_nothing : (local : Local) (w : Whole) (t : State) (later units : List Value) → units ≡ [] →
@@ -129,7 +126,7 @@ kept_early b v vs h = grind arith
 
 -- ---- a unit, and a call, whether the end ends or not
 
-module _ (local : Local) (w : Whole) (f : Followed local w) (sane : IsSane w.tap) (firm : w.tap.course.loose ≡ false)
+module _ (local : Local) (w : Whole) (f : Followed local w) (sane : IsSane w.tap) (peers : ArePeersApart w.tap.connections)
     (offers : OffersTwo w.end) (orderly : IsOrderly w.end) (local_is : w.end.local ≡ local) where
   abbrev after : Value → List Value → Whole
   after u later = record w { end = react u w.end; put = w.put ++ put_for u w.end; coming = later }
@@ -139,7 +136,7 @@ module _ (local : Local) (w : Whole) (f : Followed local w) (sane : IsSane w.tap
 
   takes_by : (b : Bool) (u : Value) (later : List Value) → is_some (react u w.end).ended ≡ b → w.coming ≡ u ∷ later →
       ((react u w.end).ended ≡ None → w.end.ended ≡ None) →
-      (w.end.ended ≡ None → IsDr u → (m : ℕ) → closed_by u ≡ Some m → IsLive w.end m ⊎ (w.tap.course.strays ≡ true)) → SelectsTwo u →
+      (w.end.ended ≡ None → IsDr u → (m : ℕ) → closed_by u ≡ Some m → IsLive w.end m ⊎ (w.tap.course.strays ≡ true)) → SelectsTwo w.end u →
       Followed local (after u later)
   takes_by true u later h e was live_dr selects =
       with_nothing local w (react u w.end) later (put_for u w.end) (ended_puts (is_some w.end.ended) u w.end refl offers h)
@@ -148,10 +145,10 @@ module _ (local : Local) (w : Whole) (f : Followed local w) (sane : IsSane w.tap
       (few_later u later e) (unit_gives u w.end))
   takes_by false u later h e was live_dr selects =
       let lasts = no_end (react u w.end).ended h in
-      end_takes local w f sane firm offers orderly local_is (was lasts) u later e lasts (live_dr (was lasts)) selects
+      end_takes local w f sane peers offers orderly local_is (was lasts) u later e lasts (live_dr (was lasts)) selects
 
   pub whole_takes : (u : Value) (later : List Value) → w.coming ≡ u ∷ later → ((react u w.end).ended ≡ None → w.end.ended ≡ None) →
-      (w.end.ended ≡ None → IsDr u → (m : ℕ) → closed_by u ≡ Some m → IsLive w.end m ⊎ (w.tap.course.strays ≡ true)) → SelectsTwo u →
+      (w.end.ended ≡ None → IsDr u → (m : ℕ) → closed_by u ≡ Some m → IsLive w.end m ⊎ (w.tap.course.strays ≡ true)) → SelectsTwo w.end u →
       Followed local (after u later)
   whole_takes u later e was live_dr selects = takes_by (is_some (react u w.end).ended) u later refl e was live_dr selects
 

@@ -1,14 +1,14 @@
 -- The user of a whole calling end makes a call: what it does to an open connection is acts of its line, and a CR waits to pass.
 -- For the law on a whole end.
-use Rattle.osi_fair.proofs.Vocabulary.{[], ap, arith, Bool, false, if◌then◌else◌, inl, inr, is_some, length, List, None, Option, refl, Some}
-use Rattle.osi_fair.proofs.Vocabulary.{subst, sym, true, ℕ, ◌++◌, ◌+◌, ◌∙◌, ◌∷◌, ◌≡◌, ◌≤◌, eqb-true, append-nil, AllByRecursion, slice_get}
-use Rattle.osi_fair.proofs.Vocabulary.{◌==◌, window_units, Connect, destination_of, request, Value, longest_tsdu, Standing, with_tsdu}
-use Rattle.osi_fair.proofs.Vocabulary.{Class, Two, Local, push_other, put_other, beyond, push_here, put_here, asks as asks_for, closed_on}
-use Rattle.osi_fair.proofs.Vocabulary.{closed_with, closes_in, ended_by, link_of, open_link, sent, sent_all, proposal, proposal_by}
-use Rattle.osi_fair.proofs.Vocabulary.{proposes_two, IsOrderly, pumped, value_at, breaks, closes_call, connects, sends, sends_all}
-use Rattle.osi_fair.proofs.Vocabulary.{user_does, UserCall, asked, closing, Live, ends as ends_as, linked, EndReason, asked_by, Connection}
-use Rattle.osi_fair.proofs.Vocabulary.{Left, Half, Follows, link_now, Line, opened_half, put_closing, put_sent, put_together, MayCall}
-use Rattle.osi_fair.proofs.Vocabulary.{Whole}
+use Rattle.osi_fair.proofs.Vocabulary.{[], ap, arith, Bool, false, if◌then◌else◌, inl, inr, is_some, length, List, None, Option, refl}
+use Rattle.osi_fair.proofs.Vocabulary.{Some, subst, sym, true, ℕ, ◌++◌, ◌+◌, ◌∙◌, ◌∷◌, ◌≡◌, ◌≤◌, eqb-true, append-nil, AllByRecursion}
+use Rattle.osi_fair.proofs.Vocabulary.{slice_get, ◌==◌, window_units, confirm, Connect, destination_of, request, Value, longest_tsdu}
+use Rattle.osi_fair.proofs.Vocabulary.{Standing, with_tsdu, Class, Two, Local, push_other, put_other, beyond, push_here, put_here}
+use Rattle.osi_fair.proofs.Vocabulary.{asks as asks_for, closed_on, closed_with, closes_in, ended_by, link_of, open_link, sent, sent_all}
+use Rattle.osi_fair.proofs.Vocabulary.{proposal, proposal_by, proposes_two, IsOrderly, pumped, value_at, breaks, closes_call, connects}
+use Rattle.osi_fair.proofs.Vocabulary.{sends, sends_all, user_does, UserCall, asked, closing, Live, ends as ends_as, linked, EndReason}
+use Rattle.osi_fair.proofs.Vocabulary.{asked_by, Connection, Left, Half, Follows, link_now, Line, opened_half, put_closing, put_sent}
+use Rattle.osi_fair.proofs.Vocabulary.{put_together, MayCall, Whole}
 use Rattle.osi_carrier.specs.Calls.{sent_on}
 use Rattle.osi_carrier.specs.State.{State}
 use Rattle.osi_fair.proofs.small_facts_that_many_lemmas_use.{differ, some_same as item_is}
@@ -19,15 +19,17 @@ use Rattle.osi_fair.proofs.what_a_unit_leaves_at_a_calling_end.{Linked, ends, gi
 use Rattle.osi_fair.proofs.calls_of_a_line_join.{follows_together, still_open}
 use Rattle.osi_fair.proofs.each_connection_has_its_line.{followed_at, AreGiven, AreSettled, Followed, Following, IsAnswer, IsAsking}
 use Rattle.osi_fair.proofs.each_connection_has_its_line.{IsOwned, IsSettled, Row, Tracked, all_so, asking, asks, closes, over, is_tracked}
-use Rattle.osi_fair.proofs.each_connection_has_its_line.{talks, tracks_hold, tracks_on}
+use Rattle.osi_fair.proofs.each_connection_has_its_line.{talks, tracks_keep, tracks_on}
 use Rattle.osi_fair.proofs.how_a_connection_opens.{asked_so}
 use Rattle.osi_fair.proofs.references_of_requests_rise.{all_gives, closed_gives, sent_gives}
 use Rattle.osi_fair.proofs.what_a_calling_end_still_has.{OffersTwo}
 use Rattle.osi_fair.proofs.what_a_whole_end_takes.{IsAnswered, Owner, Puts, all_join, leads_more, of_line, settled_more, some_more}
 use Rattle.osi_fair.proofs.what_a_whole_end_takes.{units_ask, units_owned, units_settled}
+use Rattle.osi_fair.proofs.names_of_right_stay_apart_though_one_is_lost.{ArePeersApart}
+use Rattle.osi_fair.proofs.a_unit_of_a_whole_end_passes.{all_two}
 use Rattle.osi_fair.proofs.what_the_other_side_closes.{IsSane}
-use Rattle.osi_fair.proofs.which_units_are_for_a_connection.{AllOurs, IsDc, all_ours, each_picked, is_dc, is_ours, last_ours, line_ours}
-use Rattle.osi_fair.proofs.which_units_are_for_a_connection.{named_is, names, none_ours, picked_other, ours, picked_join, those}
+use Rattle.osi_fair.proofs.which_units_are_for_a_connection.{AllOurs, IsDc, all_ours, each_picked, is_dc, is_ours, last_ours, named_is}
+use Rattle.osi_fair.proofs.which_units_are_for_a_connection.{names, none_ours, picked_other, ours, picked_join, those}
 use Rattle.osi_fair.proofs.a_dr_for_what_is_gone.{after_calling}
 use Rattle.osi_fair.proofs.a_called_end_makes_a_call.{all_none, all_open, open_of, row_of, rows_all, rows_sent}
 use Rattle.osi_fair.proofs.a_dt_of_class_zero_passes.{unlike}
@@ -37,7 +39,7 @@ same_up n = omega arith
 
 -- ---- a call on an open connection
 
-module _ (local : Local) (w : Whole) (f : Followed local w) (sane : IsSane w.tap) (firm : w.tap.course.loose ≡ false) (t : State)
+module _ (local : Local) (w : Whole) (f : Followed local w) (sane : IsSane w.tap) (peers : ArePeersApart w.tap.connections) (t : State)
     (units : List Value) (n peer : ℕ) (link : Standing) (here : value_at n w.end.live ≡ Some (linked peer link))
     (rows : (m : ℕ) → (m ≡ n → ⊥) → value_at m t.live ≡ value_at m w.end.live) (class : t.class ≡ w.end.class)
     (given : t.given ≡ w.end.given) (was : w.end.ended ≡ None) (orderly : IsOrderly w.end) (after_row : Linked n peer t)
@@ -47,6 +49,17 @@ module _ (local : Local) (w : Whole) (f : Followed local w) (sane : IsSane w.tap
 
   abbrev after : Whole
   after = record w { end = t; put = w.put ++ units }
+
+  -- an open connection awaits no CC
+  none_asked : Linked n peer t → value_at n t.live ≡ Some asked → ⊥
+  none_asked (still l there) h = cc (sym there ∙ h)
+  none_asked (ends o there i (inl e)) h = cc (sym e ∙ sym there ∙ h)
+  none_asked (ends o there i (inr e)) h = cc (sym e ∙ sym there ∙ h)
+
+  -- what awaits its CC now did so before
+  was_asked : (m : ℕ) (b : Bool) → (m == n) ≡ b → value_at m t.live ≡ Some asked → value_at m w.end.live ≡ Some asked
+  was_asked m true e row = absurd (none_asked after_row (ap (λ (i : ℕ). value_at i t.live) (sym (eqb-true m n e)) ∙ row))
+  was_asked m false e row = sym (rows m (unlike m n e)) ∙ row
 
   not_asked : (m : ℕ) → value_at m w.end.live ≡ Some asked → m ≡ n → ⊥
   not_asked m row same = cc (sym here ∙ ap (λ (i : ℕ). value_at i w.end.live) (sym same) ∙ row)
@@ -81,8 +94,7 @@ module _ (local : Local) (w : Whole) (f : Followed local w) (sane : IsSane w.tap
       let line : Line = record g.line { link = link_now (value_at g.r t.live); put = g.line.put ++ units } in
       let tracks = tracks_on g.r g.peer g.line line acts.acts g.tracks
       (acts.along Left g.line g.line.coming (is ∙ sym (ap link_now r)) refl) in
-      let judged = ap (λ (x : Connection). x.is_judged) g.tap ∙ sane.judged firm p c at in
-      let own = last_ours g.r g.peer g.line.put units (line_ours g.r g.peer line (tracks_hold g.r g.peer line tracks judged)) in
+      let own = last_ours g.r g.peer g.line.put units (tracks_keep g.r g.peer line tracks).ours in
       let none = spare_none g.spare g.line.link l g.gone is in
       record {
         grown = record {
@@ -100,7 +112,7 @@ module _ (local : Local) (w : Whole) (f : Followed local w) (sane : IsSane w.tap
               ∙ ap (λ (v : List Value). g.line.put ++ v) (all_ours g.r g.peer units own) ∙ sym (append-nil (g.line.put ++ units));
           spares = tt;
           gone = λ h. absurd (h refl);
-          begun_is = g.begun_is ∙ leads_more w.begun (is_ours g.r g.peer) w.put units f.some;
+          begun_is = λ first. g.begun_is (λ h. none) ∙ leads_more w.begun (is_ours g.r g.peer) w.put units f.some;
           row = new_row g.r g.peer line same same_peer refl come_all after_row;
           calm = g.calm;
         };
@@ -112,7 +124,7 @@ module _ (local : Local) (w : Whole) (f : Followed local w) (sane : IsSane w.tap
       Row local w.end w.coming g.r g.peer g.line → Grown c
   grown_by p c at g same (over h) = differ (is_some w.end.ended) h (ap is_some was)
   grown_by p c at g same (talks l r is come_all) = grows p c at g same l r is come_all
-  grown_by p c at g same (asks r x source early dcs first is) =
+  grown_by p c at g same (asks r x source two early dcs first is) =
       absurd (cc (sym here ∙ ap (λ (i : ℕ). value_at i w.end.live) (sym same) ∙ r))
   grown_by p c at g same (closes o r i (inl h) gone come_all) =
       absurd (cc (sym here ∙ ap (λ (i : ℕ). value_at i w.end.live) (sym same) ∙ r ∙ h))
@@ -134,12 +146,12 @@ module _ (local : Local) (w : Whole) (f : Followed local w) (sane : IsSane w.tap
       (c.left.reference ≡ n → ⊥) → (o : Owner w.tap n units) → ours r q (w.put ++ units) ≡ ours r q w.put
   put_other_peer p c at tracked r q right other o =
       picked_join (is_ours r q) w.put units ∙ ap (λ (l : List Value). ours r q w.put ++ l) (none_ours r n o.c.right.reference q units
-      (λ same. other (same_left p c at o (one_peer w.tap sane firm p o.p c o.c at o.at tracked o.tracked (right ∙ sym same)))) o.own)
+      (λ same. other (same_left p c at o (one_peer w.tap sane peers p o.p c o.c at o.at tracked o.tracked (right ∙ sym same)))) o.own)
       ∙ append-nil (ours r q w.put)
 
   row_other : (r q : ℕ) (line : Line) → (r ≡ n → ⊥) → Row local w.end w.coming r q line → Row local t w.coming r q line
-  row_other r q line other (asks there x source early dcs first is) =
-      asks (rows r other ∙ there) x source early dcs first is
+  row_other r q line other (asks there x source two early dcs first is) =
+      asks (rows r other ∙ there) x source two early dcs first is
   row_other r q line other (over h) = differ (is_some w.end.ended) h (ap is_some was)
   row_other r q line other (talks l there is come_all) = talks l (rows r other ∙ there) is come_all
   row_other r q line other (closes o there i h is come_all) = closes o (rows r other ∙ there) i h is come_all
@@ -185,6 +197,10 @@ module _ (local : Local) (w : Whole) (f : Followed local w) (sane : IsSane w.tap
         (units_ask w.tap w.end n units (λ x. x.source ≡ n → ⊥) puts);
   }
 
+  answer_now : (v : Value) → IsAnswer w.tap.course.loose cs w.end v → IsAnswer w.tap.course.loose cs t v
+  answer_now v h m x e lasts (inl row) = ((h m x e was (inl (was_asked m (m == n) refl row))).0, row)
+  answer_now v h m x e lasts (inr firm) = let (k, row) = h m x e was (inr firm) in (k, asked_still m row)
+
   called_so : Followed local after
   called_so = record {
     lines = λ i c at tracked.
@@ -201,8 +217,7 @@ module _ (local : Local) (w : Whole) (f : Followed local w) (sane : IsSane w.tap
         };
     owned = all_join (λ v. IsOwned w.tap v) w.put units f.owned (units_owned w.tap w.end n units puts);
     linked = λ lasts m q l h. linked_by m q l (m == n) refl h;
-    answers = all_so (λ v. IsAnswer cs w.end v) (λ v. IsAnswer cs t v) w.coming
-        (λ v h m x e lasts. let (k, row) = h m x e was in (k, asked_still m row)) f.answers;
+    answers = all_so (λ v. IsAnswer w.tap.course.loose cs w.end v) (λ v. IsAnswer w.tap.course.loose cs t v) w.coming answer_now f.answers;
     requests = all_join (λ v. (x : Connect) → v ≡ request x → IsAsking local t w.coming x) w.put units
         (all_so (λ v. (x : Connect) → v ≡ request x → IsAsking local w.end w.coming x) (λ v. (x : Connect) → v ≡ request x →
         IsAsking local t w.coming x) w.put
@@ -221,6 +236,8 @@ module _ (local : Local) (w : Whole) (f : Followed local w) (sane : IsSane w.tap
         (settled_more cs w.put units w.end.given t.given (λ r. units_ask w.tap w.end n units (λ x. x.source ≡ r → ⊥) puts)
         (subst (λ (i : ℕ). w.end.given ≤ i) (sym given) (same_up w.end.given))) f.settled)
         (units_settled w.tap w.end (w.put ++ units) t.given n units puts settled_here);
+    lost = f.lost;
+    shut = λ lasts i c at closed row. f.shut was i c at closed (was_asked c.left.reference (c.left.reference == n) refl row);
   }
 
 -- ---- a call for a connection
@@ -269,8 +286,8 @@ module _ (local : Local) (w : Whole) (f : Followed local w) (sane : IsSane w.tap
   asked_c m h = rows_c m (live_c m asked h) ∙ h
 
   row_c : (m q : ℕ) (line : Line) → (m ≡ r → ⊥) → Row local s w.coming m q line → Row local t w.coming m q line
-  row_c m q line other (asks there y source early dcs first is) =
-      asks (rows_c m other ∙ there) y source early dcs first is
+  row_c m q line other (asks there y source two early dcs first is) =
+      asks (rows_c m other ∙ there) y source two early dcs first is
   row_c m q line other (over h) = differ (is_some s.ended) h (ap is_some was)
   row_c m q line other (talks l there is come_all) = talks l (rows_c m other ∙ there) is come_all
   row_c m q line other (closes o there i h is come_all) = closes o (rows_c m other ∙ there) i h is come_all
@@ -329,6 +346,20 @@ module _ (local : Local) (w : Whole) (f : Followed local w) (sane : IsSane w.tap
         row = λ lasts. ap (λ (i : ℕ). value_at i t.live) source_is ∙ here_c;
       })
 
+  -- no CC has come for the new reference
+  answer_new : (v : Value) → IsAnswer w.tap.course.loose w.tap.connections s v → AreGiven s.given v → (m : ℕ) (y : Connect) →
+      v ≡ confirm m y → (b : Bool) → (m == r) ≡ b → value_at m t.live ≡ Some asked → Tracked w.tap.connections m
+  answer_new v h given_so m y e true same row =
+      let up = given_so (ap is_dc e) m (ap destination_of e) in
+      let is = eqb-true m r same in
+      absurd (omega arith)
+  answer_new v h given_so m y e false other row = (h m y e was (inl (sym (rows_c m (unlike m r other)) ∙ row))).0
+
+  answer_c : (v : Value) → IsAnswer w.tap.course.loose w.tap.connections s v → AreGiven s.given v →
+      IsAnswer w.tap.course.loose w.tap.connections t v
+  answer_c v h given_so m y e lasts (inl row) = (answer_new v h given_so m y e (m == r) refl row, row)
+  answer_c v h given_so m y e lasts (inr firm) = let (k, row) = h m y e was (inr firm) in (k, asked_c m row)
+
   pub connects_so : Followed local after_connects
   connects_so = record {
     lines = λ i c at tracked. line_c i c at (f.lines i c at tracked);
@@ -345,8 +376,8 @@ module _ (local : Local) (w : Whole) (f : Followed local w) (sane : IsSane w.tap
         };
     owned = all_join (λ v. IsOwned w.tap v) w.put (request x ∷ []) f.owned (asking x refl, tt);
     linked = λ lasts m q l h. linked_c m q l (m == r) refl h;
-    answers = all_so (λ v. IsAnswer w.tap.connections s v) (λ v. IsAnswer w.tap.connections t v) w.coming
-        (λ v h m y e lasts. let (k, row) = h m y e was in (k, asked_c m row)) f.answers;
+    answers = all_two (λ v. IsAnswer w.tap.course.loose w.tap.connections s v) (AreGiven s.given)
+        (λ v. IsAnswer w.tap.course.loose w.tap.connections t v) w.coming answer_c f.answers f.few;
     requests = all_join (λ v. (y : Connect) → v ≡ request y → IsAsking local t w.coming y) w.put (request x ∷ [])
         (all_so (λ v. (y : Connect) → v ≡ request y → IsAsking local s w.coming y) (λ v. (y : Connect) → v ≡ request y →
         IsAsking local t w.coming y) w.put
@@ -365,6 +396,9 @@ module _ (local : Local) (w : Whole) (f : Followed local w) (sane : IsSane w.tap
         (AreSettled w.tap.connections (w.put ++ request x ∷ []) t.given) w.put settled_c
         f.settled)
         (λ m source e. absurd (cc e), tt);
+    lost = f.lost;
+    shut = λ lasts i c at closed row.
+        f.shut was i c at closed (sym (rows_c c.left.reference (not_new i c at c.left.reference refl)) ∙ row);
   }
 
 -- ---- any call
@@ -394,8 +428,9 @@ broken : {A : Type 0} (reason : EndReason) (s : State) → s.ended ≡ None → 
 broken reason s was h =
     absurd (cc (sym (ap (λ (b : Bool). (if b then s else ends_as reason s).ended) (ap is_some was)) ∙ h))
 
-module _ (local : Local) (w : Whole) (f : Followed local w) (sane : IsSane w.tap) (firm : w.tap.course.loose ≡ false) (newer : Newer w)
-    (offers : OffersTwo w.end) (orderly : IsOrderly w.end) (local_is : w.end.local ≡ local) (was : w.end.ended ≡ None) where
+module _ (local : Local) (w : Whole) (f : Followed local w) (sane : IsSane w.tap) (peers : ArePeersApart w.tap.connections)
+    (newer : Newer w) (offers : OffersTwo w.end) (orderly : IsOrderly w.end) (local_is : w.end.local ≡ local)
+    (was : w.end.ended ≡ None) where
   sends_by : (r : ℕ) (tsdu : List ℕ) (o : Option (ℕ × Standing)) → open_link r w.end ≡ o → length tsdu ≤ longest_tsdu →
       Followed local (after_calling w (sends r tsdu))
   sends_by r tsdu None e short =
@@ -404,7 +439,7 @@ module _ (local : Local) (w : Whole) (f : Followed local w) (sane : IsSane w.tap
   sends_by r tsdu (Some (peer, link)) e short =
       let here = linked_of (is_some w.end.ended) (value_at r w.end.live) peer link e in
       let after = still_open r peer tsdu w.end link e in
-      called_so local w f sane firm (sent r tsdu w.end) (put_sent tsdu (open_link r w.end)) r peer link here
+      called_so local w f sane peers (sent r tsdu w.end) (put_sent tsdu (open_link r w.end)) r peer link here
       (λ m other. rows_sent m r tsdu (open_link r w.end) w.end other) (class_sent r tsdu (open_link r w.end) w.end)
       (sent_gives r tsdu (open_link r w.end) w.end) was orderly
       (still (pumped (with_tsdu link tsdu)) (linked_of (is_some (sent r tsdu w.end).ended) (value_at r (sent r tsdu w.end).live) peer
@@ -420,7 +455,7 @@ module _ (local : Local) (w : Whole) (f : Followed local w) (sane : IsSane w.tap
   together_by r tsdus (Some (peer, link)) e short =
       let here = linked_of (is_some w.end.ended) (value_at r w.end.live) peer link e in
       let (l, after) = all_open r peer tsdus w.end link e in
-      called_so local w f sane firm (sent_all r tsdus w.end) (put_together r tsdus w.end) r peer link here
+      called_so local w f sane peers (sent_all r tsdus w.end) (put_together r tsdus w.end) r peer link here
       (λ m other. rows_all m r tsdus w.end other) (class_all r tsdus w.end) (all_gives r tsdus w.end) was orderly
       (still l (linked_of (is_some (sent_all r tsdus w.end).ended) (value_at r (sent_all r tsdus w.end).live) peer l after))
       (λ i q l same row. subst (λ (j : ℕ). Follows i q [] (put_together j tsdus w.end) w.end (sent_all j tsdus w.end)) same
@@ -440,7 +475,7 @@ module _ (local : Local) (w : Whole) (f : Followed local w) (sane : IsSane w.tap
       let here = linked_of (is_some w.end.ended) (value_at r w.end.live) peer link e in
       let two = (f.linked was r peer link here).1 in
       let is = closed_two r reason peer link e two in
-      called_so local w f sane firm (closed_with r reason w.end) (put_closing r reason (open_link r w.end) w.end.class) r peer link here
+      called_so local w f sane peers (closed_with r reason w.end) (put_closing r reason (open_link r w.end) w.end.class) r peer link here
       (λ m other. ap (λ (t : State). value_at m t.live) is ∙ put_other m r (closing peer) w.end.live other)
       (ap (λ (t : State). t.class) is) (closed_gives r reason (open_link r w.end) w.end) was orderly
       (ends (Some (closing peer)) (ap (λ (t : State). value_at r t.live) is ∙ put_here r (closing peer) (linked peer link) w.end.live here)

@@ -1,11 +1,10 @@
 -- A whole calling end takes a unit: what it was for its connection is an act of the line, and the other lines stay.
 -- For the law on a whole end.
-use Rattle.osi_fair.proofs.Vocabulary.{arith}
-use Rattle.osi_fair.proofs.Vocabulary.{[], ap, Bool, false, inl, inr, is_some, List, None, Option, refl, Some, subst, sym, true, ℕ, ◌++◌}
-use Rattle.osi_fair.proofs.Vocabulary.{◌∙◌, ◌∷◌, ◌≡◌, ◌≤◌, ◌⊎◌, append-nil, AllByRecursion, slice_get, confirm, Connect, destination_of}
-use Rattle.osi_fair.proofs.Vocabulary.{disconnected, Value, Standing, Two, Local, changes_one, agreed_size, opened_link, IsOrderly}
-use Rattle.osi_fair.proofs.Vocabulary.{to_connection, to_unknown, value_at, asked, closing, Live, linked, Connection, Left, link_now}
-use Rattle.osi_fair.proofs.Vocabulary.{ignores, Line, put_at, put_for, Whole}
+use Rattle.osi_fair.proofs.Vocabulary.{arith, [], ap, Bool, false, inl, inr, is_some, List, None, Option, refl, Some, subst, sym, true, ℕ}
+use Rattle.osi_fair.proofs.Vocabulary.{◌++◌, ◌∙◌, ◌∷◌, ◌≡◌, ◌≤◌, ◌⊎◌, ◌==◌, append-nil, AllByRecursion, slice_get, confirm, Connect}
+use Rattle.osi_fair.proofs.Vocabulary.{destination_of, disconnected, Value, Standing, Two, Local, changes_one, agreed_size, opened_link}
+use Rattle.osi_fair.proofs.Vocabulary.{IsOrderly, to_connection, to_unknown, value_at, asked, closing, Live, linked, Connection, Left}
+use Rattle.osi_fair.proofs.Vocabulary.{link_now, ignores, Line, put_at, put_for, Whole}
 use Rattle.std.proofs.lemmas.List.{append_assoc}
 unfoldable use Rattle.osi_carrier.specs.React.{react}
 use Rattle.osi_carrier.specs.State.{State}
@@ -13,23 +12,28 @@ use Rattle.osi_fair.proofs.small_facts_that_many_lemmas_use.{differ, number_is a
 use Rattle.osi_fair.proofs.a_carrier_follows_lines.{follows_open}
 use Rattle.osi_fair.proofs.a_request_of_a_whole_end_is_new.{unit_gives}
 use Rattle.osi_fair.proofs.each_connection_has_its_line.{followed_at, AreGiven, Followed, Following, IsAnswer, IsNoCc, IsSpare, Row}
-use Rattle.osi_fair.proofs.each_connection_has_its_line.{Tracked, asks, closes, is_tracked, over, talks, tracks_hold, tracks_on}
-use Rattle.osi_fair.proofs.what_a_calling_end_still_has.{OffersTwo, SelectsTwo, unit_after}
+use Rattle.osi_fair.proofs.each_connection_has_its_line.{Tracked, asks, closes, is_tracked, over, talks, tracks_keep, tracks_on}
+use Rattle.osi_fair.proofs.what_a_calling_end_still_has.{OffersTwo, Selects, SelectsTwo, unit_after}
 use Rattle.osi_fair.proofs.what_a_whole_end_takes.{Puts, all_join, leads_more, nothing, of_line, of_none, taken_so}
+use Rattle.osi_fair.proofs.names_of_right_stay_apart_though_one_is_lost.{ArePeersApart}
 use Rattle.osi_fair.proofs.what_the_other_side_closes.{IsDr, IsSane, closed_by}
-use Rattle.osi_fair.proofs.which_units_are_for_a_connection.{AllOurs, all_ours, picked_first, is_dc, is_ours, last_ours, line_ours}
-use Rattle.osi_fair.proofs.which_units_are_for_a_connection.{named_so, picked_more, picked_other, ours, ours_is, picked_join, those}
+use Rattle.osi_fair.proofs.which_units_are_for_a_connection.{AllOurs, all_ours, picked_first, is_dc, is_ours, last_ours, named_so, names}
+use Rattle.osi_fair.proofs.which_units_are_for_a_connection.{picked_more, picked_other, ours, ours_is, picked_join, those}
 use Rattle.osi_fair.proofs.what_a_unit_leaves_at_a_calling_end.{Asks, Closes, Kind, Linked, Named, asked_so, by_number, closing_so, dc_is}
 use Rattle.osi_fair.proofs.what_a_unit_leaves_at_a_calling_end.{dc_stays, disconnects, dr_closes, drops, early_dc, early_parts, ends}
 use Rattle.osi_fair.proofs.what_a_unit_leaves_at_a_calling_end.{given_by, kind_of, linked_so, named_by, no_answer, no_disconnect, not_open}
 use Rattle.osi_fair.proofs.what_a_unit_leaves_at_a_calling_end.{opened, or_strays, spare_none, stays, still, unknown_puts, unknown_so}
 use Rattle.osi_fair.proofs.what_is_live_at_a_called_end.{IsLive}
 
-module _ (local : Local) (w : Whole) (f : Followed local w) (sane : IsSane w.tap) (firm : w.tap.course.loose ≡ false)
+none_first : (xs ys : List Value) → xs ++ ys ≡ [] → xs ≡ []
+none_first [] ys e = refl
+none_first (x ∷ xs) ys e = absurd (cc e)
+
+module _ (local : Local) (w : Whole) (f : Followed local w) (sane : IsSane w.tap) (peers : ArePeersApart w.tap.connections)
     (offers : OffersTwo w.end) (orderly : IsOrderly w.end) (local_is : w.end.local ≡ local) (was : w.end.ended ≡ None) (u : Value)
     (later : List Value) (come : w.coming ≡ u ∷ later) (lasts : (react u w.end).ended ≡ None)
     (live_dr : IsDr u → (m : ℕ) → closed_by u ≡ Some m → IsLive w.end m ⊎ (w.tap.course.strays ≡ true)) (k : Named u w.end)
-    (selects : SelectsTwo u) where
+    (selects : SelectsTwo w.end u) where
   abbrev cs : List Connection
   cs = w.tap.connections
 
@@ -70,9 +74,17 @@ module _ (local : Local) (w : Whole) (f : Followed local w) (sane : IsSane w.tap
   asked_dc : is_dc u ≡ true → value_at n s.live ≡ Some asked → value_at n t.live ≡ Some asked
   asked_dc dc here = grind (arith, dc_stays)
 
-  all : Mine → MineLinked → Puts w.tap s n units → Followed local after
-  all mine linked_mine owner =
-      taken_so local w f sane firm t units u later n come k.dest rows class_so (unit_gives u s) was asked_dc mine linked_mine owner
+  -- as it takes the unit it begins to await no CC
+  abbrev AskedBefore : Type 0
+  AskedBefore = value_at n t.live ≡ Some asked → value_at n s.live ≡ Some asked
+
+  all : AskedBefore → Mine → MineLinked → Puts w.tap s n units → Followed local after
+  all asked_was mine linked_mine owner =
+      taken_so local w f sane peers t units u later n come k.dest rows class_so (unit_gives u s) was asked_dc asked_was mine linked_mine
+      owner
+
+  not_asked : (o : Option Live) → value_at n t.live ≡ o → (o ≡ Some asked → ⊥) → AskedBefore
+  not_asked o there none h = absurd (none (sym there ∙ h))
 
   later_is : (r : ℕ) → r ≡ n → those r later ≡ those n later
   later_is r same = ap (λ (i : ℕ). those i later) same
@@ -102,9 +114,10 @@ module _ (local : Local) (w : Whole) (f : Followed local w) (sane : IsSane w.tap
         put_is = puts ∙ ap (λ (l : List Value). l ++ more) g.put_is ∙ append_assoc g.line.put g.spare more;
         spares = all_join (IsSpare strays g.r g.peer) g.spare more g.spares spares;
         gone = λ some. gone;
-        begun_is = g.begun_is ∙ leads_more w.begun (is_ours g.r g.peer) w.put units f.some;
+        begun_is = λ first. g.begun_is (λ h. none_first g.spare more (first h))
+            ∙ leads_more w.begun (is_ours g.r g.peer) w.put units f.some;
         row = closes new (ap (λ (i : ℕ). value_at i t.live) same ∙ there) q h gone (later_is g.r same);
-        calm = (subst (AllByRecursion IsNoCc) coming g.calm).1;
+        calm = λ j. (subst (AllByRecursion IsNoCc) coming (g.calm j)).1;
       }
 
   abbrev Spares : Type 0
@@ -115,7 +128,7 @@ module _ (local : Local) (w : Whole) (f : Followed local w) (sane : IsSane w.tap
       value_at n t.live ≡ new → (q : ℕ) → (new ≡ Some (closing q)) ⊎ (new ≡ None) → (c : Connection)
       (g : Following local w.put w.begun strays s w.coming c) → g.r ≡ n → Row local s w.coming g.r g.peer g.line →
       Following local (w.put ++ units) w.begun strays t later c
-  closed_row spares old new here p a there q b c g same (asks r x source early dcs first is) =
+  closed_row spares old new here p a there q b c g same (asks r x source two early dcs first is) =
       not_open old p asked a (sym here ∙ ap (λ (i : ℕ). value_at i s.live) (sym same) ∙ r) refl
   closed_row spares old new here p a there q b c g same (talks link r is come_all) =
       not_open old p (linked g.peer link) a (sym here ∙ ap (λ (i : ℕ). value_at i s.live) (sym same) ∙ r) refl
@@ -156,7 +169,8 @@ module _ (local : Local) (w : Whole) (f : Followed local w) (sane : IsSane w.tap
   answered : (m : ℕ) → value_at n s.live ≡ None → units ≡ disconnected m n ∷ [] → value_at n t.live ≡ None → n ≤ s.given →
       strays ≡ true → Followed local after
   answered m here is there known stray_now =
-      all (λ p c at tracked g same. closed_row (dc_spares m is stray_now) None None here 0 (inr refl) there 0 (inr refl) c g same g.row)
+      all (not_asked None there (λ e. cc e))
+      (λ p c at tracked g same. closed_row (dc_spares m is stray_now) None None here 0 (inr refl) there 0 (inr refl) c g same g.row)
       (λ peer link h. absurd (cc (sym there ∙ h)))
       (of_none (record { m = m; is = is; strays = stray_now }) (record { up = known; row = λ h. absurd (cc (sym here ∙ h)) }))
 
@@ -165,7 +179,8 @@ module _ (local : Local) (w : Whole) (f : Followed local w) (sane : IsSane w.tap
       let same = unknown_so u s t n k.dest (k.is ∙ ap (λ (o : Option Live). to_connection n o u s) here) lasts not_dr in
       let none = k.puts ∙ ap (λ (o : Option Live). put_at n o u s.class) here ∙ unknown_puts u n s.class not_dr in
       let there : value_at n t.live ≡ None = ap (λ (x : State). value_at n x.live) same ∙ here in
-      all (λ p c at tracked g is. closed_row (no_spares none) None None here 0 (inr refl) there 0 (inr refl) c g is g.row)
+      all (not_asked None there (λ e. cc e))
+      (λ p c at tracked g is. closed_row (no_spares none) None None here 0 (inr refl) there 0 (inr refl) c g is g.row)
       (λ peer link h. absurd (cc (sym there ∙ h))) (nothing none)
 
   by_dr : Kind u → value_at n s.live ≡ None → Followed local after
@@ -188,11 +203,13 @@ module _ (local : Local) (w : Whole) (f : Followed local w) (sane : IsSane w.tap
   by_closing : (q : ℕ) → value_at n s.live ≡ Some (closing q) → units ≡ [] → Closes n q s t → Followed local after
   by_closing q here none (stays same) =
       let there = ap (λ (x : State). value_at n x.live) same ∙ here in
-      all (λ p c at tracked g is. closed_row (no_spares none) (Some (closing q)) (Some (closing q)) here q (inl refl) there q
+      all (not_asked (Some (closing q)) there (λ e. cc e))
+      (λ p c at tracked g is. closed_row (no_spares none) (Some (closing q)) (Some (closing q)) here q (inl refl) there q
       (inl refl) c g is g.row)
       (λ peer link h. absurd (cc (sym there ∙ h))) (nothing none)
   by_closing q here none (drops there) =
-      all (λ p c at tracked g is. closed_row (no_spares none) (Some (closing q)) None here q (inl refl) there 0 (inr refl) c g is g.row)
+      all (not_asked None there (λ e. cc e))
+      (λ p c at tracked g is. closed_row (no_spares none) (Some (closing q)) None here q (inl refl) there 0 (inr refl) c g is g.row)
       (λ peer link h. absurd (cc (sym there ∙ h))) (nothing none)
 
   at_closing : (q : ℕ) → value_at n s.live ≡ Some (closing q) → Followed local after
@@ -213,7 +230,7 @@ module _ (local : Local) (w : Whole) (f : Followed local w) (sane : IsSane w.tap
       absurd (cc (sym here ∙ ap (λ (i : ℕ). value_at i s.live) (sym same) ∙ r ∙ h))
   opened_row none x e here there c g same (closes o r i (inr h) gone come_all) =
       absurd (cc (sym here ∙ ap (λ (i : ℕ). value_at i s.live) (sym same) ∙ r ∙ h))
-  opened_row none x e here there c g same (asks r y source early dcs first is) =
+  opened_row none x e here there c g same (asks r y source two early dcs first is) =
       let (first_so, coming) = (early_parts early u (confirm g.r y) (those n later) g.line.coming dcs (sym (first_n g.r same) ∙ first)).1
       (ap is_dc e) in
       let x_is : x ≡ y = same_cc n g.r x y (sym e ∙ first_so) in
@@ -242,28 +259,36 @@ module _ (local : Local) (w : Whole) (f : Followed local w) (sane : IsSane w.tap
       absurd (cc (sym here ∙ ap (λ (i : ℕ). value_at i s.live) (sym same) ∙ a ∙ h))
   early_row none dc here there c g same (closes o a i (inr h) gone come_all) =
       absurd (cc (sym here ∙ ap (λ (i : ℕ). value_at i s.live) (sym same) ∙ a ∙ h))
-  early_row none dc here there c g same (asks a y source early dcs first is) =
+  early_row none dc here there c g same (asks a y source two early dcs first is) =
       let (more, (more_dcs, rest)) = (early_parts early u (confirm g.r y) (those n later) g.line.coming dcs
       (sym (first_n g.r same) ∙ first)).0 dc refl in
       followed_at g (no_units none g.r g.peer) g.spares (leads_more w.begun (is_ours g.r g.peer) w.put units f.some)
-      (asks (ap (λ (i : ℕ). value_at i t.live) same ∙ there) y source more more_dcs (later_is g.r same ∙ rest) is)
+      (asks (ap (λ (i : ℕ). value_at i t.live) same ∙ there) y source two more more_dcs (later_is g.r same ∙ rest) is)
 
-  head_answer : (x : Connect) → u ≡ confirm n x → Tracked cs n
-  head_answer x e = ((subst (AllByRecursion (λ (v : Value). IsAnswer cs s v)) come f.answers).0 n x e was).0
+  head_answer : value_at n s.live ≡ Some asked → (x : Connect) → u ≡ confirm n x → Tracked cs n
+  head_answer here x e =
+      ((subst (AllByRecursion (λ (v : Value). IsAnswer w.tap.course.loose cs s v)) come f.answers).0 n x e was (inl here)).0
+
+  head_selects : value_at n s.live ≡ Some asked → Selects u
+  head_selects here m x e =
+      selects was m x e (ap (λ (i : ℕ). value_at i s.live) (same_number m n (sym (ap destination_of e) ∙ k.dest)) ∙ here)
 
   by_asked : value_at n s.live ≡ Some asked → units ≡ [] → Asks n u s t → Followed local after
   by_asked here none (opened x e there two) =
-      all (λ p c at tracked g is. opened_row none x e here there c g is g.row) (λ peer link h. (head_answer x e, two)) (nothing none)
+      all (λ h. here)
+      (λ p c at tracked g is. opened_row none x e here there c g is g.row) (λ peer link h. (head_answer here x e, two)) (nothing none)
   by_asked here none (no_answer no_dc no_cc there) =
-      all (λ p c at tracked g is. other_row no_dc no_cc here g.r g.peer g.line is g.row)
+      all (λ h. here) (λ p c at tracked g is. other_row no_dc no_cc here g.r g.peer g.line is g.row)
       (λ peer link h. absurd (cc (sym there ∙ h))) (nothing none)
   by_asked here none (early_dc dc there) =
-      all (λ p c at tracked g is. early_row none dc here there c g is g.row) (λ peer link h. absurd (cc (sym there ∙ h))) (nothing none)
+      all (λ h. here)
+      (λ p c at tracked g is. early_row none dc here there c g is g.row) (λ peer link h. absurd (cc (sym there ∙ h))) (nothing none)
 
   at_asked : value_at n s.live ≡ Some asked → Followed local after
   at_asked here =
       by_asked here (k.puts ∙ ap (λ (o : Option Live). put_at n o u s.class) here)
-      (asked_so n u s t offers selects orderly.rise here k.dest (k.is ∙ ap (λ (o : Option Live). to_connection n o u s) here) lasts)
+      (asked_so n u s t offers (head_selects here) orderly.rise here k.dest
+      (k.is ∙ ap (λ (o : Option Live). to_connection n o u s) here) lasts)
 
   -- ---- an open connection
 
@@ -296,8 +321,7 @@ module _ (local : Local) (w : Whole) (f : Followed local w) (sane : IsSane w.tap
       } in
       let tracks = tracks_on g.r g.peer g.line line follows.acts g.tracks
       (follows.along Left g.line (those n later) (is ∙ sym (ap link_now r)) coming) in
-      let judged = ap (λ (x : Connection). x.is_judged) g.tap ∙ sane.judged firm p c at in
-      let own = last_ours g.r g.peer g.line.put units (line_ours g.r g.peer line (tracks_hold g.r g.peer line tracks judged)) in
+      let own = last_ours g.r g.peer g.line.put units (tracks_keep g.r g.peer line tracks).ours in
       let none = spare_none g.spare g.line.link l g.gone is in
       let is_linked = linked_so n g.peer l u s t (ap (λ (i : ℕ). value_at i s.live) (sym same) ∙ r) two orderly.rise
       (k.is ∙ ap (λ (o : Option Live). to_connection n o u s) (ap (λ (i : ℕ). value_at i s.live) (sym same) ∙ r)) in
@@ -317,9 +341,9 @@ module _ (local : Local) (w : Whole) (f : Followed local w) (sane : IsSane w.tap
               ∙ ap (λ (v : List Value). g.line.put ++ v) (all_ours g.r g.peer units own) ∙ sym (append-nil (g.line.put ++ units));
           spares = tt;
           gone = λ h. absurd (h refl);
-          begun_is = g.begun_is ∙ leads_more w.begun (is_ours g.r g.peer) w.put units f.some;
+          begun_is = λ first. g.begun_is (λ h. none) ∙ leads_more w.begun (is_ours g.r g.peer) w.put units f.some;
           row = new_row g.r g.peer line same refl (later_is g.r same) is_linked;
-          calm = (subst (AllByRecursion IsNoCc) coming g.calm).1;
+          calm = λ j. (subst (AllByRecursion IsNoCc) coming (g.calm j)).1;
         };
         own = subst (λ (i : ℕ). AllOurs n i units) (sym g.right) (subst (λ (i : ℕ). AllOurs i g.peer units) same own);
       }
@@ -329,16 +353,23 @@ module _ (local : Local) (w : Whole) (f : Followed local w) (sane : IsSane w.tap
       Row local s w.coming g.r g.peer g.line → Grown c
   grown_by peer link here two p c at g same (over h) = differ (is_some s.ended) h (ap is_some was)
   grown_by peer link here two p c at g same (talks l r is come_all) = grows peer link here two p c at g same l r is come_all
-  grown_by peer link here two p c at g same (asks r x source early dcs first is) = grind arith
+  grown_by peer link here two p c at g same (asks r x source class early dcs first is) = grind arith
   grown_by peer link here two p c at g same (closes o r i (inl h) gone come_all) = grind arith
   grown_by peer link here two p c at g same (closes o r i (inr h) gone come_all) = grind arith
+
+  -- an open connection awaits no CC after it
+  still_open : {peer : ℕ} → Linked n peer t → AskedBefore
+  still_open (still link there) = not_asked _ there (λ e. cc e)
+  still_open (ends o there q (inl h)) = not_asked o there (λ e. cc (sym h ∙ e))
+  still_open (ends o there q (inr h)) = not_asked o there (λ e. cc (sym h ∙ e))
 
   at_linked : (peer : ℕ) (link : Standing) → value_at n s.live ≡ Some (linked peer link) → Followed local after
   at_linked peer link here =
       let ((p, c, at, tracked, left), two) = f.linked was n peer link here in
       let g = f.lines p c at tracked in
       let mine = grown_by peer link here two p c at g (sym g.left ∙ left) g.row in
-      all (λ i x there is_there h same. (grown_by peer link here two i x there h same h.row).grown)
+      all (still_open (linked_so n peer link u s t here two orderly.rise (k.is ∙ ap (λ (o : Option Live). to_connection n o u s) here)))
+      (λ i x there is_there h same. (grown_by peer link here two i x there h same h.row).grown)
       (λ q l h. ((p, c, at, tracked, left), class_so two))
       (of_line (record { p = p; c = c; at = at; tracked = tracked; left = left; own = mine.own })
       (record { up = given_by n s.given s.live (linked peer link) orderly.up_to here; row = λ h. absurd (cc (sym here ∙ h)) }))
@@ -346,11 +377,37 @@ module _ (local : Local) (w : Whole) (f : Followed local w) (sane : IsSane w.tap
   by_row : (o : Option Live) → value_at n s.live ≡ o → Followed local after
   by_row o here = grind (arith, at_gone, at_asked, at_linked, at_closing)
 
-pub end_takes : (local : Local) (w : Whole) → Followed local w → IsSane w.tap → w.tap.course.loose ≡ false → OffersTwo w.end →
+pub end_takes : (local : Local) (w : Whole) → Followed local w → IsSane w.tap → ArePeersApart w.tap.connections → OffersTwo w.end →
     IsOrderly w.end → w.end.local ≡ local → w.end.ended ≡ None → (u : Value) (later : List Value) → w.coming ≡ u ∷ later →
     (react u w.end).ended ≡ None → (IsDr u → (m : ℕ) → closed_by u ≡ Some m → IsLive w.end m ⊎ (w.tap.course.strays ≡ true)) →
-    SelectsTwo u →
+    SelectsTwo w.end u →
     Followed local (record w { end = react u w.end; put = w.put ++ put_for u w.end; coming = later })
-end_takes local w f sane firm offers orderly local_is was u later come lasts live_dr selects =
+end_takes local w f sane peers offers orderly local_is was u later come lasts live_dr selects =
     let k = named_by u w.end offers was offers.class lasts in
-    by_row local w f sane firm offers orderly local_is was u later come lasts live_dr k selects (value_at k.n w.end.live) refl
+    by_row local w f sane peers offers orderly local_is was u later come lasts live_dr k selects (value_at k.n w.end.live) refl
+
+-- ---- the next unit, if it is a CC that the end awaits
+
+module _ (local : Local) (w : Whole) (u : Value) (later : List Value) (come : w.coming ≡ u ∷ later) (lasts : w.end.ended ≡ None) (m : ℕ)
+    (x : Connect) (e : u ≡ confirm m x) (row : value_at m w.end.live ≡ Some asked) where
+  two_by : (r peer : ℕ) (line : Line) → r ≡ m → Row local w.end w.coming r peer line → (x.class == 2) ≡ true
+  two_by r peer line same (over h) = differ (is_some w.end.ended) h (ap is_some lasts)
+  two_by r peer line same (talks link there is all) = absurd (cc (sym row ∙ ap (λ (i : ℕ). value_at i w.end.live) (sym same) ∙ there))
+  two_by r peer line same (closes o there q (inl h) gone all) =
+      absurd (cc (sym row ∙ ap (λ (i : ℕ). value_at i w.end.live) (sym same) ∙ there ∙ h))
+  two_by r peer line same (closes o there q (inr h) gone all) =
+      absurd (cc (sym row ∙ ap (λ (i : ℕ). value_at i w.end.live) (sym same) ∙ there ∙ h))
+  two_by r peer line same (asks there y source two early dcs first is) =
+      let named = named_so r u (ap destination_of e ∙ ap (λ (i : ℕ). Some i) (sym same)) in
+      let head : those r w.coming ≡ u ∷ those r later = ap (λ (l : List Value). those r l) come ∙ picked_first (names r) u later named in
+      let (is_first, rest) = (early_parts early u (confirm r y) (those r later) line.coming dcs (sym head ∙ first)).1 (ap is_dc e) in
+      ap (λ (z : Connect). z.class == 2) (same_cc m r x y (sym e ∙ is_first)) ∙ two
+
+-- it selects class 2
+pub next_selects : (local : Local) (w : Whole) → Followed local w → (u : Value) (later : List Value) → w.coming ≡ u ∷ later →
+    SelectsTwo w.end u
+next_selects local w f u later come lasts m x e row =
+    let answers = subst (AllByRecursion (λ (v : Value). IsAnswer w.tap.course.loose w.tap.connections w.end v)) come f.answers in
+    let (p, c, at, tracked, left) = (answers.0 m x e lasts (inl row)).0 in
+    let g = f.lines p c at tracked in
+    two_by local w u later come lasts m x e row g.r g.peer g.line (sym g.left ∙ left) g.row

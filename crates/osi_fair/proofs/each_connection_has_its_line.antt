@@ -1,21 +1,21 @@
 -- Each connection of a calling end that is open at the tap has its line: what that says, and that it stays so as packets begin.
 -- For the law on a whole end.
-use Rattle.osi_fair.proofs.Vocabulary.{arith}
-use Rattle.osi_fair.proofs.Vocabulary.{[], ap, Bool, false, is_some, List, map, None, Option, option_map, refl, Some, subst, sym, true, ℕ}
-use Rattle.osi_fair.proofs.Vocabulary.{◌++◌, ◌∙◌, ◌∷◌, ◌≡◌, ◌≢◌, ◌≤◌, ◌⊎◌, slice_get-map, AllByRecursion, slice_get, ◌&&◌, ◌||◌}
-use Rattle.osi_fair.proofs.Vocabulary.{window_units, confirm, Connect, destination_of, disconnected, request, Value, Standing, Class, Two}
-use Rattle.osi_fair.proofs.Vocabulary.{Local, agreed_size, opened_link, value_at, asked, closing, Live, linked, begins, is_closing, is_open}
-use Rattle.osi_fair.proofs.Vocabulary.{is_silent, asked_by, packet_begins, silent_half, Traffic, Connection, Direction, Left, Right, Half}
-use Rattle.osi_fair.proofs.Vocabulary.{Act, ActsAlong, begins_elsewhere, IsOpened, Line, opened_half, Whole}
+use Rattle.osi_fair.proofs.Vocabulary.{inl, inr, arith, [], ap, Bool, false, is_some, List, map, None, Option, option_map, refl, Some}
+use Rattle.osi_fair.proofs.Vocabulary.{subst, sym, true, ℕ, ◌++◌, ◌∙◌, ◌∷◌, ◌≡◌, ◌≢◌, ◌≤◌, ◌⊎◌, slice_get-map, AllByRecursion, slice_get}
+use Rattle.osi_fair.proofs.Vocabulary.{◌&&◌, ◌==◌, ◌||◌, window_units, confirm, Connect, destination_of, disconnected, request, Value}
+use Rattle.osi_fair.proofs.Vocabulary.{Standing, Class, Two, Local, agreed_size, opened_link, value_at, asked, closing, Live, linked}
+use Rattle.osi_fair.proofs.Vocabulary.{begins, is_closing, is_open, is_silent, asked_by, packet_begins, silent_half, Traffic, Connection}
+use Rattle.osi_fair.proofs.Vocabulary.{Direction, Left, Right, Half, Act, ActsAlong, begins_elsewhere, IsOpened, Line, opened_half, Whole}
 use Rattle.osi_carrier.specs.State.{State}
-use Rattle.osi_fair.specs.Lines.{begins_other}
-use Rattle.osi_fair.proofs.small_facts_that_many_lemmas_use.{and_first, begun_left, begun_right, course_class}
+use Rattle.osi_fair.specs.Lines.{begins_other, begins_own}
+use Rattle.osi_fair.proofs.small_facts_that_many_lemmas_use.{and_first, begins_judged, begun_left, begun_right, course_class, is_false}
+use Rattle.osi_fair.proofs.small_facts_that_many_lemmas_use.{no_list}
 use Rattle.osi_fair.proofs.an_end_closes_last.{left_holds}
 use Rattle.osi_fair.proofs.what_holds_of_a_line.{Holds}
 use Rattle.osi_fair.proofs.what_holds_of_one_item.{HoldsOfEach, after_map}
+use Rattle.osi_fair.proofs.what_a_line_keeps_though_it_is_lost.{Keeps, line_keeps}
 use Rattle.osi_fair.proofs.what_is_put_before_the_cc_passes.{acts_join}
 use Rattle.osi_fair.proofs.which_units_are_for_a_connection.{IsDc, IsOf, close_waits, is_dc, is_ours, leads, ours, some_picked, those}
-use Rattle.osi_fair.specs.Lines.{begins_own}
 
 -- ---- a line since its connection was opened
 
@@ -37,6 +37,10 @@ tracks_on r peer line after more t h = record {
 pub tracks_hold : (r peer : ℕ) (line : Line) → Tracks r peer line → line.tap.is_judged ≡ true → Holds r peer line
 tracks_hold r peer line t judged = left_holds r peer t.first line t.acts t.opened t.along judged
 
+-- be its connection judged or not
+pub tracks_keep : (r peer : ℕ) (line : Line) → Tracks r peer line → Keeps Left r peer line
+tracks_keep r peer line t = line_keeps Left r peer t.first line t.acts t.opened t.along
+
 -- ---- the connections at the tap
 
 -- left has not closed it, and right has answered the CR by a CC
@@ -52,9 +56,9 @@ Tracked cs r = (p : ℕ) × (c : Connection) × (slice_get cs p ≡ Some c) × (
 
 -- what the end has of the connection, and what has come for it
 pub data Row (local : Local) (end : State) (coming : List Value) (r peer : ℕ) (line : Line) : Type 0 where
-  -- it has not taken the CC, nor DCs that came before it
-  asks : value_at r end.live ≡ Some asked → (x : Connect) → x.source ≡ peer → (early : List Value) → AllByRecursion IsDc early →
-      those r coming ≡ early ++ confirm r x ∷ line.coming →
+  -- it has not taken the CC, which selects class 2, nor DCs that came before it
+  asks : value_at r end.live ≡ Some asked → (x : Connect) → x.source ≡ peer → (x.class == 2) ≡ true → (early : List Value) →
+      AllByRecursion IsDc early → those r coming ≡ early ++ confirm r x ∷ line.coming →
       line.link ≡ Some (opened_link Two (agreed_size x.parameters.size local) local x.credit) → Row local end coming r peer line
   talks : (link : Standing) → value_at r end.live ≡ Some (linked peer link) → line.link ≡ Some link → those r coming ≡ line.coming →
       Row local end coming r peer line
@@ -73,8 +77,13 @@ pub record IsSpare (is_stray : Bool) (r peer : ℕ) (v : Value) : Type 0 where
   pub is : v ≡ disconnected peer r
   pub strays : is_stray ≡ true
 
--- The line of a connection that is open. Of the units that are to pass with its references, the line has put the first ones;
--- the end has put the others after it had closed the connection (`spare`).
+-- what a line has put comes before the others that are to pass
+abbrev pub IsFirst : (put spare : List Value) → Type 0
+IsFirst put spare = put ≡ [] → spare ≡ []
+
+-- The line of a connection that is open, or was as it lost its judgement. Of the units that are to pass with its references, the line
+-- has put the first ones; the end has put the others after it had closed the connection (`spare`). If these alone are to pass, the
+-- connection has lost its judgement: then the line has no part in what passes.
 pub record Following (local : Local) (put : List Value) (begun strays : Bool) (end : State) (coming : List Value) (c : Connection) :
     Type 0 where
   pub r : ℕ
@@ -88,9 +97,10 @@ pub record Following (local : Local) (put : List Value) (begun strays : Bool) (e
   pub put_is : ours r peer put ≡ line.put ++ spare
   pub spares : AllByRecursion (IsSpare strays r peer) spare
   pub gone : spare ≢ [] → line.link ≡ None
-  pub begun_is : line.begun ≡ (begun && leads (is_ours r peer) put)
+  pub begun_is : IsFirst line.put spare → line.begun ≡ (begun && leads (is_ours r peer) put)
   pub row : Row local end coming r peer line
-  pub calm : AllByRecursion IsNoCc line.coming
+  -- a second CC ends the judging of the connection
+  pub calm : c.is_judged ≡ true → AllByRecursion IsNoCc line.coming
 
 -- it is so at another end too, if the units that are to pass and that have come for it are as they were
 pub followed_at : {local : Local} {put puts : List Value} {b a s t : Bool} {end after : State} {coming later : List Value} {c : Connection}
@@ -98,7 +108,22 @@ pub followed_at : {local : Local} {put puts : List Value} {b a s t : Bool} {end 
     AllByRecursion (IsSpare t g.r g.peer) g.spare →
     (b && leads (is_ours g.r g.peer) put) ≡ (a && leads (is_ours g.r g.peer) puts) → Row local after later g.r g.peer g.line →
     Following local puts a t after later c
-followed_at g same spares begun row = search (arith, (same ∙ g.put_is), spares, (g.begun_is ∙ begun), row)
+followed_at g same spares begun row = record {
+  r = g.r;
+  peer = g.peer;
+  line = g.line;
+  left = g.left;
+  right = g.right;
+  tracks = g.tracks;
+  tap = g.tap;
+  spare = g.spare;
+  put_is = same ∙ g.put_is;
+  spares = spares;
+  gone = g.gone;
+  begun_is = λ first. g.begun_is first ∙ begun;
+  row = row;
+  calm = g.calm;
+}
 
 -- a connection whose CR waits for its answer
 pub record Waiting (local : Local) (end : State) (coming : List Value) (c : Connection) : Type 0 where
@@ -122,9 +147,11 @@ pub data IsOwned (s : Traffic) (v : Value) : Type 0 where
       IsOf c.left.reference c.right.reference v → IsOwned s v
   stray : (m source : ℕ) → v ≡ disconnected m source → s.course.strays ≡ true → IsOwned s v
 
--- a CC that has come is for an open connection whose CR the end has put
-abbrev pub IsAnswer : List Connection → State → Value → Type 0
-IsAnswer cs end v = (n : ℕ) (x : Connect) → v ≡ confirm n x → end.ended ≡ None → Tracked cs n × (value_at n end.live ≡ Some asked)
+-- A CC that has come, if the end awaits it, or if no connection has lost its judgement: then it is for an open connection whose CR the end
+-- has put. Another CC for the same connection ends the judging of that.
+abbrev pub IsAnswer : (loose : Bool) → List Connection → State → Value → Type 0
+IsAnswer loose cs end v = (n : ℕ) (x : Connect) → v ≡ confirm n x → end.ended ≡ None →
+    (value_at n end.live ≡ Some asked) ⊎ (loose ≡ false) → Tracked cs n × (value_at n end.live ≡ Some asked)
 
 -- a unit but a DC is for a reference that was given
 abbrev pub AreGiven : ℕ → Value → Type 0
@@ -146,7 +173,7 @@ pub record Followed (local : Local) (w : Whole) : Type 0 where
   pub owned : AllByRecursion (λ (v : Value). IsOwned w.tap v) w.put
   pub linked : w.end.ended ≡ None → (r peer : ℕ) (link : Standing) → value_at r w.end.live ≡ Some (linked peer link) →
       Tracked w.tap.connections r × (w.end.class ≡ Some Two)
-  pub answers : AllByRecursion (λ (v : Value). IsAnswer w.tap.connections w.end v) w.coming
+  pub answers : AllByRecursion (λ (v : Value). IsAnswer w.tap.course.loose w.tap.connections w.end v) w.coming
   pub requests : AllByRecursion (λ (v : Value). (x : Connect) → v ≡ request x → IsAsking local w.end w.coming x) w.put
   pub two : (r : ℕ) → Tracked w.tap.connections r → w.tap.course.class ≡ Some Two
   -- left closes nothing before right has answered; class 0 is not selected
@@ -160,74 +187,121 @@ pub record Followed (local : Local) (w : Whole) : Type 0 where
       w.tap.course.class_seen ≡ Some Two) w.tap.connections
   -- no CR waits for the connection of a DC that is to pass
   pub settled : AllByRecursion (AreSettled w.tap.connections w.put w.end.given) w.put
+  -- a connection that has lost its judgement was answered and not refused, and right has not answered a DR there
+  pub lost : HoldsOfEach (λ (c : Connection). c.is_judged ≡ false → (is_open c.right.phase || is_closing c.right.phase) ≡ true)
+      w.tap.connections
+  -- the end awaits no CC for a connection that left has closed
+  pub shut : w.end.ended ≡ None → HoldsOfEach (λ (c : Connection). is_open c.left.phase ≡ false →
+      value_at c.left.reference w.end.live ≡ Some asked → ⊥) w.tap.connections
 
 -- ---- a packet begins
 
 begun_row : (local : Local) (end : State) (coming : List Value) (r peer : ℕ) (line : Line) (b : Bool) (c : Connection) →
     Row local end coming r peer line → Row local end coming r peer (record line { begun = b; tap = c })
-begun_row local end coming r peer line b c (asks there x source early dcs first link) = asks there x source early dcs first link
+begun_row local end coming r peer line b c (asks there x source two early dcs first link) = asks there x source two early dcs first link
 begun_row local end coming r peer line b c (talks link there is same) = talks link there is same
 begun_row local end coming r peer line b c (closes o there q e is same) = closes o there q e is same
 begun_row local end coming r peer line b c (over h) = over h
 
-no_first : (line : Line) (spare : List Value) → line.put ++ spare ≢ [] → (line.put ≡ [] → spare ≡ []) → line.put ≢ []
-no_first line spare some none e = grind arith
+pub put_some : (v : Value) (vs spare put : List Value) → put ≡ v ∷ vs → IsFirst put spare
+put_some v vs spare put e h = absurd (no_list v vs (sym e ∙ h))
 
-left_begins : (local : Local) (put : List Value) (strays : Bool) (end : State) (coming : List Value) (c : Connection) (b : Bool) →
-    (f : Following local put false strays end coming c) → (f.line.put ≡ [] → f.spare ≡ []) → leads (is_ours f.r f.peer) put ≡ b →
-    Following local put true strays end coming (begins Left c)
-left_begins local put strays end coming c true f none e =
-    let after = record f.line { begun = true; tap = begins Left f.line.tap } in
-    record {
-      r = f.r;
-      peer = f.peer;
-      line = after;
-      left = f.left;
-      right = f.right;
-      tracks = tracks_on f.r f.peer f.line after (begins_own ∷ []) f.tracks
-          (after, (no_first f.line f.spare (λ h. some_picked (is_ours f.r f.peer) put e (f.put_is ∙ h)) none, f.begun_is, refl), refl);
-      tap = ap (begins Left) f.tap;
-      spare = f.spare;
-      put_is = f.put_is;
-      spares = f.spares;
-      gone = f.gone;
-      begun_is = sym e;
-      row = begun_row local end coming f.r f.peer f.line true (begins Left f.line.tap) f.row;
-      calm = f.calm;
-    }
-left_begins local put strays end coming c false f none e =
-    let after = record f.line { tap = begins Left f.line.tap } in
-    record {
-      r = f.r;
-      peer = f.peer;
-      line = after;
-      left = f.left;
-      right = f.right;
-      tracks = tracks_on f.r f.peer f.line after (begins_elsewhere ∷ []) f.tracks (after, (f.begun_is, refl), refl);
-      tap = ap (begins Left) f.tap;
-      spare = f.spare;
-      put_is = f.put_is;
-      spares = f.spares;
-      gone = f.gone;
-      begun_is = f.begun_is ∙ sym e;
-      row = begun_row local end coming f.r f.peer f.line f.line.begun (begins Left f.line.tap) f.row;
-      calm = f.calm;
-    }
+-- a line that has put nothing has begun nothing
+pub idle_line : (r peer : ℕ) (line : Line) → Tracks r peer line → line.put ≡ [] → line.begun ≡ false
+idle_line r peer line t e = is_false line.begun (λ h. (tracks_keep r peer line t).some h e)
+
+not_begun : (local : Local) (put : List Value) (strays : Bool) (end : State) (coming : List Value) (c : Connection)
+    (f : Following local put false strays end coming c) (l : List Value) → f.line.put ≡ l → f.line.begun ≡ false
+not_begun local put strays end coming c f [] e = idle_line f.r f.peer f.line f.tracks e
+not_begun local put strays end coming c f (v ∷ vs) e = f.begun_is (put_some v vs f.spare f.line.put e)
+
+module _ (local : Local) (put : List Value) (strays : Bool) (end : State) (coming : List Value) (c : Connection)
+    (f : Following local put false strays end coming c) where
+  -- the packet is of another connection, or of one that has lost its judgement and whose line has put nothing
+  elsewhere : f.line.begun ≡ false → (IsFirst f.line.put f.spare → leads (is_ours f.r f.peer) put ≡ false) →
+      Following local put true strays end coming (begins Left c)
+  elsewhere idle none =
+      let after = record f.line { tap = begins Left f.line.tap } in
+      record {
+        r = f.r;
+        peer = f.peer;
+        line = after;
+        left = f.left;
+        right = f.right;
+        tracks = tracks_on f.r f.peer f.line after (begins_elsewhere ∷ []) f.tracks (after, (idle, refl), refl);
+        tap = ap (begins Left) f.tap;
+        spare = f.spare;
+        put_is = f.put_is;
+        spares = f.spares;
+        gone = f.gone;
+        begun_is = λ first. idle ∙ sym (none first);
+        row = begun_row local end coming f.r f.peer f.line f.line.begun (begins Left f.line.tap) f.row;
+        calm = λ j. f.calm (sym (begins_judged Left c) ∙ j);
+      }
+
+  begins_line : (v : Value) (vs : List Value) → f.line.put ≡ v ∷ vs → leads (is_ours f.r f.peer) put ≡ true →
+      Following local put true strays end coming (begins Left c)
+  begins_line v vs some e =
+      let after = record f.line { begun = true; tap = begins Left f.line.tap } in
+      record {
+        r = f.r;
+        peer = f.peer;
+        line = after;
+        left = f.left;
+        right = f.right;
+        tracks = tracks_on f.r f.peer f.line after (begins_own ∷ []) f.tracks
+            (after, (λ h. no_list v vs (sym some ∙ h), f.begun_is (put_some v vs f.spare f.line.put some), refl), refl);
+        tap = ap (begins Left) f.tap;
+        spare = f.spare;
+        put_is = f.put_is;
+        spares = f.spares;
+        gone = f.gone;
+        begun_is = λ first. sym e;
+        row = begun_row local end coming f.r f.peer f.line true (begins Left f.line.tap) f.row;
+        calm = λ j. f.calm (sym (begins_judged Left c) ∙ j);
+      }
+
+  left_by : (b : Bool) → leads (is_ours f.r f.peer) put ≡ b → (l : List Value) → f.line.put ≡ l →
+      Following local put true strays end coming (begins Left c)
+  left_by false e l is = elsewhere (not_begun local put strays end coming c f l is) (λ first. e)
+  left_by true e (v ∷ vs) is = begins_line v vs is e
+  left_by true e [] is = elsewhere (not_begun local put strays end coming c f [] is) (λ first.
+      absurd (some_picked (is_ours f.r f.peer) put e (f.put_is ∙ ap (λ (l : List Value). l ++ f.spare) is ∙ first is)))
+
+  left_begins : Following local put true strays end coming (begins Left c)
+  left_begins = left_by (leads (is_ours f.r f.peer) put) refl f.line.put refl
 
 right_begins : (local : Local) (put : List Value) (b strays : Bool) (end : State) (coming : List Value) (c : Connection) →
     Following local put b strays end coming c → Following local put b strays end coming (begins Right c)
 right_begins local put b strays end coming c f =
     let after = record f.line { tap = begins Right f.line.tap } in
-    search (
-      arith,
-      after,
-      (tracks_on f.r f.peer f.line after (begins_other ∷ []) f.tracks (after, refl, refl)),
-      (ap (begins Right) f.tap),
-      (begun_row local end coming f.r f.peer f.line f.line.begun (begins Right f.line.tap) f.row),
-    )
+    record {
+      r = f.r;
+      peer = f.peer;
+      line = after;
+      left = f.left;
+      right = f.right;
+      tracks = tracks_on f.r f.peer f.line after (begins_other ∷ []) f.tracks (after, refl, refl);
+      tap = ap (begins Right) f.tap;
+      spare = f.spare;
+      put_is = f.put_is;
+      spares = f.spares;
+      gone = f.gone;
+      begun_is = f.begun_is;
+      row = begun_row local end coming f.r f.peer f.line f.line.begun (begins Right f.line.tap) f.row;
+      calm = λ j. f.calm (sym (begins_judged Right c) ∙ j);
+    }
 
 course_strays : (d : Direction) (s : Traffic) → (packet_begins d s).course.strays ≡ s.course.strays
 course_strays d s = grind arith
+
+course_loose : (d : Direction) (s : Traffic) → (packet_begins d s).course.loose ≡ s.course.loose
+course_loose d s = grind arith
+
+-- if none has lost its judgement, none had
+pub why_before : {A : Type 0} (was is : Bool) → (is ≡ false → was ≡ false) → A ⊎ (is ≡ false) → A ⊎ (was ≡ false)
+why_before was is firm (inl a) = inl a
+why_before was is firm (inr e) = inr (firm e)
 
 tracked_begins : (d : Direction) (c : Connection) → is_tracked (begins d c) ≡ is_tracked c
 tracked_begins d c = grind arith
@@ -320,8 +394,12 @@ followed_begins local d w b some f k = record {
       (waits_begun local d w.end w.coming x (f.waiting i x was (sym (waiting_begins d x) ∙ ap is_waiting (sym is) ∙ waits)));
   owned = all_so (λ v. IsOwned w.tap v) (λ v. IsOwned (packet_begins d w.tap) v) w.put (λ v. owned_at d w.tap v) f.owned;
   linked = λ lasts r peer link e. let (t, two) = f.linked lasts r peer link e in (tracked_at d w.tap.connections r t, two);
-  answers = all_so (λ v. IsAnswer w.tap.connections w.end v) (λ v. IsAnswer (map (begins d) w.tap.connections) w.end v) w.coming
-      (λ v h n x e lasts. let (t, row) = h n x e lasts in (tracked_at d w.tap.connections n t, row)) f.answers;
+  answers = all_so (λ v. IsAnswer w.tap.course.loose w.tap.connections w.end v)
+      (λ v. IsAnswer (packet_begins d w.tap).course.loose (map (begins d) w.tap.connections) w.end v) w.coming
+      (λ v h n x e lasts why.
+      let (t, row) = h n x e lasts (why_before w.tap.course.loose (packet_begins d w.tap).course.loose (λ firm. sym (course_loose d w.tap)
+      ∙ firm) why) in
+      (tracked_at d w.tap.connections n t, row)) f.answers;
   requests = f.requests;
   two = λ r t. course_class d w.tap ∙ f.two r (tracked_was d w.tap.connections r t);
   silent = λ i c at none.
@@ -338,6 +416,16 @@ followed_begins local d w b some f k = record {
       (ap (λ (e : Connection). is_silent e.seen_by_left.phase) (sym is) ∙ known);
   settled = all_so (AreSettled w.tap.connections w.put w.end.given) (AreSettled (map (begins d) w.tap.connections) w.put w.end.given) w.put
       (λ v. settled_at d w.tap.connections w.put w.end.given v) f.settled;
+  lost = λ i c at lost.
+      let (x, was, is) = after_map (begins d) w.tap.connections i c at in
+      ap (λ (e : Connection). is_open e.right.phase || is_closing e.right.phase) is
+      ∙ ap (λ (h : Half). is_open h.phase || is_closing h.phase) (begun_right d x)
+      ∙ f.lost i x was (sym (begins_judged d x) ∙ ap (λ (e : Connection). e.is_judged) (sym is) ∙ lost);
+  shut = λ lasts i c at closed row.
+      let (x, was, is) = after_map (begins d) w.tap.connections i c at in
+      let left : c.left ≡ x.left = ap (λ (e : Connection). e.left) is ∙ begun_left d x in
+      f.shut lasts i x was (ap (λ (h : Half). is_open h.phase) (sym left) ∙ closed)
+      (ap (λ (h : Half). value_at h.reference w.end.live) (sym left) ∙ row);
 }
 
 -- what the line of a connection that is open at the tap has put comes before the spare DCs
@@ -354,14 +442,12 @@ no_spare local put coming b strays end c judged tracked g e =
     none_by g.spare g.line.put
     (λ some none. close_waits g.r g.peer g.line (tracks_hold g.r g.peer g.line g.tracks line_judged) (g.gone some) live none) e
 
-pub own_begins : (local : Local) (w : Whole) → HoldsOfEach (λ (c : Connection). c.is_judged ≡ true) w.tap.connections → w.begun ≡ false →
-    w.put ≢ [] → Followed local w → Followed local (record w { begun = true; tap = packet_begins Left w.tap })
-own_begins local w judged e some f =
+pub own_begins : (local : Local) (w : Whole) → w.begun ≡ false → w.put ≢ [] → Followed local w →
+    Followed local (record w { begun = true; tap = packet_begins Left w.tap })
+own_begins local w e some f =
     followed_begins local Left w true (λ h. some) f (λ i c at tracked g.
     let s = w.tap.course.strays in
-    let h = subst (λ (b : Bool). Following local w.put b s w.end w.coming c) e g in
-    left_begins local w.put s w.end w.coming c (leads (is_ours h.r h.peer) w.put) h
-    (no_spare local w.put w.coming false s w.end c (judged i c at) tracked h) refl)
+    left_begins local w.put s w.end w.coming c (subst (λ (b : Bool). Following local w.put b s w.end w.coming c) e g))
 
 pub other_begins : (local : Local) (w : Whole) → Followed local w → Followed local (record w { tap = packet_begins Right w.tap })
 other_begins local w f = search (arith, followed_begins, right_begins)

@@ -97,7 +97,8 @@ asks_taking local w unit later x cs strays put (inr is) offers tap done dc dcs b
     asks x (none_more w.put (put_for unit w.end) (request x ∷ []) put p.put) (inl p.after) offers cs strays tap done dcs begun
 
 cc_taking : (local : Local) (w : Whole) (r n : ℕ) (x : Connect) (later : List Value) (after : State) → Calling local (one r) w.end →
-    w.put ≡ [] → w.begun ≡ false → (x.class == 2) ≡ false → HasZero local → react (confirm n x) w.end ≡ after → IsZeroed after [] false w.tap →
+    w.put ≡ [] → w.begun ≡ false → (x.class == 2) ≡ false → HasZero local → react (confirm n x) w.end ≡ after →
+    IsZeroed after [] false w.tap →
     Stage local (after_arriving w (confirm n x) later)
 cc_taking local w r n x later after is none not_begun class has so z =
     let puts : w.put ++ put_for (confirm n x) w.end ≡ [] = none_more w.put (put_for (confirm n x) w.end) [] none
@@ -375,7 +376,8 @@ confirm_answer : (local : Local) (w : Whole) (v : Value) (r p : ℕ) (o : Offer)
     (n : ℕ) (x : Connect) → v ≡ confirm n x → IsConnect x → (takes Right v w.tap).state ≡ confirmed_tap p n x waiting.c cs strays →
     is_offered o None x ≡ true → is_inside x ≡ true → (b : Bool) → (x.class == 2) ≡ b → Stage local (after_other w v)
 confirm_answer local w v r p o cs strays is none not_begun offers waiting dcs n x same_unit range so offered inside true class =
-    known (ap (λ (s : Traffic). s.course.class) so ∙ class_two x class) (λ h. differ w.begun h not_begun) (offers.two (is_two o x class offered))
+    known (ap (λ (s : Traffic). s.course.class) so ∙ class_two x class) (λ h. differ w.begun h not_begun)
+    (offers.two (is_two o x class offered))
 confirm_answer local w v r p o cs strays is none not_begun offers waiting dcs n x same_unit range so offered inside false class =
     answered r is none not_begun w.coming n x [] (ap (λ (u : Value). w.coming ++ u ∷ []) same_unit) dcs class
     (offers.zero (is_zero o x class inside offered)) (react (confirm n x) w.end) refl

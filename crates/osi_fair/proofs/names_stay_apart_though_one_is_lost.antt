@@ -1,9 +1,8 @@
 -- The references of left stay apart too if a connection has lost its judgement, since left broke a rule of it in class 2.
 -- For the law on a whole called end.
-use Rattle.osi_fair.proofs.Vocabulary.{arith}
-use Rattle.osi_fair.proofs.Vocabulary.{[], ap, Bool, false, inl, inr, length, List, map, None, Option, refl, set, Some, subst, sym, true, ℕ}
-use Rattle.osi_fair.proofs.Vocabulary.{◌++◌, ◌∙◌, ◌∷◌, ◌≡◌, ◌⊎◌, eqb-true, list_any, not, slice_get, ◌&&◌, ◌==◌, Connect, Value, Class}
-use Rattle.osi_fair.proofs.Vocabulary.{is_applied, reach_of, begins, is_closed, is_closing, is_named, is_over, is_over_by}
+use Rattle.osi_fair.proofs.Vocabulary.{arith, [], ap, Bool, false, inl, inr, length, List, map, None, Option, refl, set, Some, subst, sym}
+use Rattle.osi_fair.proofs.Vocabulary.{true, ℕ, ◌++◌, ◌∙◌, ◌∷◌, ◌≡◌, ◌⊎◌, eqb-true, list_any, not, slice_get, ◌&&◌, ◌==◌, Connect, Value}
+use Rattle.osi_fair.proofs.Vocabulary.{Class, is_applied, reach_of, begins, is_closed, is_closing, is_named, is_over, is_over_by}
 use Rattle.osi_fair.proofs.Vocabulary.{is_silent, uses, asked_by, connection_after, found_on, judged_on, placed, sent_on, Traffic as State}
 use Rattle.osi_fair.proofs.Vocabulary.{uses_source, Connection, Left, Right, Finding, Reach, Half, found}
 use Rattle.osi_rules.specs.declared.findings.Reach.TheVariants as reach
@@ -41,7 +40,7 @@ module _ (f : Connection → Bool) (cs : List Connection) (p : ℕ) (new : Conne
       h i p c old y at fc (was (ap f (sym b) ∙ fe)) ∙ sym a
   changed_by old at was i j c e (inr x) (inr y) fc fe = h i j c e x y fc fe
 
-  one_changed : (old : Connection) → slice_get cs p ≡ Some old → (f new ≡ true → f old ≡ true) → OnlyOne f (set cs p new)
+  pub one_changed : (old : Connection) → slice_get cs p ≡ Some old → (f new ≡ true → f old ≡ true) → OnlyOne f (set cs p new)
   one_changed old at was i j c e x y = changed_by old at was i j c e (after_set cs p i new c x) (after_set cs p j new e y)
 
   new_by : ((i : ℕ) (c : Connection) → slice_get cs i ≡ Some c → f c ≡ true → f new ≡ true → ⊥) → (i j : ℕ) (c e : Connection) →
@@ -52,15 +51,15 @@ module _ (f : Connection → Bool) (cs : List Connection) (p : ℕ) (new : Conne
   new_by none i j c e (inr y) (inl (a, b)) fc fe = absurd (none i c y fc (ap f (sym b) ∙ fe))
   new_by none i j c e (inr x) (inr y) fc fe = h i j c e x y fc fe
 
-  one_put : ((i : ℕ) (c : Connection) → slice_get cs i ≡ Some c → f c ≡ true → f new ≡ true → ⊥) → OnlyOne f (set cs p new)
+  pub one_put : ((i : ℕ) (c : Connection) → slice_get cs i ≡ Some c → f c ≡ true → f new ≡ true → ⊥) → OnlyOne f (set cs p new)
   one_put none i j c e x y = new_by none i j c e (after_set cs p i new c x) (after_set cs p j new e y)
 
-one_added : (f : Connection → Bool) (cs : List Connection) (new : Connection) → OnlyOne f cs →
+pub one_added : (f : Connection → Bool) (cs : List Connection) (new : Connection) → OnlyOne f cs →
     ((i : ℕ) (c : Connection) → slice_get cs i ≡ Some c → f c ≡ true → f new ≡ true → ⊥) → OnlyOne f (cs ++ new ∷ [])
 one_added f cs new h none i j c e x y =
     new_by f cs (length cs) new h none i j c e (after_add cs i new c x) (after_add cs j new e y)
 
-one_mapped : (f k : Connection → Bool) (g : Connection → Connection) (cs : List Connection) → OnlyOne f cs →
+pub one_mapped : (f k : Connection → Bool) (g : Connection → Connection) (cs : List Connection) → OnlyOne f cs →
     ((i : ℕ) (c : Connection) → slice_get cs i ≡ Some c → k (g c) ≡ true → f c ≡ true) → OnlyOne k (map g cs)
 one_mapped f k g cs h was i j c e x y fc fe =
     let (c0, at, is) = after_map g cs i c x in
@@ -78,7 +77,7 @@ pub each_sound : (cs : List Connection) → AreApart cs → AreNamedApart cs →
 each_sound cs apart named i c at = sound_by cs i c apart named at c.is_judged refl
 
 -- a unit of right with this reference is for one connection at most
-named_known : (a b k : Bool) → (not b && k) ≡ true → (not (a && b) && k) ≡ true
+pub named_known : (a b k : Bool) → (not b && k) ≡ true → (not (a && b) && k) ≡ true
 named_known a b k h = grind arith
 
 pub only_named : (cs : List Connection) (n : ℕ) → AreNamedApart cs → OnlyOne (is_named Right n) cs
@@ -88,12 +87,12 @@ only_named cs n named i j c e x y fc fe = named.known n i j c e x y
 
 -- ---- a packet begins
 
-over_more : (j : Bool) (mine seen theirs : Half) → IsEarlier seen theirs → (j && is_over_by mine theirs) ≡ false →
+pub over_more : (j : Bool) (mine seen theirs : Half) → IsEarlier seen theirs → (j && is_over_by mine theirs) ≡ false →
     (j && is_over_by mine seen) ≡ false
 over_more true mine seen theirs e h = over_still mine.phase seen.phase theirs.phase e.refused e.closing e.closed h
 over_more false mine seen theirs e h = refl
 
-used_more : (j : Bool) (mine seen theirs : Half) (k : Bool) → IsEarlier seen theirs → (not (j && is_over_by mine theirs) && k) ≡ true →
+pub used_more : (j : Bool) (mine seen theirs : Half) (k : Bool) → IsEarlier seen theirs → (not (j && is_over_by mine theirs) && k) ≡ true →
     (not (j && is_over_by mine seen) && k) ≡ true
 used_more j mine seen theirs k e h = more (j && is_over_by mine theirs) refl h
   where
@@ -104,20 +103,21 @@ used_more j mine seen theirs k e h = more (j && is_over_by mine theirs) refl h
     more true is h = absurd (cc h)
     more false is h = kept (j && is_over_by mine seen) (over_more j mine seen theirs e is) h
 
-free_more : (a was b k : Bool) → (a ≡ false → was ≡ false) → (not (a && b) && k) ≡ true → (not (was && b) && k) ≡ true
+pub free_more : (a was b k : Bool) → (a ≡ false → was ≡ false) → (not (a && b) && k) ≡ true → (not (was && b) && k) ≡ true
 free_more a was b k h e = grind arith
 
-known_used : (a b k : Bool) → (b ≡ false → a ≡ false) → (not (a && b) && k) ≡ true → (not a && k) ≡ true
+pub known_used : (a b k : Bool) → (b ≡ false → a ≡ false) → (not (a && b) && k) ≡ true → (not a && k) ≡ true
 known_used a b k h e = grind arith
 
 -- what is over for left is over for right as its packet begins
-over_both : (j : Bool) (left right known : Half) → IsEarlier known right → (is_closed left.phase ≡ true → is_closing right.phase ≡ true) →
-    (j && is_over_by right left) ≡ false → (j && is_over_by left known) ≡ false
+pub over_both : (j : Bool) (left right known : Half) → IsEarlier known right →
+    (is_closed left.phase ≡ true → is_closing right.phase ≡ true) → (j && is_over_by right left) ≡ false →
+    (j && is_over_by left known) ≡ false
 over_both false left right known e closed h = refl
 over_both true left right known e closed h =
     over_other right.phase left.phase known.phase h e.refused e.closing e.closed closed
 
-sound_left : (c : Connection) → Sound c → Sound (begins Left c)
+pub sound_left : (c : Connection) → Sound c → Sound (begins Left c)
 sound_left c s = record {
   left_knows = earlier_same c.right;
   right_knows = s.right_knows;
@@ -125,7 +125,7 @@ sound_left c s = record {
   right_closed = s.right_closed;
 }
 
-sound_right : (c : Connection) → Sound c → Sound (begins Right c)
+pub sound_right : (c : Connection) → Sound c → Sound (begins Right c)
 sound_right c s = record {
   left_knows = s.left_knows;
   right_knows = earlier_same c.left;
@@ -175,13 +175,13 @@ named_set cs p c new named at sound used known = record {
     lost_by i e (inr there) j = named.lost i e there j
 
 -- what is not over for a side is not over for both
-known_left : (a b k : Bool) → a ≡ false → k ≡ true → (not (a && b) && k) ≡ true
+pub known_left : (a b k : Bool) → a ≡ false → k ≡ true → (not (a && b) && k) ≡ true
 known_left a b k h e = grind arith
 
 known_right : (a b k : Bool) → b ≡ false → k ≡ true → (not (a && b) && k) ≡ true
 known_right a b k h e = grind arith
 
-not_over : (a k : Bool) → a ≡ false → k ≡ true → (not a && k) ≡ true
+pub not_over : (a k : Bool) → a ≡ false → k ≡ true → (not a && k) ≡ true
 not_over a k h e = grind arith
 
 pub last_of : (a b : Bool) → (a && b) ≡ true → b ≡ true
@@ -264,7 +264,7 @@ module _ (cs : List Connection) (apart : AreApart cs) (named : AreNamedApart cs)
 
 -- ---- a CR
 
-is_source : (a b k : Bool) → (not a && (not b && k)) ≡ true → k ≡ true
+pub is_source : (a b k : Bool) → (not a && (not b && k)) ≡ true → k ≡ true
 is_source a b k h = grind arith
 
 asked_free : (cs : List Connection) (x : Connect) → list_any (λ (e : Connection). uses Left x.source e) cs ≡ false → (n i : ℕ)

@@ -1,23 +1,20 @@
 -- Which connections a calling end of class 2 still has after a unit or a call: all but the one that a DR, DC or ER names.
 -- For the law on DRs.
-use Rattle.osi_fair.proofs.Vocabulary.{arith}
-use Rattle.osi_fair.proofs.Vocabulary.{[], ap, Bool, Err, false, if◌then◌else◌, inr, is_some, List, None, Ok, Option, refl, Result}
-use Rattle.osi_fair.proofs.Vocabulary.{Some, sym, true, ℕ, ◌++◌, ◌+◌, ◌∙◌, ◌∷◌, ◌≡◌, ◌⊎◌, eq-eqb, eqb-true, ◌&&◌, ◌==◌}
+use Rattle.osi_fair.proofs.Vocabulary.{arith, [], ap, Bool, Err, false, if◌then◌else◌, inl, inr, is_some, List, None, Ok, Option, refl}
+use Rattle.osi_fair.proofs.Vocabulary.{Result, Some, sym, true, ℕ, ◌++◌, ◌+◌, ◌∙◌, ◌∷◌, ◌≡◌, ◌⊎◌, eq-eqb, eqb-true, ◌&&◌, ◌==◌}
 use Rattle.osi_fair.proofs.Vocabulary.{acknowledge, confirm, Connect, data2, disconnect, disconnected, error, Value, Standing, taken}
-use Rattle.osi_fair.proofs.Vocabulary.{with_tsdu, LinkFault, Class, Two, Zero, put_other, without_other, put_here, closed_on}
-use Rattle.osi_fair.proofs.Vocabulary.{closes_in, open_link, sent, sent_all, agreed_size, confirmed, opened_link}
-use Rattle.osi_fair.proofs.Vocabulary.{pumped, before_class, breaks_in, handed_out, in_class, in_two, leaves, opens}
-use Rattle.osi_fair.proofs.Vocabulary.{react_by, taking, to_asked, to_closing, to_connection, to_linked, to_unknown, put, Rows, value_at}
-use Rattle.osi_fair.proofs.Vocabulary.{without, breaks, closes_call as closes, connects, sends, sends_all, user_does, UserCall, asked}
-use Rattle.osi_fair.proofs.Vocabulary.{closing, Live as Connection, ends, linked, EndReason}
+use Rattle.osi_fair.proofs.Vocabulary.{with_tsdu, LinkFault, Class, Two, Zero, put_other, without_other, put_here, closed_on, closes_in}
+use Rattle.osi_fair.proofs.Vocabulary.{open_link, sent, sent_all, agreed_size, confirmed, opened_link, pumped, before_class, breaks_in}
+use Rattle.osi_fair.proofs.Vocabulary.{handed_out, in_class, in_two, leaves, opens, react_by, taking, to_asked, to_closing, to_connection}
+use Rattle.osi_fair.proofs.Vocabulary.{to_linked, to_unknown, put, Rows, value_at, without, breaks, closes_call as closes, connects, sends}
+use Rattle.osi_fair.proofs.Vocabulary.{sends_all, user_does, UserCall, asked, closing, Live as Connection, ends, linked, EndReason, subst}
 use Rattle.osi_carrier.specs.Calls.{sent_on}
 unfoldable use Rattle.osi_carrier.specs.React.{react}
 use Rattle.osi_carrier.specs.State.{State}
-use Rattle.osi_fair.proofs.small_facts_that_many_lemmas_use.{no_two}
+use Rattle.osi_fair.proofs.small_facts_that_many_lemmas_use.{no_two, none_of}
 use Rattle.osi_fair.proofs.what_the_other_side_closes.{closed_by}
 use Rattle.osi_fair.proofs.what_is_live_at_a_called_end.{IsLive}
 use Rattle.osi_fair.proofs.a_dt_of_class_zero_passes.{unlike}
-use Rattle.osi_fair.proofs.Vocabulary.{subst}
 
 -- a calling end that offers class 2, while class 0 is not selected
 pub record OffersTwo (s : State) : Type 0 where
@@ -102,8 +99,12 @@ opens_by r x false b z s o e =
     (after_end (confirm r x) s (opens r x None s) o refl refl refl refl)
 
 -- a CC selects class 2
-abbrev pub SelectsTwo : Value → Type 0
-SelectsTwo unit = (m : ℕ) (x : Connect) → unit ≡ confirm m x → (x.class == 2) ≡ true
+abbrev pub Selects : Value → Type 0
+Selects unit = (m : ℕ) (x : Connect) → unit ≡ confirm m x → (x.class == 2) ≡ true
+
+-- if the end awaits it
+abbrev pub SelectsTwo : State → Value → Type 0
+SelectsTwo s unit = s.ended ≡ None → (m : ℕ) (x : Connect) → unit ≡ confirm m x → value_at m s.live ≡ Some asked → (x.class == 2) ≡ true
 
 two_not_zero : (n : ℕ) → (n == 2) ≡ true → (n == 0) ≡ false
 two_not_zero n h = ap (λ (i : ℕ). i == 0) (eqb-true n 2 h)
@@ -121,7 +122,7 @@ widen : (r n : ℕ) (x : Connect) (s : State) → After (confirm r x) s (opens r
     After (confirm n x) s (opens r x (confirmed x s.local s.class) s)
 widen r n x s a = record { offers = a.offers; local = a.local; class = a.class; live = a.live }
 
-asked_after : (r : ℕ) (unit : Value) (s : State) → OffersTwo s → SelectsTwo unit → ((n : ℕ) → closed_by unit ≡ Some n → n ≡ r) →
+asked_after : (r : ℕ) (unit : Value) (s : State) → OffersTwo s → Selects unit → ((n : ℕ) → closed_by unit ≡ Some n → n ≡ r) →
     After unit s (to_asked r unit s)
 asked_after r (confirm destination x) s o two is = widen r destination x s (opens_after r x s o (two destination x refl))
 asked_after r (disconnect destination source reason user) s o two is =
@@ -174,9 +175,12 @@ closing_after r (disconnected destination source) s o is =
     (ap (λ (n : ℕ). Some n) (is destination refl)) refl
 closing_after r v s o is = after_same v s s o refl refl refl refl
 
-connection_after : (r : ℕ) (o : Option Connection) (unit : Value) (s : State) → OffersTwo s → SelectsTwo unit →
+connection_after : (r : ℕ) (o : Option Connection) (unit : Value) (s : State) → OffersTwo s → (o ≡ Some asked → Selects unit) →
     ((n : ℕ) → closed_by unit ≡ Some n → n ≡ r) → After unit s (to_connection r o unit s)
-connection_after r o unit s h two is = grind (arith, unknown_after, asked_after, linked_after, closing_after)
+connection_after r None unit s h two is = unknown_after unit s h
+connection_after r (Some asked) unit s h two is = asked_after r unit s h (two refl) is
+connection_after r (Some (linked peer link)) unit s h two is = linked_after r peer link unit s h is
+connection_after r (Some (closing peer)) unit s h two is = closing_after r unit s h is
 
 same_number : (n r : ℕ) → Some r ≡ Some n → n ≡ r
 same_number n r e = cc
@@ -184,32 +188,67 @@ same_number n r e = cc
 none_number : {A : Type 0} (n : ℕ) → None ≡ Some n → A
 none_number n e = absurd (cc)
 
-before_after : (unit : Value) (s : State) → OffersTwo s → SelectsTwo unit → After unit s (before_class true unit s)
-before_after (confirm destination x) s o two = grind (arith, connection_after, none_number)
-before_after (disconnect destination source reason user) s o two = grind (arith, connection_after, same_number)
-before_after (error destination cause) s o two = grind (arith, connection_after, same_number)
-before_after v s o two = grind (arith, after_end)
+-- as long as the end lasts
+abbrev SelectsNow : State → Value → Type 0
+SelectsNow s unit = (m : ℕ) (x : Connect) → unit ≡ confirm m x → value_at m s.live ≡ Some asked → (x.class == 2) ≡ true
 
-two_after : (unit : Value) (s : State) → OffersTwo s → SelectsTwo unit → After unit s (in_two true unit s)
-two_after (confirm destination x) s o two = grind (arith, connection_after, none_number)
-two_after (disconnect destination source reason user) s o two = grind (arith, connection_after, same_number)
-two_after (disconnected destination source) s o two = grind (arith, connection_after, same_number)
-two_after (data2 destination number end user) s o two = grind (arith, connection_after, none_number)
-two_after (acknowledge credit destination number) s o two = grind (arith, connection_after, none_number)
-two_after (error destination cause) s o two = grind (arith, connection_after, same_number)
+same_name : (a m : ℕ) (x y : Connect) → confirm a x ≡ confirm m y → m ≡ a
+same_name a m x y e = cc
+
+-- a CC that the end awaits
+awaited : (a : ℕ) (x : Connect) (s : State) → SelectsNow s (confirm a x) → value_at a s.live ≡ Some asked → Selects (confirm a x)
+awaited a x s two here m y e = two m y e (ap (λ (i : ℕ). value_at i s.live) (same_name a m x y e) ∙ here)
+
+before_after : (unit : Value) (s : State) → OffersTwo s → SelectsNow s unit → After unit s (before_class true unit s)
+before_after (confirm destination x) s o two =
+    connection_after destination (value_at destination s.live) (confirm destination x) s o (awaited destination x s two)
+    (λ n e. none_number n e)
+before_after (disconnect destination source reason user) s o two =
+    connection_after destination (value_at destination s.live) (disconnect destination source reason user) s o (λ here m x e. absurd (cc e))
+    (λ n e. same_number n destination e)
+before_after (error destination cause) s o two =
+    connection_after destination (value_at destination s.live) (error destination cause) s o (λ here m x e. absurd (cc e))
+    (λ n e. same_number n destination e)
+before_after v s o two = after_end v s (before_class true v s) o refl refl refl refl
+
+two_after : (unit : Value) (s : State) → OffersTwo s → SelectsNow s unit → After unit s (in_two true unit s)
+two_after (confirm destination x) s o two =
+    connection_after destination (value_at destination s.live) (confirm destination x) s o (awaited destination x s two)
+    (λ n e. none_number n e)
+two_after (disconnect destination source reason user) s o two =
+    connection_after destination (value_at destination s.live) (disconnect destination source reason user) s o (λ here m x e. absurd (cc e))
+    (λ n e. same_number n destination e)
+two_after (disconnected destination source) s o two =
+    connection_after destination (value_at destination s.live) (disconnected destination source) s o (λ here m x e. absurd (cc e))
+    (λ n e. same_number n destination e)
+two_after (data2 destination number end user) s o two =
+    connection_after destination (value_at destination s.live) (data2 destination number end user) s o (λ here m x e. absurd (cc e))
+    (λ n e. none_number n e)
+two_after (acknowledge credit destination number) s o two =
+    connection_after destination (value_at destination s.live) (acknowledge credit destination number) s o (λ here m x e. absurd (cc e))
+    (λ n e. none_number n e)
+two_after (error destination cause) s o two =
+    connection_after destination (value_at destination s.live) (error destination cause) s o (λ here m x e. absurd (cc e))
+    (λ n e. same_number n destination e)
 two_after v s o two = after_end v s (in_two true v s) o refl refl refl refl
 
-class_after : (k : Option Class) (unit : Value) (s : State) → OffersTwo s → SelectsTwo unit → (k ≡ None) ⊎ (k ≡ Some Two) →
+class_after : (k : Option Class) (unit : Value) (s : State) → OffersTwo s → SelectsNow s unit → (k ≡ None) ⊎ (k ≡ Some Two) →
     After unit s (in_class k unit s)
-class_after k unit s o two e = grind (arith, before_after, two_after)
+class_after None unit s o two e =
+    subst (λ (b : Bool). After unit s (before_class b unit s)) (sym o.caller) (before_after unit s o two)
+class_after (Some Two) unit s o two e =
+    subst (λ (b : Bool). After unit s (in_two b unit s)) (sym o.caller) (two_after unit s o two)
+class_after (Some Zero) unit s o two (inl e) = absurd (cc e)
+class_after (Some Zero) unit s o two (inr e) = absurd (cc e)
 
-by_end : (over : Bool) (unit : Value) (s : State) → OffersTwo s → SelectsTwo unit → After unit s (react_by over unit s)
-by_end true unit s o two = after_same unit s s o refl refl refl refl
-by_end false unit s o two = class_after s.class unit s o two o.class
+by_end : (over : Bool) (unit : Value) (s : State) → is_some s.ended ≡ over → OffersTwo s → SelectsTwo s unit →
+    After unit s (react_by over unit s)
+by_end true unit s e o two = after_same unit s s o refl refl refl refl
+by_end false unit s e o two = class_after s.class unit s o (two (none_of s.ended e)) o.class
 
-pub unit_after : (unit : Value) (s : State) → OffersTwo s → SelectsTwo unit → After unit s (react unit s)
+pub unit_after : (unit : Value) (s : State) → OffersTwo s → SelectsTwo s unit → After unit s (react unit s)
 unfolding react
-unit_after unit s o two = by_end (is_some s.ended) unit s o two
+unit_after unit s o two = by_end (is_some s.ended) unit s refl o two
 
 -- ---- a call
 

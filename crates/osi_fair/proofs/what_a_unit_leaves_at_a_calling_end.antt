@@ -1,24 +1,21 @@
 -- What a calling end has of a connection after it has taken a unit that names it.
 -- For the law on a whole end.
-use Rattle.osi_fair.proofs.Vocabulary.{arith}
-use Rattle.osi_fair.proofs.Vocabulary.{[], ap, Bool, Err, false, if◌then◌else◌, inl, inr, is_some, List, nat_lt, None, Ok, Option, refl}
-use Rattle.osi_fair.proofs.Vocabulary.{Result, Some, subst, sym, true, ℕ, ◌++◌, ◌∙◌, ◌∷◌, ◌≡◌, ◌≢◌, ◌≤◌, ◌⊎◌, ltb-false, ltb-true}
+use Rattle.osi_fair.proofs.Vocabulary.{arith, [], ap, Bool, Err, false, if◌then◌else◌, inl, inr, is_some, List, nat_lt, None, Ok, Option}
+use Rattle.osi_fair.proofs.Vocabulary.{refl, Result, Some, subst, sym, true, ℕ, ◌++◌, ◌∙◌, ◌∷◌, ◌≡◌, ◌≢◌, ◌≤◌, ◌⊎◌, ltb-false, ltb-true}
 use Rattle.osi_fair.proofs.Vocabulary.{AllByRecursion, not, ◌&&◌, ◌==◌, acknowledge, confirm, Connect, data2, destination_of, disconnect}
 use Rattle.osi_fair.proofs.Vocabulary.{disconnected, error, request, Value, Standing, taken, LinkFault, Class, Two, Zero, beyond, put_here}
 use Rattle.osi_fair.proofs.Vocabulary.{without_here, agreed_size, opened_link, proposes_two, proposes_zero, AreUpTo, connection_by}
-use Rattle.osi_fair.proofs.Vocabulary.{RiseFrom, pumped, handed_out, in_two, opens}
-use Rattle.osi_fair.proofs.Vocabulary.{taking, to_asked, to_closing, to_connection, to_linked, to_unknown, Rows, value_at, asked, closing}
-use Rattle.osi_fair.proofs.Vocabulary.{Live, linked, put_at, put_for, put_in_two, data0}
+use Rattle.osi_fair.proofs.Vocabulary.{RiseFrom, pumped, handed_out, in_two, opens, taking, to_asked, to_closing, to_connection, to_linked}
+use Rattle.osi_fair.proofs.Vocabulary.{to_unknown, Rows, value_at, asked, closing, Live, linked, put_at, put_for, put_in_two, data0}
+use Rattle.osi_fair.proofs.Vocabulary.{breaks_in, leaves}
 use Rattle.osi_carrier.specs.Negotiation.{selects_expedited}
 unfoldable use Rattle.osi_carrier.specs.React.{react}
 use Rattle.osi_carrier.specs.State.{State}
 use Rattle.osi_fair.proofs.small_facts_that_many_lemmas_use.{differ, first_is, no_list, number_is, rest_is}
 use Rattle.osi_fair.proofs.how_a_calling_end_asks.{IsCalling, put_is as put_calling, react_is as react_calling}
-use Rattle.osi_fair.proofs.what_a_calling_end_still_has.{OffersTwo, SelectsTwo, not_zero, over_not}
+use Rattle.osi_fair.proofs.what_a_calling_end_still_has.{OffersTwo, Selects, not_zero, over_not}
 use Rattle.osi_fair.proofs.what_the_other_side_closes.{IsDr, closed_by}
 use Rattle.osi_fair.proofs.which_units_are_for_a_connection.{IsDc, is_dc}
-use Rattle.osi_fair.proofs.Vocabulary.{breaks_in}
-use Rattle.osi_fair.proofs.Vocabulary.{leaves}
 
 -- ---- for which connection it is
 
@@ -116,7 +113,7 @@ opens_by n x true z s t here none e lasts =
 opens_by n x false false s t here none e lasts = over_not t.ended (ap (λ (y : State). is_some y.ended) e) lasts
 opens_by n x false true s t here none e lasts = cc
 
-pub asked_so : (n : ℕ) (u : Value) (s t : State) → OffersTwo s → SelectsTwo u → RiseFrom 0 s.live → value_at n s.live ≡ Some asked →
+pub asked_so : (n : ℕ) (u : Value) (s t : State) → OffersTwo s → Selects u → RiseFrom 0 s.live → value_at n s.live ≡ Some asked →
     destination_of u ≡ Some n → t ≡ to_asked n u s → t.ended ≡ None → Asks n u s t
 asked_so n (confirm destination x) s t o two rise here d e lasts =
     subst (λ (m : ℕ). Asks n (confirm m x) s t) (sym (number_is destination n d))

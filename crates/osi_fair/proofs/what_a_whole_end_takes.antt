@@ -1,20 +1,21 @@
 -- What the line of each connection of a whole calling end is after the end has taken a unit that names a connection.
 -- For the law on a whole end.
-use Rattle.osi_fair.proofs.Vocabulary.{[], ap, arith, Bool, false, is_some, List, None, refl, Some, subst, sym, true, ℕ, ◌++◌}
-use Rattle.osi_fair.proofs.Vocabulary.{◌∙◌, ◌∷◌, ◌≡◌, ◌≢◌, ◌≤◌, eqb-true, append-nil, AllByRecursion, slice_get, ◌&&◌, ◌==◌, confirm}
-use Rattle.osi_fair.proofs.Vocabulary.{Connect, destination_of, disconnected, request, Value, Standing, Two, Local, value_at, asked, linked}
+use Rattle.osi_fair.proofs.Vocabulary.{inl, inr, confirm, [], ap, arith, Bool, false, is_some, List, None, refl, Some, subst, sym, true, ℕ}
+use Rattle.osi_fair.proofs.Vocabulary.{◌++◌, ◌∙◌, ◌∷◌, ◌≡◌, ◌≢◌, ◌≤◌, eqb-true, append-nil, AllByRecursion, slice_get, ◌&&◌, ◌==◌, Connect}
+use Rattle.osi_fair.proofs.Vocabulary.{destination_of, disconnected, request, Value, Standing, Two, Local, value_at, asked, linked}
 use Rattle.osi_fair.proofs.Vocabulary.{Traffic, Connection, Half, Line, Whole}
 use Rattle.osi_carrier.specs.State.{State}
-use Rattle.osi_fair.proofs.small_facts_that_many_lemmas_use.{differ, first_is, no_list, rest_is, some_same as item_is}
+use Rattle.osi_fair.proofs.small_facts_that_many_lemmas_use.{first_is, rest_is, differ, no_list, some_same as item_is}
 use Rattle.osi_fair.proofs.a_unit_of_a_whole_end_passes.{all_two}
 use Rattle.osi_fair.proofs.no_two_open_connections_have_one_peer.{one_peer}
-use Rattle.osi_fair.proofs.each_connection_has_its_line.{followed_at, AreGiven, AreSettled, Followed, Following, IsAnswer, IsAsking, IsNoCc}
-use Rattle.osi_fair.proofs.each_connection_has_its_line.{IsOwned, IsSettled, Row, Tracked, Waiting, all_so, asks, closes, over, is_tracked}
-use Rattle.osi_fair.proofs.each_connection_has_its_line.{of, stray, talks}
+use Rattle.osi_fair.proofs.each_connection_has_its_line.{IsNoCc, followed_at, AreGiven, AreSettled, Followed, Following, IsAnswer}
+use Rattle.osi_fair.proofs.each_connection_has_its_line.{IsAsking, IsOwned, IsSettled, Row, Tracked, Waiting, all_so, asks, closes, over}
+use Rattle.osi_fair.proofs.each_connection_has_its_line.{is_tracked, of, stray, talks}
+use Rattle.osi_fair.proofs.names_of_right_stay_apart_though_one_is_lost.{ArePeersApart}
 use Rattle.osi_fair.proofs.what_the_other_side_closes.{IsSane}
-use Rattle.osi_fair.proofs.which_units_are_for_a_connection.{AllOurs, IsDc, IsOf, dc_not_ours, picked_first, picked_rest, is_dc, is_from}
-use Rattle.osi_fair.proofs.which_units_are_for_a_connection.{is_ours, leads, named_not, named_so, names, none_ours, picked_other, ours}
-use Rattle.osi_fair.proofs.which_units_are_for_a_connection.{picked_each, picked_join, those}
+use Rattle.osi_fair.proofs.which_units_are_for_a_connection.{picked_each, AllOurs, IsDc, IsOf, dc_not_ours, picked_first, picked_rest}
+use Rattle.osi_fair.proofs.which_units_are_for_a_connection.{is_dc, is_from, is_ours, leads, named_not, named_so, names, none_ours}
+use Rattle.osi_fair.proofs.which_units_are_for_a_connection.{picked_other, ours, picked_join, those}
 use Rattle.osi_fair.proofs.a_dt_of_class_zero_passes.{unlike}
 
 -- ---- lists
@@ -125,11 +126,12 @@ after_early (d ∷ ds) u v us vs (one, more) none e = differ (is_dc d) one (sym 
 
 -- ---- after the unit
 
-module _ (local : Local) (w : Whole) (f : Followed local w) (sane : IsSane w.tap) (firm : w.tap.course.loose ≡ false) (t : State)
+module _ (local : Local) (w : Whole) (f : Followed local w) (sane : IsSane w.tap) (peers : ArePeersApart w.tap.connections) (t : State)
     (units : List Value) (u : Value) (later : List Value) (n : ℕ) (come : w.coming ≡ u ∷ later) (dest : destination_of u ≡ Some n)
     (rows : (m : ℕ) → (m ≡ n → ⊥) → value_at m t.live ≡ value_at m w.end.live) (class : w.end.class ≡ Some Two → t.class ≡ Some Two)
     (given : w.end.given ≤ t.given) (was : w.end.ended ≡ None)
     (asked_dc : is_dc u ≡ true → value_at n w.end.live ≡ Some asked → value_at n t.live ≡ Some asked)
+    (asked_was : value_at n t.live ≡ Some asked → value_at n w.end.live ≡ Some asked)
     (mine : (p : ℕ) (c : Connection) → slice_get w.tap.connections p ≡ Some c → is_tracked c ≡ true →
     (g : Following local w.put w.begun w.tap.course.strays w.end w.coming c) → g.r ≡ n →
     Following local (w.put ++ units) w.begun w.tap.course.strays t later c)
@@ -149,8 +151,8 @@ module _ (local : Local) (w : Whole) (f : Followed local w) (sane : IsSane w.tap
   later_other r other = grind (arith, picked_rest, named_not)
 
   row_later : (r peer : ℕ) (line : Line) → (r ≡ n → ⊥) → Row local w.end w.coming r peer line → Row local t later r peer line
-  row_later r peer line other (asks there x source early dcs first is) =
-      asks (rows r other ∙ there) x source early dcs (sym (later_other r other) ∙ first) is
+  row_later r peer line other (asks there x source two early dcs first is) =
+      asks (rows r other ∙ there) x source two early dcs (sym (later_other r other) ∙ first) is
   row_later r peer line other (talks link there is all) = talks link (rows r other ∙ there) is (sym (later_other r other) ∙ all)
   row_later r peer line other (over h) = differ (is_some w.end.ended) h (ap is_some was)
   row_later r peer line other (closes o there q k is all) = closes o (rows r other ∙ there) q k is (sym (later_other r other) ∙ all)
@@ -165,7 +167,7 @@ module _ (local : Local) (w : Whole) (f : Followed local w) (sane : IsSane w.tap
   put_by p c at tracked r peer left right other (of_line o k) =
       picked_join (is_ours r peer) w.put units ∙ ap (λ (l : List Value). ours r peer w.put ++ l)
       (none_ours r n o.c.right.reference peer units (λ same. other (sym left ∙ same_left p c at o
-      (one_peer w.tap sane firm p o.p c o.c at o.at tracked o.tracked (right ∙ sym same)))) o.own)
+      (one_peer w.tap sane peers p o.p c o.c at o.at tracked o.tracked (right ∙ sym same)))) o.own)
       ∙ append-nil (ours r peer w.put)
   put_by p c at tracked r peer left right other (of_none a k) =
       ap (λ (l : List Value). ours r peer (w.put ++ l)) a.is
@@ -204,26 +206,40 @@ module _ (local : Local) (w : Whole) (f : Followed local w) (sane : IsSane w.tap
       Tracked cs m × (t.class ≡ Some Two)
   linked_by m peer link b e h = search (arith, eqb-true, unlike)
 
-  -- after the CC of a connection no other has come
+  -- what awaits its CC now did so before
+  asked_by : (m : ℕ) (b : Bool) → (m == n) ≡ b → value_at m t.live ≡ Some asked → value_at m w.end.live ≡ Some asked
+  asked_by m true e row =
+      subst (λ (i : ℕ). value_at i t.live ≡ Some asked → value_at i w.end.live ≡ Some asked) (sym (eqb-true m n e)) asked_was row
+  asked_by m false e row = sym (rows m (unlike m n e)) ∙ row
+
+  asked_before : (m : ℕ) → value_at m t.live ≡ Some asked → value_at m w.end.live ≡ Some asked
+  asked_before m row = asked_by m (m == n) refl row
+
+  -- if none has lost its judgement: after the CC of a connection no other has come
   calm_row : (r peer : ℕ) (line : Line) → r ≡ n → value_at n w.end.live ≡ Some asked → is_dc u ≡ false →
       AllByRecursion IsNoCc line.coming → Row local w.end w.coming r peer line → AllByRecursion IsNoCc (those n later)
   calm_row r peer line same there none calm l = grind (arith, first_n, after_early, differ)
 
   abbrev Answered : Type 0
-  Answered = (Tracked cs n × (value_at n w.end.live ≡ Some asked)) × (is_dc u ≡ false)
+  Answered = (w.tap.course.loose ≡ false) × (Tracked cs n × (value_at n w.end.live ≡ Some asked)) × (is_dc u ≡ false)
 
   calm_later : Answered → AllByRecursion (λ (v : Value). names n v ≡ true → IsNoCc v) later
-  calm_later (((p, c, at, tracked, is), there), none) =
+  calm_later (firm, ((p, c, at, tracked, is), there), none) =
       let g = f.lines p c at tracked in
-      picked_each IsNoCc (names n) later (calm_row g.r g.peer g.line (sym g.left ∙ is) there none g.calm g.row)
+      picked_each IsNoCc (names n) later (calm_row g.r g.peer g.line (sym g.left ∙ is) there none (g.calm (sane.judged firm p c at)) g.row)
 
-  answer_by : (v : Value) (m : ℕ) (x : Connect) → v ≡ confirm m x → Tracked cs m × (value_at m w.end.live ≡ Some asked) →
-      (Answered → names n v ≡ true → IsNoCc v) → (b d : Bool) → (m == n) ≡ b → is_dc u ≡ d →
-      Tracked cs m × (value_at m t.live ≡ Some asked)
-  answer_by v m x e h k b d same none = grind (arith, eqb-true, named_so, unlike)
+  answer_by : (v : Value) (m : ℕ) (x : Connect) → w.tap.course.loose ≡ false → v ≡ confirm m x →
+      Tracked cs m × (value_at m w.end.live ≡ Some asked) → (Answered → names n v ≡ true → IsNoCc v) → (b d : Bool) → (m == n) ≡ b →
+      is_dc u ≡ d → Tracked cs m × (value_at m t.live ≡ Some asked)
+  answer_by v m x firm e h k b d same none = grind (arith, eqb-true, named_so, unlike)
 
-  tail_answers : AllByRecursion (λ (v : Value). IsAnswer cs w.end v) later
-  tail_answers = (subst (AllByRecursion (λ (v : Value). IsAnswer cs w.end v)) come f.answers).1
+  answer_now : (v : Value) → IsAnswer w.tap.course.loose cs w.end v → (Answered → names n v ≡ true → IsNoCc v) →
+      IsAnswer w.tap.course.loose cs t v
+  answer_now v h k m x e lasts (inl row) = ((h m x e was (inl (asked_before m row))).0, row)
+  answer_now v h k m x e lasts (inr firm) = answer_by v m x firm e (h m x e was (inr firm)) k (m == n) (is_dc u) refl refl
+
+  tail_answers : AllByRecursion (λ (v : Value). IsAnswer w.tap.course.loose cs w.end v) later
+  tail_answers = (subst (AllByRecursion (λ (v : Value). IsAnswer w.tap.course.loose cs w.end v)) come f.answers).1
 
   -- no CR waits for the reference of what the end puts, and none is to pass
   settled_here : IsAnswered w.end n → IsSettled cs (w.put ++ units) t.given n
@@ -248,8 +264,8 @@ module _ (local : Local) (w : Whole) (f : Followed local w) (sane : IsSane w.tap
     waiting = λ i c at waiting. waits_new c (f.waiting i c at waiting);
     owned = all_join (λ v. IsOwned w.tap v) w.put units f.owned (units_owned w.tap w.end n units owner);
     linked = λ lasts m peer link h. linked_by m peer link (m == n) refl h;
-    answers = all_two (λ v. IsAnswer cs w.end v) (λ v. Answered → names n v ≡ true → IsNoCc v) (λ v. IsAnswer cs t v) later
-        (λ v h k m x e lasts. answer_by v m x e (h m x e was) k (m == n) (is_dc u) refl refl) tail_answers
+    answers = all_two (λ v. IsAnswer w.tap.course.loose cs w.end v) (λ v. Answered → names n v ≡ true → IsNoCc v)
+        (λ v. IsAnswer w.tap.course.loose cs t v) later answer_now tail_answers
         (all_under Answered (λ v. names n v ≡ true → IsNoCc v) later calm_later);
     requests = all_join (λ v. (x : Connect) → v ≡ request x → IsAsking local t later x) w.put units
         (all_so (λ v. (x : Connect) → v ≡ request x → IsAsking local w.end w.coming x) (λ v. (x : Connect) → v ≡ request x →
@@ -267,4 +283,6 @@ module _ (local : Local) (w : Whole) (f : Followed local w) (sane : IsSane w.tap
         (settled_more cs w.put units w.end.given t.given (λ r. units_ask w.tap w.end n units (λ x. x.source ≡ r → ⊥) owner) given)
         f.settled)
         (units_settled w.tap w.end (w.put ++ units) t.given n units owner settled_here);
+    lost = f.lost;
+    shut = λ lasts i c at closed row. f.shut was i c at closed (asked_before c.left.reference row);
   }

@@ -1,22 +1,25 @@
 -- What a unit of the other side does to its connection at the tap of a calling end: one that is open stays so, one that waits is
 -- opened or refused. For the law on a whole end.
-use Rattle.osi_fair.proofs.Vocabulary.{arith}
-use Rattle.osi_fair.proofs.Vocabulary.{[], ap, Bool, drop, false, if◌then◌else◌, inl, inr, List, None, Option, refl, Some, subst}
+use Rattle.osi_fair.proofs.Vocabulary.{arith, [], ap, Bool, drop, false, if◌then◌else◌, inl, inr, List, None, Option, refl, Some, subst}
 use Rattle.osi_fair.proofs.Vocabulary.{sym, true, ℕ, ◌∙◌, ◌∷◌, ◌≡◌, ◌⊎◌, nat_le, not, position, slice_get, ◌&&◌, ◌==◌, ◌||◌, acknowledge}
 use Rattle.osi_fair.proofs.Vocabulary.{confirm, Connect, data0, data2, destination_of, disconnect, disconnected, error, request, Value}
-use Rattle.osi_fair.proofs.Vocabulary.{Class, Two, Zero, is_applied, passes_over, reach_of, code_named, confirm_tests}
-use Rattle.osi_fair.proofs.Vocabulary.{first_failed, given_again, is_due, is_inside, is_offered, Test, is_closing, is_named, is_open}
-use Rattle.osi_fair.proofs.Vocabulary.{is_refused, is_silent, at_found, at_place, class_for, closing_phase, connection_after, course_after}
-use Rattle.osi_fair.proofs.Vocabulary.{found, found_on, half_after, none_told, one_told, Outcome, reached, route}
-use Rattle.osi_fair.proofs.Vocabulary.{route_in, routed, Traffic, takes, unnamed_by, unnamed_told, uses_source, Connection, Course}
-use Rattle.osi_fair.proofs.Vocabulary.{Right, Finding, Broke, Kept, NotJudged, Outside, TooMany, Reach, Rule, Half, Phase}
+use Rattle.osi_fair.proofs.Vocabulary.{Class, Two, Zero, is_applied, is_of_connection, passes_over, reach_of, code_named, confirm_tests}
+use Rattle.osi_fair.proofs.Vocabulary.{acknowledge_tests, data2_tests, length, first_failed, given_again, is_due, is_inside, is_offered}
+use Rattle.osi_fair.proofs.Vocabulary.{Test, is_closing, is_named, is_open, is_refused, is_silent, at_found, at_place, class_for}
+use Rattle.osi_fair.proofs.Vocabulary.{closing_phase, connection_after, course_after, course_after_none, found, found_on, half_after}
+use Rattle.osi_fair.proofs.Vocabulary.{in_doubt, none_told, one_told, Outcome, reached, route, route_in, routed, Traffic, takes}
+use Rattle.osi_fair.proofs.Vocabulary.{unnamed_by, unnamed_told, uses_source, Connection, Course, Right, Finding, Broke, Kept, NotJudged}
+use Rattle.osi_fair.proofs.Vocabulary.{Outside, TooMany, Reach, Rule, Half, Phase}
+use Rattle.osi_rules.specs.declared.findings.Reach.TheVariants as reach
 use Rattle.osi_rules.specs.declared.findings.Rule.TheVariants as rule
-use Rattle.osi_fair.proofs.small_facts_that_many_lemmas_use.{and_first, and_second, differ, judged_same, open_or_closing}
+use Rattle.osi_rules.specs.Sides.{sends}
+use Rattle.osi_fair.proofs.small_facts_that_many_lemmas_use.{and_first, and_second, differ, judged_same, open_or_closing, sized_judged}
 use Rattle.osi_fair.proofs.no_two_open_connections_have_one_peer.{left_open, right_there, there_not_silent}
 use Rattle.osi_fair.proofs.each_connection_has_its_line.{is_tracked}
 use Rattle.osi_fair.proofs.what_keeps_names_apart.{Sound}
 use Rattle.osi_fair.proofs.what_stays_of_each_connection.{right_judged, right_own}
-use Rattle.osi_fair.proofs.what_the_other_side_closes.{IsFirm, not_firm}
+use Rattle.osi_fair.proofs.what_lasts_at_the_tap.{IsCalm}
+use Rattle.osi_fair.proofs.what_the_other_side_closes.{not_calm, soft, unknown_not_calm}
 use Rattle.osi_fair.proofs.which_units_are_for_a_connection.{is_dc}
 use Rattle.osi_fair.proofs.while_no_class_is_selected.{named_where}
 use Rattle.osi_fair.proofs.one_request_waits.{reached_class}
@@ -43,36 +46,56 @@ pub record IsIdle (v : Value) (s : Traffic) (o : Outcome) : Type 0 where
 
 -- ---- a unit for no connection
 
-idle_by : (b : Bool) (m source : ℕ) (s : Traffic) → s.course.strays ≡ b → s.course.loose ≡ false →
-    IsFirm (unnamed_told Right (disconnected m source) s).state.course →
-    IsIdle (disconnected m source) s (unnamed_told Right (disconnected m source) s)
-idle_by b m source s e firm h = search (arith, not_firm)
+not_judged : (loose : Bool) → (if loose then in_doubt NotJudged else NotJudged) ≡ NotJudged
+not_judged true = refl
+not_judged false = refl
 
-unknown_not : (v : Value) (s : Traffic) → ((b : Bool) → unnamed_by b v ≡ Broke rule.UnknownReference) → s.course.loose ≡ false →
-    IsFirm (unnamed_told Right v s).state.course → ⊥
-unknown_not v s is firm h = grind (arith, not_firm)
+idle_by : (b : Bool) (m source : ℕ) (s : Traffic) → s.course.strays ≡ b →
+    IsCalm (unnamed_told Right (disconnected m source) s).state.course →
+    IsIdle (disconnected m source) s (unnamed_told Right (disconnected m source) s)
+idle_by true m source s e h = record {
+  m = m;
+  source = source;
+  dc = refl;
+  strays = e;
+  same = ap (λ (f : Finding). record s { course = reached Right (reach_of (class_for Right s.course) f) s.course })
+      (ap (λ (b : Bool). if s.course.loose then in_doubt (unnamed_by b (disconnected m source)) else unnamed_by b (disconnected m source)) e
+      ∙ not_judged s.course.loose);
+}
+idle_by false m source s e h =
+    unknown_not_calm (class_for Right s.course) s.course.loose s.course
+    (subst (λ (b : Bool). IsCalm (reached Right (reach_of (class_for Right s.course)
+    (if s.course.loose then in_doubt (unnamed_by b (disconnected m source)) else unnamed_by b (disconnected m source))) s.course)) e h)
+
+unknown_not : {A : Type 0} (v : Value) (s : Traffic) → ((b : Bool) → unnamed_by b v ≡ Broke rule.UnknownReference) →
+    IsCalm (unnamed_told Right v s).state.course → A
+unknown_not v s is h =
+    let c = course_after_none v s.course in
+    unknown_not_calm (class_for Right c) s.course.loose c
+    (subst (λ (f : Finding). IsCalm (reached Right (reach_of (class_for Right c) (if s.course.loose then in_doubt f else f)) c))
+    (is s.course.strays) h)
 
 by_bool : (v : Value) → unnamed_by true v ≡ Broke rule.UnknownReference → unnamed_by false v ≡ Broke rule.UnknownReference →
     (b : Bool) → unnamed_by b v ≡ Broke rule.UnknownReference
 by_bool v h k b = grind arith
 
-none_idle : (v : Value) (s : Traffic) → s.course.loose ≡ false → IsFirm (unnamed_told Right v s).state.course →
-    IsIdle v s (unnamed_told Right v s)
-none_idle v s firm h = grind (arith, unknown_not, by_bool, idle_by)
+none_idle : (v : Value) (s : Traffic) → IsCalm (unnamed_told Right v s).state.course → IsIdle v s (unnamed_told Right v s)
+none_idle (disconnected m source) s h = idle_by s.course.strays m source s refl h
+none_idle v s h = unknown_not v s (by_bool v refl refl) h
 
-module _ (s : Traffic) (firm : s.course.loose ≡ false) where
+module _ (s : Traffic) where
   abbrev Comes : Value → Outcome → Type 0
-  Comes v o = IsFirm o.state.course → Told v s o ⊎ IsIdle v s o
+  Comes v o = IsCalm o.state.course → Told v s o ⊎ IsIdle v s o
 
   at_name : (v : Value) (n : ℕ) (o : Option ℕ) → position (is_named Right n) s.connections ≡ o → destination_of v ≡ Some n →
       Comes v (at_place Right v s o)
-  at_name v n None e d h = inr (none_idle v s firm h)
+  at_name v n None e d h = inr (none_idle v s h)
   at_name v n (Some q) e d h =
       let (c, at, named) = named_where s.connections n q e in
       inl (record { n = n; q = q; c = c; dest = d; at = at; named = named; is = ap (λ (o : Option Connection). at_found Right v s q o) at })
 
-  wrong : (v : Value) (r : Rule) → passes_over r ≡ false → Comes v (none_told Right (Broke r) s)
-  wrong v r e h = absurd (not_firm (class_for Right s.course) r s.course e h)
+  wrong : (v : Value) → Comes v (none_told Right (Broke rule.UnexpectedUnit) s)
+  wrong v h = not_calm (class_for Right s.course) rule.UnexpectedUnit s.course refl refl h
 
   by_class : (k : Option Class) → (k ≡ None) ⊎ (k ≡ Some Two) → (v : Value) → Comes v (routed Right v s (route_in k Right false v))
   by_class (Some Zero) (inl e) v h = absurd (cc e)
@@ -86,7 +109,7 @@ module _ (s : Traffic) (firm : s.course.loose ≡ false) where
   by_class None e (error destination cause) h =
       at_name (error destination cause) destination (position (is_named Right destination) s.connections) refl refl h
   by_class None e v h =
-      wrong v rule.UnexpectedUnit refl h
+      wrong v h
   by_class (Some Two) e (confirm destination x) h =
       at_name (confirm destination x) destination (position (is_named Right destination) s.connections) refl refl h
   by_class (Some Two) e (disconnect destination source reason user) h =
@@ -100,7 +123,7 @@ module _ (s : Traffic) (firm : s.course.loose ≡ false) where
   by_class (Some Two) e (error destination cause) h =
       at_name (error destination cause) destination (position (is_named Right destination) s.connections) refl refl h
   by_class (Some Two) e v h =
-      wrong v rule.UnexpectedUnit refl h
+      wrong v h
 
   pub comes_for : (v : Value) → s.course.left_stopped ≡ false → s.course.right_stopped ≡ false →
       (s.course.class ≡ None) ⊎ (s.course.class ≡ Some Two) → Comes v (takes Right v s)
@@ -123,6 +146,9 @@ closing_after : (was : Bool) (half : Half) → was ≡ false →
     × ((closing_phase was half).reference ≡ half.reference)
 closing_after was half h = grind arith
 
+and_none : (a b : Bool) → a ≡ false → (a && b) ≡ false
+and_none a b h = grind arith
+
 silent_not_open : (p : Phase) → is_silent p ≡ true → is_open p ≡ false
 silent_not_open p h = grind arith
 
@@ -133,6 +159,14 @@ Fate due f = (due ≡ true) ⊎ ((f ≡ NotJudged) ⊎ ((f ≡ Broke rule.Unknow
 dc_or : (due told strays : Bool) → Fate due (first_failed ((due || not strays, NotJudged) ∷ (told, Broke rule.UnknownReference)
     ∷ (due, Broke rule.NothingToAnswer) ∷ []))
 dc_or due told strays = grind arith
+
+-- before the CR is answered
+dc_early : (due silent strays : Bool) → due ≡ false → silent ≡ true →
+    (first_failed ((due || not strays, NotJudged) ∷ (not silent, Broke rule.UnknownReference) ∷ (due, Broke rule.NothingToAnswer) ∷ [])
+    ≡ NotJudged)
+    ⊎ (first_failed ((due || not strays, NotJudged) ∷ (not silent, Broke rule.UnknownReference) ∷ (due, Broke rule.NothingToAnswer) ∷ [])
+    ≡ Broke rule.UnknownReference)
+dc_early due silent strays h k = grind arith
 
 er_kept : (a : Bool) → a ≡ true → first_failed ((a, Broke rule.WrongForm) ∷ []) ≡ Kept
 er_kept a h = grind arith
@@ -173,8 +207,12 @@ module _ (s : Traffic) (c : Connection) (judged : c.is_judged ≡ true) (sound :
   right_by : (v : Value) (b : Bool) → is_applied (finding v) ≡ b → (next v).right ≡ (if b then half_after v c.right else c.right)
   right_by v b e = grind (arith, right_own, right_judged)
 
-  broke : {A : Type 0} (v : Value) (r : Rule) → finding v ≡ Broke r → passes_over r ≡ false → IsFirm (course v) → A
-  broke v r e fine_so h = grind (arith, not_firm)
+  broke : {A : Type 0} (v : Value) (r : Rule) → finding v ≡ Broke r → passes_over r ≡ false → is_of_connection r ≡ false →
+      IsCalm (course v) → A
+  broke v r e past hard h =
+      not_calm (class_for Right s.course) r (course_after Right c v (is_applied (finding v)) s.course) past hard
+      (subst (λ (f : Finding). IsCalm (reached Right (reach_of (class_for Right s.course) f)
+      (course_after Right c v (is_applied (finding v)) s.course))) e h)
 
   -- ---- a connection that is open stays so
 
@@ -210,44 +248,78 @@ module _ (s : Traffic) (c : Connection) (judged : c.is_judged ≡ true) (sound :
   idle_next destination source e = grind arith
 
   -- a DC that is not due
-  dc_idle : (destination source : ℕ) → IsFirm (course (disconnected destination source)) → (is_due Right c source ≡ true → ⊥) →
-      Fate (is_due Right c source) (finding (disconnected destination source)) → next (disconnected destination source) ≡ c
-  dc_idle destination source p none h = grind (arith, idle_next, broke)
+  dc_idle : (destination source : ℕ) → (is_due Right c source ≡ true → ⊥) →
+      Fate (is_due Right c source) (finding (disconnected destination source)) →
+      is_applied (finding (disconnected destination source)) ≡ false
+  dc_idle destination source none (inl due) = absurd (none due)
+  dc_idle destination source none (inr (inl e)) = ap is_applied e
+  dc_idle destination source none (inr (inr (inl e))) = ap is_applied e
+  dc_idle destination source none (inr (inr (inr e))) = ap is_applied e
 
-  same_next : (v : Value) → next v ≡ c → is_tracked c ≡ true → StaysOpen v
-  same_next v e h = grind (arith, right_there)
+  -- what has no effect
+  idle_open : (v : Value) → is_applied (finding v) ≡ false → is_tracked c ≡ true → StaysOpen v
+  idle_open v e h = (
+    ap (λ (x : Half). is_open x.phase || is_closing x.phase) (right_by v false e) ∙ right_there c h,
+    ap (λ (x : Half). x.reference) (right_by v false e),
+  )
 
-  pub open_stays : (v : Value) (n : ℕ) → destination_of v ≡ Some n → is_tracked c ≡ true → IsFirm (course v) → StaysOpen v
-  open_stays (request x) n e h p = absurd (cc e)
-  open_stays (confirm destination x) n e h p =
-      broke (confirm destination x) rule.WrongForm (is_found (confirm destination x) ∙ form_broke (is_silent c.right.phase)
-      (drop 1 (confirm_tests c s.course.class (uses_source Right s.connections (confirm destination x)) s.course.loose x))
-      (not_silent h)) refl p
-  open_stays (disconnect destination source reason user) n e h p =
+  cc_wrong : (destination : ℕ) (x : Connect) → is_silent c.right.phase ≡ false → finding (confirm destination x) ≡ Broke rule.WrongForm
+  cc_wrong destination x h = is_found (confirm destination x) ∙ form_broke (is_silent c.right.phase)
+      (drop 1 (confirm_tests c s.course.class (uses_source Right s.connections (confirm destination x)) s.course.loose x)) h
+
+  -- a CC has an effect only on a connection that waits
+  pub cc_idle : (destination : ℕ) (x : Connect) → is_silent c.right.phase ≡ false → is_applied (finding (confirm destination x)) ≡ false
+  cc_idle destination x h = ap is_applied (cc_wrong destination x h)
+
+  -- and it ends the judging of another
+  cc_far : (destination : ℕ) (x : Connect) → is_silent c.right.phase ≡ false → IsCalm (course (confirm destination x)) →
+      how_far (confirm destination x) ≡ reach.Connection
+  cc_far destination x h p =
+      let v = confirm destination x in
+      let e = cc_wrong destination x h in
+      ap (λ (f : Finding). reach_of (class_for Right s.course) f) e
+      ∙ (soft (class_for Right s.course) rule.WrongForm (course_after Right c v (is_applied (finding v)) s.course) refl
+      (subst (λ (f : Finding). IsCalm (reached Right (reach_of (class_for Right s.course) f)
+      (course_after Right c v (is_applied (finding v)) s.course))) e p)).0
+
+  pub cc_lost : (destination : ℕ) (x : Connect) → is_silent c.right.phase ≡ false → IsCalm (course (confirm destination x)) →
+      (next (confirm destination x)).is_judged ≡ false
+  cc_lost destination x h p =
+      ap (λ (r : Reach). (connection_after Right (confirm destination x) (is_applied (finding (confirm destination x))) r c).is_judged)
+      (cc_far destination x h p)
+      ∙ ap (λ (b : Bool). (connection_after Right (confirm destination x) b reach.Connection c).is_judged) (cc_idle destination x h)
+
+  pub cc_loose : (destination : ℕ) (x : Connect) → is_silent c.right.phase ≡ false → IsCalm (course (confirm destination x)) →
+      (course (confirm destination x)).loose ≡ true
+  cc_loose destination x h p =
+      ap (λ (r : Reach). (reached Right r (course_after Right c (confirm destination x) (is_applied (finding (confirm destination x)))
+      s.course)).loose) (cc_far destination x h p)
+
+  pub open_stays : (v : Value) (n : ℕ) → destination_of v ≡ Some n → is_tracked c ≡ true → StaysOpen v
+  open_stays (request x) n e h = absurd (cc e)
+  open_stays (confirm destination x) n e h = idle_open (confirm destination x) (cc_idle destination x (not_silent h)) h
+  open_stays (disconnect destination source reason user) n e h =
       dr_by destination source reason user (is_applied (finding (disconnect destination source reason user))) refl h
-  open_stays (disconnected destination source) n e h p =
-      same_next (disconnected destination source) (dc_idle destination source p
+  open_stays (disconnected destination source) n e h =
+      idle_open (disconnected destination source) (dc_idle destination source
       (λ due. open_or_closing c.left.phase (left_open c h)
       (sound.right_knows.closing (and_first (is_closing c.seen_by_right.phase) (source == c.right.reference)
       (and_second (is_open c.right.phase) (is_closing c.seen_by_right.phase && (source == c.right.reference)) due))))
       (dc_fate destination source)) h
-  open_stays (data0 end user) n e h p = absurd (cc e)
-  open_stays (error destination cause) n e h p =
-      broke (error destination cause) rule.WrongForm
-      (is_found (error destination cause) ∙ form_broke (is_silent c.right.phase) [] (not_silent h)) refl p
-  open_stays v n e h p =
+  open_stays (data0 end user) n e h = absurd (cc e)
+  open_stays (error destination cause) n e h =
+      idle_open (error destination cause)
+      (ap is_applied (is_found (error destination cause) ∙ form_broke (is_silent c.right.phase) [] (not_silent h))) h
+  open_stays v n e h =
       same_by v (is_applied (finding v)) refl refl refl h
-
-  -- a CC is for a connection that waits
-  pub cc_waits : (destination : ℕ) (x : Connect) → is_silent c.right.phase ≡ false → IsFirm (course (confirm destination x)) → ⊥
-  cc_waits destination x h p = grind (arith, broke, is_found, form_broke)
 
   -- ---- a connection that waits is opened, or refused
 
   pub data Answered (v : Value) : Type 0 where
     opens : (destination : ℕ) (x : Connect) → v ≡ confirm destination x → (finding v ≡ Kept) ⊎ (finding v ≡ Broke rule.LargerSize) →
         (x.class == 2) ≡ true → uses_source Right s.connections v ≡ false → Answered v
-    refused : is_refused (next v).right.phase ≡ true → ((m : ℕ) (x : Connect) → v ≡ confirm m x → ⊥) → Answered v
+    refused : is_refused (next v).right.phase ≡ true → (next v).is_judged ≡ true → ((m : ℕ) (x : Connect) → v ≡ confirm m x → ⊥) →
+        Answered v
     -- a DC that is not judged
     waits_on : is_dc v ≡ true → next v ≡ c → Answered v
 
@@ -257,10 +329,10 @@ module _ (s : Traffic) (c : Connection) (judged : c.is_judged ≡ true) (sound :
   fine_applied : (f : Finding) → (f ≡ Kept) ⊎ (f ≡ Broke rule.LargerSize) → is_applied f ≡ true
   fine_applied f h = grind arith
 
-  outside_not : (v : Value) → finding v ≡ Outside → IsFirm (course v) → ⊥
+  outside_not : (v : Value) → finding v ≡ Outside → IsCalm (course v) → ⊥
   outside_not v e h = grind (arith, differ)
 
-  doubtful_not : (v : Value) → finding v ≡ TooMany → IsFirm (course v) → ⊥
+  doubtful_not : (v : Value) → finding v ≡ TooMany → IsCalm (course v) → ⊥
   doubtful_not v e h = grind (arith, differ)
 
   -- a CC that takes effect selects class 2
@@ -275,7 +347,7 @@ module _ (s : Traffic) (c : Connection) (judged : c.is_judged ≡ true) (sound :
   pub not_selected : (v : Value) → ((course v).class ≡ Some Zero → ⊥) → SelectsTwo v
   not_selected v none m x e applied = grind (arith, two_or_zero)
 
-  cc_by : (destination : ℕ) (x : Connect) → SelectsTwo (confirm destination x) → IsFirm (course (confirm destination x)) →
+  cc_by : (destination : ℕ) (x : Connect) → SelectsTwo (confirm destination x) → IsCalm (course (confirm destination x)) →
       Ruled (finding (confirm destination x)) → Answered (confirm destination x)
   cc_by destination x selects p (fine f) =
       let v = confirm destination x in
@@ -284,28 +356,61 @@ module _ (s : Traffic) (c : Connection) (judged : c.is_judged ≡ true) (sound :
       (uses_source Right s.connections v) s.course.loose (nat_le (code_named x.parameters.size) c.offer.size_code)
       (ap is_applied (sym (is_found v)) ∙ applied) in
       opens destination x refl f (selects destination x refl applied) unused
-  cc_by destination x selects p (wrong_answer e) = broke (confirm destination x) rule.BadAnswer e refl p
-  cc_by destination x selects p (wrong_reference e) = broke (confirm destination x) rule.ReferenceInUse e refl p
+  cc_by destination x selects p (wrong_answer e) = broke (confirm destination x) rule.BadAnswer e refl refl p
+  cc_by destination x selects p (wrong_reference e) = broke (confirm destination x) rule.ReferenceInUse e refl refl p
   cc_by destination x selects p (doubtful e) = absurd (doubtful_not (confirm destination x) e p)
   cc_by destination x selects p (outside e) = absurd (outside_not (confirm destination x) e p)
 
   refuses : (was : Bool) (half : Half) → was ≡ true → is_refused (closing_phase was half).phase ≡ true
   refuses was half h = grind arith
 
-  silent_kept : (a b : Bool) → a ≡ true → is_applied (first_failed ((a || b, Broke rule.Closed) ∷ [])) ≡ true
+  silent_kept : (a b : Bool) → a ≡ true → first_failed ((a || b, Broke rule.Closed) ∷ []) ≡ Kept
   silent_kept a b h = grind arith
+
+  -- what is right leaves the connection judged
+  kept_judged : (v : Value) → finding v ≡ Kept → (next v).is_judged ≡ true
+  kept_judged v e =
+      ap (λ (f : Finding). (connection_after Right v (is_applied f) (reach_of (class_for Right s.course) f) c).is_judged) e
+      ∙ sized_judged v (sends Right (half_after v c.right) c) ∙ judged
 
   -- a DR refuses the CR
   dr_refuses : (destination source reason : ℕ) (user : List ℕ) → is_silent c.right.phase ≡ true →
       Answered (disconnect destination source reason user)
-  dr_refuses destination source reason user h = grind (arith, is_found, silent_kept, right_by, refuses)
+  dr_refuses destination source reason user h =
+      let v = disconnect destination source reason user in
+      let kept = is_found v ∙ silent_kept (is_silent c.right.phase) (is_open c.right.phase) h in
+      refused (ap (λ (x : Half). is_refused x.phase) (right_by v true (ap is_applied kept)) ∙ refuses (is_silent c.right.phase) c.right h)
+      (kept_judged v kept) (λ m x e. cc e)
+
+  dc_waits : (destination source : ℕ) → IsCalm (course (disconnected destination source)) →
+      (finding (disconnected destination source) ≡ NotJudged) ⊎ (finding (disconnected destination source) ≡ Broke rule.UnknownReference) →
+      Answered (disconnected destination source)
+  dc_waits destination source p (inl e) = waits_on refl (idle_next destination source e)
+  dc_waits destination source p (inr e) = broke (disconnected destination source) rule.UnknownReference e refl refl p
+
+  dc_found : (destination source : ℕ) → is_silent c.right.phase ≡ true →
+      (finding (disconnected destination source) ≡ NotJudged) ⊎ (finding (disconnected destination source) ≡ Broke rule.UnknownReference)
+  dc_found destination source h =
+      subst (λ (f : Finding). (f ≡ NotJudged) ⊎ (f ≡ Broke rule.UnknownReference)) (sym (is_found (disconnected destination source)))
+      (dc_early (is_due Right c source) (is_silent c.right.phase) s.course.strays
+      (and_none (is_open c.right.phase) (is_closing c.seen_by_right.phase && (source == c.right.reference))
+      (silent_not_open c.right.phase h)) h)
 
   pub answered : (v : Value) (n : ℕ) → destination_of v ≡ Some n → is_silent c.right.phase ≡ true → SelectsTwo v →
-      IsFirm (course v) → Answered v
+      IsCalm (course v) → Answered v
   answered (confirm destination x) n e h z p = cc_by destination x z p (cc_found destination x h)
   answered (disconnect destination source reason user) n e h z p = dr_refuses destination source reason user h
-  answered (disconnected destination source) n e h z p = grind (arith, dc_idle, differ, and_first, silent_not_open, dc_fate)
-  answered (data2 destination number end user) n e h z p = grind (arith, broke, is_found, open_broke)
-  answered (acknowledge credit destination number) n e h z p = grind (arith, broke, is_found, open_broke)
-  answered (error destination cause) n e h z p = grind (arith, right_by, is_found, er_kept)
+  answered (disconnected destination source) n e h z p = dc_waits destination source p (dc_found destination source h)
+  answered (data2 destination number end user) n e h z p =
+      broke (data2 destination number end user) rule.UnknownReference
+      (is_found (data2 destination number end user) ∙ open_broke (is_silent c.right.phase)
+      (drop 1 (data2_tests Right c number (length user))) h) refl refl p
+  answered (acknowledge credit destination number) n e h z p =
+      broke (acknowledge credit destination number) rule.UnknownReference
+      (is_found (acknowledge credit destination number) ∙ open_broke (is_silent c.right.phase)
+      (drop 1 (acknowledge_tests Right c number credit)) h) refl refl p
+  answered (error destination cause) n e h z p =
+      let v = error destination cause in
+      let kept = is_found v ∙ er_kept (is_silent c.right.phase) h in
+      refused (ap (λ (x : Half). is_refused x.phase) (right_by v true (ap is_applied kept))) (kept_judged v kept) (λ m x k. cc k)
   answered _ n e h z p = absurd (cc e)

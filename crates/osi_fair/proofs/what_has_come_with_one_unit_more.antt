@@ -1,7 +1,6 @@
 -- What has come for each connection of a calling end, with one unit more.
 -- For the law on a whole end.
-use Rattle.osi_fair.proofs.Vocabulary.{arith}
-use Rattle.osi_fair.proofs.Vocabulary.{[], ap, Bool, false, is_some, List, None, refl, subst, sym, true, ℕ, ◌++◌, ◌∙◌, ◌∷◌, ◌≡◌}
+use Rattle.osi_fair.proofs.Vocabulary.{arith, [], ap, Bool, false, is_some, List, None, refl, subst, sym, true, ℕ, ◌++◌, ◌∙◌, ◌∷◌, ◌≡◌}
 use Rattle.osi_fair.proofs.Vocabulary.{AllByRecursion, confirm, Value, Local, Connection, Line}
 use Rattle.std.proofs.lemmas.List.{append_assoc}
 use Rattle.osi_carrier.specs.State.{State}
@@ -27,8 +26,8 @@ early_more r coming v dc b e h = grind (arith, early_other, picked_more, all_add
 
 row_other : (local : Local) (end : State) (coming : List Value) (r peer : ℕ) (line : Line) (v : Value) → names r v ≡ false →
     Row local end coming r peer line → Row local end (coming ++ v ∷ []) r peer line
-row_other local end coming r peer line v e (asks there x source early dcs first is) =
-    asks there x source early dcs (more_other r coming v e ∙ first) is
+row_other local end coming r peer line v e (asks there x source two early dcs first is) =
+    asks there x source two early dcs (more_other r coming v e ∙ first) is
 row_other local end coming r peer line v e (talks link there is all) = talks link there is (more_other r coming v e ∙ all)
 row_other local end coming r peer line v e (closes o there q k is all) = closes o there q k is (more_other r coming v e ∙ all)
 row_other local end coming r peer line v e (over h) = over h
@@ -36,8 +35,8 @@ row_other local end coming r peer line v e (over h) = over h
 pub row_add : (local : Local) (end : State) (coming : List Value) (r peer : ℕ) (line after : Line) (v : Value) → names r v ≡ true →
     after.link ≡ line.link → after.coming ≡ line.coming ++ v ∷ [] → Row local end coming r peer line →
     Row local end (coming ++ v ∷ []) r peer after
-row_add local end coming r peer line after v e link same (asks there x source early dcs first is) =
-    asks there x source early dcs (picked_more (names r) coming v e ∙ ap (λ (l : List Value). l ++ v ∷ []) first
+row_add local end coming r peer line after v e link same (asks there x source two early dcs first is) =
+    asks there x source two early dcs (picked_more (names r) coming v e ∙ ap (λ (l : List Value). l ++ v ∷ []) first
     ∙ append_assoc early (confirm r x ∷ line.coming) (v ∷ []) ∙ ap (λ (l : List Value). early ++ confirm r x ∷ l) (sym same))
     (link ∙ is)
 row_add local end coming r peer line after v e link same (talks l there is all) =

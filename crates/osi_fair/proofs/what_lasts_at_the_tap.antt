@@ -1,14 +1,11 @@
 -- What is known at the tap stays known as more passes: that class 2 holds; and what is judged was judged before.
 -- For the law on requests.
-use Rattle.osi_fair.proofs.Vocabulary.{arith}
-use Rattle.osi_fair.proofs.Vocabulary.{[], Bool, false, if◌then◌else◌, None, Option, Some, true, ℕ, ◌∷◌, ◌≡◌}
-use Rattle.osi_fair.proofs.Vocabulary.{◌&&◌, ◌||◌, confirm, Connect, disconnect, request, Value, Two}
-use Rattle.osi_fair.proofs.Vocabulary.{is_applied, reach_of, first_failed, given_again}
-use Rattle.osi_fair.proofs.Vocabulary.{asks_by, asks_of, at_found, at_place, class_for, class_of, course_after, course_after_none}
-use Rattle.osi_fair.proofs.Vocabulary.{course_begins, found, found_on, none_told, Outcome, reached}
-use Rattle.osi_fair.proofs.Vocabulary.{request_tests, routed, Traffic as State, unnamed, unnamed_told, Connection}
-use Rattle.osi_fair.proofs.Vocabulary.{Course, Direction, Left, Right, Finding, Broke, Kept, NotJudged, Outside, Reach, Route}
-use Rattle.osi_fair.proofs.Vocabulary.{passes, Passing}
+use Rattle.osi_fair.proofs.Vocabulary.{arith, [], Bool, false, if◌then◌else◌, None, Option, Some, true, ℕ, ◌∷◌, ◌≡◌, ◌&&◌, ◌||◌, confirm}
+use Rattle.osi_fair.proofs.Vocabulary.{Connect, disconnect, request, Value, Two, is_applied, reach_of, first_failed, given_again, asks_by}
+use Rattle.osi_fair.proofs.Vocabulary.{asks_of, at_found, at_place, class_for, class_of, course_after, course_after_none, course_begins}
+use Rattle.osi_fair.proofs.Vocabulary.{found, found_on, none_told, Outcome, reached, request_tests, routed, Traffic as State, unnamed}
+use Rattle.osi_fair.proofs.Vocabulary.{unnamed_told, Connection, Course, Direction, Left, Right, Finding, Broke, Kept, NotJudged, Outside}
+use Rattle.osi_fair.proofs.Vocabulary.{Reach, Route, passes, Passing}
 use Rattle.osi_rules.specs.declared.findings.Rule.TheVariants as rule
 use Rattle.osi_fair.proofs.small_facts_that_many_lemmas_use.{or_left}
 use Rattle.osi_fair.proofs.a_reference_names_one_connection.{applied_found}
@@ -104,3 +101,13 @@ begun Right c = lasts_same c
 
 pub lasts_passing : (p : Passing) (s : State) → Lasts s.course (passes p s).course
 lasts_passing p s = grind (arith, begun, if_judged, lasts_reached)
+
+-- ---- both sides are judged
+
+-- a connection may have lost its judgement
+pub record IsCalm (c : Course) : Type 0 where
+  pub left : c.left_stopped ≡ false
+  pub right : c.right_stopped ≡ false
+
+pub calm_before : (a b : Course) → Lasts a b → IsCalm b → IsCalm a
+calm_before a b l h = record { left = l.left h.left; right = l.right h.right }

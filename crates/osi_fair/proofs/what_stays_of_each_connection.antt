@@ -1,16 +1,16 @@
 -- What stays of each connection at the tap of a calling end as units pass: its reference, and that no other has it.
 -- For the law on DRs.
-use Rattle.osi_fair.proofs.Vocabulary.{arith, Bool, false, if◌then◌else◌, List, None, Option, refl, set, Some}
-use Rattle.osi_fair.proofs.Vocabulary.{true, ℕ, ◌<◌, ◌∙◌, ◌≡◌, ◌⊎◌, position, slice_get, ◌&&◌, ◌||◌, confirm, Connect, disconnect}
-use Rattle.osi_fair.proofs.Vocabulary.{disconnected, error, request, Value, Class, is_applied, reach_of, first_failed, is_free, is_live}
-use Rattle.osi_fair.proofs.Vocabulary.{is_named, is_open, is_refused, is_silent, asked_by, asks_by, asks_kept, asks_of, at_found, at_place}
-use Rattle.osi_fair.proofs.Vocabulary.{class_for, closing_phase, connection_after, found, found_on, half_after, is_stopped, judged_on}
-use Rattle.osi_fair.proofs.Vocabulary.{none_told, Outcome, request_tests, route, route_in, routed, sent_on, sized, Traffic as State, takes}
-use Rattle.osi_fair.proofs.Vocabulary.{Connection, Direction, Left, Right, Finding, Broke, Kept, NotJudged, Reach, Half, Route, Asks, Named}
-use Rattle.osi_fair.proofs.Vocabulary.{Only, Unnamed, Two, Zero}
+use Rattle.osi_fair.proofs.Vocabulary.{arith, Bool, false, if◌then◌else◌, List, None, Option, refl, set, Some, subst, sym, true, ℕ, ◌<◌}
+use Rattle.osi_fair.proofs.Vocabulary.{◌∙◌, ◌≡◌, ◌⊎◌, position, slice_get, ◌&&◌, ◌||◌, confirm, Connect, disconnect, disconnected, error}
+use Rattle.osi_fair.proofs.Vocabulary.{request, Value, Class, is_applied, reach_of, first_failed, is_free, is_live, is_named, is_open}
+use Rattle.osi_fair.proofs.Vocabulary.{is_refused, is_silent, asked_by, asks_by, asks_kept, asks_of, at_found, at_place, class_for}
+use Rattle.osi_fair.proofs.Vocabulary.{closing_phase, connection_after, found, found_on, half_after, is_stopped, judged_on, none_told}
+use Rattle.osi_fair.proofs.Vocabulary.{Outcome, request_tests, route, route_in, routed, sent_on, sized, Traffic as State, takes}
+use Rattle.osi_fair.proofs.Vocabulary.{Connection, Direction, Left, Right, Finding, Broke, Kept, NotJudged, Reach, Half, Route, Asks}
+use Rattle.osi_fair.proofs.Vocabulary.{Named, Only, Unnamed, Two, Zero}
 use Rattle.osi_rules.specs.declared.findings.Rule.TheVariants as rule
-use Rattle.osi_rules.specs.Sides.{sends}
-use Rattle.osi_fair.proofs.small_facts_that_many_lemmas_use.{closing_same, differ, or_left}
+use Rattle.osi_rules.specs.Sides.{own, sends}
+use Rattle.osi_fair.proofs.small_facts_that_many_lemmas_use.{closing_same, differ, or_left, sized_judged}
 use Rattle.osi_fair.proofs.a_reference_names_one_connection.{applied_found, form_test}
 use Rattle.osi_fair.proofs.what_holds_of_one_item.{HoldsOfEach, after_add, after_set, each_add, each_set}
 
@@ -57,9 +57,9 @@ AreDistinct cs = (i j : ℕ) (c e : Connection) → slice_get cs i ≡ Some c �
 abbrev pub is_there : Half → Half → Bool
 is_there mine theirs = is_open mine.phase && (is_silent theirs.phase || is_open theirs.phase)
 
--- then this holds of its reference
+-- then, as long as the connection is judged, this holds of its reference
 abbrev pub IsLively : (ℕ → Type 0) → Connection → Type 0
-IsLively L c = is_there c.left c.right ≡ true → L c.left.reference
+IsLively L c = c.is_judged ≡ true → is_there c.left c.right ≡ true → L c.left.reference
 
 -- ---- a unit of left
 
@@ -110,9 +110,29 @@ stays_by : (d : Direction) (s : State) (v : Value) (r : Reach) (c : Connection) 
     Stays c (connection_after d v (is_applied (found_on d s c v)) r c)
 stays_by d s v r c = grind (arith, own_stays, other_stays)
 
+judged_before : (r : Reach) (c : Connection) → (judged_on r c).is_judged ≡ true → c.is_judged ≡ true
+judged_before r c h = grind arith
+
+sends_judged : (d : Direction) (half : Half) (c : Connection) → (sends d half c).is_judged ≡ c.is_judged
+sends_judged d half c = grind arith
+
+-- what is judged after a unit was so before it
+pub judged_was : (d : Direction) (v : Value) (applied : Bool) (r : Reach) (c : Connection) →
+    (connection_after d v applied r c).is_judged ≡ true → c.is_judged ≡ true
+judged_was d v true r c h =
+    sym (sized_judged v (sends d (half_after v (own d c)) c) ∙ sends_judged d (half_after v (own d c)) c)
+    ∙ judged_before r (sent_on d v c) h
+judged_was d v false r c h = judged_before r c h
+
+there_before : (applied : Bool) (s : State) (v : Value) (r : Reach) (c : Connection) → is_applied (found_on Left s c v) ≡ applied →
+    is_there (connection_after Left v applied r c).left (connection_after Left v applied r c).right ≡ true → is_there c.left c.right ≡ true
+there_before applied s v r c h there = grind (arith, left_own, right_then, half_there, left_judged)
+
 own_lively : (L : ℕ → Type 0) (applied : Bool) (s : State) (v : Value) (r : Reach) (c : Connection) →
     is_applied (found_on Left s c v) ≡ applied → IsLively L c → IsLively L (connection_after Left v applied r c)
-own_lively L applied s v r c h k there = grind (arith, left_own, right_then, own_stays, half_there, left_judged)
+own_lively L applied s v r c h k judged there =
+    subst L (sym (own_stays applied s v r c h).reference)
+    (k (judged_was Left v applied r c judged) (there_before applied s v r c h there))
 
 -- ---- all connections, after a unit that passes
 

@@ -1,18 +1,18 @@
 -- What the other side closes at the tap of a calling end: if a DR closed something, the end had the connection open there.
 -- For the law on DRs.
-use Rattle.osi_fair.proofs.Vocabulary.{arith}
-use Rattle.osi_fair.proofs.Vocabulary.{[], ap, Bool, drop, false, if◌then◌else◌, inl, inr, List, None, Option, refl, set, Some, subst, sym}
-use Rattle.osi_fair.proofs.Vocabulary.{true, ℕ, ◌∙◌, ◌∷◌, ◌≡◌, ◌⊎◌, eqb-true, not, position, slice_get, ◌&&◌, ◌==◌, ◌||◌, acknowledge}
-use Rattle.osi_fair.proofs.Vocabulary.{confirm, Connect, data0, data2, disconnect, disconnected, error, request, Value, Class, Two, Zero}
-use Rattle.osi_fair.proofs.Vocabulary.{is_applied, passes_over, reach_by, reach_of, confirm_tests}
-use Rattle.osi_fair.proofs.Vocabulary.{first_failed, is_due, is_closed, is_closing, is_named, is_open, is_refused}
-use Rattle.osi_fair.proofs.Vocabulary.{is_silent, at_found, at_place, class_for, connection_after, course_after, found}
-use Rattle.osi_fair.proofs.Vocabulary.{found_on, half_after, is_stray, none_told, one_told, Outcome, reached, route, route_in, routed}
-use Rattle.osi_fair.proofs.Vocabulary.{Traffic as State, takes, unnamed_by, unnamed_told, uses_source, Connection, Course, Right}
-use Rattle.osi_fair.proofs.Vocabulary.{Finding, Broke, NotJudged, Reach, Rule, Half, Phase}
+use Rattle.osi_fair.proofs.Vocabulary.{arith, [], ap, Bool, drop, false, if◌then◌else◌, inl, inr, List, None, Option, refl, set, Some}
+use Rattle.osi_fair.proofs.Vocabulary.{subst, sym, true, ℕ, ◌∙◌, ◌∷◌, ◌≡◌, ◌⊎◌, eqb-true, not, position, slice_get, ◌&&◌, ◌==◌, ◌||◌}
+use Rattle.osi_fair.proofs.Vocabulary.{acknowledge, confirm, Connect, data2, disconnect, disconnected, error, Value, Class, Two, Zero}
+use Rattle.osi_fair.proofs.Vocabulary.{is_applied, is_of_connection, passes_over, reach_by, reach_of, reach_past, confirm_tests}
+use Rattle.osi_fair.proofs.Vocabulary.{first_failed, is_due, is_closed, is_closing, is_named, is_open, is_refused, is_silent, at_found}
+use Rattle.osi_fair.proofs.Vocabulary.{at_place, class_for, connection_after, course_after, course_after_none, found, found_on, half_after}
+use Rattle.osi_fair.proofs.Vocabulary.{in_doubt, is_stray, none_told, one_told, Outcome, reached, route, route_in, routed}
+use Rattle.osi_fair.proofs.Vocabulary.{Traffic as State, takes, unnamed_by, unnamed_told, uses_source, Connection, Course, Right, Finding}
+use Rattle.osi_fair.proofs.Vocabulary.{Broke, NotJudged, TooMany, Reach, Rule, Half, Phase}
+use Rattle.osi_rules.specs.declared.findings.Reach.TheVariants as reach
 use Rattle.osi_rules.specs.declared.findings.Rule.TheVariants as rule
-use Rattle.osi_fair.proofs.small_facts_that_many_lemmas_use.{and_first, both, closing_not_silent, closing_shuts, differ}
-use Rattle.osi_fair.proofs.small_facts_that_many_lemmas_use.{not_not, or_first, or_last, or_left, or_right}
+use Rattle.osi_fair.proofs.small_facts_that_many_lemmas_use.{and_first, both, closing_not_silent, closing_shuts, differ, not_not, or_first}
+use Rattle.osi_fair.proofs.small_facts_that_many_lemmas_use.{or_last, or_left, or_right}
 use Rattle.osi_fair.proofs.all_are_judged_unless_one_broke.{AreJudged}
 use Rattle.osi_fair.proofs.what_holds_of_one_item.{HoldsOfEach, each_set}
 use Rattle.osi_fair.proofs.what_keeps_names_apart.{AreApart, Sound}
@@ -20,16 +20,27 @@ use Rattle.osi_fair.proofs.when_a_connection_has_a_name.{three}
 use Rattle.osi_fair.proofs.while_no_class_is_selected.{after_change, named_where}
 use Rattle.osi_fair.proofs.what_stays_of_each_connection.{AreDistinct, IsLively, IsStarted, is_there, left_then, right_judged, right_own}
 use Rattle.osi_fair.proofs.what_a_side_knows_stays.{form_first}
-use Rattle.osi_fair.proofs.Vocabulary.{is_live}
+use Rattle.osi_fair.proofs.names_of_right_stay_apart_though_one_is_lost.{ArePeersApart, each_sound}
+use Rattle.osi_fair.proofs.what_lasts_at_the_tap.{IsCalm}
 pub use Rattle.osi_fair.proofs.small_facts_that_many_lemmas_use.{judged_same}
 
--- both sides are judged, no connection has lost its judgement, class 0 is not selected, and each DR has closed something
+-- both sides are judged, class 0 is not selected, and each DR has closed something
 pub record IsPlain (c : Course) : Type 0 where
-  pub firm : c.loose ≡ false
   pub left : c.left_stopped ≡ false
   pub right : c.right_stopped ≡ false
   pub strays : c.strays ≡ false
   pub two : c.class ≡ Some Zero → ⊥
+
+calm_of : (c : Course) → IsPlain c → IsCalm c
+calm_of c h = record { left = h.left; right = h.right }
+
+-- both sides are judged, and class 0 is not selected
+pub record IsOngoing (c : Course) : Type 0 where
+  pub sure : IsCalm c
+  pub two : c.class ≡ Some Zero → ⊥
+
+pub going_of : (c : Course) → IsPlain c → IsOngoing c
+going_of c h = record { sure = calm_of c h; two = h.two }
 
 -- both sides are judged, and no connection has lost its judgement
 pub record IsFirm (c : Course) : Type 0 where
@@ -37,16 +48,13 @@ pub record IsFirm (c : Course) : Type 0 where
   pub left : c.left_stopped ≡ false
   pub right : c.right_stopped ≡ false
 
-firm_of : (c : Course) → IsPlain c → IsFirm c
-firm_of c h = record { firm = h.firm; left = h.left; right = h.right }
-
 -- and class 0 is not selected
 pub record IsClear (c : Course) : Type 0 where
   pub sure : IsFirm c
   pub two : c.class ≡ Some Zero → ⊥
 
-pub clear_of : (c : Course) → IsPlain c → IsClear c
-clear_of c h = record { sure = firm_of c h; two = h.two }
+pub going_on : (c : Course) → IsClear c → IsOngoing c
+going_on c h = record { sure = record { left = h.sure.left; right = h.sure.right }; two = h.two }
 
 -- the reference of the connection that a unit of the other side refuses or closes
 abbrev pub closed_by : Value → Option ℕ
@@ -68,25 +76,48 @@ pub data Came (L : ℕ → Type 0) (v : Value) (s t : State) : Type 0 where
   closes : (n : ℕ) → closed_by v ≡ Some n → (p : ℕ) (c : Connection) → slice_get s.connections p ≡ Some c → c.left.reference ≡ n →
       (IsDr v → L n) → HoldsOfEach (IsLively (Less L n)) t.connections → Came L v s t
 
--- ---- what is wrong is not firm
+-- ---- what is wrong is not calm, or its connection is not judged any more
 
-by_reach : (k : Option Class) (b : Bool) (c : Course) → IsFirm (reached Right (reach_by k b) c) → ⊥
-by_reach k b c h = grind (arith, differ)
+soft_by : (k : Option Class) (one : Bool) (c : Course) → IsCalm (reached Right (reach_by k one) c) →
+    (reach_by k one ≡ reach.Connection) × (one ≡ true)
+soft_by None one c h = differ true refl h.left
+soft_by (Some Zero) one c h = differ true refl h.right
+soft_by (Some Two) true c h = (refl, refl)
+soft_by (Some Two) false c h = differ true refl h.left
 
-pub not_firm : (k : Option Class) (r : Rule) (c : Course) → passes_over r ≡ false → IsFirm (reached Right (reach_of k (Broke r)) c) → ⊥
-not_firm k r c e h = grind (arith, by_reach)
+past_by : (k : Option Class) (past one : Bool) (c : Course) → past ≡ false → IsCalm (reached Right (reach_past past (reach_by k one)) c) →
+    (reach_past past (reach_by k one) ≡ reach.Connection) × (one ≡ true)
+past_by k true one c e h = differ true refl e
+past_by k false one c e h = soft_by k one c h
 
-bad : (k : Option Class) (r : Rule) (c : Course) → passes_over r ≡ false → IsPlain (reached Right (reach_of k (Broke r)) c) → ⊥
-bad k r c e h = not_firm k r c e (firm_of (reached Right (reach_of k (Broke r)) c) h)
+-- a break that the taker looks at
+pub soft : (k : Option Class) (r : Rule) (c : Course) → passes_over r ≡ false → IsCalm (reached Right (reach_of k (Broke r)) c) →
+    (reach_of k (Broke r) ≡ reach.Connection) × (is_of_connection r ≡ true)
+soft k r c e h = past_by k (passes_over r) (is_of_connection r) c e h
+
+pub not_calm : {A : Type 0} (k : Option Class) (r : Rule) (c : Course) → passes_over r ≡ false → is_of_connection r ≡ false →
+    IsCalm (reached Right (reach_of k (Broke r)) c) → A
+not_calm k r c e f h = differ (is_of_connection r) (soft k r c e h).1 f
+
+pub doubt_not_calm : {A : Type 0} (k : Option Class) (c : Course) → IsCalm (reached Right (reach_of k TooMany) c) → A
+doubt_not_calm k c h = differ true refl h.left
 
 -- a unit for no connection
-none_rule : (v : Value) → (r : Rule) × (unnamed_by false v ≡ Broke r) × (passes_over r ≡ false)
-none_rule (disconnected destination source) = (rule.UnknownReference, refl, refl)
-none_rule _ = (rule.UnknownReference, refl, refl)
+none_rule : (v : Value) → unnamed_by false v ≡ Broke rule.UnknownReference
+none_rule (disconnected destination source) = refl
+none_rule _ = refl
 
-none_bad : (v : Value) (s : State) → s.course.loose ≡ false → s.course.strays ≡ false →
-    IsPlain (unnamed_told Right v s).state.course → ⊥
-none_bad v s firm plain h = grind (arith, none_rule, bad)
+pub unknown_not_calm : {A : Type 0} (k : Option Class) (loose : Bool) (c : Course) →
+    IsCalm (reached Right (reach_of k (if loose then in_doubt (Broke rule.UnknownReference) else Broke rule.UnknownReference)) c) → A
+unknown_not_calm k true c h = doubt_not_calm k c h
+unknown_not_calm k false c h = not_calm k rule.UnknownReference c refl refl h
+
+none_bad : {A : Type 0} (v : Value) (s : State) → s.course.strays ≡ false → IsPlain (unnamed_told Right v s).state.course → A
+none_bad v s plain h =
+    let c = course_after_none v s.course in
+    unknown_not_calm (class_for Right c) s.course.loose c
+    (subst (λ (f : Finding). IsCalm (reached Right (reach_of (class_for Right c) (if s.course.loose then in_doubt f else f)) c))
+    (ap (λ (b : Bool). unnamed_by b v) plain ∙ none_rule v) (calm_of (unnamed_told Right v s).state.course h))
 
 reached_plain : (r : Reach) (c : Course) → (reached Right r c).strays ≡ false → c.strays ≡ false
 reached_plain r c h = grind arith
@@ -106,7 +137,7 @@ still_open : (p q : Phase) → (is_silent p || is_refused p) ≡ false → is_cl
 still_open p q a b c h = grind arith
 
 module _ (L : ℕ → Type 0) (s : State) (q : ℕ) (c : Connection) (at : slice_get s.connections q ≡ Some c)
-    (judged : c.is_judged ≡ true) (sound : Sound c) (started : IsStarted c) (distinct : AreDistinct s.connections)
+    (sound : Sound c) (started : IsStarted c) (distinct : AreDistinct s.connections)
     (lively : HoldsOfEach (IsLively L) s.connections) (plain : s.course.strays ≡ false) where
   abbrev finding : Value → Finding
   finding v = found_on Right s c v
@@ -120,155 +151,218 @@ module _ (L : ℕ → Type 0) (s : State) (q : ℕ) (c : Connection) (at : slice
   abbrev course : Value → Course
   course v = reached Right (how_far v) (course_after Right c v (is_applied (finding v)) s.course)
 
-  is_found : (v : Value) → finding v ≡ found Right s.course (uses_source Right s.connections v) c v
-  is_found v = judged_same c.is_judged (found Right s.course (uses_source Right s.connections v) c v) judged
-
-  -- the half of right after it
-  right_by : (v : Value) (b : Bool) → is_applied (finding v) ≡ b → (after v).right ≡ (if b then half_after v c.right else c.right)
-  right_by v b e = grind (arith, right_own, right_judged)
-
-  -- if it closes nothing
-  abbrev Before : Value → Type 0
-  Before v = is_there (after v).left (after v).right ≡ true → is_there c.left c.right ≡ true
-
-  all_lively : (v : Value) → Before v → HoldsOfEach (IsLively L) (set s.connections q (after v))
-  all_lively v h = each_set (IsLively L) s.connections q (after v) lively
-      (λ there. subst L (sym (ap (λ (x : Half). x.reference) (left_then v (is_applied (finding v)) (how_far v) c)))
-      (lively q c at (h there)))
-
-  before_more : (v : Value) (b : Bool) → is_applied (finding v) ≡ b →
-      (is_applied (finding v) ≡ true → is_there c.left (half_after v c.right) ≡ true → is_there c.left c.right ≡ true) →
-      is_there c.left (if b then half_after v c.right else c.right) ≡ true → is_there c.left c.right ≡ true
-  before_more v b e k there = grind arith
-
-  before_by : (v : Value) (b : Bool) → is_applied (finding v) ≡ b →
-      (is_applied (finding v) ≡ true → is_there c.left (half_after v c.right) ≡ true → is_there c.left c.right ≡ true) → Before v
-  before_by v b e k there = search (arith, before_more, right_by, left_then)
-
-  same_phase : (v : Value) → (half_after v c.right).phase ≡ c.right.phase → Before v
-  same_phase v e = before_by v (is_applied (finding v)) refl
-      (λ applied there. ap (λ (p : Phase). is_open c.left.phase && (is_silent p || is_open p)) (sym e) ∙ there)
-
-  confirms : (destination : ℕ) (x : Connect) → Before (confirm destination x)
-  confirms destination x =
-      let v = confirm destination x in
-      before_by v (is_applied (finding v)) refl
-      (λ applied there. both (is_open c.left.phase) (is_silent c.right.phase || is_open c.right.phase)
-      (and_first (is_open c.left.phase) true there)
-      (or_first (is_silent c.right.phase) (is_open c.right.phase)
-      (form_first (is_silent c.right.phase) (drop 1 (confirm_tests c s.course.class (uses_source Right s.connections v) s.course.loose x))
-      (ap is_applied (sym (is_found v)) ∙ applied))))
-
   -- if it closes the connection
-  less_by : (v : Value) (n : ℕ) → c.left.reference ≡ n → (is_there (after v).left (after v).right ≡ true → ⊥) → (i : ℕ) (e : Connection) →
+  less_by : (v : Value) (n : ℕ) → c.left.reference ≡ n →
+      ((after v).is_judged ≡ true → is_there (after v).left (after v).right ≡ true → ⊥) → (i : ℕ) (e : Connection) →
       ((i ≡ q) × (e ≡ after v)) ⊎ ((i ≡ q → ⊥) × (slice_get s.connections i ≡ Some e)) → IsLively (Less L n) e
-  less_by v n is none i e h there = grind arith
+  less_by v n is none i e (inl (same, so)) j there =
+      absurd (none (ap (λ (x : Connection). x.is_judged) (sym so) ∙ j) (ap (λ (x : Connection). is_there x.left x.right) (sym so) ∙ there))
+  less_by v n is none i e (inr (other, h)) j there =
+      (lively i e h j there, λ same. other (distinct i q e c h at (same ∙ sym is)))
 
-  less_lively : (v : Value) (n : ℕ) → c.left.reference ≡ n → (is_there (after v).left (after v).right ≡ true → ⊥) →
+  less_lively : (v : Value) (n : ℕ) → c.left.reference ≡ n →
+      ((after v).is_judged ≡ true → is_there (after v).left (after v).right ≡ true → ⊥) →
       HoldsOfEach (IsLively (Less L n)) (set s.connections q (after v))
-  less_lively v n is none i e there = less_by v n is none i e (after_change s.connections q i (after v) e there)
+  less_lively v n is none i e at_i = less_by v n is none i e (after_change s.connections q i (after v) e at_i)
 
-  ended_there : (v : Value) → is_applied (finding v) ≡ true → is_silent (half_after v c.right).phase ≡ false →
-      is_open (half_after v c.right).phase ≡ false → is_there (after v).left (after v).right ≡ true → ⊥
-  ended_there v e a b there = search (arith, there_not, right_by)
+  -- of a connection that is judged no more after it nothing is claimed
+  lost_lively : (v : Value) → (after v).is_judged ≡ false → HoldsOfEach (IsLively L) (set s.connections q (after v))
+  lost_lively v lost =
+      each_set (IsLively L) s.connections q (after v) lively (λ j there. differ (after v).is_judged j lost)
 
-  closed_so : (v : Value) (n : ℕ) → closed_by v ≡ Some n → c.left.reference ≡ n → is_applied (finding v) ≡ true →
-      is_silent (half_after v c.right).phase ≡ false → is_open (half_after v c.right).phase ≡ false → (IsDr v → L n) →
+  lost_closed : (v : Value) (n : ℕ) → closed_by v ≡ Some n → c.left.reference ≡ n → (IsDr v → ⊥) → (after v).is_judged ≡ false →
       Came L v s (one_told Right q c v s).state
-  closed_so v n e is applied a b k = closes n e q c at is k (less_lively v n is (ended_there v applied a b))
-
-  -- ---- a DR
-
-  closes_by : (destination source reason : ℕ) (user : List ℕ) (b : Bool) →
-      is_applied (finding (disconnect destination source reason user)) ≡ b → c.left.reference ≡ destination →
-      IsPlain (course (disconnect destination source reason user)) →
-      Came L (disconnect destination source reason user) s (one_told Right q c (disconnect destination source reason user) s).state
-  closes_by destination source reason user false e is h =
-      let v = disconnect destination source reason user in
-      let so = reached_plain (how_far v) (course_after Right c v (is_applied (finding v)) s.course) h.strays in
-      let stray = or_right s.course.strays (not (is_applied (finding v)) || is_stray Right c source) so in
-      differ (not (is_applied (finding v))) (ap not e) (or_left (not (is_applied (finding v))) (is_stray Right c source) stray)
-  closes_by destination source reason user true e is h =
-      let v = disconnect destination source reason user in
-      let so = reached_plain (how_far v) (course_after Right c v (is_applied (finding v)) s.course) h.strays in
-      let stray = or_right (not (is_applied (finding v))) (is_stray Right c source)
-      (or_right s.course.strays (not (is_applied (finding v)) || is_stray Right c source) so) in
-      let opened = not_not (is_open c.right.phase) (or_left (not (is_open c.right.phase)) (not (source == c.right.reference)
-      || is_closing c.left.phase) stray) in
-      let first = or_right (not (source == c.right.reference)) (is_closing c.left.phase) (or_right (not (is_open c.right.phase))
-      (not (source == c.right.reference) || is_closing c.left.phase) stray) in
-      let mine = still_open c.left.phase c.right.phase started first sound.left_closed opened in
-      closed_so v destination refl is e (closing_not_silent (is_silent c.right.phase) c.right) (closing_shuts (is_silent c.right.phase) c.right)
-      (λ dr. subst L is (lively q c at (both (is_open c.left.phase) (is_silent c.right.phase || is_open c.right.phase) mine
-      (or_last (is_silent c.right.phase) (is_open c.right.phase) opened))))
-
-  -- ---- a DC
-
-  -- it breaks a rule, and is not passed over
-  abbrev IsBad : Finding → Type 0
-  IsBad f = (r : Rule) × (f ≡ Broke r) × (passes_over r ≡ false)
-
-  dc_by : (due told strays : Bool) → strays ≡ false →
-      (is_applied (first_failed ((due || not strays, NotJudged) ∷ (told, Broke rule.UnknownReference)
-      ∷ (due, Broke rule.NothingToAnswer) ∷ [])) ≡ true)
-      ⊎ (IsBad (first_failed ((due || not strays, NotJudged) ∷ (told, Broke rule.UnknownReference) ∷ (due, Broke rule.NothingToAnswer)
-      ∷ [])))
-  dc_by true true false h = inl refl
-  dc_by true false false h = inr (rule.UnknownReference, refl, refl)
-  dc_by false false false h = inr (rule.UnknownReference, refl, refl)
-  dc_by false true false h = inr (rule.NothingToAnswer, refl, refl)
-  dc_by due told true h = absurd (cc)
-
-  answers_by : (destination source : ℕ) → c.left.reference ≡ destination →
-      (is_applied (finding (disconnected destination source)) ≡ true)
-      ⊎ (IsBad (finding (disconnected destination source))) → IsPlain (course (disconnected destination source)) →
-      Came L (disconnected destination source) s (one_told Right q c (disconnected destination source) s).state
-  answers_by destination source is (inl e) h =
-      closed_so (disconnected destination source) destination refl is e refl refl (λ dr. absurd dr)
-  answers_by destination source is (inr (r, e, past)) h =
-      let v = disconnected destination source in
-      absurd (bad (class_for Right s.course) r (course_after Right c v (is_applied (finding v)) s.course) past
-      (subst (λ (f : Finding). IsPlain (reached Right (reach_of (class_for Right s.course) f)
-      (course_after Right c v (is_applied (finding v)) s.course))) e h))
-
-  dc_found : (destination source : ℕ) → (is_applied (finding (disconnected destination source)) ≡ true)
-      ⊎ (IsBad (finding (disconnected destination source)))
-  dc_found destination source =
-      subst (λ (f : Finding). (is_applied f ≡ true) ⊎ (IsBad f)) (sym (is_found (disconnected destination source)))
-      (dc_by (is_due Right c source) (not (is_silent c.right.phase)) s.course.strays plain)
-
-  -- ---- an ER
-
-  er_by : (silent : Bool) → (is_applied (first_failed ((silent, Broke rule.WrongForm) ∷ [])) ≡ true)
-      ⊎ (first_failed ((silent, Broke rule.WrongForm) ∷ []) ≡ Broke rule.WrongForm)
-  er_by silent = grind arith
-
-  refuses_by : (destination cause : ℕ) → c.left.reference ≡ destination → (is_applied (finding (error destination cause)) ≡ true)
-      ⊎ (finding (error destination cause) ≡ Broke rule.WrongForm) → IsPlain (course (error destination cause)) →
-      Came L (error destination cause) s (one_told Right q c (error destination cause) s).state
-  refuses_by destination cause is (inl e) h = closed_so (error destination cause) destination refl is e refl refl (λ dr. absurd dr)
-  refuses_by destination cause is (inr e) h = grind (arith, bad)
-
-  er_found : (destination cause : ℕ) → (is_applied (finding (error destination cause)) ≡ true)
-      ⊎ (finding (error destination cause) ≡ Broke rule.WrongForm)
-  er_found destination cause = grind (arith, is_found, er_by)
-
-  -- ---- any
+  lost_closed v n e is none lost =
+      closes n e q c at is (λ dr. absurd (none dr)) (less_lively v n is (λ j there. differ (after v).is_judged j lost))
 
   abbrev Told : Value → Type 0
   Told v = IsPlain (one_told Right q c v s).state.course → Came L v s (one_told Right q c v s).state
 
-  one_came : (v : Value) → ((n : ℕ) → closed_by v ≡ Some n → c.left.reference ≡ n) → Told v
-  one_came (confirm destination x) is h = stays refl (all_lively (confirm destination x) (confirms destination x))
-  one_came (disconnect destination source reason user) is h =
-      closes_by destination source reason user (is_applied (finding (disconnect destination source reason user))) refl
-      (is destination refl) h
-  one_came (disconnected destination source) is h =
-      answers_by destination source (is destination refl) (dc_found destination source) h
-  one_came (error destination cause) is h =
-      refuses_by destination cause (is destination refl) (er_found destination cause) h
-  one_came v is h =
-      stays refl (all_lively v (same_phase v refl))
+  -- ---- a connection that has lost its judgement
+
+  module _ (lost : c.is_judged ≡ false) where
+    lost_found : (v : Value) → finding v ≡ NotJudged
+    lost_found v = ap (λ (b : Bool). if b then found Right s.course (uses_source Right s.connections v) c v else NotJudged) lost
+
+    lost_after : (v : Value) → after v ≡ c
+    lost_after v = ap (λ (f : Finding). connection_after Right v (is_applied f) (reach_of (class_for Right s.course) f) c) (lost_found v)
+
+    still_lost : (v : Value) → (after v).is_judged ≡ false
+    still_lost v = ap (λ (x : Connection). x.is_judged) (lost_after v) ∙ lost
+
+    -- a DR closes nothing there
+    lost_dr : {A : Type 0} (destination source reason : ℕ) (user : List ℕ) →
+        IsPlain (course (disconnect destination source reason user)) → A
+    lost_dr destination source reason user h =
+        let v = disconnect destination source reason user in
+        let so = reached_plain (how_far v) (course_after Right c v (is_applied (finding v)) s.course) h.strays in
+        differ (s.course.strays || true) (or_last s.course.strays true refl)
+        (ap (λ (f : Finding). s.course.strays || (not (is_applied f) || is_stray Right c source)) (sym (lost_found v)) ∙ so)
+
+    lost_came : (v : Value) → ((n : ℕ) → closed_by v ≡ Some n → c.left.reference ≡ n) → Told v
+    lost_came (disconnect destination source reason user) is h = lost_dr destination source reason user h
+    lost_came (disconnected destination source) is h =
+        lost_closed (disconnected destination source) destination refl (is destination refl) (λ dr. dr)
+        (still_lost (disconnected destination source))
+    lost_came (error destination cause) is h =
+        lost_closed (error destination cause) destination refl (is destination refl) (λ dr. dr) (still_lost (error destination cause))
+    lost_came v is h = stays refl (lost_lively v (still_lost v))
+
+  -- ---- one that is judged
+
+  module _ (judged : c.is_judged ≡ true) where
+    is_found : (v : Value) → finding v ≡ found Right s.course (uses_source Right s.connections v) c v
+    is_found v = judged_same c.is_judged (found Right s.course (uses_source Right s.connections v) c v) judged
+
+    -- the half of right after it
+    right_by : (v : Value) (b : Bool) → is_applied (finding v) ≡ b → (after v).right ≡ (if b then half_after v c.right else c.right)
+    right_by v b e = grind (arith, right_own, right_judged)
+
+    -- if it closes nothing
+    abbrev Before : Value → Type 0
+    Before v = is_there (after v).left (after v).right ≡ true → is_there c.left c.right ≡ true
+
+    all_lively : (v : Value) → Before v → HoldsOfEach (IsLively L) (set s.connections q (after v))
+    all_lively v h = each_set (IsLively L) s.connections q (after v) lively
+        (λ j there. subst L (sym (ap (λ (x : Half). x.reference) (left_then v (is_applied (finding v)) (how_far v) c)))
+        (lively q c at judged (h there)))
+
+    before_more : (v : Value) (b : Bool) → is_applied (finding v) ≡ b →
+        (is_applied (finding v) ≡ true → is_there c.left (half_after v c.right) ≡ true → is_there c.left c.right ≡ true) →
+        is_there c.left (if b then half_after v c.right else c.right) ≡ true → is_there c.left c.right ≡ true
+    before_more v b e k there = grind arith
+
+    before_by : (v : Value) (b : Bool) → is_applied (finding v) ≡ b →
+        (is_applied (finding v) ≡ true → is_there c.left (half_after v c.right) ≡ true → is_there c.left c.right ≡ true) → Before v
+    before_by v b e k there = search (arith, before_more, right_by, left_then)
+
+    same_phase : (v : Value) → (half_after v c.right).phase ≡ c.right.phase → Before v
+    same_phase v e = before_by v (is_applied (finding v)) refl
+        (λ applied there. ap (λ (p : Phase). is_open c.left.phase && (is_silent p || is_open p)) (sym e) ∙ there)
+
+    confirms : (destination : ℕ) (x : Connect) → Before (confirm destination x)
+    confirms destination x =
+        let v = confirm destination x in
+        before_by v (is_applied (finding v)) refl
+        (λ applied there. both (is_open c.left.phase) (is_silent c.right.phase || is_open c.right.phase)
+        (and_first (is_open c.left.phase) true there)
+        (or_first (is_silent c.right.phase) (is_open c.right.phase)
+        (form_first (is_silent c.right.phase) (drop 1 (confirm_tests c s.course.class (uses_source Right s.connections v) s.course.loose x))
+        (ap is_applied (sym (is_found v)) ∙ applied))))
+
+    -- if it closes the connection
+    ended_there : (v : Value) → is_applied (finding v) ≡ true → is_silent (half_after v c.right).phase ≡ false →
+        is_open (half_after v c.right).phase ≡ false → is_there (after v).left (after v).right ≡ true → ⊥
+    ended_there v e a b there = search (arith, there_not, right_by)
+
+    closed_so : (v : Value) (n : ℕ) → closed_by v ≡ Some n → c.left.reference ≡ n → is_applied (finding v) ≡ true →
+        is_silent (half_after v c.right).phase ≡ false → is_open (half_after v c.right).phase ≡ false → (IsDr v → L n) →
+        Came L v s (one_told Right q c v s).state
+    closed_so v n e is applied a b k = closes n e q c at is k (less_lively v n is (λ j there. ended_there v applied a b there))
+
+    -- ---- a DR
+
+    closes_by : (destination source reason : ℕ) (user : List ℕ) (b : Bool) →
+        is_applied (finding (disconnect destination source reason user)) ≡ b → c.left.reference ≡ destination →
+        IsPlain (course (disconnect destination source reason user)) →
+        Came L (disconnect destination source reason user) s (one_told Right q c (disconnect destination source reason user) s).state
+    closes_by destination source reason user false e is h =
+        let v = disconnect destination source reason user in
+        let so = reached_plain (how_far v) (course_after Right c v (is_applied (finding v)) s.course) h.strays in
+        let stray = or_right s.course.strays (not (is_applied (finding v)) || is_stray Right c source) so in
+        differ (not (is_applied (finding v))) (ap not e) (or_left (not (is_applied (finding v))) (is_stray Right c source) stray)
+    closes_by destination source reason user true e is h =
+        let v = disconnect destination source reason user in
+        let so = reached_plain (how_far v) (course_after Right c v (is_applied (finding v)) s.course) h.strays in
+        let stray = or_right (not (is_applied (finding v))) (is_stray Right c source)
+        (or_right s.course.strays (not (is_applied (finding v)) || is_stray Right c source) so) in
+        let opened = not_not (is_open c.right.phase) (or_left (not (is_open c.right.phase)) (not (source == c.right.reference)
+        || is_closing c.left.phase) stray) in
+        let first = or_right (not (source == c.right.reference)) (is_closing c.left.phase) (or_right (not (is_open c.right.phase))
+        (not (source == c.right.reference) || is_closing c.left.phase) stray) in
+        let mine = still_open c.left.phase c.right.phase started first sound.left_closed opened in
+        closed_so v destination refl is e (closing_not_silent (is_silent c.right.phase) c.right)
+        (closing_shuts (is_silent c.right.phase) c.right)
+        (λ dr. subst L is (lively q c at judged (both (is_open c.left.phase) (is_silent c.right.phase || is_open c.right.phase) mine
+        (or_last (is_silent c.right.phase) (is_open c.right.phase) opened))))
+
+    -- what breaks a rule, and is not passed over: the connection is not judged any more
+    wrong_lost : (v : Value) (r : Rule) → finding v ≡ Broke r → passes_over r ≡ false → IsPlain (course v) → (after v).is_judged ≡ false
+    wrong_lost v r e past h =
+        let calm = subst (λ (f : Finding). IsCalm (reached Right (reach_of (class_for Right s.course) f)
+        (course_after Right c v (is_applied (finding v)) s.course))) e (calm_of (course v) h) in
+        let far = ap (λ (f : Finding). reach_of (class_for Right s.course) f) e
+        ∙ (soft (class_for Right s.course) r (course_after Right c v (is_applied (finding v)) s.course) past calm).0 in
+        ap (λ (k : Reach). (connection_after Right v (is_applied (finding v)) k c).is_judged) far ∙ lost_by v (is_applied (finding v))
+      where
+        lost_by : (v : Value) (b : Bool) → (connection_after Right v b reach.Connection c).is_judged ≡ false
+        lost_by v true = refl
+        lost_by v false = refl
+
+    -- ---- a DC
+
+    -- it breaks a rule, and is not passed over
+    abbrev IsBad : Finding → Type 0
+    IsBad f = (r : Rule) × (f ≡ Broke r) × (passes_over r ≡ false)
+
+    dc_by : (due told strays : Bool) → strays ≡ false →
+        (is_applied (first_failed ((due || not strays, NotJudged) ∷ (told, Broke rule.UnknownReference)
+        ∷ (due, Broke rule.NothingToAnswer) ∷ [])) ≡ true)
+        ⊎ (IsBad (first_failed ((due || not strays, NotJudged) ∷ (told, Broke rule.UnknownReference) ∷ (due, Broke rule.NothingToAnswer)
+        ∷ [])))
+    dc_by true true false h = inl refl
+    dc_by true false false h = inr (rule.UnknownReference, refl, refl)
+    dc_by false false false h = inr (rule.UnknownReference, refl, refl)
+    dc_by false true false h = inr (rule.NothingToAnswer, refl, refl)
+    dc_by due told true h = absurd (cc)
+
+    answers_by : (destination source : ℕ) → c.left.reference ≡ destination →
+        (is_applied (finding (disconnected destination source)) ≡ true)
+        ⊎ (IsBad (finding (disconnected destination source))) → IsPlain (course (disconnected destination source)) →
+        Came L (disconnected destination source) s (one_told Right q c (disconnected destination source) s).state
+    answers_by destination source is (inl e) h =
+        closed_so (disconnected destination source) destination refl is e refl refl (λ dr. absurd dr)
+    answers_by destination source is (inr (r, e, past)) h =
+        let v = disconnected destination source in
+        lost_closed v destination refl is (λ dr. dr) (wrong_lost v r e past h)
+
+    dc_found : (destination source : ℕ) → (is_applied (finding (disconnected destination source)) ≡ true)
+        ⊎ (IsBad (finding (disconnected destination source)))
+    dc_found destination source =
+        subst (λ (f : Finding). (is_applied f ≡ true) ⊎ (IsBad f)) (sym (is_found (disconnected destination source)))
+        (dc_by (is_due Right c source) (not (is_silent c.right.phase)) s.course.strays plain)
+
+    -- ---- an ER
+
+    er_by : (silent : Bool) → (is_applied (first_failed ((silent, Broke rule.WrongForm) ∷ [])) ≡ true)
+        ⊎ (first_failed ((silent, Broke rule.WrongForm) ∷ []) ≡ Broke rule.WrongForm)
+    er_by silent = grind arith
+
+    refuses_by : (destination cause : ℕ) → c.left.reference ≡ destination → (is_applied (finding (error destination cause)) ≡ true)
+        ⊎ (finding (error destination cause) ≡ Broke rule.WrongForm) → IsPlain (course (error destination cause)) →
+        Came L (error destination cause) s (one_told Right q c (error destination cause) s).state
+    refuses_by destination cause is (inl e) h = closed_so (error destination cause) destination refl is e refl refl (λ dr. absurd dr)
+    refuses_by destination cause is (inr e) h =
+        let v = error destination cause in
+        lost_closed v destination refl is (λ dr. dr) (wrong_lost v rule.WrongForm e refl h)
+
+    er_found : (destination cause : ℕ) → (is_applied (finding (error destination cause)) ≡ true)
+        ⊎ (finding (error destination cause) ≡ Broke rule.WrongForm)
+    er_found destination cause = grind (arith, is_found, er_by)
+
+    -- ---- any
+
+    one_came : (v : Value) → ((n : ℕ) → closed_by v ≡ Some n → c.left.reference ≡ n) → Told v
+    one_came (confirm destination x) is h = stays refl (all_lively (confirm destination x) (confirms destination x))
+    one_came (disconnect destination source reason user) is h =
+        closes_by destination source reason user (is_applied (finding (disconnect destination source reason user))) refl
+        (is destination refl) h
+    one_came (disconnected destination source) is h =
+        answers_by destination source (is destination refl) (dc_found destination source) h
+    one_came (error destination cause) is h =
+        refuses_by destination cause (is destination refl) (er_found destination cause) h
+    one_came v is h =
+        stays refl (all_lively v (same_phase v refl))
 
 -- ---- by the way that a unit takes
 
@@ -285,17 +379,24 @@ named_so a b c h = three a b c h
 pub is_name : (c : Connection) (n : ℕ) → Sound c → is_named Right n c ≡ true → c.left.reference ≡ n
 is_name c n sound h = grind (arith, named_so, eqb-true)
 
-module _ (L : ℕ → Type 0) (s : State) (sane : IsSane s) (lively : HoldsOfEach (IsLively L) s.connections)
-    (firm : s.course.loose ≡ false) (plain : s.course.strays ≡ false) (went_on : s.course.left_stopped ≡ false) where
+module _ (L : ℕ → Type 0) (s : State) (sane : IsSane s) (peers : ArePeersApart s.connections)
+    (lively : HoldsOfEach (IsLively L) s.connections) (before : IsPlain s.course) where
   abbrev Comes : Value → Outcome → Type 0
   Comes v o = IsPlain o.state.course → Came L v s o.state
+
+  one_by : (v : Value) (q : ℕ) (c : Connection) → slice_get s.connections q ≡ Some c →
+      ((n : ℕ) → closed_by v ≡ Some n → c.left.reference ≡ n) → (b : Bool) → c.is_judged ≡ b → Comes v (at_found Right v s q (Some c))
+  one_by v q c at is true j h =
+      one_came L s q c at (each_sound s.connections sane.apart peers q c at) (sane.started q c at) sane.distinct lively before.strays j v
+      is h
+  one_by v q c at is false j h =
+      lost_came L s q c at (each_sound s.connections sane.apart peers q c at) (sane.started q c at) sane.distinct lively before.strays j v
+      is h
 
   at_one : (v : Value) (q : ℕ) (c : Connection) → slice_get s.connections q ≡ Some c →
       ((n : ℕ) → closed_by v ≡ Some n → is_named Right n c ≡ true) → Comes v (at_found Right v s q (Some c))
   at_one v q c at named =
-      let judged = sane.judged firm q c at in
-      let sound = sane.apart.sound q c at judged in
-      one_came L s q c at judged sound (sane.started q c at) sane.distinct lively plain v (λ n e. is_name c n sound (named n e))
+      one_by v q c at (λ n e. is_name c n (each_sound s.connections sane.apart peers q c at) (named n e)) c.is_judged refl
 
   there : (v : Value) (q : ℕ) (c : Connection) → slice_get s.connections q ≡ Some c →
       ((n : ℕ) → closed_by v ≡ Some n → is_named Right n c ≡ true) → Comes v (at_place Right v s (Some q))
@@ -303,68 +404,53 @@ module _ (L : ℕ → Type 0) (s : State) (sane : IsSane s) (lively : HoldsOfEac
 
   at_name : (v : Value) (n : ℕ) (o : Option ℕ) → position (is_named Right n) s.connections ≡ o →
       ((m : ℕ) → closed_by v ≡ Some m → n ≡ m) → Comes v (at_place Right v s o)
-  at_name v n None e same h = absurd (none_bad v s firm plain h)
+  at_name v n None e same h = none_bad v s before.strays h
   at_name v n (Some q) e same h =
       let (c, at, named) = named_where s.connections n q e in
       there v q c at (λ m k. subst (λ (i : ℕ). is_named Right i c ≡ true) (same m k) named) h
 
-  at_live : (v : Value) (q : ℕ) (o : Option Connection) → slice_get s.connections q ≡ o → closed_by v ≡ None →
-      Comes v (at_found Right v s q o)
-  at_live v q o at e h = grind (arith, none_bad, at_one)
-
-  at_only : (v : Value) (o : Option ℕ) → closed_by v ≡ None → Comes v (at_place Right v s o)
-  at_only v o e h = grind (arith, none_bad, at_live)
-
-  wrong : (v : Value) (r : Rule) → passes_over r ≡ false → Comes v (none_told Right (Broke r) s)
-  wrong v r e h = absurd (bad (class_for Right s.course) r s.course e h)
+  wrong : (v : Value) → Comes v (none_told Right (Broke rule.UnexpectedUnit) s)
+  wrong v h = not_calm (class_for Right s.course) rule.UnexpectedUnit s.course refl refl
+      (calm_of (none_told Right (Broke rule.UnexpectedUnit) s).state.course h)
 
   same_number : (n m : ℕ) → Some n ≡ Some m → n ≡ m
   same_number n m e = cc
 
-  by_class : (k : Option Class) (v : Value) → Comes v (routed Right v s (route_in k Right false v))
-  by_class None (confirm destination x) =
+  by_class : (k : Option Class) → s.course.class ≡ k → (v : Value) → Comes v (routed Right v s (route_in k Right false v))
+  by_class None is (confirm destination x) =
       at_name (confirm destination x) destination (position (is_named Right destination) s.connections) refl (λ m e. absurd (cc e))
-  by_class None (disconnect destination source reason user) =
+  by_class None is (disconnect destination source reason user) =
       at_name (disconnect destination source reason user) destination (position (is_named Right destination) s.connections) refl
       (λ m e. same_number destination m e)
-  by_class None (disconnected destination source) =
+  by_class None is (disconnected destination source) =
       at_name (disconnected destination source) destination (position (is_named Right destination) s.connections) refl
       (λ m e. same_number destination m e)
-  by_class None (error destination cause) =
+  by_class None is (error destination cause) =
       at_name (error destination cause) destination (position (is_named Right destination) s.connections) refl
       (λ m e. same_number destination m e)
-  by_class (Some Zero) (request x) =
-      wrong (request x) rule.UnexpectedUnit refl
-  by_class (Some Zero) (disconnected destination source) =
-      at_name (disconnected destination source) destination (position (is_named Right destination) s.connections) refl
-      (λ m e. same_number destination m e)
-  by_class (Some Zero) (data0 end user) =
-      at_only (data0 end user) (position (is_live Right) s.connections) refl
-  by_class (Some Zero) v =
-      wrong v rule.WrongForm refl
-  by_class (Some Two) (confirm destination x) =
+  by_class (Some Zero) is v = absurd (before.two is)
+  by_class (Some Two) is (confirm destination x) =
       at_name (confirm destination x) destination (position (is_named Right destination) s.connections) refl (λ m e. absurd (cc e))
-  by_class (Some Two) (disconnect destination source reason user) =
+  by_class (Some Two) is (disconnect destination source reason user) =
       at_name (disconnect destination source reason user) destination (position (is_named Right destination) s.connections) refl
       (λ m e. same_number destination m e)
-  by_class (Some Two) (disconnected destination source) =
+  by_class (Some Two) is (disconnected destination source) =
       at_name (disconnected destination source) destination (position (is_named Right destination) s.connections) refl
       (λ m e. same_number destination m e)
-  by_class (Some Two) (data2 destination number end user) =
+  by_class (Some Two) is (data2 destination number end user) =
       at_name (data2 destination number end user) destination (position (is_named Right destination) s.connections) refl
       (λ m e. absurd (cc e))
-  by_class (Some Two) (acknowledge credit destination number) =
+  by_class (Some Two) is (acknowledge credit destination number) =
       at_name (acknowledge credit destination number) destination (position (is_named Right destination) s.connections) refl
       (λ m e. absurd (cc e))
-  by_class (Some Two) (error destination cause) =
+  by_class (Some Two) is (error destination cause) =
       at_name (error destination cause) destination (position (is_named Right destination) s.connections) refl
       (λ m e. same_number destination m e)
-  by_class _ v =
-      wrong v rule.UnexpectedUnit refl
+  by_class _ is v = wrong v
 
-  pub what_came : (v : Value) → s.course.right_stopped ≡ false → IsPlain (takes Right v s).state.course → Came L v s (takes Right v s).state
-  what_came v judged =
+  pub what_came : (v : Value) → IsPlain (takes Right v s).state.course → Came L v s (takes Right v s).state
+  what_came v =
       let so : takes Right v s ≡ routed Right v s (route_in s.course.class Right false v) =
-      ap (λ (b : Bool). if b then none_told Right NotJudged s else routed Right v s (route Right s.course v)) judged
-      ∙ ap (λ (b : Bool). routed Right v s (route_in s.course.class Right b v)) went_on in
-      subst (Comes v) (sym so) (by_class s.course.class v)
+      ap (λ (b : Bool). if b then none_told Right NotJudged s else routed Right v s (route Right s.course v)) before.right
+      ∙ ap (λ (b : Bool). routed Right v s (route_in s.course.class Right b v)) before.left in
+      subst (Comes v) (sym so) (by_class s.course.class refl v)

@@ -1,31 +1,21 @@
 -- Which unit of the other side passes at the tap of a called end, if both sides are still judged after it: a CR that is right, a unit
 -- for a connection, or a DC that answers nothing. For the law on a whole called end.
-use Rattle.osi_fair.proofs.Vocabulary.{arith}
-use Rattle.osi_fair.proofs.Vocabulary.{[], ap, Bool, false, if◌then◌else◌, inl, inr, is_some, None, Option, refl, Some, subst, sym, true, ℕ}
-use Rattle.osi_fair.proofs.Vocabulary.{◌∙◌, ◌∷◌, ◌≡◌, ◌⊎◌, list_all, list_any, not, position, slice_get, ◌||◌, acknowledge}
+use Rattle.osi_fair.proofs.Vocabulary.{arith, [], ap, Bool, false, if◌then◌else◌, inl, inr, is_some, None, Option, refl, Some, subst, sym}
+use Rattle.osi_fair.proofs.Vocabulary.{true, ℕ, ◌∙◌, ◌∷◌, ◌≡◌, ◌⊎◌, list_all, list_any, not, position, slice_get, ◌||◌, acknowledge}
 use Rattle.osi_fair.proofs.Vocabulary.{confirm, Connect, data0, data2, destination_of, disconnect, disconnected, error, request, Value}
 use Rattle.osi_fair.proofs.Vocabulary.{Class, Two, Zero, is_of_connection, passes_over, reach_by, reach_of, reach_past, first_failed}
 use Rattle.osi_fair.proofs.Vocabulary.{is_free, is_live, is_named, is_over, uses, asks_by, asks_kept, asks_of, at_found, at_place}
-use Rattle.osi_fair.proofs.Vocabulary.{class_for, course_after_none, has_place, in_doubt, is_not_judged}
-use Rattle.osi_fair.proofs.Vocabulary.{is_stopped, none_told, one_told, Outcome, reached}
-use Rattle.osi_fair.proofs.Vocabulary.{request_tests, route, route_in, routed, Traffic, takes, unnamed_by, unnamed_told}
+use Rattle.osi_fair.proofs.Vocabulary.{class_for, course_after_none, has_place, in_doubt, is_not_judged, is_stopped, none_told, one_told}
+use Rattle.osi_fair.proofs.Vocabulary.{Outcome, reached, request_tests, route, route_in, routed, Traffic, takes, unnamed_by, unnamed_told}
 use Rattle.osi_fair.proofs.Vocabulary.{Connection, Course, Left, Right, Finding, Broke, Kept, NotJudged, Outside, TooMany, Rule}
 use Rattle.osi_rules.specs.declared.findings.Reach.TheVariants as reach
 use Rattle.osi_rules.specs.declared.findings.Rule.TheVariants as rule
 use Rattle.osi_fair.proofs.small_facts_that_many_lemmas_use.{differ}
 use Rattle.osi_fair.proofs.each_connection_of_a_called_end.{IsDc}
 use Rattle.osi_fair.proofs.what_holds_of_one_item.{first_true}
-use Rattle.osi_fair.proofs.what_lasts_at_the_tap.{Lasts}
+pub use Rattle.osi_fair.proofs.what_lasts_at_the_tap.{IsCalm, calm_before}
 
 -- ---- what is wrong is not calm
-
--- both sides are judged; a connection may have lost its judgement
-pub record IsCalm (c : Course) : Type 0 where
-  pub left : c.left_stopped ≡ false
-  pub right : c.right_stopped ≡ false
-
-pub calm_before : (a b : Course) → Lasts a b → IsCalm b → IsCalm a
-calm_before a b l h = record { left = l.left h.left; right = l.right h.right }
 
 pub by_reach : {A : Type 0} (k : Option Class) (c : Course) → IsCalm (reached Left (reach_by k false) c) → A
 by_reach None c h = differ true refl h.left

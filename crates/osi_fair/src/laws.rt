@@ -257,30 +257,31 @@ pub fn no_request_is_blamed()
 
 /// A DR that a calling end takes for a reference which is gone closed nothing at the tap. Take any run of a whole end that
 /// offers class 2 alone. If the next unit that it takes is a DR for a reference which is not live there, a DR that closed
-/// nothing has passed, as long as both sides are judged and no connection has lost its judgement. So the DC with which it
-/// answers is not blamed: [`what_belongs_to_no_open_connection`], clauses `dc` and `lasts`.
+/// nothing has passed, as long as both sides are judged, however many connections have lost their judgement. So the DC with
+/// which it answers is not blamed: [`what_belongs_to_no_open_connection`], clauses `dc` and `lasts`.
 pub fn a_dr_for_what_is_gone_closed_nothing()
     ensures { (local : Local) (events : List Event) (w : Whole) (n source reason : ℕ) (user : List ℕ) (more : List Value) →
         local.class0 ≡ false → local.class2 ≡ true → HappenAlong Direction.Left (begin true local) events w →
         w.coming ≡ disconnect n source reason user ∷ more → w.end.ended ≡ None → value_at n w.end.live ≡ None →
         is_stopped Direction.Left w.tap.course ≡ false → is_stopped Direction.Right w.tap.course ≡ false →
-        w.tap.course.loose ≡ false → w.tap.course.strays ≡ true }
+        w.tap.course.strays ≡ true }
 {}
 
 /// A whole calling end is fair. Take any run of it, whatever classes it offers: any calls of its user, whatever units the other side
 /// sends, however many connections, memory that runs out at any time, and a tap anywhere between the two ends. Then each unit of
 /// the end that passes is right: a CR, and what it puts on an open connection of either class; or it is a CR and there are more
-/// connections than the rules look at, or it is a DC that is not judged, since a DR has passed that closed nothing. This holds as
-/// long as the other side is judged, and no connection has lost its judgement because that side broke a rule (`judged`). In class 0 each
-/// unit of the end is right as long as the end itself is judged: also after the other side has broken a rule, and isn't judged any more
-/// (`in_class_0`).
+/// connections than the rules look at; or it is not judged, since a DR has passed that closed nothing, or a connection has lost its
+/// judgement because the other side broke a rule. This holds as long as the other side is judged, however many connections have lost
+/// their judgement (`judged`). In class 0 each unit of the end is right as long as the end itself is judged: also after the other side
+/// has broken a rule, and isn't judged any more (`in_class_0`).
 pub fn a_calling_end_is_fair()
     ensures judged { (local : Local) (events : List Event) (w : Whole) (unit : Value) (rest : List Value) →
         HappenAlong Direction.Left (begin true local) events w → w.begun ≡ true → w.put ≡ unit ∷ rest →
-        is_stopped Direction.Right w.tap.course ≡ false → w.tap.course.loose ≡ false →
+        is_stopped Direction.Right w.tap.course ≡ false →
         ((takes Direction.Left unit w.tap).told.finding ≡ Finding.Kept)
         ⊎ (((takes Direction.Left unit w.tap).told.finding ≡ Finding.TooMany)
-        ⊎ (((takes Direction.Left unit w.tap).told.finding ≡ Finding.NotJudged) × (w.tap.course.strays ≡ true))) }
+        ⊎ (((takes Direction.Left unit w.tap).told.finding ≡ Finding.NotJudged)
+        × ((w.tap.course.strays ≡ true) ⊎ (w.tap.course.loose ≡ true)))) }
     ensures in_class_0 { (local : Local) (events : List Event) (w : Whole) (unit : Value) (rest : List Value) →
         HappenAlong Direction.Left (begin true local) events w → w.begun ≡ true → w.put ≡ unit ∷ rest →
         is_stopped Direction.Left w.tap.course ≡ false → w.tap.course.class ≡ Some Zero →

@@ -39,7 +39,7 @@
 //!   calling end no CR is blamed, as long as it is judged: [`laws::no_request_is_blamed`]. If it offers class 2 alone, a DR
 //!   that it takes for a reference which is gone closed nothing at the tap, so the DC with which it answers is not blamed:
 //!   [`laws::a_dr_for_what_is_gone_closed_nothing`]. And no unit of it that passes is blamed, of whatever connection and whatever
-//!   classes it offers, until the other side breaks a rule: [`laws::a_calling_end_is_fair`]. In class 2 each connection that is
+//!   classes it offers, as long as the other side is judged: [`laws::a_calling_end_is_fair`]. In class 2 each connection that is
 //!   open at the tap has its line, and each line its place. After a CC that selects class 0 has passed, the end puts nothing until
 //!   it takes that CC: while its CR has no answer, it asks for no other connection. From then on it puts DTs alone, on its one
 //!   connection. What a carrier does with a packet, with or without enough memory, and what its user does, is such events; and so is
@@ -51,9 +51,11 @@
 //! - **A whole called end** is fair, whatever classes it offers and whatever DRs pass: [`laws::a_called_end_is_fair`]. Each unit that
 //!   it puts in class 2 has the place of a connection at the tap, whose CR it answers or whose line it is of. A DC for a DR that
 //!   closed nothing has none, and is not taken for the answer on another connection: its SRC-REF is a reference that the end has
-//!   closed, and the unit which closed that one passes first. After a CC for class 0 it puts DTs alone. If the other side breaks a
-//!   rule of one connection, this is not judged any more; it keeps its references, so what the end puts for it names it, and what
-//!   the end puts for another names that one.
+//!   closed, and the unit which closed that one passes first. After a CC for class 0 it puts DTs alone.
+//! - **A connection that has lost its judgement**, since the other side broke a rule of it in class 2, keeps its references at the tap
+//!   and goes on as a line. So what a calling or a called end puts for it names it and is not judged, and what the end puts for
+//!   another names that one. The other side gives these references to no other connection: a CC or a CR with one of them would end
+//!   all judging.
 //!
 //! What is not here: what the tap reads of the octets that an end writes. So the theorem on the octets of a whole end, as
 //! `osi_honest` has it for sessions of class 0, doesn't follow yet.

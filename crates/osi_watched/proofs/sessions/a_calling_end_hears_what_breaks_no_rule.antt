@@ -16,7 +16,7 @@ use Rattle.osi_fair.specs.Wholes.{Whole}
 use Rattle.osi_fair.specs.Wholes as wholes
 use Rattle.osi_fair.proofs.a_calling_end_is_fair_in_class_2.{Joined as Follows, next_joined}
 use Rattle.osi_fair.proofs.each_connection_has_its_line.{IsOwned}
-use Rattle.osi_fair.proofs.what_the_other_side_closes.{IsClear}
+use Rattle.osi_fair.proofs.what_the_other_side_closes.{IsClear, going_on}
 use Rattle.osi_honest.specs.Courses.{Deeds}
 use Rattle.osi_honest.proofs.reading.what_is_written_is_read_again.{CanBeWritten}
 use Rattle.osi_tap.specs.Connections.{Sessions}
@@ -101,7 +101,7 @@ module _ (local : Local) (deeds : ℕ → Deeds) (is_live : ℕ → Bool) (put :
         stays_so Left is_live coming n number end user c.traffic c.sessions p.place k distinct here named p.told,
       )
   unit_heard coming (confirm n x) c fine clear w a distinct =
-      let owned = (w.follows.followed (subst (λ (s : State). IsClear s.course) (sym w.tap) clear)).owned in
+      let owned = (w.follows.followed (going_on w.whole.tap.course (subst (λ (s : State). IsClear s.course) (sym w.tap) clear))).owned in
       cc_heard n x c.traffic c.sessions fine.firm a.judged a.places a.apart fine.goes fine.none is_live coming put
       (none_written_so (Some x.source) w.whole.put put w.same w.can can
       (nothing_waits n x c.traffic c.sessions fine.firm a.judged a.places a.apart fine.goes fine.none w.whole.put

@@ -22,7 +22,7 @@ use Rattle.osi_fair.specs.Wholes.{Event, HappenAlong, Whole}
 use Rattle.osi_fair.specs.Wholes as wholes
 use Rattle.osi_fair.proofs.a_calling_end_is_fair_in_class_2.{Joined, first_joined, next_joined}
 use Rattle.osi_fair.proofs.each_connection_has_its_line.{Followed}
-use Rattle.osi_fair.proofs.what_the_other_side_closes.{IsClear}
+use Rattle.osi_fair.proofs.what_the_other_side_closes.{IsClear, going_on}
 use Rattle.osi_honest.specs.Courses.{Continues, Deeds, no_deeds, then_did, units_in, units_read}
 use Rattle.osi_honest.specs.Seeing.{IsFresh}
 use Rattle.osi_honest.specs.Turns.{Turn}
@@ -123,7 +123,7 @@ module _ (local : Local) (two : local.class2 ≡ true) where
   -- as long as nobody breaks a rule, the whole end that follows the joint is as osi_fair says
   pub whole_followed : (j : Joint) (f : IsFollowed Left first j) → IsClear j.course.traffic.course → Followed local f.whole
   whole_followed j f clear =
-      (whole_joined j f).followed (subst (λ (s : State). IsClear s.course) (sym f.tap) clear)
+      (whole_joined j f).followed (going_on f.whole.tap.course (subst (λ (s : State). IsClear s.course) (sym f.tap) clear))
 
   pub record IsCalling (deeds : ℕ → Deeds) (j : Joint) : Type 0 where
     pub ahead : AreAhead first j
@@ -244,7 +244,8 @@ module _ (local : Local) (two : local.class2 ≡ true) where
         ahead = g.ahead;
         undone = higher h.ahead.bound g.ahead.bound (λ r. then_did (deeds r) (on.more r)) new.holding.end.carrier g.rises
             (turn_undone h.ahead.bound turn old new t deeds on life
-            (few_come h.ahead.bound local first old h.ahead.followed (whole_followed old h.ahead.followed clear) places h.ahead.below)
+            (few_come h.ahead.bound local first old h.ahead.followed (whole_followed old h.ahead.followed clear) clear.sure.firm places
+            h.ahead.below)
             h.undone);
         zero = all_right IsNoZero (units_in t.used) (units_in new.coming)
             (subst (AllByRecursion IsNoZero) (turn_leaves turn old new t) h.zero);

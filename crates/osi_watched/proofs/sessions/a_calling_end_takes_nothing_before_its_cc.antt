@@ -4,11 +4,12 @@
 use Rattle.osi_watched.proofs.Vocabulary.{[], ap, append_assoc, Bool, inl, inr, List, None, Option, refl, Some, subst, sym, true, ℕ, ◌++◌}
 use Rattle.osi_watched.proofs.Vocabulary.{◌∙◌, ◌∷◌, ◌≡◌, ◌⊎◌, eq-eqb, append-nil, AllByRecursion, confirm, Connect, request, Value, Local}
 use Rattle.osi_watched.proofs.Vocabulary.{value_at, closing, Live, linked, Carrier, has_given, early, Time as Stage, stage_at, stage_is}
-use Rattle.osi_watched.proofs.Vocabulary.{all_units_more, Opens, all_units, Marked, Followed, IsNoCc, Row, Tracked, first_kept, IsDc}
-use Rattle.osi_watched.proofs.Vocabulary.{first_left, names, picked_join, those, those_join, Line, Whole, acknowledge, data0, data2}
+use Rattle.osi_watched.proofs.Vocabulary.{all_units_more, Opens, all_units, Marked, Follows, IsClear, IsNoCc, Row, Tracked, first_kept}
+use Rattle.osi_watched.proofs.Vocabulary.{IsDc, first_left, names, picked_join, those, those_join, Line, Whole, acknowledge, data0, data2}
 use Rattle.osi_watched.proofs.Vocabulary.{disconnect, disconnected, error, false, ◌||◌}
 use Rattle.osi_honest.proofs.courses.how_long_a_connection_is_open.{is_dr}
 use Rattle.osi_fair.proofs.each_connection_has_its_line.{asks, closes, over, talks}
+use Rattle.osi_fair.proofs.what_the_other_side_closes.{going_on}
 use Rattle.osi_watched.proofs.small_facts_that_many_lemmas_use.{amid_not, over_not, past_not}
 use Rattle.osi_watched.proofs.sessions.nothing_is_done_before_a_cr_passes.{IsNoZero, dcs_none}
 use Rattle.osi_watched.proofs.sessions.what_an_end_takes_at_each_stage.{AreCalm, AreReady, EndsEarly, dcs_before, dcs_first, opens_next}
@@ -36,7 +37,7 @@ module _ (local : Local) (c : Carrier) (r : ℕ) (given : has_given r c ≡ true
   -- as long as it may open, its row awaits the CC
   row_awaits : (coming : List Value) (peer : ℕ) (line : Line) → AllByRecursion IsNoCc line.coming → Row local c coming r peer line →
       AwaitsCc r coming
-  row_awaits coming peer line calm (asks there x source dcs only those_are link) = record {
+  row_awaits coming peer line calm (asks there x source two dcs only those_are link) = record {
     confirmed = x;
     before = dcs;
     after = line.coming;
@@ -49,13 +50,14 @@ module _ (local : Local) (c : Carrier) (r : ℕ) (given : has_given r c ≡ true
   row_awaits coming peer line calm (closes o there q e is those_are) = row_gone o q there e
   row_awaits coming peer line calm (over h) = over_not c.ended h lasts
 
--- of a whole end
-pub awaits_cc : (local : Local) (w : Whole) (r : ℕ) → Followed local w → Tracked w.tap.connections r → has_given r w.end ≡ true →
-    stage_at r w.end ≡ early → w.end.ended ≡ None → AwaitsCc r w.coming
-awaits_cc local w r h (p, c, at, tracked, same) given may lasts =
-    let f = h.lines p c at tracked in
+-- of a whole end, as long as no connection has lost its judgement
+pub awaits_cc : (local : Local) (w : Whole) (r : ℕ) → Follows local w → IsClear w.tap.course → Tracked w.tap.connections r →
+    has_given r w.end ≡ true → stage_at r w.end ≡ early → w.end.ended ≡ None → AwaitsCc r w.coming
+awaits_cc local w r j clear (p, c, at, tracked, same) given may lasts =
+    let f = (j.followed (going_on w.tap.course clear)).lines p c at tracked in
     let is : f.r ≡ r = sym f.left ∙ same in
-    row_awaits local w.end r given may lasts w.coming f.peer f.line f.calm
+    row_awaits local w.end r given may lasts w.coming f.peer f.line
+    (f.calm (j.kept.sane.judged clear.sure.firm p c at))
     (subst (λ (q : ℕ). Row local w.end w.coming q f.peer f.line) is f.row)
 
 -- ---- a turn

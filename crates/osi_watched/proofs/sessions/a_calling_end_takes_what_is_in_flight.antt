@@ -23,7 +23,7 @@ use Rattle.osi_watched.specs.Joint.{Joint, TakesTurn}
 use Rattle.osi_watched.specs.ShownPlaces.{HaveSamePlaces}
 use Rattle.osi_watched.proofs.a_carrier_does_events.{none_of}
 use Rattle.osi_watched.proofs.small_facts_that_many_lemmas_use.{amid_not, past_not}
-use Rattle.osi_watched.proofs.sessions.a_calling_end_is_ready.{IsCalling, whole_followed}
+use Rattle.osi_watched.proofs.sessions.a_calling_end_is_ready.{IsCalling, whole_joined}
 use Rattle.osi_watched.proofs.sessions.a_calling_end_takes_nothing_before_its_cc.{AwaitsCc, awaits_cc, calm_turn}
 use Rattle.osi_watched.proofs.sessions.a_turn_does_what_its_deeds_say.{turn_uses}
 use Rattle.osi_watched.proofs.sessions.an_end_takes_what_is_left_for_it.{IsClean, dr_stays, left_takes, none_takes, was_live}
@@ -62,7 +62,8 @@ module _ (local : Local) (two : local.class2 ≡ true) where
       let low : r ≤ h.ahead.bound = (h.ahead.below.live p k r here (ap (λ (m : ℕ). Some m) (one.calling ∙ same))).1 in
       let most : h.ahead.bound ≤ f.whole.end.given = h.ahead.above.given in
       subst (AwaitsCc r) (f.coming lasts ∙ same_units j.coming)
-      (awaits_cc local f.whole r (whole_followed local two j f clear) (subst (λ (s : State). Tracked s.connections r) (sym f.tap) tracked)
+      (awaits_cc local f.whole r (whole_joined local two j f) (subst (λ (s : State). IsClear s.course) (sym f.tap) clear)
+      (subst (λ (s : State). Tracked s.connections r) (sym f.tap) tracked)
       (given_so r f.whole.end some (omega (arith, low, most))) (alike ∙ may) whole_lasts)
 
   module _ (turn : Turn) (old new : Joint) (t : TakesTurn turn old new) (deeds : ℕ → Deeds)

@@ -5,6 +5,7 @@ use Rattle.osi_watched.proofs.Vocabulary.{subst, sym, true, ◌≡◌, Local, Tr
 use Rattle.osi_watched.proofs.Vocabulary.{Joint}
 use Rattle.osi_fair.specs.Wholes as wholes
 use Rattle.osi_fair.proofs.a_calling_end_is_fair_in_class_2.{all_joined}
+use Rattle.osi_fair.proofs.what_the_other_side_closes.{going_on}
 use Rattle.osi_watched.proofs.steps_are_events.{IsFollowed}
 
 -- ---- a calling end
@@ -18,4 +19,4 @@ calling_joined local two j f = all_joined local f.events (wholes.begin true loca
 pub calling_followed : (local : Local) → local.class2 ≡ true → (j : Joint) (f : IsFollowed Left (wholes.begin true local) j) →
     IsClear j.course.traffic.course → Followed local f.whole
 calling_followed local two j f clear =
-    (calling_joined local two j f).followed (subst (λ (s : Traffic). IsClear s.course) (sym f.tap) clear)
+    (calling_joined local two j f).followed (going_on f.whole.tap.course (subst (λ (s : Traffic). IsClear s.course) (sym f.tap) clear))

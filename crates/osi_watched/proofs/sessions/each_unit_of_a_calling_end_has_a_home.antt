@@ -6,17 +6,18 @@ use Rattle.osi_watched.proofs.Vocabulary.{ℕ, ◌++◌, ◌∙◌, ◌∷◌, �
 use Rattle.osi_watched.proofs.Vocabulary.{destination_of, disconnect, request, Value, written, Standing, Local, value_at, closing, Live}
 use Rattle.osi_watched.proofs.Vocabulary.{linked, Carrier, is_closing, is_open, Traffic as State, Connection, Phase, Closing, Open, Left}
 use Rattle.osi_watched.proofs.Vocabulary.{Begins, is_shut, Opens, opens, Continues, Deeds, all_units, Turn, Sessions, asking, Followed}
-use Rattle.osi_watched.proofs.Vocabulary.{is_tracked, IsAnswer, IsNoCc, IsOwned, Row, stray, IsClear, is_dc, IsDc, names, picked_each}
-use Rattle.osi_watched.proofs.Vocabulary.{those, Line, Whole, Joint, TakesTurn, HaveSamePlaces, named_by}
+use Rattle.osi_watched.proofs.Vocabulary.{Follows, is_tracked, IsAnswer, IsNoCc, IsOwned, Row, stray, IsClear, is_dc, IsDc, names}
+use Rattle.osi_watched.proofs.Vocabulary.{picked_each, those, Line, Whole, Joint, TakesTurn, HaveSamePlaces, named_by}
 use Rattle.osi_carrier.specs.State.{asked}
 use Rattle.osi_fair.specs.Wholes.{begin}
 use Rattle.osi_fair.proofs.each_connection_has_its_line.{asks, closes, of, over, talks}
+use Rattle.osi_fair.proofs.what_the_other_side_closes.{going_on}
 use Rattle.osi_honest.specs.Arriving.{AreApart, is_open as opened}
 use Rattle.osi_tap.specs.Courses.{Course as Passed}
 use Rattle.osi_watched.proofs.small_facts_that_many_lemmas_use.{all_join as all_of_both, and_both, over_not}
 use Rattle.osi_watched.proofs.steps_are_events.{IsFollowed}
 use Rattle.osi_watched.proofs.what_is_put_is_what_is_written.{same_written, written_join}
-use Rattle.osi_watched.proofs.sessions.a_whole_end_runs_along.{calling_followed}
+use Rattle.osi_watched.proofs.sessions.a_whole_end_runs_along.{calling_followed, calling_joined}
 use Rattle.osi_watched.proofs.sessions.connections_have_the_same_places.{at_same}
 use Rattle.osi_watched.proofs.sessions.each_unit_of_a_turn_has_one_connection.{HasHome, IsMarked, known}
 use Rattle.osi_watched.proofs.sessions.what_a_turn_puts_goes_to_its_peer.{IsNotZero, IsThere, Lived, all_back, all_so, came, linked_so}
@@ -61,7 +62,7 @@ closed_so o q (inr h) = inr h
 -- its line is for the peer of its link
 row_peer : (local : Local) (end : Carrier) (coming : List Value) (r peer : ℕ) (line : Line) (m : ℕ) (link : Standing) →
     Row local end coming r peer line → end.ended ≡ None → value_at r end.live ≡ Some (linked m link) → m ≡ peer
-row_peer local end coming r peer line m link (asks there x source early dcs first is) lasts e =
+row_peer local end coming r peer line m link (asks there x source two early dcs first is) lasts e =
     live_not (value_at r end.live) m link e (inl there)
 row_peer local end coming r peer line m link (talks l there is same) lasts e = same_peer m peer link l (sym e ∙ there)
 row_peer local end coming r peer line m link (closes o there q gone is same) lasts e =
@@ -102,7 +103,7 @@ asked_not o e (inr (inr h)) = let no : Some asked ≡ None = sym e ∙ h in absu
 
 row_source : (local : Local) (end : Carrier) (coming : List Value) (r peer : ℕ) (line : Line) → Row local end coming r peer line →
     AllByRecursion IsNoCc line.coming → end.ended ≡ None → value_at r end.live ≡ Some asked → AllByRecursion (IsFrom peer) (those r coming)
-row_source local end coming r peer line (asks there x source early dcs first is) calm lasts e =
+row_source local end coming r peer line (asks there x source two early dcs first is) calm lasts e =
     subst (AllByRecursion (IsFrom peer)) (sym first)
     (all_of_both (IsFrom peer) early (confirm r x ∷ line.coming) (all_so IsDc (IsFrom peer) (dc_no_cc peer) early dcs)
     (λ n y same. sym (same_source r n x y same) ∙ source, all_so IsNoCc (IsFrom peer) (none_no_cc peer) line.coming calm))
@@ -112,14 +113,17 @@ row_source local end coming r peer line (closes o there q gone is same) calm las
     asked_not o (sym there ∙ e) (inr (closed_so o q gone))
 row_source local end coming r peer line (over h) calm lasts e = over_not end.ended h lasts
 
-asked_home : (local : Local) (w : Whole) (t : Sessions) (f : Followed local w) → HaveSamePlaces w.tap.connections t.live →
-    w.end.ended ≡ None → (q : ℕ) (x : Connect) → IsThere (confirm q x) w.coming → HasHome Left q x.source w.tap t
-asked_home local w t f places lasts q x come =
-    let (tracked, waits) = come (IsAnswer w.tap.connections w.end) f.answers q x refl lasts in
+asked_home : (local : Local) (w : Whole) (t : Sessions) → Follows local w → IsClear w.tap.course →
+    HaveSamePlaces w.tap.connections t.live → w.end.ended ≡ None → (q : ℕ) (x : Connect) → IsThere (confirm q x) w.coming →
+    HasHome Left q x.source w.tap t
+asked_home local w t j clear places lasts q x come =
+    let f = j.followed (going_on w.tap.course clear) in
+    let (tracked, waits) = come (IsAnswer w.tap.course.loose w.tap.connections w.end) f.answers q x refl lasts (inr clear.sure.firm) in
     let (p, c, at, so, mine) = tracked in
     let g = f.lines p c at so in
     let name : g.r ≡ q = sym g.left ∙ mine in
-    let sources = row_source local w.end w.coming g.r g.peer g.line g.row g.calm lasts
+    let sources = row_source local w.end w.coming g.r g.peer g.line g.row
+    (g.calm (j.kept.sane.judged clear.sure.firm p c at)) lasts
     (ap (λ (n : ℕ). value_at n w.end.live) name ∙ waits) in
     let each = picked_each (IsFrom g.peer) (names g.r) w.coming sources in
     let same : x.source ≡ g.peer =
@@ -183,6 +187,9 @@ module _ (local : Local) (two : local.class2 ≡ true) (deeds : ℕ → Deeds) (
   followed : Followed local f.whole
   followed = calling_followed local two old f clear
 
+  clear_so : IsClear f.whole.tap.course
+  clear_so = subst (λ (x : State). IsClear x.course) (sym f.tap) clear
+
   places_so : HaveSamePlaces f.whole.tap.connections t.live
   places_so = subst (λ (x : State). HaveSamePlaces x.connections t.live) (sym f.tap) places
 
@@ -216,7 +223,8 @@ module _ (local : Local) (two : local.class2 ≡ true) (deeds : ℕ → Deeds) (
       by : (u : Value) → Opens true q l.peer u → l.arrived.before ≡ front ++ (0, u) ∷ [] → HasHome Left q l.peer f.whole.tap t
       by (confirm n x) (mine, theirs) come =
           subst (λ (k : ℕ). HasHome Left q k f.whole.tap t) theirs
-          (asked_home local f.whole t followed places_so (whole_lasts Left true (begin true local) deeds turn old new step on f lasts) q x
+          (asked_home local f.whole t (calling_joined local two old f) clear_so places_so
+          (whole_lasts Left true (begin true local) deeds turn old new step on f lasts) q x
           (subst (λ (k : ℕ). IsThere (confirm k x) f.whole.coming) mine
           (came Left true (begin true local) deeds turn old new step on f lasts (confirm n x) front q l come)))
       by (request x) (caller, theirs) come = absurd (cc)

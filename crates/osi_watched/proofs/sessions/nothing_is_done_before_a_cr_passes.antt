@@ -142,27 +142,29 @@ pub same_units : (packets : List (List ℕ)) → pieces.units_in packets ≡ uni
 same_units [] = refl
 same_units (p ∷ packets) = ap (λ (l : List Value). pieces.units_by (units_of p) ++ l) (same_units packets)
 
--- each CC that has come is for a connection at the tap
-answers_few : (b : ℕ) (s : State) (t : Sessions) (end : Carrier) (vs : List Value) → HaveSamePlaces s.connections t.live →
-    AreUpTo Left b t → end.ended ≡ None → AllByRecursion (λ (v : Value). IsAnswer s.connections end v) vs → AllByRecursion (IsFew b) vs
-answers_few b s t end [] places up lasts h = tt
-answers_few b s t end (v ∷ vs) places up lasts h = (
+-- each CC that has come is for a connection at the tap, as long as none has lost its judgement
+answers_few : (b : ℕ) (s : State) (t : Sessions) (end : Carrier) (vs : List Value) → s.course.loose ≡ false →
+    HaveSamePlaces s.connections t.live → AreUpTo Left b t → end.ended ≡ None →
+    AllByRecursion (λ (v : Value). IsAnswer s.course.loose s.connections end v) vs → AllByRecursion (IsFew b) vs
+answers_few b s t end [] firm places up lasts h = tt
+answers_few b s t end (v ∷ vs) firm places up lasts h = (
   λ n x is.
-      let ((p, c, at, tracked, same), row) = h.0 n x is lasts in
+      let ((p, c, at, tracked, same), row) = h.0 n x is lasts (inr firm) in
       let (j, here, one) = at_same s.connections t.live p c places at in
       (up.live p j n here (ap (λ (m : ℕ). Some m) (one.calling ∙ same))).1,
-  answers_few b s t end vs places up lasts h.1,
+  answers_few b s t end vs firm places up lasts h.1,
 )
 
 pub few_come : (b : ℕ) (local : Local) (first : Whole) (j : Joint) (f : IsFollowed Left first j) → Followed local f.whole →
-    HaveSamePlaces j.course.traffic.connections j.course.sessions.live → AreUpTo Left b j.course.sessions →
-    j.holding.end.carrier.ended ≡ None → AllByRecursion (IsFew b) (units_in j.coming)
-few_come b local first j f h places up lasts =
-    answers_few b j.course.traffic j.course.sessions f.whole.end (units_in j.coming) places up
+    j.course.traffic.course.loose ≡ false → HaveSamePlaces j.course.traffic.connections j.course.sessions.live →
+    AreUpTo Left b j.course.sessions → j.holding.end.carrier.ended ≡ None → AllByRecursion (IsFew b) (units_in j.coming)
+few_come b local first j f h firm places up lasts =
+    answers_few b j.course.traffic j.course.sessions f.whole.end (units_in j.coming) firm places up
     (none_of f.whole.end.ended (sym f.like.over ∙ ap is_some lasts))
-    (subst (λ (l : List Value). AllByRecursion (λ (v : Value). IsAnswer j.course.traffic.connections f.whole.end v) l)
-    (f.coming lasts ∙ same_units j.coming)
-    (subst (λ (s : State). AllByRecursion (λ (v : Value). IsAnswer s.connections f.whole.end v) f.whole.coming) f.tap h.answers))
+    (subst (λ (l : List Value). AllByRecursion (λ (v : Value). IsAnswer j.course.traffic.course.loose j.course.traffic.connections
+    f.whole.end v) l) (f.coming lasts ∙ same_units j.coming)
+    (subst (λ (s : State). AllByRecursion (λ (v : Value). IsAnswer s.course.loose s.connections f.whole.end v) f.whole.coming) f.tap
+    h.answers))
 
 -- ---- a CR that passes
 

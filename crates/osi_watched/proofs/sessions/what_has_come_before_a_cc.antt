@@ -43,7 +43,7 @@ use Rattle.osi_fair.proofs.what_becomes_of_a_connection.{IsIdle, Told, comes_for
 use Rattle.osi_fair.proofs.what_holds_of_one_item.{HoldsOfEach, after_add, after_map, after_set}
 use Rattle.osi_fair.proofs.what_keeps_names_apart.{Sound}
 use Rattle.osi_fair.proofs.what_stays_of_each_connection.{left_then, own_stays, right_passes}
-use Rattle.osi_fair.proofs.what_the_other_side_closes.{IsClear, is_name, judged_same}
+use Rattle.osi_fair.proofs.what_the_other_side_closes.{IsClear, going_on, is_name, judged_same}
 use Rattle.osi_fair.proofs.which_units_are_for_a_connection.{each_picked, names, picked_join, picked_other, those, those_join}
 use Rattle.osi_honest.specs.Courses.{Continues, Deeds, units_in, units_read}
 use Rattle.osi_honest.specs.Marked.{Marked}
@@ -105,11 +105,11 @@ quiet_as a b xs ys s t same alike q =
 -- ---- a connection whose CC has come stays open at the tap
 
 abbrev is_answered : Whole → Value → Type 0
-is_answered w v = IsAnswer w.tap.connections w.end v
+is_answered w v = IsAnswer w.tap.course.loose w.tap.connections w.end v
 
-answer_of : (local : Local) (w next : Whole) (more : List Value) → Followed local next → next.coming ≡ w.coming ++ more → (r : ℕ) →
-    next.end.ended ≡ None → AwaitsCc r w.coming → Tracked next.tap.connections r
-answer_of local w next more f is r lasts a =
+answer_of : (local : Local) (w next : Whole) (more : List Value) → Followed local next → next.tap.course.loose ≡ false →
+    next.coming ≡ w.coming ++ more → (r : ℕ) → next.end.ended ≡ None → AwaitsCc r w.coming → Tracked next.tap.connections r
+answer_of local w next more f firm is r lasts a =
     let all : AllByRecursion (is_answered next) (those r (w.coming ++ more)) =
     each_picked (is_answered next) (names r) (w.coming ++ more)
     (all_so (is_answered next) (λ v. names r v ≡ true → is_answered next v) (w.coming ++ more) (λ v h named. h)
@@ -118,7 +118,7 @@ answer_of local w next more f is r lasts a =
     (subst (AllByRecursion (is_answered next)) (those_join r w.coming more) all) in
     let one = one_of (is_answered next) a.before a.after (confirm r a.confirmed)
     (subst (AllByRecursion (is_answered next)) a.is some) in
-    (one r a.confirmed refl lasts).0
+    (one r a.confirmed refl lasts (inr firm)).0
 
 given_there : (local : Local) (w : Whole) (r : ℕ) → Follows local w → 0 < r → Tracked w.tap.connections r → has_given r w.end ≡ true
 given_there local w r j some (p, c, at, tracked, same) =
@@ -133,8 +133,8 @@ still_tracked : (local : Local) (w next : Whole) (more : List Value) → Follows
     Tracked w.tap.connections r → Tracked next.tap.connections r
 still_tracked local w next more j then_j clear then_clear same is r may tracked =
     let lasts = early_lasts r w.end may.1 in
-    answer_of local w next more (then_j.followed then_clear) is r (ap (λ (c : Carrier). c.ended) same ∙ lasts)
-    (awaits_cc local w r (j.followed clear) tracked (given_there local w r j may.0 tracked) may.1 lasts)
+    answer_of local w next more (then_j.followed (going_on next.tap.course then_clear)) then_clear.sure.firm is r
+    (ap (λ (c : Carrier). c.ended) same ∙ lasts) (awaits_cc local w r j clear tracked (given_there local w r j may.0 tracked) may.1 lasts)
 
 -- ---- a unit of the end passes
 
@@ -352,7 +352,8 @@ module _ (local : Local) (v : Value) (w : Whole) (j : Follows local w)
 
   tracked_now : (r : ℕ) → MayOpen w.end r → IsForOne r v → Tracked w.tap.connections r
   tracked_now r may one =
-      tracked_of r may one (comes_for w.tap clear.sure.firm v clear.sure.left clear.sure.right (j.followed clear).zero then_clear.sure)
+      tracked_of r may one (comes_for w.tap v clear.sure.left clear.sure.right (j.followed (going_on w.tap.course clear)).zero
+      (going_on (takes way.Right v w.tap).state.course then_clear).sure)
 
 -- one that right is closing has its CC too, if it may open
 pub closing_tracked : (end : Carrier) (coming : List Value) (s : State) → IsQuiet end coming s → (i : ℕ) (c : Connection) →

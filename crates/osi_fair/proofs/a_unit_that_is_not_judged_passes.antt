@@ -1,0 +1,267 @@
+-- A unit of a whole calling end passes that is not judged: it changes no connection at the tap, and if it is of a line, that of a
+-- connection which has lost its judgement. For the law on a whole end.
+use Rattle.osi_fair.proofs.Vocabulary.{arith, [], ap, Bool, false, if◌then◌else◌, inl, inr, List, None, Option, refl, set, Some, subst}
+use Rattle.osi_fair.proofs.Vocabulary.{sym, true, ℕ, ◌++◌, ◌∙◌, ◌∷◌, ◌≡◌, ◌⊎◌, eq-eqb, AllByRecursion, position, slice_get, ◌&&◌, ◌==◌}
+use Rattle.osi_fair.proofs.Vocabulary.{Connect, destination_of, disconnected, request, Value, Class, Two, Local, is_applied, reach_of}
+use Rattle.osi_fair.proofs.Vocabulary.{is_named, is_over, is_over_by, is_silent, class_for, connection_after, found, found_on, one_told}
+use Rattle.osi_fair.proofs.Vocabulary.{Outcome, route, route_in, Traffic, takes, uses_source, Connection, Course, Left, Finding, Kept}
+use Rattle.osi_fair.proofs.Vocabulary.{NotJudged, Named, after_finding, finding_of, Line, unit as passing, Whole}
+use Rattle.osi_fair.specs.Lines.{passes_own}
+use Rattle.osi_fair.proofs.small_facts_that_many_lemmas_use.{and_false, both, name_so, no_list, number_is}
+use Rattle.osi_fair.proofs.a_unit_of_a_whole_end_passes.{name_first, own_kept, own_passes, own_peers, put_first, row_same}
+use Rattle.osi_fair.proofs.each_connection_has_its_line.{followed_at, AreSettled, Followed, Following, IsAnswer, IsAsking, IsOwned}
+use Rattle.osi_fair.proofs.each_connection_has_its_line.{IsSpare, all_so, asking, idle_line, is_tracked, of, put_some, stray, tracks_keep}
+use Rattle.osi_fair.proofs.each_connection_has_its_line.{tracks_on, why_before}
+use Rattle.osi_fair.proofs.left_selects_no_class.{left_class}
+use Rattle.osi_fair.proofs.names_of_right_stay_apart_though_one_is_lost.{ArePeersApart}
+use Rattle.osi_fair.proofs.what_a_line_keeps_though_it_is_lost.{Keeps}
+use Rattle.osi_fair.proofs.what_belongs_to_no_open_connection.{strays_last}
+use Rattle.osi_fair.proofs.what_lasts_at_the_tap.{lasts_passing}
+use Rattle.osi_fair.proofs.what_the_other_side_closes.{IsSane}
+use Rattle.osi_fair.proofs.which_units_are_for_a_connection.{IsOf, picked_first, picked_rest, is_ours, leads, ours, ours_is}
+use Rattle.osi_fair.proofs.while_no_class_is_selected.{set_same}
+
+-- ---- what the tap finds of a unit of a connection that has lost its judgement
+
+name_of : (m n : ℕ) → Some m ≡ Some n → Named m ≡ Named n
+name_of m n e = ap (λ (x : ℕ). Named x) (number_is m n e)
+
+route_by : (b : Bool) (u : Value) (n : ℕ) → destination_of u ≡ Some n → route_in (Some Two) Left b u ≡ Named n
+route_by b u n e = grind (arith, name_of)
+
+-- it is not judged, and changes no connection
+pub record IsIgnored (u : Value) (s : Traffic) : Type 0 where
+  pub found : (takes Left u s).told.finding ≡ NotJudged
+  pub same : (takes Left u s).state.connections ≡ s.connections
+
+module _ (u : Value) (s : Traffic) (n p : ℕ) (c : Connection) (left : s.course.left_stopped ≡ false)
+    (class : s.course.class_seen ≡ Some Two) (dest : destination_of u ≡ Some n)
+    (first : position (is_named Left n) s.connections ≡ Some p) (at : slice_get s.connections p ≡ Some c)
+    (lost : c.is_judged ≡ false) where
+  routed_so : route Left s.course u ≡ Named n
+  routed_so = ap (λ (k : Option Class). route_in k Left s.course.right_stopped u) class ∙ route_by s.course.right_stopped u n dest
+
+  takes_so : takes Left u s ≡ one_told Left p c u s
+  takes_so = grind (arith, routed_so)
+
+  found_so : found_on Left s c u ≡ NotJudged
+  found_so = ap (λ (b : Bool). if b then found Left s.course (uses_source Left s.connections u) c u else NotJudged) lost
+
+  pub lost_ignored : IsIgnored u s
+  lost_ignored = record {
+    found = ap (λ (o : Outcome). o.told.finding) takes_so ∙ found_so;
+    same = ap (λ (o : Outcome). o.state.connections) takes_so
+        ∙ ap (λ (f : Finding). set s.connections p (connection_after Left u (is_applied f) (reach_of (class_for Left s.course) f) c))
+        found_so
+        ∙ set_same s.connections p c at;
+  }
+
+-- ---- at the end
+
+module _ (local : Local) (w : Whole) (f : Followed local w) (sane : IsSane w.tap) (peers : ArePeersApart w.tap.connections) (u : Value)
+    (rest : List Value) (e : w.put ≡ u ∷ rest) (begun : w.begun ≡ true) (left : w.tap.course.left_stopped ≡ false) where
+  abbrev cs : List Connection
+  cs = w.tap.connections
+
+  abbrev course : Course
+  course = (takes Left u w.tap).state.course
+
+  abbrev strays : Bool
+  strays = w.tap.course.strays
+
+  strays_on : strays ≡ true → course.strays ≡ true
+  strays_on h = strays_last (passing Left u) w.tap h
+
+  -- ---- the unit is of the line of this connection, which has lost its judgement
+
+  module _ (p : ℕ) (c : Connection) (at : slice_get cs p ≡ Some c) (tracked : is_tracked c ≡ true)
+      (g : Following local w.put w.begun strays w.end w.coming c) (mine : is_ours g.r g.peer u ≡ true) (lost : c.is_judged ≡ false) where
+    ours_so_far : u ∷ ours g.r g.peer rest ≡ g.line.put ++ g.spare
+    ours_so_far = sym (picked_first (is_ours g.r g.peer) u rest mine) ∙ ap (λ (l : List Value). ours g.r g.peer l) (sym e) ∙ g.put_is
+
+    spares_on : (spare : List Value) → AllByRecursion (IsSpare strays g.r g.peer) spare →
+        AllByRecursion (IsSpare course.strays g.r g.peer) spare
+    spares_on spare h = all_so (IsSpare strays g.r g.peer) (IsSpare course.strays g.r g.peer) spare
+        (λ v k. record { is = k.is; strays = strays_on k.strays }) h
+
+    -- a spare DC
+    module _ (none : g.line.put ≡ []) where
+      spare_so : g.spare ≡ u ∷ ours g.r g.peer rest
+      spare_so = sym (ours_so_far ∙ ap (λ (l : List Value). l ++ g.spare) none)
+
+      spare_head : IsSpare strays g.r g.peer u × AllByRecursion (IsSpare strays g.r g.peer) (ours g.r g.peer rest)
+      spare_head = subst (AllByRecursion (IsSpare strays g.r g.peer)) spare_so g.spares
+
+      pop_spare : Following local rest false course.strays w.end w.coming c
+      pop_spare = record {
+        r = g.r;
+        peer = g.peer;
+        line = g.line;
+        left = g.left;
+        right = g.right;
+        tracks = g.tracks;
+        tap = g.tap;
+        spare = ours g.r g.peer rest;
+        put_is = ap (λ (l : List Value). l ++ ours g.r g.peer rest) (sym none);
+        spares = spares_on (ours g.r g.peer rest) spare_head.1;
+        gone = λ some. g.gone (λ h. no_list u (ours g.r g.peer rest) (sym spare_so ∙ h));
+        begun_is = λ first. idle_line g.r g.peer g.line g.tracks none;
+        row = g.row;
+        calm = g.calm;
+      }
+
+    -- the first unit that the line has put
+    module _ (v : Value) (vs : List Value) (some : g.line.put ≡ v ∷ vs) where
+      parts : (us : List Value) × ((g.line.put ≡ u ∷ us) × (ours g.r g.peer rest ≡ us ++ g.spare))
+      parts = put_first local w f sane peers u (ours g.r g.peer rest) g.line.put g.spare ours_so_far (put_some v vs g.spare g.line.put some)
+
+      line_begun : g.line.begun ≡ true
+      line_begun = g.begun_is (put_some v vs g.spare g.line.put some)
+          ∙ ap (λ (l : List Value). w.begun && leads (is_ours g.r g.peer) l) e ∙ both w.begun (is_ours g.r g.peer u) begun mine
+
+      abbrev line_after : Line
+      line_after = record g.line {
+        put = parts.0;
+        begun = false;
+        tap = after_finding Left (finding_of Left w.tap.course false g.line.tap u) u g.line.tap;
+      }
+
+      tap_after : line_after.tap ≡ c
+      tap_after =
+          ap (λ (x : Connection). after_finding Left (finding_of Left w.tap.course false x u) u x) g.tap
+          ∙ ap (λ (b : Bool). after_finding Left (if b then found Left w.tap.course false c u else NotJudged) u c) lost
+
+      pop_put : Following local rest false course.strays w.end w.coming c
+      pop_put = record {
+        r = g.r;
+        peer = g.peer;
+        line = line_after;
+        left = g.left;
+        right = g.right;
+        tracks = tracks_on g.r g.peer g.line line_after (passes_own w.tap.course false ∷ []) g.tracks
+            (line_after, (u, parts.1.0, line_begun, refl), refl);
+        tap = tap_after;
+        spare = g.spare;
+        put_is = parts.1.1;
+        spares = spares_on g.spare g.spares;
+        gone = g.gone;
+        begun_is = λ first. refl;
+        row = row_same local w.end w.coming g.r g.peer g.line line_after refl refl g.row;
+        calm = g.calm;
+      }
+
+      -- as it passes it names its connection
+      put_ignored : IsIgnored u w.tap
+      put_ignored =
+          let k : Keeps Left g.r g.peer g.line = tracks_keep g.r g.peer g.line g.tracks in
+          let (there, is) = subst (λ (x : Connection). (is_silent x.seen_by_left.phase ≡ false) × (x.seen_by_left.reference ≡ g.peer)) g.tap
+          (k.seen_so line_begun) in
+          let named : is_named Left g.peer c ≡ true =
+          name_so (is_over Left c) (is_silent c.seen_by_left.phase) (c.seen_by_left.reference == g.peer)
+          (ap (λ (b : Bool). b && is_over_by c.left c.seen_by_left) lost) there (eq-eqb c.seen_by_left.reference g.peer is) in
+          lost_ignored u w.tap g.peer p c left (f.seen p c at tracked there) (ours_is g.r g.peer u mine).named
+          (name_first local w f sane peers g.peer p c at named) at lost
+
+    pop_by : (l : List Value) → g.line.put ≡ l → Following local rest false course.strays w.end w.coming c
+    pop_by [] none = pop_spare none
+    pop_by (v ∷ vs) some = pop_put v vs some
+
+    -- such a unit is not judged, or a DC for a DR that closed nothing
+    pub lost_by : (l : List Value) → g.line.put ≡ l → IsIgnored u w.tap ⊎ ((u ≡ disconnected g.peer g.r) × (strays ≡ true))
+    lost_by [] none = let k = (spare_head none).0 in inr (k.is, k.strays)
+    lost_by (v ∷ vs) some = inl (put_ignored v vs some)
+
+  -- ---- all lines
+
+  module _ (ignored : IsIgnored u w.tap) where
+    judged_not : (p : ℕ) (c : Connection) → slice_get cs p ≡ Some c → is_tracked c ≡ true →
+        (g : Following local w.put w.begun strays w.end w.coming c) → is_ours g.r g.peer u ≡ true → (b : Bool) → c.is_judged ≡ b →
+        c.is_judged ≡ false
+    judged_not p c at tracked g mine false j = j
+    judged_not p c at tracked g mine true j =
+        let own = subst (λ (i : ℕ). IsOf i c.right.reference u) (sym g.left)
+        (subst (λ (i : ℕ). IsOf g.r i u) (sym g.right) (ours_is g.r g.peer u mine)) in
+        absurd (cc (sym (own_kept local w f sane peers u rest p c e begun left at tracked own j) ∙ ignored.found))
+
+    line_by : (p : ℕ) (c : Connection) → slice_get cs p ≡ Some c → is_tracked c ≡ true →
+        (g : Following local w.put w.begun strays w.end w.coming c) → (b : Bool) → is_ours g.r g.peer u ≡ b →
+        Following local rest false course.strays w.end w.coming c
+    line_by p c at tracked g false other = followed_at g
+        (sym (picked_rest (is_ours g.r g.peer) u rest other) ∙ ap (λ (l : List Value). ours g.r g.peer l) (sym e))
+        (all_so (IsSpare strays g.r g.peer) (IsSpare course.strays g.r g.peer) g.spare
+        (λ v k. record { is = k.is; strays = strays_on k.strays }) g.spares)
+        (ap (λ (l : List Value). w.begun && leads (is_ours g.r g.peer) l) e ∙ ap (λ (b : Bool). w.begun && b) other ∙ and_false w.begun)
+        g.row
+    line_by p c at tracked g true mine =
+        pop_by p c at tracked g mine (judged_not p c at tracked g mine c.is_judged refl) g.line.put refl
+
+    owned_on : (v : Value) → IsOwned w.tap v → IsOwned (record { connections = cs; course = course }) v
+    owned_on v (asking x is) = asking x is
+    owned_on v (of p c at tracked own) = of p c at tracked own
+    owned_on v (stray m source is k) = stray m source is (strays_on k)
+
+    settled_rest : (v : Value) → AreSettled cs w.put w.end.given v → AreSettled cs rest w.end.given v
+    settled_rest v h m source is =
+        let k = h m source is in
+        record {
+          up = k.up;
+          waits = k.waits;
+          asks = (subst (AllByRecursion (λ (y : Value). (z : Connect) → y ≡ request z → z.source ≡ source → ⊥)) e k.asks).1;
+        }
+
+    ignored_so : Followed local (record w { put = rest; begun = false; tap = record { connections = cs; course = course } })
+    ignored_so =
+        let (first, owned) = subst (AllByRecursion (λ (v : Value). IsOwned w.tap v)) e f.owned in
+        let (none, requests) = subst (AllByRecursion (λ (v : Value). (y : Connect) → v ≡ request y → IsAsking local w.end w.coming y)) e
+        f.requests in
+        let (alone, settled) = subst (AllByRecursion (AreSettled cs w.put w.end.given)) e f.settled in
+        let lasts = lasts_passing (passing Left u) w.tap in
+        record {
+          lines = λ i c at tracked.
+              let g = f.lines i c at tracked in line_by i c at tracked g (is_ours g.r g.peer u) refl;
+          waiting = f.waiting;
+          owned = all_so (λ v. IsOwned w.tap v) (λ v. IsOwned (record { connections = cs; course = course }) v) rest
+              (λ v k. owned_on v k) owned;
+          linked = f.linked;
+          answers = all_so (λ v. IsAnswer w.tap.course.loose cs w.end v) (λ v. IsAnswer course.loose cs w.end v) w.coming
+              (λ v h m y k last why. h m y k last (why_before w.tap.course.loose course.loose lasts.firm why)) f.answers;
+          requests = requests;
+          two = λ r t. lasts.two (f.two r t);
+          silent = f.silent;
+          zero = subst (λ (k : Option Class). (k ≡ None) ⊎ (k ≡ Some Two)) (sym (left_class u w.tap)) f.zero;
+          some = λ h. absurd (cc h);
+          few = f.few;
+          seen = λ i c at tracked known. lasts.seen (f.two c.left.reference (i, c, at, tracked, refl)) (f.seen i c at tracked known);
+          settled = all_so (AreSettled cs w.put w.end.given) (AreSettled cs rest w.end.given) rest settled_rest settled;
+          lost = f.lost;
+          shut = f.shut;
+        }
+
+    pub ignored_passes : Followed local (record w { put = rest; begun = false; tap = (takes Left u w.tap).state })
+    ignored_passes = subst (λ (l : List Connection). Followed local (record w {
+      put = rest;
+      begun = false;
+      tap = record { connections = l; course = course };
+    })) (sym ignored.same) ignored_so
+
+    pub ignored_peers : ArePeersApart (takes Left u w.tap).state.connections
+    ignored_peers = subst ArePeersApart (sym ignored.same) peers
+
+-- ---- the unit that passes
+
+-- It is right, or not judged: a DR has passed that closed nothing, or a connection has lost its judgement. All holds after it.
+pub record Passed (local : Local) (w : Whole) (u : Value) (rest : List Value) : Type 0 where
+  pub fine : ((takes Left u w.tap).told.finding ≡ Kept) ⊎ (((takes Left u w.tap).told.finding ≡ NotJudged)
+      × ((w.tap.course.strays ≡ true) ⊎ (w.tap.course.loose ≡ true)))
+  pub followed : Followed local (record w { put = rest; begun = false; tap = (takes Left u w.tap).state })
+  pub peers : ArePeersApart (takes Left u w.tap).state.connections
+
+pub own_goes : (local : Local) (w : Whole) (f : Followed local w) (sane : IsSane w.tap) (peers : ArePeersApart w.tap.connections)
+    (u : Value) (rest : List Value) (p : ℕ) (c : Connection) (e : w.put ≡ u ∷ rest) (begun : w.begun ≡ true)
+    (left : w.tap.course.left_stopped ≡ false) (at : slice_get w.tap.connections p ≡ Some c) (tracked : is_tracked c ≡ true)
+    (own : IsOf c.left.reference c.right.reference u) → c.is_judged ≡ true → Passed local w u rest
+own_goes local w f sane peers u rest p c e begun left at tracked own judged = record {
+  fine = inl (own_kept local w f sane peers u rest p c e begun left at tracked own judged);
+  followed = own_passes local w f sane peers u rest p c e begun left at tracked own judged;
+  peers = own_peers local w f sane peers u rest p c e begun left at tracked own judged;
+}
