@@ -25,9 +25,13 @@ pub called_is_fair : (local : Local) → IsFairFrom Right (begin false local)
 called_is_fair local = λ events w unit rest along begun put judged firm.
     called_is_fair_throughout local events w unit rest along begun put judged
 
+pub calling_is_fair_throughout : (local : Local) → IsFairThroughout Left (begin true local)
+calling_is_fair_throughout local = λ events w unit rest along begun put judged.
+    right_or_too_many _ (calling_fair local events w unit rest along begun put judged)
+
 pub calling_is_fair : (local : Local) → IsFairFrom Left (begin true local)
 calling_is_fair local = λ events w unit rest along begun put judged firm.
-    right_or_too_many _ (calling_fair local events w unit rest along begun put judged)
+    calling_is_fair_throughout local events w unit rest along begun put judged
 
 -- in class 0 each is right, as long as the end is judged itself
 pub called_is_fair_in_class_0 : (local : Local) → IsFairAlone Right (begin false local)

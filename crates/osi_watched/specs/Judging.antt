@@ -10,9 +10,3 @@ use Rattle.osi_tap.specs.Courses.{Course, way_of}
 abbrev pub AreBothJudged : Direction → Course → Type 0
 AreBothJudged d c = c.traffic.course.class ≡ Some Zero → is_stopped (way_of (other d)) c.traffic.course ≡ true →
     is_stopped (way_of d) c.traffic.course ≡ true
-
--- Nor has one ended the judging of one connection, in class 2. So a taker has passed over each break of the other side, or nothing more is
--- judged.
-pub record IsJudgedWhole (d : Direction) (c : Course) : Type 0 where
-  pub firm : c.traffic.course.loose ≡ false
-  pub both : AreBothJudged d c

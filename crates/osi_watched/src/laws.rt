@@ -11,7 +11,7 @@ ghost use Rattle.osi_honest.specs.Seeing.{IsFresh, IsSeen};
 ghost use Rattle.osi_honest.specs.Turns.{Run, Turn};
 ghost use Rattle.osi_tap.specs.declared.marks.First.{First};
 ghost use Rattle.osi_tap.specs.Tapping.{comes_to};
-ghost use Rattle.osi_watched.specs.Judging.{AreBothJudged, IsJudgedWhole};
+ghost use Rattle.osi_watched.specs.Judging.{AreBothJudged};
 ghost use Rattle.osi_watched.specs.Passing.{AreOctets, ComesBySteps};
 ghost use Rattle.osi_class.specs.Runs.{parts_in, unit_parts};
 ghost use Rattle.osi_class.specs.Tsdus.{Part};
@@ -250,14 +250,13 @@ pub fn no_session_of_an_end_is_blamed_first()
 /// class, on any of its connections, open or over, be the end the called one (`called`) or the calling one (`calling`).
 ///
 /// So it is after DTs beyond the credit or longer than the size, after a CC with a larger size, and after a DT, an AK or a second DR on a
-/// connection that its sender had closed: a taker passes over these. So it is after a break with which all judging ends. Of a called end it
-/// is so in class 2 also after a break with which the judging of one connection ends: the sessions of the others are judged on.
+/// connection that its sender had closed: a taker passes over these. So it is after a break with which all judging ends. And in class 2 it
+/// is so after a break with which the judging of one connection ends: the sessions of the others are judged on.
 ///
-/// It is assumed that no break has ended the judging of the other side alone, in class 0 ([`AreBothJudged`]); of a calling end also that no
-/// connection has lost its judgement, in class 2 ([`IsJudgedWhole`]); and that fewer than 2^64 units have passed.
+/// It is assumed that no break has ended the judging of the other side alone, in class 0 ([`AreBothJudged`]); and that fewer than 2^64
+/// units have passed.
 ///
 /// [`AreBothJudged`]: ../specs/Judging.antt
-/// [`IsJudgedWhole`]: ../specs/Judging.antt
 pub fn no_session_of_an_end_is_to_blame_after_a_break()
     ensures called { (local : Local) (begin end : Holding) (turns : List Turn) (capture : Capture) (i : ℕ) (j : Joined) →
         IsFresh false local begin → Run begin turns end → AreOctets capture → IsSeen Direction.Right turns capture →
@@ -270,7 +269,7 @@ pub fn no_session_of_an_end_is_to_blame_after_a_break()
         length (comes_to capture).course.past < 2 ^ 64 →
         (slice_get (comes_to capture).course.sessions.live i ≡ Some j)
         ⊎ (slice_get (comes_to capture).course.sessions.done i ≡ Some j) →
-        IsJudgedWhole Direction.Left (comes_to capture).course → ¬ (IsToBlame Direction.Left j) }
+        AreBothJudged Direction.Left (comes_to capture).course → ¬ (IsToBlame Direction.Left j) }
 {
     few_octets_fit();
     serial_digits();

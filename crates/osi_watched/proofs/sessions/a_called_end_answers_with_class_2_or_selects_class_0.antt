@@ -8,14 +8,14 @@ use Rattle.osi_fair.specs.Wholes.{begin}
 use Rattle.osi_fair.proofs.a_called_end_is_fair.{Stage}
 use Rattle.osi_watched.proofs.steps_are_events.{IsFollowed}
 use Rattle.osi_watched.proofs.sessions.a_called_end_has_its_lines.{called_joined}
-use Rattle.osi_watched.proofs.sessions.a_called_end_of_class_2_has_its_lines.{IsLasting}
+use Rattle.osi_fair.proofs.what_the_other_side_closes.{IsOngoing}
 use Rattle.osi_watched.proofs.sessions.each_cc_of_a_called_end_opens_another_connection.{put_answers_two}
 use Rattle.osi_watched.proofs.sessions.units_written_alike_have_the_same_ccs.{AnswersTwo, two_alike}
 
 module _ (local : Local) (j : Joint) (f : IsFollowed side.Right (begin false local) j) (can : AllByRecursion CanBeWritten j.put)
-    (clear : IsLasting j.course.traffic.course) (places : HaveSamePlaces j.course.traffic.connections j.course.sessions.live) where
-  abbrev tap_clear : IsLasting f.whole.tap.course
-  tap_clear = subst (λ (s : Traffic). IsLasting s.course) (sym f.tap) clear
+    (clear : IsOngoing j.course.traffic.course) (places : HaveSamePlaces j.course.traffic.connections j.course.sessions.live) where
+  abbrev tap_clear : IsOngoing f.whole.tap.course
+  tap_clear = subst (λ (s : Traffic). IsOngoing s.course) (sym f.tap) clear
 
   by_stage : Stage local f.whole → AllByRecursion AnswersTwo j.put ⊎ Selecting local f.whole
   by_stage (lines h c named) =
@@ -27,4 +27,4 @@ module _ (local : Local) (j : Joint) (f : IsFollowed side.Right (begin false loc
   by_stage (selected z) = absurd (tap_clear.two z.class)
 
   pub answers_or_selects : AllByRecursion AnswersTwo j.put ⊎ Selecting local f.whole
-  answers_or_selects = by_stage ((called_joined local j f).stage tap_clear.calm)
+  answers_or_selects = by_stage ((called_joined local j f).stage tap_clear.sure)

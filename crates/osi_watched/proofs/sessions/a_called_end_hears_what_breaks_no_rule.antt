@@ -8,6 +8,7 @@ use Rattle.osi_watched.proofs.Vocabulary.{data0, data2, destination_of, disconne
 use Rattle.osi_watched.proofs.Vocabulary.{is_applied, reach_of, is_refused, class_for, found, found_on, is_stopped, takes, uses_source}
 use Rattle.osi_watched.proofs.Vocabulary.{Traffic as State, Connection, Finding, Broke, Rule, Left, Right, Deeds, Joined}
 use Rattle.osi_watched.proofs.Vocabulary.{Sessions, unit_passes, units_pass, judged_same}
+use Rattle.osi_rules.specs.declared.directions.Direction.{Direction as Way}
 use Rattle.osi_rules.specs.declared.directions.Direction.TheVariants as way
 use Rattle.osi_rules.specs.declared.findings.Reach.TheVariants as reach
 use Rattle.osi_rules.specs.declared.findings.Rule.TheVariants as rule
@@ -71,19 +72,19 @@ closed_by k f (inr (r, is)) two none all part =
     is ∙ ap (λ (x : Rule). Broke x) (only_closed k r two (ap is_applied (sym is) ∙ none) (λ e. all (ap (reach_of k) is ∙ e))
     (λ e. part (ap (reach_of k) is ∙ e)))
 
-dt_closed : (n number : ℕ) (end : Bool) (user : List ℕ) (s : State) (e : Connection) → e.is_judged ≡ true →
-    (takes way.Left (data2 n number end user) s).told.finding ≡ found_on way.Left s e (data2 n number end user) →
-    (class_for way.Left s.course ≡ Some Zero → ⊥) → is_applied (takes way.Left (data2 n number end user) s).told.finding ≡ false →
-    ((takes way.Left (data2 n number end user) s).told.reach ≡ reach.Everything → ⊥) →
-    ((takes way.Left (data2 n number end user) s).told.reach ≡ reach.Connection → ⊥) →
-    (takes way.Left (data2 n number end user) s).told.finding ≡ Broke rule.Closed
-dt_closed n number end user s e judged finding two none all part =
+pub dt_closed : (d : Way) (n number : ℕ) (end : Bool) (user : List ℕ) (s : State) (e : Connection) → e.is_judged ≡ true →
+    (takes d (data2 n number end user) s).told.finding ≡ found_on d s e (data2 n number end user) →
+    (class_for d s.course ≡ Some Zero → ⊥) → is_applied (takes d (data2 n number end user) s).told.finding ≡ false →
+    ((takes d (data2 n number end user) s).told.reach ≡ reach.Everything → ⊥) →
+    ((takes d (data2 n number end user) s).told.reach ≡ reach.Connection → ⊥) →
+    (takes d (data2 n number end user) s).told.finding ≡ Broke rule.Closed
+dt_closed d n number end user s e judged finding two none all part =
     let v = data2 n number end user in
-    let f = found way.Left s.course (uses_source way.Left s.connections v) e v in
+    let f = found d s.course (uses_source d s.connections v) e v in
     let is = finding ∙ judged_same e.is_judged f judged in
-    closed_by (class_for way.Left s.course) (takes way.Left v s).told.finding
-    (subst IsClear (sym is) (found_two way.Left n number end user s.course (uses_source way.Left s.connections v) e)) two none
-    (λ k. all ((takes_reach way.Left v s).far ∙ k)) (λ k. part ((takes_reach way.Left v s).far ∙ k))
+    closed_by (class_for d s.course) (takes d v s).told.finding
+    (subst IsClear (sym is) (found_two d n number end user s.course (uses_source d s.connections v) e)) two none
+    (λ k. all ((takes_reach d v s).far ∙ k)) (λ k. part ((takes_reach d v s).far ∙ k))
 
 -- ---- its place
 
@@ -142,7 +143,7 @@ module _ (deeds : ℕ → Deeds) (is_live : ℕ → Bool) (put : List Value) (be
             (record {
               n = n;
               link = dt number end user refl;
-              closed = dt_closed n number end user c.traffic e judged finding p.two none p.on part;
+              closed = dt_closed way.Left n number end user c.traffic e judged finding p.two none p.on part;
             }) h.shut a.places r later sure,
       )
 

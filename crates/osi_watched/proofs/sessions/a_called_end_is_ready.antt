@@ -48,7 +48,8 @@ use Rattle.osi_fair.proofs.what_becomes_of_a_called_end.{above_up}
 use Rattle.osi_watched.proofs.a_carrier_does_events.{none_of}
 use Rattle.osi_watched.proofs.small_facts_that_many_lemmas_use.{amid_not, given_so, past_not}
 use Rattle.osi_watched.proofs.steps_are_events.{IsFollowed, begin_followed}
-use Rattle.osi_watched.proofs.sessions.a_called_end_of_class_2_has_its_lines.{HasLines, IsLasting, has_lines}
+use Rattle.osi_fair.proofs.what_the_other_side_closes.{IsOngoing}
+use Rattle.osi_watched.proofs.sessions.a_called_end_of_class_2_has_its_lines.{HasLines, has_lines}
 use Rattle.osi_watched.proofs.sessions.a_called_end_of_class_2_puts_no_dt_of_class_0.{called_turn_two}
 use Rattle.osi_watched.proofs.sessions.a_calling_end_takes_what_is_in_flight.{early_lasts}
 use Rattle.osi_watched.proofs.sessions.a_turn_does_what_its_deeds_say.{turn_leaves, turn_uses, units_join}
@@ -191,7 +192,7 @@ module _ (local : Local) where
 
   -- such a reference is above all that the tap knows
   pub early_above : (deeds : ℕ → Deeds) (j : Joint) (h : IsCalled deeds j) → AllByRecursion CanBeWritten j.put →
-      IsLasting j.course.traffic.course → (r : ℕ) → 0 < r → stage_at r j.holding.end.carrier ≡ early → h.ahead.bound < r
+      IsOngoing j.course.traffic.course → (r : ℕ) → 0 < r → stage_at r j.holding.end.carrier ≡ early → h.ahead.bound < r
   early_above deeds j h can clear r some may =
       let f = h.ahead.followed in
       let lasts = none_of f.whole.end.ended (sym f.like.over ∙ ap is_some (early_lasts r j.holding.end.carrier may)) in
@@ -314,7 +315,7 @@ module _ (local : Local) where
       (on : Continues false deeds old.holding turn new.holding)
       (life : (r : ℕ) → 0 < r → Life false r (stage_at r old.holding.end.carrier) on.took on.put (stage_at r new.holding.end.carrier))
       (units : t.units ≡ all_units on.put) (can : AllByRecursion CanBeWritten old.put) (can_new : AllByRecursion CanBeWritten new.put)
-      (places : HaveSamePlaces old.course.traffic.connections old.course.sessions.live) (clear : IsLasting old.course.traffic.course)
+      (places : HaveSamePlaces old.course.traffic.connections old.course.sessions.live) (clear : IsOngoing old.course.traffic.course)
       (h : IsCalled deeds old) (turn_two : AllByRecursion AnswersTwo new.put) where
     abbrev carrier : Carrier
     carrier = old.holding.end.carrier
@@ -328,8 +329,8 @@ module _ (local : Local) where
     turn_put : new.put ≡ old.put ++ all_units on.put
     turn_put = t.put ∙ ap (λ (l : List Value). old.put ++ l) units
 
-    new_clear : IsLasting new.course.traffic.course
-    new_clear = subst (λ (c : Course). IsLasting c.traffic.course) (sym t.course) clear
+    new_clear : IsOngoing new.course.traffic.course
+    new_clear = subst (λ (c : Course). IsOngoing c.traffic.course) (sym t.course) clear
 
     before : HasLines local f.whole
     before = has_lines local old f can h.two clear
@@ -481,7 +482,7 @@ module _ (local : Local) where
       where
         by : (o : Option EndReason) → carrier.ended ≡ o → AllByRecursion (IsMarked Right old.course.traffic old.course.sessions) on.put
         by None lasts =
-            called_marked local deeds turn old new t on f clear.calm (two_so lasts) places news
+            called_marked local deeds turn old new t on f clear.sure (two_so lasts) places news
             (called_turn_two local deeds turn old new t on g.ahead.followed after.called) no_cc
         by (Some reason) gone =
             let done = over_acts turn old.holding new.holding (subst IsSome (sym gone) refl) t.takes in

@@ -1,8 +1,8 @@
 -- A called end of which no CC that waits selects class 0 has its lines as long as both sides are judged, also when it is over.
 -- For the units that a called end puts.
-use Rattle.osi_watched.proofs.Vocabulary.{false, refl, subst, sym, AllByRecursion, Zero, Local, acceptance, Traffic, Rules as Course}
-use Rattle.osi_watched.proofs.Vocabulary.{CanBeWritten, lines, selected, selecting, Called, IsCalled, NamesApart as AreApart, Some, ◌≡◌}
-use Rattle.osi_watched.proofs.Vocabulary.{IsClear, IsCalm, Whole, Joint}
+use Rattle.osi_watched.proofs.Vocabulary.{false, refl, subst, sym, AllByRecursion, Zero, Local, acceptance, Traffic}
+use Rattle.osi_watched.proofs.Vocabulary.{CanBeWritten, lines, selected, selecting, Called, IsCalled, NamesApart as AreApart}
+use Rattle.osi_watched.proofs.Vocabulary.{IsOngoing, Whole, Joint}
 use Rattle.osi_judge.specs.declared.directions.Direction.TheVariants as side
 use Rattle.osi_fair.specs.Wholes.{begin}
 use Rattle.osi_fair.proofs.a_called_end_is_fair.{Stage}
@@ -10,14 +10,6 @@ use Rattle.osi_fair.proofs.names_stay_apart_though_one_is_lost.{AreNamedApart}
 use Rattle.osi_watched.proofs.steps_are_events.{IsFollowed}
 use Rattle.osi_watched.proofs.sessions.a_called_end_has_its_lines.{called_joined}
 use Rattle.osi_watched.proofs.sessions.units_written_alike_have_the_same_ccs.{AnswersTwo, AreAlike, first_not_zero}
-
--- both sides are judged, and class 0 is not selected; a connection may have lost its judgement
-pub record IsLasting (c : Course) : Type 0 where
-  pub calm : IsCalm c
-  pub two : c.class ≡ Some Zero → ⊥
-
-pub lasting_of : (c : Course) → IsClear c → IsLasting c
-lasting_of c h = record { calm = record { left = h.sure.left; right = h.sure.right }; two = h.two }
 
 -- with what keeps references apart at the tap
 pub record HasLines (local : Local) (w : Whole) : Type 0 where
@@ -27,9 +19,9 @@ pub record HasLines (local : Local) (w : Whole) : Type 0 where
   pub named : AreNamedApart w.tap.connections
 
 module _ (local : Local) (j : Joint) (f : IsFollowed side.Right (begin false local) j) (can : AllByRecursion CanBeWritten j.put)
-    (two : AllByRecursion AnswersTwo j.put) (clear : IsLasting j.course.traffic.course) where
-  abbrev tap_clear : IsLasting f.whole.tap.course
-  tap_clear = subst (λ (s : Traffic). IsLasting s.course) (sym f.tap) clear
+    (two : AllByRecursion AnswersTwo j.put) (clear : IsOngoing j.course.traffic.course) where
+  abbrev tap_clear : IsOngoing f.whole.tap.course
+  tap_clear = subst (λ (s : Traffic). IsOngoing s.course) (sym f.tap) clear
 
   by_stage : Stage local f.whole → HasLines local f.whole
   by_stage (lines h c named) = record {
@@ -45,4 +37,4 @@ module _ (local : Local) (j : Joint) (f : IsFollowed side.Right (begin false loc
   by_stage (selected z) = absurd (tap_clear.two z.class)
 
   pub has_lines : HasLines local f.whole
-  has_lines = by_stage ((called_joined local j f).stage tap_clear.calm)
+  has_lines = by_stage ((called_joined local j f).stage tap_clear.sure)

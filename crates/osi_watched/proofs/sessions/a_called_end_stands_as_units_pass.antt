@@ -14,7 +14,8 @@ use Rattle.osi_watched.proofs.what_is_put_is_what_is_written.{none_written}
 use Rattle.osi_watched.proofs.sessions.a_called_end_hears_what_breaks_no_rule.{AreFine, AreHeard, units_heard}
 use Rattle.osi_watched.proofs.sessions.a_called_end_is_ready.{AreKnown, IsCalled, begins_other_called, begins_own_called, first, is_ready}
 use Rattle.osi_watched.proofs.sessions.a_called_end_is_ready.{passes_other_called, passes_own_called, turn_homed, turns_called}
-use Rattle.osi_watched.proofs.sessions.a_called_end_of_class_2_has_its_lines.{IsLasting, has_lines}
+use Rattle.osi_fair.proofs.what_the_other_side_closes.{IsOngoing}
+use Rattle.osi_watched.proofs.sessions.a_called_end_of_class_2_has_its_lines.{has_lines}
 use Rattle.osi_watched.proofs.sessions.a_called_end_takes_what_is_in_flight.{called_dr, called_takes}
 use Rattle.osi_watched.proofs.sessions.a_calling_end_stands_as_units_pass.{AreShutAtJoint, known_at, own_passes_shut}
 use Rattle.osi_watched.proofs.sessions.a_right_dt_has_one_place.{AreUsedApart, called_apart}
@@ -80,7 +81,7 @@ module _ (local : Local) (proper : AllProper) where
       (a.lost i e k there here lost).left_knows
 
   -- references are apart at the tap
-  pub used_apart : (deeds : ℕ → Deeds) (j : Joint) → IsLasting j.course.traffic.course → StandsCalled deeds j →
+  pub used_apart : (deeds : ℕ → Deeds) (j : Joint) → IsOngoing j.course.traffic.course → StandsCalled deeds j →
       AreUsedApart Right j.course.traffic.connections
   used_apart deeds j clear h =
       let f = h.called.ahead.followed in
@@ -88,7 +89,7 @@ module _ (local : Local) (proper : AllProper) where
       subst (λ (s : State). AreUsedApart Right s.connections) f.tap (called_apart f.whole.tap.connections lines.apart lines.named)
 
   pub passes_own_stands : (deeds : ℕ → Deeds) (at : ℕ) (unit : Value) (old new : Joint) → Steps Right (passes_own at unit) old new →
-      IsProper Right unit old.course → IsLasting old.course.traffic.course → StandsCalled deeds old → StandsCalled deeds new
+      IsProper Right unit old.course → IsOngoing old.course.traffic.course → StandsCalled deeds old → StandsCalled deeds new
   passes_own_stands deeds at unit old new (read, octets, put, begun, is) fine clear h =
       let mid : Joint = record old { put = new.put; begun = false; course = units_pass Right at (unit ∷ []) old.course } in
       let step : Steps Right (passes_own at unit) old mid = (read, octets, put, begun, refl) in
@@ -135,7 +136,7 @@ module _ (local : Local) (proper : AllProper) where
       (on : Continues false deeds old.holding turn new.holding) →
       ((r : ℕ) → 0 < r → Life false r (stage_at r old.holding.end.carrier) on.took on.put (stage_at r new.holding.end.carrier)) →
       t.units ≡ all_units on.put → AllByRecursion CanBeWritten (all_units on.put) → AllByRecursion AnswersTwo new.put →
-      IsLasting old.course.traffic.course → StandsCalled deeds old → StandsCalled (λ r. then_did (deeds r) (on.more r)) new
+      IsOngoing old.course.traffic.course → StandsCalled deeds old → StandsCalled (λ r. then_did (deeds r) (on.more r)) new
   turns_stand turn old new t deeds on life units can two clear h =
       let a = h.standing.all in
       let f = h.called.ahead.followed in
@@ -150,7 +151,7 @@ module _ (local : Local) (proper : AllProper) where
             h.distinct i c j r there here mine live (h.called.ahead.below.live i j r here mine).0 on.put marked (on.more r).put
             (on.own r (h.called.ahead.below.live i j r here mine).0)
             ∙ ap (waiting_for (reference_of Left j)) (sym units);
-        takes = λ r later sure.
+        takes = λ r one later sure.
             let x = called_takes local turn old new t deeds on h.called h.can clear r sure.0 (life r sure.0) later sure.1 in
             record { rest = x.rest; first = x.first; sure = (sure.0, x.sure) };
       } in
@@ -164,7 +165,7 @@ module _ (local : Local) (proper : AllProper) where
             (sym t.course)
             (turn_shut Right (may_take old.holding.end.carrier) (may_take new.holding.end.carrier) (units_in old.coming)
             (units_in new.coming) old.course.traffic old.course.sessions
-            (λ i c j r there here closing named live.
+            (λ i c j r there here judged closing named live.
             let up = h.called.ahead.below.live i j r here named in
             called_dr local turn old new t deeds on h.called h.can clear r up.0 (life r up.0) up.1 live) h.shut);
         can = then_can;

@@ -42,7 +42,7 @@ use Rattle.osi_watched.proofs.sessions.a_called_end_answers_with_class_2_or_sele
 use Rattle.osi_watched.proofs.sessions.a_called_end_hears_what_breaks_no_rule.{AreFine}
 use Rattle.osi_watched.proofs.sessions.a_called_end_hears_what_comes_until_class_2.{AreTaken, IsAsking, IsNoCc, StandsCalledEarly}
 use Rattle.osi_watched.proofs.sessions.a_called_end_hears_what_comes_until_class_2.{known_one, none_some, units_early}
-use Rattle.osi_watched.proofs.sessions.a_called_end_of_class_2_has_its_lines.{IsLasting, lasting_of}
+use Rattle.osi_fair.proofs.what_the_other_side_closes.{going_on, IsOngoing}
 use Rattle.osi_watched.proofs.sessions.a_called_end_puts_its_cc_of_class_0.{all_unnamed, asking_plain, turns_selecting}
 use Rattle.osi_watched.proofs.sessions.a_called_end_stands_as_units_pass.{StandsCalled, begins_other_stands, begins_own_stands}
 use Rattle.osi_watched.proofs.sessions.a_called_end_stands_as_units_pass.{passes_other_stands, passes_own_stands, turns_stand}
@@ -227,7 +227,7 @@ module _ (local : Local) (proper : AllProper) where
       } in
       subst (StandsInNone deeds) (sym is) (record {
         stands = passes_own_stands local proper deeds at v old mid (read, octets, put, begun, refl) fine
-            (lasting_of old.course.traffic.course
+            (going_on old.course.traffic.course
             (record { sure = firm; two = λ zero_is. none_some old.course.traffic.course.class Zero h.class zero_is })) h.stands;
         class = ap (λ (s : State). s.course.class) (unit_knows Right at v old.course) ∙ selects_none way.Right v old.course.traffic plain
             ∙ h.class;
@@ -319,7 +319,7 @@ module _ (local : Local) (proper : AllProper) where
       none_turns : AllByRecursion AnswersTwo new.put → StandsInNone then_deeds new
       none_turns two = record {
         stands = turns_stand local proper turn old new t deeds does.of.on does.of.life does.units does.of.on.can two
-            (lasting_of old.course.traffic.course clear) h.stands;
+            (going_on old.course.traffic.course clear) h.stands;
         class = ap (λ (c : Passed). c.traffic.course.class) t.course ∙ h.class;
         asking = all_back IsAsking (units_in t.used) (units_in new.coming)
             (subst (AllByRecursion IsAsking) (turn_leaves turn old new t) h.asking);
@@ -340,7 +340,7 @@ module _ (local : Local) (proper : AllProper) where
       none_or_selects =
           turn_by (answers_or_selects local new (turns_ahead (first local) proper turn old new t h.stands.called.ahead).ahead.followed
           (subst (AllByRecursion CanBeWritten) (sym turn_put) (all_more old.put (all_units put) h.stands.can does.of.on.can))
-          (subst (λ (c : Passed). IsLasting c.traffic.course) (sym t.course) (lasting_of old.course.traffic.course clear))
+          (subst (λ (c : Passed). IsOngoing c.traffic.course) (sym t.course) (going_on old.course.traffic.course clear))
           (subst Agree (sym t.course) h.stands.standing.all.places))
 
     turn_phase : Phase deeds old → Phase then_deeds new

@@ -8,7 +8,7 @@ use Rattle.osi_watched.proofs.Vocabulary.{units_in, Turn, ◌≤◌}
 use Rattle.osi_watched.proofs.Vocabulary.{Joint, TakesTurn}
 use Rattle.osi_watched.proofs.small_facts_that_many_lemmas_use.{amid_not, past_not}
 use Rattle.osi_watched.proofs.sessions.a_called_end_is_ready.{IsCalled, early_above}
-use Rattle.osi_watched.proofs.sessions.a_called_end_of_class_2_has_its_lines.{IsLasting}
+use Rattle.osi_fair.proofs.what_the_other_side_closes.{IsOngoing}
 use Rattle.osi_watched.proofs.sessions.a_calling_end_takes_what_is_in_flight.{early_lasts}
 use Rattle.osi_watched.proofs.sessions.an_end_takes_what_is_left_for_it.{dr_stays, left_takes, none_takes, was_live}
 use Rattle.osi_watched.proofs.sessions.nothing_comes_before_a_cc_passes.{none_waits}
@@ -19,7 +19,7 @@ use Rattle.osi_watched.proofs.sessions.what_stands_of_a_connection.{Takes}
 module _ (local : Local) where
   module _ (turn : Turn) (old new : Joint) (t : TakesTurn turn old new) (deeds : ℕ → Deeds)
       (on : Continues false deeds old.holding turn new.holding) (h : IsCalled local deeds old) (can : AllByRecursion CanBeWritten old.put)
-      (clear : IsLasting old.course.traffic.course) (r : ℕ) (some : 0 < r)
+      (clear : IsOngoing old.course.traffic.course) (r : ℕ) (some : 0 < r)
       (life : Life false r (stage_at r old.holding.end.carrier) on.took on.put (stage_at r new.holding.end.carrier)) where
     abbrev stage : Time
     stage = stage_at r old.holding.end.carrier

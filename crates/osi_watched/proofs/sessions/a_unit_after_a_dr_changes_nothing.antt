@@ -281,7 +281,7 @@ first_third false true c rest h = absurd (cc)
 first_third false false true rest h = absurd (cc)
 first_third false false false rest h = (refl, refl)
 
-not_over : (d : Way) (n : ℕ) (c : Connection) → c.is_judged ≡ true → is_named d n c ≡ true →
+pub not_over : (d : Way) (n : ℕ) (c : Connection) → c.is_judged ≡ true → is_named d n c ≡ true →
     (is_refused (own d c).phase ≡ false) × (is_closed (own d c).phase ≡ false)
 not_over way.Left n c judged named =
     first_third (is_refused c.left.phase) (is_refused c.seen_by_left.phase) (is_closed c.left.phase) _

@@ -26,7 +26,7 @@ use Rattle.osi_watched.proofs.sessions.connections_have_the_same_places.{at_same
 use Rattle.osi_watched.proofs.sessions.each_unit_of_a_turn_has_one_connection.{IsHomed, IsMarked, known, unknown}
 use Rattle.osi_watched.proofs.sessions.references_of_an_end_are_distinct.{GivesNew, IsUnused}
 use Rattle.osi_watched.proofs.sessions.what_a_turn_puts_goes_to_its_peer.{IsNotZero, IsThere, Lived, by_units, came, linked_so, none_shut}
-use Rattle.osi_watched.proofs.sessions.what_a_turn_puts_goes_to_its_peer.{one_of, turn_marked, whole_lasts}
+use Rattle.osi_watched.proofs.sessions.what_a_turn_puts_goes_to_its_peer.{one_of, put_for, turn_marked, whole_lasts}
 
 -- ---- small facts
 
@@ -302,4 +302,7 @@ module _ (local : Local) (deeds : ℕ → Deeds) (turn : Turn) (old new : Joint)
   pub called_marked : AllByRecursion (IsMarked Right s t) on.put
   called_marked =
       turn_marked Right false (begin false local) deeds turn old new step on f s t class_2
-      (λ lasts q positive l some. subst (λ (x : State). IsHomed Right q l.peer x t) f.tap (home_by lasts q positive l l.begins some))
+      (λ lasts q positive some.
+      let l = on.lives q positive in
+      put_for Right false (begin false local) deeds turn old new step on f q l s t
+      (subst (λ (x : State). IsHomed Right q l.peer x t) f.tap (home_by lasts q positive l l.begins some)))

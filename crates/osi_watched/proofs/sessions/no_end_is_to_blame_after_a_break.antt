@@ -20,12 +20,13 @@ use Rattle.osi_tap.specs.Connections.{Joined}
 use Rattle.osi_rules.specs.Traffic.{is_stopped}
 use Rattle.osi_tap.specs.Courses.{Course, way_of}
 use Rattle.osi_tap.specs.Tapping.{comes_to}
-use Rattle.osi_watched.specs.Judging.{AreBothJudged, IsJudgedWhole}
+use Rattle.osi_watched.specs.Judging.{AreBothJudged}
 use Rattle.osi_watched.specs.Passing.{AreOctets}
 use Rattle.osi_watched.proofs.a_capture_is_steps.{capture_steps}
 use Rattle.osi_watched.proofs.in_class_0_one_side_alone_is_judged.{JudgesLess}
 use Rattle.osi_watched.proofs.no_unit_of_a_whole_end_is_a_break.{called_is_fair, called_is_fair_in_class_0}
 use Rattle.osi_watched.proofs.no_unit_of_a_whole_end_is_a_break.{called_is_fair_throughout, calling_is_fair, calling_is_fair_in_class_0}
+use Rattle.osi_watched.proofs.no_unit_of_a_whole_end_is_a_break.{calling_is_fair_throughout}
 use Rattle.osi_fair.proofs.small_facts_that_many_lemmas_use.{differ}
 use Rattle.osi_watched.proofs.small_facts_that_many_lemmas_use.{zero_two}
 use Rattle.osi_watched.proofs.what_the_turns_among_steps_do.{ComesByDoing}
@@ -38,8 +39,7 @@ use Rattle.osi_watched.proofs.sessions.no_called_end_is_blamed_first_in_class_0.
 use Rattle.osi_watched.proofs.sessions.no_calling_end_is_blamed_first_in_class_0.{early_keeps}
 use Rattle.osi_watched.proofs.sessions.no_session_of_a_called_end_breaks_first.{StandsOrSelected, called_keeps}
 use Rattle.osi_watched.proofs.sessions.no_session_of_a_calling_end_breaks_first.{StandsQuiet, calling_keeps}
-use Rattle.osi_watched.proofs.sessions.no_session_of_an_end_breaks_first.{unless_zero}
-use Rattle.osi_watched.proofs.sessions.no_session_of_an_end_is_to_blame.{ends_well, nobody_of_well}
+use Rattle.osi_watched.proofs.sessions.no_session_of_an_end_is_to_blame.{ends_well}
 use Rattle.osi_watched.proofs.sessions.no_session_of_an_end_is_to_blame_after_a_loss.{never_to_blame}
 use Rattle.osi_watched.proofs.sessions.a_loss_is_in_class_2_at_a_tap.{capture_two, firm_in_zero}
 use Rattle.osi_watched.proofs.sessions.steps_of_either_class_leave_all_standing.{zero_by}
@@ -52,11 +52,6 @@ module _ (known : Known) (known_of : AsSent) (parts : AsParts) (caller : CallerL
   abbrev selected : Option Class
   selected = course.traffic.course.class
 
-  -- all is judged, or nothing any more
-  pub record IsAssumed (d : Direction) : Type 0 where
-    pub few : length course.past < 2 ^ 64
-    pub whole : IsJudgedWhole d course
-
   -- nobody is to blame, or less is judged
   abbrev EndsWell : Direction → Type 0
   EndsWell d = NoneIsToBlame d course.sessions ⊎ JudgesLess d course
@@ -64,18 +59,18 @@ module _ (known : Known) (known_of : AsSent) (parts : AsParts) (caller : CallerL
   -- ---- in class 0, and while it is not selected
 
   module _ (few : length course.past < 2 ^ 64) (begin : Holding) where
+    by_class_0 : (d : Direction) → AreBothJudged d course → selected ≡ Some Zero → EndsWell d → NoneIsToBlame d course.sessions
+    by_class_0 d both zero (inl none) = none
+    by_class_0 d both zero (inr (inl loose)) = differ course.traffic.course.loose loose (firm_in_zero course zero (capture_two capture))
+    by_class_0 d both zero (inr (inr a)) = differ (is_stopped (way_of d) course.traffic.course) (both zero a.stopped) a.own
+
     called_nobody : IsFresh false local begin → ComesByDoing Right false capture begin → AreBothJudged Right course →
         NoneIsToBlame Right course.sessions
     called_nobody fresh comes both = zero_by selected in_zero without
       where
-        by_class_0 : selected ≡ Some Zero → EndsWell Right → NoneIsToBlame Right course.sessions
-        by_class_0 zero (inl none) = none
-        by_class_0 zero (inr (inl loose)) = differ course.traffic.course.loose loose (firm_in_zero course zero (capture_two capture))
-        by_class_0 zero (inr (inr a)) = differ (is_stopped (way_of Right) course.traffic.course) (both zero a.stopped) a.own
-
         in_zero : selected ≡ Some Zero → NoneIsToBlame Right course.sessions
         in_zero zero =
-            by_class_0 zero
+            by_class_0 Right both zero
             (ends_well known.proper Two Right local (called_is_fair local) (called_is_fair_in_class_0 local)
             (StandsCalledUntilTwo local known.proper)
             (called_early_keeps local known.proper known_of parts caller called) begin capture fresh comes
@@ -86,26 +81,25 @@ module _ (known : Known) (known_of : AsSent) (parts : AsParts) (caller : CallerL
             never_to_blame known.proper Right local (called_is_fair_throughout local) (StandsOrSelected local known.proper)
             (called_keeps local known.proper known_of parts caller called) begin capture fresh comes (record { not = not; few = few })
 
-    calling_ends : IsFresh true local begin → ComesByDoing Left true capture begin → EndsWell Left
-    calling_ends fresh comes = zero_by selected in_zero (λ not. without not local.class2 refl)
+    calling_nobody : IsFresh true local begin → ComesByDoing Left true capture begin → AreBothJudged Left course →
+        NoneIsToBlame Left course.sessions
+    calling_nobody fresh comes both = zero_by selected in_zero (λ not. without not local.class2 refl)
       where
-        in_zero : selected ≡ Some Zero → EndsWell Left
+        in_zero : selected ≡ Some Zero → NoneIsToBlame Left course.sessions
         in_zero zero =
-            ends_well known.proper Two Left local (calling_is_fair local) (calling_is_fair_in_class_0 local) (StandsUntilTwo local)
+            by_class_0 Left both zero
+            (ends_well known.proper Two Left local (calling_is_fair local) (calling_is_fair_in_class_0 local) (StandsUntilTwo local)
             (early_keeps local known.proper known_of parts caller called) begin capture fresh comes
-            (record { not = λ two. zero_two selected zero two; few = few })
+            (record { not = λ two. zero_two selected zero two; few = few }))
 
-        without : (selected ≡ Some Zero → ⊥) → (b : Bool) → local.class2 ≡ b → EndsWell Left
+        without : (selected ≡ Some Zero → ⊥) → (b : Bool) → local.class2 ≡ b → NoneIsToBlame Left course.sessions
         without not true two =
-            ends_well known.proper Zero Left local (calling_is_fair local) (calling_is_fair_in_class_0 local)
-            (StandsQuiet local two known.proper)
-            (unless_zero Left local (StandsQuiet local two known.proper)
-            (calling_keeps local two known.proper known_of parts caller called)) begin capture fresh comes
-            (record { not = not; few = few })
+            never_to_blame known.proper Left local (calling_is_fair_throughout local) (StandsQuiet local two known.proper)
+            (calling_keeps local two known.proper known_of parts caller called) begin capture fresh comes (record { not = not; few = few })
         without not false none =
-            ends_well known.proper Zero Left local (calling_is_fair local) (calling_is_fair_in_class_0 local) (HasSaidNothing Left local)
-            (unless_zero Left local (HasSaidNothing Left local) (mute_keeps known.proper Left local (calling_puts_none local none))) begin
-            capture fresh comes (record { not = not; few = few })
+            never_to_blame known.proper Left local (calling_is_fair_throughout local) (HasSaidNothing Left local)
+            (mute_keeps known.proper Left local (calling_puts_none local none)) begin capture fresh comes
+            (record { not = not; few = few })
 
   -- ---- so nobody is to blame
 
@@ -122,9 +116,8 @@ module _ (known : Known) (known_of : AsSent) (parts : AsParts) (caller : CallerL
       (called_nobody few begin fresh (capture_steps known Right false local begin end turns capture fresh run octets seen) both) there
 
   pub calling_later : (begin end : Holding) (turns : List Turn) (i : ℕ) (j : Joined) → IsFresh true local begin → Run begin turns end →
-      AreOctets capture → IsSeen Left turns capture → IsAssumed Left →
+      AreOctets capture → IsSeen Left turns capture → length course.past < 2 ^ 64 → AreBothJudged Left course →
       (slice_get course.sessions.live i ≡ Some j) ⊎ (slice_get course.sessions.done i ≡ Some j) → IsToBlame Left j → ⊥
-  calling_later begin end turns i j fresh run octets seen h there =
+  calling_later begin end turns i j fresh run octets seen few both there =
       among Left i j
-      (nobody_of_well Left course
-      (calling_ends h.few begin fresh (capture_steps known Left true local begin end turns capture fresh run octets seen)) h.whole) there
+      (calling_nobody few begin fresh (capture_steps known Left true local begin end turns capture fresh run octets seen) both) there

@@ -20,7 +20,7 @@ use Rattle.osi_watched.proofs.sessions.a_called_end_answers_with_class_2_or_sele
 use Rattle.osi_watched.proofs.sessions.a_called_end_has_its_lines.{called_joined}
 use Rattle.osi_watched.proofs.sessions.a_called_end_hears_what_breaks_no_rule.{AreFine, AreHeard, units_heard}
 use Rattle.osi_watched.proofs.sessions.a_called_end_is_ready.{begin_called}
-use Rattle.osi_watched.proofs.sessions.a_called_end_of_class_2_has_its_lines.{IsLasting}
+use Rattle.osi_fair.proofs.what_the_other_side_closes.{IsOngoing}
 use Rattle.osi_watched.proofs.sessions.a_called_end_stands_as_units_pass.{StandsCalled, begins_other_stands, begins_own_stands}
 use Rattle.osi_watched.proofs.sessions.a_called_end_stands_as_units_pass.{passes_other_stands, passes_own_stands, turns_stand}
 use Rattle.osi_watched.proofs.sessions.a_calling_end_stands_as_units_pass.{known_at}
@@ -149,7 +149,7 @@ module _ (local : Local) (proper : AllProper) where
 
   -- its CC would select class 0
   none_passes : {A : Type 0} (at : ℕ) (v : Value) (old new : Joint) → Steps Right (passes_own at v) old new →
-      IsLasting old.course.traffic.course → (new.course.traffic.course.class ≡ Some Zero → ⊥) → HasSelected old → A
+      IsOngoing old.course.traffic.course → (new.course.traffic.course.class ≡ Some Zero → ⊥) → HasSelected old → A
   none_passes at v old new (read, octets, put, begun, is) clear then_two h =
       absurd (by (answers_or_selects local old h.followed h.can clear h.places))
     where
@@ -161,14 +161,14 @@ module _ (local : Local) (proper : AllProper) where
           let j = called_joined local old f in
           let s = own_first Right (wholes.begin false local) old new v (read, octets, put) f in
           let firm = firm_unless_two w.tap.course j.two (λ two. none_two w.tap.course.class z.class two) in
-          let right = ap (λ (t : State). t.course.right_stopped) f.tap ∙ clear.calm.right in
+          let right = ap (λ (t : State). t.course.right_stopped) f.tap ∙ clear.sure.right in
           let p = selecting_passes local w j.apart (j.judged firm) right v s.rest (f.begun ∙ begun) s.is z in
           then_two (ap (λ (x : Joint). x.course.traffic.course.class) is
           ∙ ap (λ (t : State). t.course.class) (unit_knows Right at v old.course)
           ∙ ap (λ (t : State). (takes way.Right v t).state.course.class) (sym f.tap) ∙ p.1.class)
 
   own_passes : (deeds : ℕ → Deeds) (at : ℕ) (v : Value) (old new : Joint) → Steps Right (passes_own at v) old new →
-      IsProper Right v old.course → IsLasting old.course.traffic.course → (new.course.traffic.course.class ≡ Some Zero → ⊥) →
+      IsProper Right v old.course → IsOngoing old.course.traffic.course → (new.course.traffic.course.class ≡ Some Zero → ⊥) →
       StandsCalled local proper deeds old ⊎ HasSelected old → StandsCalled local proper deeds new ⊎ HasSelected new
   own_passes deeds at v old new step fine clear then_two (inl h) =
       inl (passes_own_stands local proper deeds at v old new step fine clear h)
@@ -188,7 +188,7 @@ module _ (local : Local) (proper : AllProper) where
 
   module _ (turn : Turn) (old new : Joint) (t : TakesTurn turn old new) (deeds : ℕ → Deeds)
       (does : TurnDoes false deeds turn old new t) (g : IsFollowed Right (wholes.begin false local) new)
-      (clear : IsLasting old.course.traffic.course) (uncalled : UncalledUntil old.course) where
+      (clear : IsOngoing old.course.traffic.course) (uncalled : UncalledUntil old.course) where
     abbrev Then : Type 0
     Then = StandsCalled local proper (λ r. then_did (deeds r) (does.of.on.more r)) new ⊎ HasSelected new
 
@@ -224,7 +224,7 @@ module _ (local : Local) (proper : AllProper) where
     takes_turn : StandsCalled local proper deeds old ⊎ HasSelected old → Then
     takes_turn (inl h) =
         stands_by h (answers_or_selects local new g (put_can h.can)
-        (subst (λ (c : Passed). IsLasting c.traffic.course) (sym t.course) clear) (subst Agree (sym t.course) h.standing.all.places))
+        (subst (λ (c : Passed). IsOngoing c.traffic.course) (sym t.course) clear) (subst Agree (sym t.course) h.standing.all.places))
     takes_turn (inr h) = inr (record {
       followed = g;
       places = subst Agree (sym t.course) h.places;

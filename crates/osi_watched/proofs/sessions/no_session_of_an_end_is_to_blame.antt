@@ -32,7 +32,6 @@ use Rattle.osi_tap.specs.Tapping as tapping
 use Rattle.osi_tap.specs.Tapping.{after, comes_to}
 use Rattle.osi_watched.specs.Joint.{Joint, Step, Steps, StepsAlong, TakesTurn, begin, begins_other, begins_own, passes_other, passes_own}
 use Rattle.osi_watched.specs.Joint.{turns}
-use Rattle.osi_watched.specs.Judging.{IsJudgedWhole}
 use Rattle.osi_watched.specs.Passing.{TurnsBad}
 use Rattle.osi_watched.specs.Spoilt.{GoesOn, LaterAlong, spoilt}
 use Rattle.osi_fair.specs.Pieces.{units_in}
@@ -451,15 +450,3 @@ module _ (proper : AllProper) (barred : Class) (d : Direction) (local : Local)
       by (inr g) = subst EndsWell (sym g.all)
           (after_bad g.at g.cause g.packets g.none comes.last g.steps g.end g.along
           (unread_so g.at g.cause g.packets g.none comes.last at_last))
-
--- ---- in the end
-
-differ : {A : Type 0} (b : Bool) → b ≡ true → b ≡ false → A
-differ b h k = absurd (cc)
-
--- no side alone is judged in class 0, and each connection is, or nothing any more
-pub nobody_of_well : (d : Direction) (c : Passed) → NoneIsToBlame d c.sessions ⊎ JudgesLess d c → IsJudgedWhole d c →
-    NoneIsToBlame d c.sessions
-nobody_of_well d c (inl none) whole = none
-nobody_of_well d c (inr (inl loose)) whole = differ c.traffic.course.loose loose whole.firm
-nobody_of_well d c (inr (inr a)) whole = differ (is_stopped (way_of d) c.traffic.course) (whole.both a.zero a.stopped) a.own

@@ -30,7 +30,7 @@ use Rattle.osi_watched.proofs.the_first_break_is_not_of_an_end.{IsFairThroughout
 use Rattle.osi_watched.proofs.what_a_unit_leaves_at_a_tap.{IsOver}
 use Rattle.osi_watched.proofs.what_passes_keeps_a_claim.{after_join, step_kept, units_kept}
 use Rattle.osi_watched.proofs.what_the_turns_among_steps_do.{ComesByDoing, IsOfTap, StepsDo, TurnDoes}
-use Rattle.osi_watched.proofs.sessions.a_called_end_of_class_2_has_its_lines.{IsLasting}
+use Rattle.osi_fair.proofs.what_the_other_side_closes.{IsOngoing}
 use Rattle.osi_watched.proofs.sessions.after_too_many_nobody_is_to_blame.{NoneIsToBlame}
 use Rattle.osi_watched.proofs.sessions.each_step_leaves_class_0_one_connection.{Sure, fresh_sure, sure_claim}
 use Rattle.osi_watched.proofs.sessions.no_more_tsdus_than_moments_have_passed.{AreFew, few_claim}
@@ -85,8 +85,8 @@ module _ (proper : AllProper) (d : Direction) (local : Local)
     goes : Goes deeds j → Stays deeds j
     ended : IsDone d j.course → Stays deeds j
 
-  lasting : (c : Passed) → IsGoing c → (c.traffic.course.class ≡ Some Zero → ⊥) → IsLasting c.traffic.course
-  lasting c j not = record { calm = record { left = j.left; right = j.right }; two = not }
+  lasting : (c : Passed) → IsGoing c → (c.traffic.course.class ≡ Some Zero → ⊥) → IsOngoing c.traffic.course
+  lasting c j not = record { sure = record { left = j.left; right = j.right }; two = not }
 
   -- ---- a packet of the other side
 
@@ -144,6 +144,7 @@ module _ (proper : AllProper) (d : Direction) (local : Local)
       on far going = goes_on (record {
         taken = taken_then d at front v old.course so.taken (record {
           goes = goes_so (other d) c so.going;
+          lasts = lasting c so.going not_yet;
           two = λ zero. not_yet (knows_zero (other d) c is_sure zero);
           far = far;
           loses = λ part. nobody;

@@ -296,7 +296,7 @@ same_shut d is_live coming more s t h = record {
 
 pub turn_shut : (d : Direction) (is_live then_live : ℕ → Bool) (coming then_coming : List Value) (s : State) (t : Sessions) →
     ((i : ℕ) (c : Connection) (j : Joined) (r : ℕ) → slice_get s.connections i ≡ Some c → slice_get t.live i ≡ Some j →
-    is_closing (own (way_of (other d)) c).phase ≡ true → reference_of d j ≡ Some r → then_live r ≡ true →
+    c.is_judged ≡ true → is_closing (own (way_of (other d)) c).phase ≡ true → reference_of d j ≡ Some r → then_live r ≡ true →
     (is_live r ≡ true) × (has_dr r coming ≡ true → has_dr r then_coming ≡ true)) → AreShut d is_live coming s t →
     AreShut d then_live then_coming s t
 turn_shut d is_live then_live coming then_coming s t on h = record {
@@ -305,6 +305,6 @@ turn_shut d is_live then_live coming then_coming s t on h = record {
       record {
         r = k.r;
         named = k.named;
-        dr = λ live. let (was, stays) = on i c j k.r there here closing k.named live in stays (k.dr was);
+        dr = λ live. let (was, stays) = on i c j k.r there here judged closing k.named live in stays (k.dr was);
       };
 }

@@ -174,6 +174,13 @@ no_zero d end user s goes two on =
     zero_ends (class_for d s.course) d (is_stopped (sides.other d) s.course) end user s refl two
     (goes_far (is_stopped d s.course) d (data0 end user) s (route d s.course (data0 end user)) goes on)
 
+-- and so does a CR of right
+pub no_request : {A : Type 0} (x : Connect) (s : State) → is_stopped way.Right s.course ≡ false →
+    (class_for way.Right s.course ≡ Some Zero → ⊥) → ((takes way.Right (request x) s).told.reach ≡ reach.Everything → ⊥) → A
+no_request x s goes two on =
+    cr_ends (class_for way.Right s.course) (is_stopped way.Left s.course) x s refl two
+    (goes_far (is_stopped way.Right s.course) way.Right (request x) s (route way.Right s.course (request x)) goes on)
+
 -- a CC of left has no effect
 pub cc_idle : (s : State) (n : ℕ) (x : Connect) (c : Connection) → is_applied (found_on way.Left s c (confirm n x)) ≡ false
 cc_idle s n x c = by c.is_judged
@@ -348,7 +355,8 @@ IsHeard d known then_known (data2 n number end user) put s t =
     ((later : List Part) → known n later → then_known n (later ++ (end, user) ∷ [])) × StaysElsewhere d known then_known
     (data2 n number end user) s t × StaysThere d known then_known (data2 n number end user) s t
 IsHeard Left known then_known (confirm n x) put s t =
-    (waiting_for (Some x.source) put ≡ []) × ((r : ℕ) (later : List Part) → known r later → then_known r later)
+    (is_applied (takes way.Right (confirm n x) s).told.finding ≡ true → waiting_for (Some x.source) put ≡ [])
+    × ((r : ℕ) (later : List Part) → known r later → then_known r later)
 IsHeard d known then_known v put s t = (r : ℕ) (later : List Part) → known r later → then_known r later
 
 -- of these units it is asked that all judging does not end with them
@@ -396,9 +404,7 @@ module _ (deeds : ℕ → Deeds) (known then_known : Known) (at : ℕ) (put : Li
   other_goes d (error n cause) goes two on heard a =
       other_close d deeds known then_known at (error n cause) put b s t a (λ x. tt) (λ x e. cc e) heard
   other_goes Right (request x) goes two on heard a = other_cr deeds known then_known at x put b s t heard
-  other_goes Left (request x) goes two on heard a =
-      cr_ends (class_for way.Right s.course) (is_stopped way.Left s.course) x s refl two
-      (goes_far (is_stopped way.Right s.course) way.Right (request x) s (route way.Right s.course (request x)) goes on)
+  other_goes Left (request x) goes two on heard a = no_request x s goes two on
   other_goes Left (confirm n x) goes two on heard a = other_cc deeds known then_known at n x put b s t heard.0 heard.1
   other_goes Right (confirm n x) goes two on heard a =
       other_close_if Right deeds known then_known at (confirm n x) put b s t a (λ c y is. sym is ∙ cc_idle s n x c) (λ y e. cc e) heard
@@ -464,7 +470,7 @@ module _ (d : Direction) (known then_known : Known) (put : List Value) (s : Stat
   heard_firm (confirm n x) mild h = by d h
     where
       by : (e : Direction) → IsHeardFirm e known then_known (confirm n x) put s t → IsHeard e known then_known (confirm n x) put s t
-      by Left h = h
+      by Left h = (λ applied. h.0, h.1)
       by Right h = h.1
   heard_firm (request x) mild h = h
   heard_firm (disconnect n source reason user) mild h = h

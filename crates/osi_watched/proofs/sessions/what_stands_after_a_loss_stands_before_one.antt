@@ -13,7 +13,7 @@ use Rattle.osi_watched.proofs.a_break_ends_no_judging_or_all.{takes_reach}
 use Rattle.osi_watched.proofs.steps_are_events.{IsFollowed}
 use Rattle.osi_watched.proofs.what_a_taker_passes_over.{mild_reach}
 use Rattle.osi_watched.proofs.what_the_turns_among_steps_do.{TurnDoes}
-use Rattle.osi_watched.proofs.sessions.a_called_end_of_class_2_has_its_lines.{IsLasting}
+use Rattle.osi_fair.proofs.what_the_other_side_closes.{IsOngoing}
 use Rattle.osi_watched.proofs.sessions.a_unit_after_a_dr_changes_nothing.{IsAfterDr}
 use Rattle.osi_watched.proofs.sessions.after_too_many_nobody_is_to_blame.{NoneIsToBlame}
 use Rattle.osi_watched.proofs.sessions.no_session_of_an_end_breaks_first.{ArePassed, HaveCourses, IsPassed, KeepsUnless}
@@ -23,10 +23,11 @@ use Rattle.osi_watched.proofs.sessions.what_passes_leaves_all_standing.{firm_lin
 
 -- ---- what is asked of what stands
 
--- A unit of the other side: it is judged, in class 2 or before a class is known, and all judging does not end with the unit. If a
+-- A unit of the other side: both sides are judged, in class 2 or before a class is known, and all judging does not end with the unit. If a
 -- connection loses its judgement with it, nobody of the end is to blame then.
 pub record IsTakenOn (d : Direction) (v : Value) (c : Passed) : Type 0 where
   pub goes : is_stopped (way_of (other d)) c.traffic.course ≡ false
+  pub lasts : IsOngoing c.traffic.course
   pub two : class_for (way_of (other d)) c.traffic.course ≡ Some Zero → ⊥
   pub far : (takes (way_of (other d)) v c.traffic).told.reach ≡ reach.Everything → ⊥
   pub loses : (takes (way_of (other d)) v c.traffic).told.reach ≡ reach.Connection → NoneIsToBlame d c.sessions
@@ -45,13 +46,13 @@ pub record KeepsThroughout (d : Direction) (local : Local) (Inv : (ℕ → Deeds
       Inv deeds old → Inv deeds new
   pub other_begins : (deeds : ℕ → Deeds) (old new : Joint) → Steps d begins_other old new → Inv deeds old → Inv deeds new
   pub own_passes : (deeds : ℕ → Deeds) (at : ℕ) (v : Value) (old new : Joint) → Steps d (passes_own at v) old new →
-      IsProper d v old.course → IsLasting old.course.traffic.course → (new.course.traffic.course.class ≡ Some Zero → ⊥) →
+      IsProper d v old.course → IsOngoing old.course.traffic.course → (new.course.traffic.course.class ≡ Some Zero → ⊥) →
       Inv deeds old → Inv deeds new
   pub other_passes : (deeds : ℕ → Deeds) (at : ℕ) (octets : List ℕ) (units : List Value) (old new : Joint) →
       Steps d (passes_other at octets units) old new → AreTakenOn d at units old.course → Inv deeds old → Inv deeds new
   pub turn : (turn : Turn) (old new : Joint) (t : TakesTurn turn old new) (deeds : ℕ → Deeds)
       (does : TurnDoes (calls_from d) deeds turn old new t) → IsFollowed d (wholes.begin (calls_from d) local) old →
-      IsFollowed d (wholes.begin (calls_from d) local) new → IsLasting old.course.traffic.course → Inv deeds old →
+      IsFollowed d (wholes.begin (calls_from d) local) new → IsOngoing old.course.traffic.course → Inv deeds old →
       Inv (λ r. then_did (deeds r) (does.of.on.more r)) new
   pub none : (deeds : ℕ → Deeds) (j : Joint) → HaveCourses d deeds j → Inv deeds j → NoneIsToBlame d j.course.sessions
   pub none_amid : (deeds : ℕ → Deeds) (at : ℕ) (octets : List ℕ) (front back : List Value) (old new : Joint) →
@@ -64,12 +65,13 @@ firm_goes : (e : Direction) (c : Passed) → IsFirm c.traffic.course → is_stop
 firm_goes Left c h = h.left
 firm_goes Right c h = h.right
 
-firm_lasts : (c : Passed) → IsFirm c.traffic.course → (c.traffic.course.class ≡ Some Zero → ⊥) → IsLasting c.traffic.course
-firm_lasts c h not = record { calm = record { left = h.left; right = h.right }; two = not }
+firm_lasts : (c : Passed) → IsFirm c.traffic.course → (c.traffic.course.class ≡ Some Zero → ⊥) → IsOngoing c.traffic.course
+firm_lasts c h not = record { sure = record { left = h.left; right = h.right }; two = not }
 
 taken_one : (d : Direction) (v : Value) (c : Passed) → IsPassed Zero d v c → IsTakenOn d v c
 taken_one d v c h = record {
   goes = firm_goes (other d) c h.firm;
+  lasts = firm_lasts c h.firm h.not;
   two = λ zero. h.not (knows (other d) zero);
   far = λ far. let no : reach.Nothing ≡ reach.Everything = sym reach_is ∙ far in cc;
   loses = λ far. absurd (let no : reach.Nothing ≡ reach.Connection = sym reach_is ∙ far in cc);

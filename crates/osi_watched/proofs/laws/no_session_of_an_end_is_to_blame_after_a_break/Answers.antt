@@ -29,7 +29,6 @@ returns-clause-called c = λ local begin end turns capture i j fresh run octets 
     c.an_honest_session_is_explained.ensures.called local capture begin end turns i j fresh run octets seen few both there
 
 pub returns-clause-calling : goal.returns-clause-calling
-returns-clause-calling c = λ local begin end turns capture i j fresh run octets seen few there whole.
+returns-clause-calling c = λ local begin end turns capture i j fresh run octets seen few there both.
     calling_later (known c) (as_sent c) c.what_leaves_in_parts.ensures.read c.an_honest_session_is_explained.ensures.caller
-    c.an_honest_session_is_explained.ensures.called local capture begin end turns i j fresh run octets seen
-    (record { few = few; whole = whole }) there
+    c.an_honest_session_is_explained.ensures.called local capture begin end turns i j fresh run octets seen few both there
