@@ -1,5 +1,5 @@
 -- What is judged of a capture, after breaks of the other side.
-use Rattle.std.specs.Prelude.{◌≡◌, false, true, Some}
+use Rattle.std.specs.Prelude.{◌≡◌, true, Some}
 use Rattle.osi_class.specs.declared.terms.Class.TheVariants.{Zero}
 use Rattle.osi_judge.specs.Captures.{other}
 use Rattle.osi_judge.specs.declared.directions.Direction.{Direction}

@@ -205,8 +205,10 @@ module _ (known : Known) (is_caller : Bool) (moves : ℕ → Deeds) where
       (subst (λ (x : Holding). Courses moves x.end) (sym c.1)
       (λ r. course_beside is_caller r (moves r) old.end (record old.end { lines = without_first old.end.lines }) (told_beside r old.end)
       (course r)))
-      (λ r. (inl (ap (λ (x : Holding). stage_at r x.end.carrier) c.1),
-      λ now has. ap (λ (x : Holding). has_given r x.end.carrier) c.1 ∙ has))
+      (λ r. (
+        inl (ap (λ (x : Holding). stage_at r x.end.carrier) c.1),
+        λ now has. ap (λ (x : Holding). has_given r x.end.carrier) c.1 ∙ has,
+      ))
   serving_turn turn (carrying octets) old new used b course c is =
       quiet_turn turn old new used
       (nothing_put old.end.carrier.outgoing (octets ++ new.end.carrier.outgoing) turn.put is
@@ -214,8 +216,10 @@ module _ (known : Known) (is_caller : Bool) (moves : ℕ → Deeds) where
       (sym (ap (λ (x : Holding). x.held.octets) c))
       (λ r. course_beside is_caller r (moves r) (put_back octets new.end) new.end (carried_beside r octets new.end)
       (subst (λ (x : Holding). Course is_caller r (moves r) x.end) c (course r)))
-      (λ r. (inl (sym (ap (λ (x : Holding). stage_at r x.end.carrier) c)),
-      λ now has. sym (ap (λ (x : Holding). has_given r x.end.carrier) c) ∙ has))
+      (λ r. (
+        inl (sym (ap (λ (x : Holding). stage_at r x.end.carrier) c)),
+        λ now has. sym (ap (λ (x : Holding). has_given r x.end.carrier) c) ∙ has,
+      ))
 
   act_turn : (turn : Turn) (act : Act) (old new : Holding) → turn.used ≡ used_by act → Between old.end → Courses moves old.end →
       Acts old act new → carried_by act ++ new.end.carrier.outgoing ≡ old.end.carrier.outgoing ++ turn.put →

@@ -44,7 +44,6 @@ use Rattle.osi_watched.proofs.sessions.right_units_leave_all_standing.{dt, link_
 use Rattle.osi_watched.proofs.sessions.the_dr_of_the_other_side_is_in_flight.{AreShut, HaveRoom, other_shut}
 use Rattle.osi_watched.proofs.sessions.units_written_alike_are_for_the_same.{none_written_so}
 use Rattle.osi_watched.proofs.sessions.what_a_unit_does_at_its_place.{Does, asks_again, asks_more, nowhere, somewhere, unit_does}
-use Rattle.osi_watched.proofs.sessions.what_has_no_effect_joins_nothing.{joins_none}
 use Rattle.osi_watched.proofs.sessions.what_holds_of_a_lost_connection.{now_so}
 use Rattle.osi_watched.proofs.sessions.what_is_left_for_an_end.{known_left, left_grows, left_same}
 use Rattle.osi_watched.proofs.sessions.what_passes_leaves_all_standing.{AllGoesOn, IsHeard, no_request, no_zero, other_stands}

@@ -14,7 +14,7 @@ use Rattle.osi_carrier.specs.State.{State as Carrier}
 use Rattle.osi_judge.specs.declared.directions.Direction.TheVariants.{Left}
 use Rattle.osi_rules.specs.declared.directions.Direction.TheVariants as way
 use Rattle.osi_rules.specs.declared.findings.Finding.TheVariants.{NotJudged}
-use Rattle.osi_rules.specs.Traffic.{Outcome, State, class_for, is_stopped, none_told, route, route_in, routed, takes}
+use Rattle.osi_rules.specs.Traffic.{Outcome, State, none_told, route_in, routed}
 use Rattle.osi_carrier.specs.Rows.{value_at}
 use Rattle.osi_stack.specs.Calls.{has_given}
 use Rattle.osi_stack.specs.State.{End, Holding}
@@ -28,7 +28,6 @@ use Rattle.osi_honest.specs.Seeing.{IsFresh}
 use Rattle.osi_honest.specs.Turns.{Turn}
 use Rattle.osi_honest.proofs.class_0.what_a_packet_does_in_class_0.{AllProper}
 use Rattle.osi_honest.proofs.courses.how_long_a_connection_is_open.{Life, amid, stage_at, stage_is, stage_there}
-use Rattle.osi_tap.specs.Courses.{Course}
 use Rattle.osi_watched.specs.Joint.{Joint, Steps, TakesTurn, begin, begins_other, begins_own, passes_other, passes_own}
 use Rattle.osi_watched.specs.ShownPlaces.{HaveSamePlaces}
 use Rattle.osi_watched.proofs.steps_are_events.{IsFollowed, begin_followed, own_first}
@@ -42,7 +41,6 @@ use Rattle.osi_watched.proofs.sessions.each_cr_that_passes_gives_a_new_reference
 use Rattle.osi_watched.proofs.sessions.nothing_is_done_before_a_cr_passes.{AreUndone, IsNoZero, cr_calm, cr_ready, known_from, none_come}
 use Rattle.osi_watched.proofs.sessions.nothing_is_done_before_a_cr_passes.{may_take, turn_undone}
 use Rattle.osi_watched.proofs.sessions.what_passes_leaves_all_standing.{IsReady}
-use Rattle.osi_watched.proofs.sessions.what_stands_of_a_connection.{Known}
 
 -- ---- what comes in class 2
 

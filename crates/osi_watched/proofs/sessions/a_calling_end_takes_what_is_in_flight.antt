@@ -1,7 +1,7 @@
 -- What a calling end takes in a turn at a connection is the first of what is left over for it, if its CC has passed the tap, or nothing of
 -- what has come is for it, or it can open no more. And a DR in flight to it stays there as long as the end has it open.
 -- For all connections of an end and a tap.
-use Rattle.std.proofs.Common.{◌≡◌, ◌∙◌, ◌⊎◌, inl, inr, refl, sym, ap, subst, ℕ, ◌<◌, ◌≤◌, Bool, true, List, [], ◌++◌}
+use Rattle.std.proofs.Common.{◌≡◌, ◌∙◌, ◌⊎◌, inl, inr, refl, sym, ap, subst, ℕ, ◌<◌, ◌≤◌, true, List, [], ◌++◌}
 use Rattle.std.proofs.Common.{Option, Some, None, arith, is_some}
 use Rattle.std.specs.List.{AllByRecursion}
 use Rattle.osi_tpdu.specs.Value.{Value}

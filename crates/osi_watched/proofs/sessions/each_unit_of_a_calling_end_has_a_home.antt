@@ -283,8 +283,7 @@ module _ (local : Local) (two : local.class2 ≡ true) (deeds : ℕ → Deeds) (
         (rest : List Value) × (f.whole.coming ≡ all_units front ++ unit ∷ rest)
     comes_so front unit later is =
         let u = turn_uses turn old new step true deeds on lasts in
-        let rest = all_units later ++ (u.left ++ units_in new.coming) in
-        (
+        let rest = all_units later ++ (u.left ++ units_in new.coming) in (
           rest,
           f.coming lasts ∙ same_units old.coming ∙ u.coming
               ∙ ap (λ (l : List Value). l ++ (u.left ++ units_in new.coming))

@@ -7,7 +7,7 @@ use Rattle.std.specs.Prelude.{slice_get}
 use Rattle.std.proofs.lemmas.List.{append-nil, length-append}
 use Rattle.osi_tpdu.specs.Value.{Value}
 use Rattle.osi_class.specs.declared.terms.Class.{Class}
-use Rattle.osi_class.specs.declared.terms.Class.TheVariants.{Two, Zero}
+use Rattle.osi_class.specs.declared.terms.Class.TheVariants.{Two}
 use Rattle.osi_class.specs.declared.terms.Local.{Local}
 use Rattle.osi_judge.specs.Captures.{Capture, other}
 use Rattle.osi_judge.specs.declared.directions.Direction.{Direction}
@@ -19,7 +19,7 @@ use Rattle.osi_rules.specs.Traffic.{State as Traffic, class_for, is_stopped, tak
 use Rattle.osi_rules.specs.Traffic as traffic
 use Rattle.osi_fair.specs.Naming.{packet, rubbish, unit}
 use Rattle.osi_fair.specs.Wholes as wholes
-use Rattle.osi_fair.proofs.what_the_other_side_closes.{IsClear, IsFirm}
+use Rattle.osi_fair.proofs.what_the_other_side_closes.{IsFirm}
 use Rattle.osi_stack.specs.State.{End, Holding}
 use Rattle.osi_honest.specs.Courses.{Course, Deeds, all_did, no_deeds, then_did}
 use Rattle.osi_honest.specs.Seeing.{IsFresh}
@@ -49,12 +49,10 @@ use Rattle.osi_watched.proofs.sessions.after_too_many_nobody_is_to_blame.{NoneIs
 use Rattle.osi_watched.proofs.sessions.connections_have_the_same_places.{marked_traffic, unit_knows}
 use Rattle.osi_watched.proofs.sessions.each_step_leaves_class_0_one_connection.{Sure, class_stays, fresh_sure, sure_claim}
 use Rattle.osi_watched.proofs.sessions.no_more_tsdus_than_moments_have_passed.{AreFew, few_claim}
-use Rattle.osi_watched.proofs.sessions.steps_leave_all_standing.{IsFine, IsTakeable}
 use Rattle.osi_watched.proofs.sessions.steps_of_either_class_leave_all_standing.{IsRight, IsTolerable}
 use Rattle.osi_watched.proofs.sessions.the_first_break_of_all_is_of_the_other_side.{AreClean, Ends, HasBroken, IsSilent, broken_claim}
 use Rattle.osi_watched.proofs.sessions.the_first_break_of_all_is_of_the_other_side.{moment, silent_claim, unit_breaks}
 use Rattle.osi_watched.proofs.sessions.the_first_break_of_all_is_of_the_other_side.{unit_clean, unit_past, unread_breaks_so}
-use Rattle.osi_watched.proofs.sessions.what_passes_is_no_break_while_none_is_told.{fine_so, takeable_so}
 
 -- ---- what is asked of what holds at each step
 

@@ -1,7 +1,7 @@
 -- No session of an end is to blame, also after breaks of the other side that a taker passes over, if something holds at each step by which
 -- nobody of the end is to blame, as long as all is judged and one class is not selected.
 -- For the law that no session of an end is blamed after such a break.
-use Rattle.std.proofs.Common.{◌≡◌, ◌∙◌, ◌⊎◌, inl, inr, refl, sym, ap, subst, ℕ, ◌^◌, ◌<◌, Bool, true, false}
+use Rattle.std.proofs.Common.{◌≡◌, ◌∙◌, ◌⊎◌, inl, inr, refl, sym, ap, subst, ℕ, ◌^◌, ◌<◌, false}
 use Rattle.std.proofs.Common.{List, [], ◌∷◌, ◌++◌, length, Some, append_assoc, arith}
 use Rattle.std.specs.Prelude.{slice_get}
 use Rattle.std.proofs.lemmas.List.{append-nil}
@@ -15,7 +15,7 @@ use Rattle.osi_rules.specs.declared.findings.Finding.{Finding}
 use Rattle.osi_rules.specs.declared.findings.Finding.TheVariants.{Broke, Kept, NotJudged, Outside, TooMany}
 use Rattle.osi_rules.specs.declared.findings.Rule.TheVariants as rule
 use Rattle.osi_rules.specs.Reaches.{is_applied, reach_of}
-use Rattle.osi_rules.specs.Traffic.{class_for, is_stopped, takes}
+use Rattle.osi_rules.specs.Traffic.{class_for, takes}
 use Rattle.osi_fair.specs.Wholes as wholes
 use Rattle.osi_stack.specs.State.{End, Holding}
 use Rattle.osi_honest.specs.Courses.{Course, Deeds, all_did, no_deeds}
