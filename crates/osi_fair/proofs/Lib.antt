@@ -23,7 +23,6 @@ pub mod when_a_connection_has_a_name
 pub mod what_keeps_names_apart
 pub mod a_reference_names_one_connection
 pub mod names_stay_apart_though_one_is_lost
-pub mod names_of_right_stay_apart_though_one_is_lost
 pub mod a_right_unit_is_not_blamed
 pub mod what_a_side_knows_stays
 pub mod all_are_judged_unless_one_broke

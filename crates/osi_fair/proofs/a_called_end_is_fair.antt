@@ -2,9 +2,9 @@
 -- For the law of that name.
 use Rattle.osi_fair.proofs.Vocabulary.{[], ap, arith, false, inl, inr, List, None, Option, refl, Some, subst, sym, true, ℕ, ◌++◌, ◌∙◌, ◌∷◌}
 use Rattle.osi_fair.proofs.Vocabulary.{◌≡◌, ◌≢◌, ◌⊎◌, slice_get, HasFieldsInRange, Value, Local, orderly_fresh, react, user_does, UserCall}
-use Rattle.osi_fair.proofs.Vocabulary.{Class, Two, Zero, is_live, fresh, is_stopped, packet_begins, Traffic, takes, Connection, Left, Right}
-use Rattle.osi_fair.proofs.Vocabulary.{all_passed, HoldsOfOne, packet, passes, Passing, rubbish, unit as passing, put_by, put_for, arrives}
-use Rattle.osi_fair.proofs.Vocabulary.{begin, calls, Event, HappenAlong, Happens, MayCall, passes_rubbish, Whole}
+use Rattle.osi_fair.proofs.Vocabulary.{Class, Two, Zero, is_live, fresh, is_stopped, packet_begins, Traffic, takes, Connection, Left}
+use Rattle.osi_fair.proofs.Vocabulary.{Right, all_passed, HoldsOfOne, packet, passes, Passing, rubbish, unit as passing, put_by, put_for}
+use Rattle.osi_fair.proofs.Vocabulary.{arrives, begin, calls, Event, HappenAlong, Happens, MayCall, passes_rubbish, Whole}
 use Rattle.osi_fair.specs.Wholes.{begins_other, begins_own, passes_other, passes_own}
 use Rattle.osi_fair.proofs.a_called_end_selects_class_zero.{Selected, Selecting, selected_begins, selected_calls, selected_takes}
 use Rattle.osi_fair.proofs.a_called_end_selects_class_zero.{selecting_begins, selecting_calls, selecting_takes}
@@ -18,7 +18,7 @@ use Rattle.osi_fair.proofs.what_becomes_of_a_called_end.{IsCalled}
 use Rattle.osi_fair.proofs.a_dc_for_what_is_gone_passes.{stray_passes}
 use Rattle.osi_fair.proofs.a_reference_names_one_connection.{fresh_apart, no_item, passes_apart}
 use Rattle.osi_fair.proofs.a_unit_of_a_called_end_passes.{IsFineAt, one_passes}
-use Rattle.osi_fair.proofs.names_stay_apart_though_one_is_lost.{AreNamedApart, left_begins, right_begins}
+use Rattle.osi_fair.proofs.names_stay_apart_though_one_is_lost.{AreNamedApart, end_begins, side_begins}
 use Rattle.osi_fair.proofs.a_connection_is_lost_in_class_2_alone.{IsOfTwo, firm_unless_two, still_two}
 use Rattle.osi_fair.proofs.how_a_unit_of_right_passes.{head_of, no_list}
 use Rattle.osi_fair.proofs.all_are_judged_unless_one_broke.{AreJudged, IsJudged, still_judged}
@@ -32,12 +32,12 @@ use Rattle.osi_fair.proofs.which_unit_comes_to_a_called_end.{IsCalm, by_reach, c
 
 -- ---- a unit of the end
 
-module _ (local : Local) (w : Whole) (f : Called local w) (apart : AreApart w.tap.connections) (named : AreNamedApart w.tap.connections)
-    (judged : AreJudged w.tap) (right : w.tap.course.right_stopped ≡ false) (v : Value) (rest : List Value)
-    (begun : w.begun ≡ true) where
+module _ (local : Local) (w : Whole) (f : Called local w) (apart : AreApart w.tap.connections)
+    (named : AreNamedApart Left w.tap.connections) (judged : AreJudged w.tap) (right : w.tap.course.right_stopped ≡ false) (v : Value)
+    (rest : List Value) (begun : w.begun ≡ true) where
   abbrev Passed : Type 0
   Passed = IsFineAt v w.tap × Called local (record w { put = rest; begun = false; tap = (takes Right v w.tap).state })
-      × AreNamedApart (takes Right v w.tap).state.connections
+      × AreNamedApart Left (takes Right v w.tap).state.connections
 
   at_place : (p : ℕ) (later : List Placed) → f.tagged ≡ (Some p, v) ∷ later → rest ≡ values later → (o : Option Connection) →
       slice_get w.tap.connections p ≡ o → Passed
@@ -50,7 +50,7 @@ module _ (local : Local) (w : Whole) (f : Called local w) (apart : AreApart w.ta
   by_tag : (o : Option ℕ) (later : List Placed) → f.tagged ≡ (o, v) ∷ later → rest ≡ values later → Passed
   by_tag None later tagged rest_are =
       let (fine, after, same) = stray_passes local w f right v rest later tagged rest_are in
-      (fine, after, subst AreNamedApart (sym same) named)
+      (fine, after, subst (AreNamedApart Left) (sym same) named)
   by_tag (Some p) later tagged rest_are = at_place p later tagged rest_are (slice_get w.tap.connections p) refl
 
   own_passes : w.put ≡ v ∷ rest → Passed
@@ -64,7 +64,7 @@ mild w v (inr (e, why)) = inr e
 
 -- no class is selected, or class 2; class 0 is selected, and the CC is to pass, or has passed
 pub data Stage (local : Local) (w : Whole) : Type 0 where
-  lines : Called local w → IsCalled local w.end → AreNamedApart w.tap.connections → Stage local w
+  lines : Called local w → IsCalled local w.end → AreNamedApart Left w.tap.connections → Stage local w
   selecting : Selecting local w → Stage local w
   selected : Selected w → Stage local w
 
@@ -99,7 +99,8 @@ module _ (local : Local) (w : Whole) (j : Joined local w) where
   firm_in k is none = j.judged (firm_unless_two w.tap.course j.two (λ e. none (sym is ∙ e)))
 
   taken_by : (u : Value) (later : List Value) (f : Called local w) (c : IsCalled local w.end) (come : w.coming ≡ u ∷ later) →
-      AreNamedApart w.tap.connections → (Called local (record w { end = react u w.end; put = w.put ++ put_for u w.end; coming = later })
+      AreNamedApart Left w.tap.connections →
+      (Called local (record w { end = react u w.end; put = w.put ++ put_for u w.end; coming = later })
       × IsCalled local (react u w.end)) ⊎ SelectsZero local w f c u later come →
       Stage local (record w { end = react u w.end; put = w.put ++ put_for u w.end; coming = later })
   taken_by u later f c come named (inl (a, b)) = lines a b named
@@ -120,12 +121,12 @@ module _ (local : Local) (w : Whole) (j : Joined local w) where
   calls_stage call may (selected f) = selected (selected_calls w call may f)
 
   own_stage : w.begun ≡ false → w.put ≢ [] → Stage local w → Stage local (record w { begun = true; tap = packet_begins Right w.tap })
-  own_stage e some (lines f c named) = lines (line_begins local w f e some) c (right_begins w.tap.connections j.apart named)
+  own_stage e some (lines f c named) = lines (line_begins local w f e some) c (end_begins Left w.tap.connections j.apart named)
   own_stage e some (selecting f) = selecting (selecting_begins local Right w true (λ c h k. refl) f)
   own_stage e some (selected f) = selected (selected_begins Right w true f)
 
   other_stage : Stage local w → Stage local (record w { tap = packet_begins Left w.tap })
-  other_stage (lines f c named) = lines (lines_begin local w f) c (left_begins w.tap.connections j.apart named)
+  other_stage (lines f c named) = lines (lines_begin local w f) c (side_begins Left w.tap.connections j.apart named)
   other_stage (selecting f) = selecting (selecting_begins local Left w w.begun (λ c h k. h k) f)
   other_stage (selected f) = selected (selected_begins Left w w.begun f)
 

@@ -25,7 +25,7 @@ use Rattle.osi_fair.proofs.each_connection_has_its_line.{Followed, IsOwned, aski
 use Rattle.osi_fair.proofs.how_requests_go_on.{Stage, answered, asks, ended, known, quiet, refused, waits, zero}
 use Rattle.osi_fair.proofs.no_request_is_blamed.{Holds as Staged, holds_first, holds_next, is_right}
 use Rattle.osi_fair.proofs.the_end_is_judged_as_the_other_side_is.{IsMild}
-use Rattle.osi_fair.proofs.names_of_right_stay_apart_though_one_is_lost.{ArePeersApart, left_begins, right_begins}
+use Rattle.osi_fair.proofs.names_stay_apart_though_one_is_lost.{AreNamedApart, end_begins, side_begins}
 use Rattle.osi_fair.proofs.what_a_calling_end_still_has.{call_after, over_not, unit_after}
 use Rattle.osi_fair.proofs.what_becomes_of_a_connection.{IsIdle, Told, comes_for}
 use Rattle.osi_fair.proofs.what_lasts_at_the_tap.{IsCalm}
@@ -42,7 +42,7 @@ pub record Joined (local : Local) (w : Whole) : Type 0 where
   pub orderly : IsOrderly w.end
   pub local_is : IsOngoing w.tap.course → w.end.local ≡ local
   pub followed : IsOngoing w.tap.course → Followed local w
-  pub peers : IsOngoing w.tap.course → ArePeersApart w.tap.connections
+  pub peers : IsOngoing w.tap.course → AreNamedApart Right w.tap.connections
 
 orderly_calls : (call : UserCall) (s : State) → MayCall call s → IsOrderly s → IsOrderly (user_does call s)
 orderly_calls (connects calling called) s may h = orderly_asks calling called s may h
@@ -84,7 +84,7 @@ module _ (local : Local) (w : Whole) (j : Joined local w) where
 
   abbrev AfterOther : Value → Type 0
   AfterOther v = Followed local (record w { tap = (takes Right v w.tap).state; coming = w.coming ++ v ∷ [] })
-      × ArePeersApart (takes Right v w.tap).state.connections
+      × AreNamedApart Right (takes Right v w.tap).state.connections
 
   other_by : (v : Value) → HasFieldsInRange v → IsOngoing (takes Right v w.tap).state.course → (f : Followed local w) →
       IsOngoing w.tap.course → Told v w.tap (takes Right v w.tap) ⊎ IsIdle v w.tap (takes Right v w.tap) → AfterOther v
@@ -139,7 +139,7 @@ fine_passed w v (inr e) = inr (inr e)
 pub record Goes (local : Local) (w : Whole) (v : Value) (rest : List Value) : Type 0 where
   pub fine : IsFine w v
   pub followed : Followed local (record w { put = rest; begun = false; tap = (takes Left v w.tap).state })
-  pub peers : ArePeersApart (takes Left v w.tap).state.connections
+  pub peers : AreNamedApart Right (takes Left v w.tap).state.connections
 
 goes_of : (local : Local) (w : Whole) (v : Value) (rest : List Value) → Passed local w v rest → Goes local w v rest
 goes_of local w v rest p = record { fine = fine_passed w v p.fine; followed = p.followed; peers = p.peers }
@@ -233,7 +233,7 @@ next_joined local begins_own w new (some, not_begun, is) j =
       orderly = j.orderly;
       local_is = λ going. j.local_is (before_going (packet Left) w.tap going);
       followed = λ going. own_begins local w not_begun some (j.followed (before_going (packet Left) w.tap going));
-      peers = λ going. left_begins w.tap.connections j.kept.sane.apart (j.peers (before_going (packet Left) w.tap going));
+      peers = λ going. end_begins Right w.tap.connections j.kept.sane.apart (j.peers (before_going (packet Left) w.tap going));
     })
 next_joined local passes_own w new (v, put, begun, is) j =
     let after = record w { put = new.put; begun = false; tap = (takes Left v w.tap).state } in
@@ -253,7 +253,7 @@ next_joined local begins_other w new is j =
       orderly = j.orderly;
       local_is = λ going. j.local_is (before_going (packet Right) w.tap going);
       followed = λ going. other_begins local w (j.followed (before_going (packet Right) w.tap going));
-      peers = λ going. right_begins w.tap.connections j.kept.sane.apart (j.peers (before_going (packet Right) w.tap going));
+      peers = λ going. side_begins Right w.tap.connections j.kept.sane.apart (j.peers (before_going (packet Right) w.tap going));
     })
 next_joined local (passes_other v) w new (ranges, is) j =
     let after = record w { tap = (takes Right v w.tap).state; coming = w.coming ++ v ∷ [] } in

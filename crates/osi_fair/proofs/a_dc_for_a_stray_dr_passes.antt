@@ -13,7 +13,7 @@ use Rattle.osi_fair.proofs.a_unit_that_is_not_judged_passes.{IsIgnored, Passed, 
 use Rattle.osi_fair.proofs.each_connection_has_its_line.{Followed, is_tracked}
 use Rattle.osi_fair.proofs.what_holds_of_one_item.{first_true}
 use Rattle.osi_fair.proofs.what_keeps_names_apart.{Sound}
-use Rattle.osi_fair.proofs.names_of_right_stay_apart_though_one_is_lost.{ArePeersApart}
+use Rattle.osi_fair.proofs.names_stay_apart_though_one_is_lost.{AreNamedApart}
 use Rattle.osi_fair.proofs.what_the_other_side_closes.{IsSane}
 use Rattle.osi_fair.proofs.which_units_are_for_a_connection.{IsOf}
 use Rattle.osi_fair.proofs.while_no_class_is_selected.{set_same}
@@ -96,9 +96,9 @@ pub record IsDueOn (c : Connection) (m source : ℕ) : Type 0 where
 due_on : (c : Connection) (m source : ℕ) → Sound c → is_named Left m c ≡ true → is_due Left c source ≡ true → IsDueOn c m source
 due_on c m source sound named h = search (arith, name_so, and_first, and_second, both, or_last, eqb-true)
 
-module _ (local : Local) (w : Whole) (f : Followed local w) (sane : IsSane w.tap) (peers : ArePeersApart w.tap.connections) (m source : ℕ)
-    (rest : List Value) (e : w.put ≡ disconnected m source ∷ rest) (begun : w.begun ≡ true) (left : w.tap.course.left_stopped ≡ false)
-    (strays : w.tap.course.strays ≡ true) where
+module _ (local : Local) (w : Whole) (f : Followed local w) (sane : IsSane w.tap) (peers : AreNamedApart Right w.tap.connections)
+    (m source : ℕ) (rest : List Value) (e : w.put ≡ disconnected m source ∷ rest) (begun : w.begun ≡ true)
+    (left : w.tap.course.left_stopped ≡ false) (strays : w.tap.course.strays ≡ true) where
   abbrev dc : Value
   dc = disconnected m source
 

@@ -21,7 +21,7 @@ use Rattle.osi_fair.proofs.what_holds_of_one_item.{HoldsOfEach, after_map, each_
 use Rattle.osi_fair.proofs.what_lasts_at_the_tap.{calm_before, lasts_passing}
 use Rattle.osi_fair.proofs.what_stays_of_each_connection.{AreDistinct, IfAsked, IsLively, IsStarted, left_passes, lively_stays}
 use Rattle.osi_fair.proofs.what_stays_of_each_connection.{right_passes, started_stays}
-use Rattle.osi_fair.proofs.names_of_right_stay_apart_though_one_is_lost.{ArePeersApart}
+use Rattle.osi_fair.proofs.names_stay_apart_though_one_is_lost.{AreNamedApart}
 use Rattle.osi_fair.proofs.what_the_other_side_closes.{Came, IsClear, IsOngoing, IsDr, IsPlain, IsSane, Less, going_of, closed_by}
 use Rattle.osi_fair.proofs.what_the_other_side_closes.{closes as closes_one, stays, what_came}
 use Rattle.osi_fair.proofs.which_requests_are_put.{asked_among, call_asks, unit_asks}
@@ -280,7 +280,7 @@ pub record Holds (w : Whole) : Type 0 where
 
 -- what is known besides: the references of right are apart, and the next unit selects class 2 if it is a CC that the end awaits
 pub record Known (w : Whole) : Type 0 where
-  pub peers : IsOngoing w.tap.course → ArePeersApart w.tap.connections
+  pub peers : IsOngoing w.tap.course → AreNamedApart Right w.tap.connections
   pub selects : IsOngoing w.tap.course → (u : Value) (later : List Value) → w.coming ≡ u ∷ later → SelectsTwo w.end u
 
 begun_started : (d : Direction) (c : Connection) → IsStarted c → IsStarted (begins d c)

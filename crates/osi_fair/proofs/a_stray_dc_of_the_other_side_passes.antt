@@ -15,13 +15,13 @@ use Rattle.osi_fair.proofs.each_connection_has_its_line.{AreGiven, Followed, Fol
 use Rattle.osi_fair.proofs.each_connection_has_its_line.{tracks_on}
 use Rattle.osi_fair.proofs.what_becomes_of_a_connection.{IsIdle}
 use Rattle.osi_fair.proofs.what_keeps_names_apart.{Sound}
-use Rattle.osi_fair.proofs.names_of_right_stay_apart_though_one_is_lost.{ArePeersApart, each_sound}
+use Rattle.osi_fair.proofs.names_stay_apart_though_one_is_lost.{AreNamedApart, each_sound}
 use Rattle.osi_fair.proofs.what_the_other_side_closes.{IsSane}
 use Rattle.osi_fair.proofs.which_units_are_for_a_connection.{is_dc, named_is, names}
 use Rattle.osi_fair.proofs.what_is_live_at_a_called_end.{all_add}
 
-module _ (local : Local) (w : Whole) (f : Followed local w) (sane : IsSane w.tap) (peers : ArePeersApart w.tap.connections) (v : Value)
-    (ranges : HasFieldsInRange v) (t : IsIdle v w.tap (takes Right v w.tap)) where
+module _ (local : Local) (w : Whole) (f : Followed local w) (sane : IsSane w.tap) (peers : AreNamedApart Right w.tap.connections)
+    (v : Value) (ranges : HasFieldsInRange v) (t : IsIdle v w.tap (takes Right v w.tap)) where
   abbrev more : List Value
   more = w.coming ++ v ∷ []
 
@@ -92,7 +92,7 @@ module _ (local : Local) (w : Whole) (f : Followed local w) (sane : IsSane w.tap
   idle_so = record {
     lines = λ i c at tracked.
         let g = f.lines i c at tracked in
-        line_idle c (each_sound w.tap.connections sane.apart peers i c at) tracked g (names g.r v) refl;
+        line_idle c (each_sound Right w.tap.connections sane.apart peers i c at) tracked g (names g.r v) refl;
     waiting = λ i c at waits. waiting_dc local w.end w.coming c v dc (f.waiting i c at waits);
     owned = f.owned;
     linked = f.linked;
@@ -114,5 +114,5 @@ module _ (local : Local) (w : Whole) (f : Followed local w) (sane : IsSane w.tap
   pub idle_passes : Followed local (record w { tap = (takes Right v w.tap).state; coming = more })
   idle_passes = subst (λ (s : Traffic). Followed local (record w { tap = s; coming = more })) (sym t.same) idle_so
 
-  pub idle_peers : ArePeersApart (takes Right v w.tap).state.connections
-  idle_peers = subst (λ (s : Traffic). ArePeersApart s.connections) (sym t.same) peers
+  pub idle_peers : AreNamedApart Right (takes Right v w.tap).state.connections
+  idle_peers = subst (λ (s : Traffic). AreNamedApart Right s.connections) (sym t.same) peers

@@ -1,14 +1,14 @@
 -- A unit of the other side passes at the tap of a whole called end, for one of its connections, or a DC that answers nothing.
 -- For the law on a whole called end.
-use Rattle.osi_fair.proofs.Vocabulary.{[], ap, arith, Bool, false, if◌then◌else◌, inl, inr, List, None, Option, refl, set, Some, subst, sym}
-use Rattle.osi_fair.proofs.Vocabulary.{true, ℕ, ◌++◌, ◌<◌, ◌∙◌, ◌∷◌, ◌≡◌, ◌≢◌, ◌≤◌, ◌⊎◌, eqb-true, append-nil, AllByRecursion, not}
-use Rattle.osi_fair.proofs.Vocabulary.{slice_get, ◌&&◌, ◌==◌, ◌||◌, acknowledge, confirm, Connect, data0, data2, destination_of, disconnect}
-use Rattle.osi_fair.proofs.Vocabulary.{disconnected, error, HasFieldsInRange, request, Value, Standing, Class, Two, Local, is_applied}
-use Rattle.osi_fair.proofs.Vocabulary.{reach_of, first_failed, is_due, is_closed, is_closing, is_named, is_open, is_over, is_over_by}
-use Rattle.osi_fair.proofs.Vocabulary.{is_refused, is_silent, connection_after, course_after, found, found_on, half_after, is_stray}
-use Rattle.osi_fair.proofs.Vocabulary.{one_told, Outcome, reached, Traffic, takes, uses_source, Connection, Course, Left, Right, Finding}
-use Rattle.osi_fair.proofs.Vocabulary.{Broke, NotJudged, Reach, Half, Phase, after_finding, finding_of, Line}
-use Rattle.osi_fair.proofs.Vocabulary.{unit as passing, Whole}
+use Rattle.osi_fair.proofs.Vocabulary.{[], ap, arith, Bool, false, if◌then◌else◌, inl, inr, List, None, Option, refl, set, Some, subst}
+use Rattle.osi_fair.proofs.Vocabulary.{sym, true, ℕ, ◌++◌, ◌<◌, ◌∙◌, ◌∷◌, ◌≡◌, ◌≢◌, ◌≤◌, ◌⊎◌, eqb-true, append-nil, AllByRecursion, not}
+use Rattle.osi_fair.proofs.Vocabulary.{slice_get, ◌&&◌, ◌==◌, ◌||◌, acknowledge, confirm, Connect, data0, data2, destination_of}
+use Rattle.osi_fair.proofs.Vocabulary.{disconnect, disconnected, error, HasFieldsInRange, request, Value, Standing, Class, Two, Local}
+use Rattle.osi_fair.proofs.Vocabulary.{is_applied, reach_of, first_failed, is_due, is_closed, is_closing, is_named, is_open, is_over}
+use Rattle.osi_fair.proofs.Vocabulary.{is_over_by, is_refused, is_silent, connection_after, course_after, found, found_on, half_after}
+use Rattle.osi_fair.proofs.Vocabulary.{is_stray, one_told, Outcome, reached, Traffic, takes, uses_source, Connection, Course, Left, Right}
+use Rattle.osi_fair.proofs.Vocabulary.{Finding, Broke, NotJudged, Reach, Half, Phase, after_finding, finding_of, Line, unit as passing}
+use Rattle.osi_fair.proofs.Vocabulary.{Whole}
 use Rattle.osi_rules.specs.declared.findings.Reach.TheVariants as reach
 use Rattle.osi_rules.specs.declared.findings.Rule.TheVariants as rule
 use Rattle.osi_fair.specs.Lines.{passes_other}
@@ -110,7 +110,7 @@ answers_above given last n (error destination cause ∷ vs) up h = (λ m y e. ab
 -- ---- all connections
 
 module _ (local : Local) (w : Whole) (f : Called local w) (apart : AreApart w.tap.connections)
-    (named : AreNamedApart w.tap.connections) (v : Value) (ranges : HasFieldsInRange v)
+    (named : AreNamedApart Left w.tap.connections) (v : Value) (ranges : HasFieldsInRange v)
     (calm_after : IsCalm (takes Left v w.tap).state.course) where
   abbrev cs : List Connection
   cs = w.tap.connections
@@ -239,7 +239,7 @@ module _ (local : Local) (w : Whole) (f : Called local w) (apart : AreApart w.ta
         ∙ ap (λ (r : Reach). set cs q (connection_after Left v (is_applied found_so) r c)) near.two
 
     sound : Sound c
-    sound = each_sound cs apart named q c at
+    sound = each_sound Left cs apart named q c at
 
     parts : (is_over Left c ≡ false) × (is_silent c.seen_by_left.phase ≡ false) × ((c.seen_by_left.reference == n) ≡ true)
     parts = named_parts (is_over Left c) (is_silent c.seen_by_left.phase) (c.seen_by_left.reference == n) name
@@ -514,5 +514,5 @@ module _ (local : Local) (w : Whole) (f : Called local w) (apart : AreApart w.ta
       timely = λ none last. timely_so none (f.timely (lasts.strays none) last) v refl;
     }
 
-    pub names_after : AreNamedApart (takes Left v w.tap).state.connections
-    names_after = subst AreNamedApart (sym conns) (left_set cs apart named q c at w.tap v (Some Two) parts.0)
+    pub names_after : AreNamedApart Left (takes Left v w.tap).state.connections
+    names_after = subst (AreNamedApart Left) (sym conns) (left_set w.tap apart named q c at v (Some Two) parts.0)

@@ -25,7 +25,7 @@ use Rattle.osi_fair.proofs.how_a_connection_opens.{called_opens, two_right}
 use Rattle.osi_fair.proofs.units_by_their_place.{Placed, at_elsewhere, at_first, at_here, at_other, first_at, units_at, values}
 use Rattle.osi_fair.proofs.what_a_called_end_closes_is_to_pass.{sent_judged}
 use Rattle.osi_fair.proofs.what_holds_of_one_item.{first_true}
-use Rattle.osi_fair.proofs.names_stay_apart_though_one_is_lost.{AreNamedApart, only_named, right_set}
+use Rattle.osi_fair.proofs.names_stay_apart_though_one_is_lost.{AreNamedApart, end_set, only_named}
 use Rattle.osi_fair.proofs.what_a_line_keeps_though_it_is_lost.{Keeps, line_keeps, own_seen_after}
 use Rattle.osi_fair.proofs.a_reference_names_one_connection.{not_first}
 use Rattle.osi_fair.proofs.what_is_live_at_a_called_end.{Answers, IsHeld, Timely}
@@ -74,7 +74,7 @@ IsFineAt u s = ((takes Right u s).told.finding ≡ Kept) ⊎ (((takes Right u s)
 -- ---- the first unit passes
 
 module _ (local : Local) (w : Whole) (f : Called local w) (apart : AreApart w.tap.connections)
-    (named : AreNamedApart w.tap.connections) (judged : AreJudged w.tap) (right : w.tap.course.right_stopped ≡ false) (u : Value)
+    (named : AreNamedApart Left w.tap.connections) (judged : AreJudged w.tap) (right : w.tap.course.right_stopped ≡ false) (u : Value)
     (rest : List Value) (begun : w.begun ≡ true) where
   abbrev cs : List Connection
   cs = w.tap.connections
@@ -84,7 +84,7 @@ module _ (local : Local) (w : Whole) (f : Called local w) (apart : AreApart w.ta
 
   -- it is right, or not judged, and all holds after it
   abbrev Passed : Type 0
-  Passed = IsFineAt u w.tap × Called local after × AreNamedApart after.tap.connections
+  Passed = IsFineAt u w.tap × Called local after × AreNamedApart Left after.tap.connections
 
   lasts : Lasts w.tap.course (takes Right u w.tap).state.course
   lasts = lasts_passing (passing Right u) w.tap
@@ -95,7 +95,7 @@ module _ (local : Local) (w : Whole) (f : Called local w) (apart : AreApart w.ta
       let first = is_first (is_named Right n) cs p c at is in
       let (e, there) = first_there (is_named Right n) cs p q c first in
       let so = first_true (is_named Right n) cs q e first there in
-      let same : p ≡ q = only_named cs n named p q c e at there is so in
+      let same : p ≡ q = only_named Left cs n named p q c e at there is so in
       first ∙ ap (λ (i : ℕ). Some i) (sym same)
 
   module _ (p : ℕ) (later : List Placed) (tagged : f.tagged ≡ (Some p, u) ∷ later) (rest_are : rest ≡ values later) (c : Connection)
@@ -280,8 +280,8 @@ module _ (local : Local) (w : Whole) (f : Called local w) (apart : AreApart w.ta
             (λ k. let up = (f.homes p h.r h.index).1 in let one = f.positive p h.r h.index in omega arith)
             (λ k j a b. (subst (λ (l : List Placed). AllByRecursion (Answers (IsHeld w.end w.coming)) (values l)) tagged k.answers).0 n
             (acceptance Two h.size h.x local h.r) u_cc),
-        subst AreNamedApart (sym cc_conns) (right_set cs apart named p c at cc_next (live_of n c cc_named) h.asked.judged h.asked.judged
-            refl refl refl),
+        subst (AreNamedApart Left) (sym cc_conns) (end_set Left w.tap apart named p c at cc_next
+            (live_of n c cc_named) h.asked.judged h.asked.judged refl refl refl),
       )
 
     -- ---- a DR that refuses a CR
@@ -347,8 +347,8 @@ module _ (local : Local) (w : Whole) (f : Called local w) (apart : AreApart w.ta
             (subst (λ (h : Half). h.reference ≤ f.last) (sym dr_right) (omega arith))
             (subst (λ (v : Value). AreAbove w.end.given f.last (v ∷ values later)) u_dr above_all)
             (λ k. f.past_two (sym (ap (λ (c : Course). c.class) dr_course) ∙ k)) (λ k j a b. dr_not b),
-        subst AreNamedApart (sym dr_conns) (right_set cs apart named p c at dr_next (live_of x.source c dr_named) a.judged a.judged
-            refl refl refl),
+        subst (AreNamedApart Left) (sym dr_conns) (end_set Left w.tap apart named p c at dr_next
+            (live_of x.source c dr_named) a.judged a.judged refl refl refl),
       )
 
     -- ---- a unit of an open connection
@@ -483,7 +483,7 @@ module _ (local : Local) (w : Whole) (f : Called local w) (apart : AreApart w.ta
             (λ k. f.past_two (f.two p c at g.there))
             (λ k j a b. subst (λ (i : ℕ). IsHeld w.end w.coming i) (sym next_reference)
             (k.taps p c at is_judged (ap (λ (h : Half). is_open h.phase) (sym next_left) ∙ a) g.there)),
-        subst AreNamedApart (sym run_conns) (right_set cs apart named p c at next
+        subst (AreNamedApart Left) (sym run_conns) (end_set Left w.tap apart named p c at next
             (live_of g.peer c (named_of (destination_of u) g.peer Right c dest is_right.named)) (sent_judged u c ∙ is_judged) is_judged
             next_left (own_knows u c) (own_seen_after u true reach.Nothing c)),
       )
@@ -580,7 +580,7 @@ module _ (local : Local) (w : Whole) (f : Called local w) (apart : AreApart w.ta
             (f.tops p c at) lost_above
             (λ k. f.past_two (f.two p c at g.there))
             (λ k j a b. k.taps p c at j a b),
-        subst AreNamedApart (sym (lost_conns ∙ set_same cs p c at)) named,
+        subst (AreNamedApart Left) (sym (lost_conns ∙ set_same cs p c at)) named,
       )
 
     run_by : (g : Running f.shut w.end w.coming (units_at p f.tagged) (w.begun && first_at p f.tagged) (f.refs p) c) →

@@ -14,7 +14,7 @@ use Rattle.osi_fair.specs.Lines.{passes_own}
 use Rattle.osi_fair.proofs.small_facts_that_many_lemmas_use.{and_false, and_first, and_second, both, differ, first_is, no_list, rest_is}
 use Rattle.osi_fair.proofs.small_facts_that_many_lemmas_use.{set_other, sized_judged, some_same as item_is}
 use Rattle.osi_fair.proofs.a_reference_names_one_connection.{not_first}
-use Rattle.osi_fair.proofs.names_of_right_stay_apart_though_one_is_lost.{ArePeersApart, asked_set, each_sound, left_set, only_named}
+use Rattle.osi_fair.proofs.names_stay_apart_though_one_is_lost.{AreNamedApart, each_sound, end_set, only_named, right_asked}
 use Rattle.osi_fair.proofs.a_right_unit_is_not_blamed.{first_there, is_first, named_of}
 use Rattle.osi_fair.proofs.a_unit_is_an_act_of_its_line.{after_is, found_is}
 use Rattle.osi_fair.proofs.an_end_closes_last.{waits_open}
@@ -101,7 +101,7 @@ own_sees u c = grind arith
 own_seen : (u : Value) (c : Connection) → (sent_on Left u c).seen_by_right ≡ c.seen_by_right
 own_seen u c = grind arith
 
-module _ (local : Local) (w : Whole) (f : Followed local w) (sane : IsSane w.tap) (peers : ArePeersApart w.tap.connections) where
+module _ (local : Local) (w : Whole) (f : Followed local w) (sane : IsSane w.tap) (peers : AreNamedApart Right w.tap.connections) where
   abbrev cs : List Connection
   cs = w.tap.connections
 
@@ -120,7 +120,7 @@ module _ (local : Local) (w : Whole) (f : Followed local w) (sane : IsSane w.tap
   request_stays x i e (inr is) at tracked =
       ap (λ (l : List Connection). slice_get l i) is
       ∙ stays_placed (asked_by x) cs (position is_free cs) refl i e at
-      (λ free. tracked_over e (each_sound cs sane.apart peers i e at) tracked
+      (λ free. tracked_over e (each_sound Right cs sane.apart peers i e at) tracked
       (and_first (is_over Left e) (is_over Right e) free))
 
   tracked_still : (x : Connect) (r : ℕ) → Tracked cs r → Tracked (takes Left (request x) w.tap).state.connections r
@@ -230,11 +230,11 @@ module _ (local : Local) (w : Whole) (f : Followed local w) (sane : IsSane w.tap
         shut = λ lasts i c at closed row. request_shut x lasts i c closed row (request_item x i c does at);
       }
 
-  peers_by : (x : Connect) (o : Outcome) → Request x cs o → ArePeersApart o.state.connections
-  peers_by x o (inl is) = subst ArePeersApart (sym is) peers
-  peers_by x o (inr is) = subst ArePeersApart (sym is) (asked_set cs x (position is_free cs) peers)
+  peers_by : (x : Connect) (o : Outcome) → Request x cs o → AreNamedApart Right o.state.connections
+  peers_by x o (inl is) = subst (AreNamedApart Right) (sym is) peers
+  peers_by x o (inr is) = subst (AreNamedApart Right) (sym is) (right_asked cs x (position is_free cs) peers)
 
-  pub request_peers : (x : Connect) → ArePeersApart (takes Left (request x) w.tap).state.connections
+  pub request_peers : (x : Connect) → AreNamedApart Right (takes Left (request x) w.tap).state.connections
   request_peers x = peers_by x (takes Left (request x) w.tap) (request_does x w.tap)
 
   -- ---- a unit of an open connection passes
@@ -246,7 +246,7 @@ module _ (local : Local) (w : Whole) (f : Followed local w) (sane : IsSane w.tap
       let first = is_first (is_named Left n) cs p c at named in
       let (e, there) = first_there (is_named Left n) cs p q c first in
       let so = first_true (is_named Left n) cs q e first there in
-      let same : p ≡ q = only_named cs n peers p q c e at there named so in
+      let same : p ≡ q = only_named Right cs n peers p q c e at there named so in
       first ∙ ap (λ (i : ℕ). Some i) (sym same)
 
   named_parts : (a b d : Bool) → (not a && (not b && d)) ≡ true → b ≡ false
@@ -575,6 +575,7 @@ module _ (local : Local) (w : Whole) (f : Followed local w) (sane : IsSane w.tap
     live : is_over Left c ≡ false
     live = not_first (is_over Left c) (not (is_silent c.seen_by_left.phase) && (c.seen_by_left.reference == n)) is_its_name
 
-    pub own_peers : ArePeersApart after.tap.connections
-    own_peers = subst ArePeersApart (sym next_all) (left_set w.tap sane.apart peers p c at next live next_judged judged next_right
-        (ap (λ (x : Connection). x.seen_by_left) next_is ∙ own_sees u c) (ap (λ (x : Connection). x.seen_by_right) next_is ∙ own_seen u c))
+    pub own_peers : AreNamedApart Right after.tap.connections
+    own_peers = subst (AreNamedApart Right) (sym next_all) (end_set Right w.tap sane.apart peers p c at next live next_judged judged
+        next_right (ap (λ (x : Connection). x.seen_by_right) next_is ∙ own_seen u c)
+        (ap (λ (x : Connection). x.seen_by_left) next_is ∙ own_sees u c))

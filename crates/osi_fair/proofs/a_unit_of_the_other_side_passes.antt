@@ -15,8 +15,7 @@ use Rattle.osi_rules.specs.Sides.{sends}
 use Rattle.osi_fair.proofs.small_facts_that_many_lemmas_use.{and_false as none_begun, and_first, and_not, and_second, both, differ, no_two}
 use Rattle.osi_fair.proofs.small_facts_that_many_lemmas_use.{set_other, sized_judged, some_same as item_is}
 use Rattle.osi_fair.proofs.a_reference_names_one_connection.{not_first}
-use Rattle.osi_fair.proofs.names_of_right_stay_apart_though_one_is_lost.{ArePeersApart, each_sound, right_set}
-use Rattle.osi_fair.proofs.names_stay_apart_though_one_is_lost.{applied_ends_none}
+use Rattle.osi_fair.proofs.names_stay_apart_though_one_is_lost.{AreNamedApart, each_sound, right_set, applied_ends_none}
 use Rattle.osi_fair.proofs.a_request_of_a_whole_end_is_new.{Newer}
 use Rattle.osi_fair.proofs.no_two_open_connections_have_one_peer.{left_open, right_there, there_not_silent, uses_tracked}
 use Rattle.osi_fair.proofs.a_unit_of_a_whole_end_passes.{all_two}
@@ -98,7 +97,7 @@ data Kind (c : Connection) : Type 0 where
   waits_yet : is_waiting c ≡ true → is_silent c.right.phase ≡ true → is_tracked c ≡ false → c.is_judged ≡ true → Kind c
   is_past : is_open c.left.phase ≡ false → is_silent c.right.phase ≡ false → Kind c
 
-module _ (local : Local) (w : Whole) (f : Followed local w) (sane : IsSane w.tap) (peers : ArePeersApart w.tap.connections)
+module _ (local : Local) (w : Whole) (f : Followed local w) (sane : IsSane w.tap) (peers : AreNamedApart Right w.tap.connections)
     (newer : Newer w) (v : Value) (ranges : HasFieldsInRange v) (t : Told v w.tap (takes Right v w.tap))
     (calm_after : IsCalm (takes Right v w.tap).state.course) (none_zero : (takes Right v w.tap).state.course.class ≡ Some Zero → ⊥) where
   abbrev cs : List Connection
@@ -114,7 +113,7 @@ module _ (local : Local) (w : Whole) (f : Followed local w) (sane : IsSane w.tap
   after = record w { tap = (takes Right v w.tap).state; coming = more }
 
   sound_c : Sound c
-  sound_c = each_sound cs sane.apart peers t.q c t.at
+  sound_c = each_sound Right cs sane.apart peers t.q c t.at
 
   abbrev found_so : Finding
   found_so = found_on Right w.tap c v
@@ -308,7 +307,7 @@ module _ (local : Local) (w : Whole) (f : Followed local w) (sane : IsSane w.tap
       destination_of u ≡ Some e.right.reference → is_ours r x.source u ≡ false
   unnamed_by x r u i e true same unused there tracked dest =
       differ (uses Right x.source e)
-      (uses_tracked e x.source (each_sound cs sane.apart peers i e there) tracked (eqb-true e.right.reference x.source same))
+      (uses_tracked e x.source (each_sound Right cs sane.apart peers i e there) tracked (eqb-true e.right.reference x.source same))
       (none_true (λ (y : Connection). uses Right x.source y) cs i e unused there)
   unnamed_by x r u i e false same unused there tracked dest =
       ours_not r e.right.reference x.source u (unlike e.right.reference x.source same) dest
@@ -659,5 +658,5 @@ module _ (local : Local) (w : Whole) (f : Followed local w) (sane : IsSane w.tap
     shut = λ lasts i x there closed row. shut_by lasts i x closed row (item i x there);
   }
 
-  pub other_peers : ArePeersApart (takes Right v w.tap).state.connections
-  other_peers = subst ArePeersApart (sym conns) (right_set w.tap sane.apart peers t.q c t.at v (class_for Right w.tap.course) live)
+  pub other_peers : AreNamedApart Right (takes Right v w.tap).state.connections
+  other_peers = subst (AreNamedApart Right) (sym conns) (right_set w.tap sane.apart peers t.q c t.at v (class_for Right w.tap.course) live)

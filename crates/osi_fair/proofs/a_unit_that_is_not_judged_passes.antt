@@ -1,11 +1,11 @@
 -- A unit of a whole calling end passes that is not judged: it changes no connection at the tap, and if it is of a line, that of a
 -- connection which has lost its judgement. For the law on a whole end.
-use Rattle.osi_fair.proofs.Vocabulary.{arith, [], ap, Bool, false, if◌then◌else◌, inl, inr, List, None, Option, refl, set, Some, subst}
-use Rattle.osi_fair.proofs.Vocabulary.{sym, true, ℕ, ◌++◌, ◌∙◌, ◌∷◌, ◌≡◌, ◌⊎◌, eq-eqb, AllByRecursion, position, slice_get, ◌&&◌, ◌==◌}
-use Rattle.osi_fair.proofs.Vocabulary.{Connect, destination_of, disconnected, request, Value, Class, Two, Local, is_applied, reach_of}
-use Rattle.osi_fair.proofs.Vocabulary.{is_named, is_over, is_over_by, is_silent, class_for, connection_after, found, found_on, one_told}
-use Rattle.osi_fair.proofs.Vocabulary.{Outcome, route, route_in, Traffic, takes, uses_source, Connection, Course, Left, Finding, Kept}
-use Rattle.osi_fair.proofs.Vocabulary.{NotJudged, Named, after_finding, finding_of, Line, unit as passing, Whole}
+use Rattle.osi_fair.proofs.Vocabulary.{Right, arith, [], ap, Bool, false, if◌then◌else◌, inl, inr, List, None, Option, refl, set, Some}
+use Rattle.osi_fair.proofs.Vocabulary.{subst, sym, true, ℕ, ◌++◌, ◌∙◌, ◌∷◌, ◌≡◌, ◌⊎◌, eq-eqb, AllByRecursion, position, slice_get, ◌&&◌}
+use Rattle.osi_fair.proofs.Vocabulary.{◌==◌, Connect, destination_of, disconnected, request, Value, Class, Two, Local, is_applied}
+use Rattle.osi_fair.proofs.Vocabulary.{reach_of, is_named, is_over, is_over_by, is_silent, class_for, connection_after, found, found_on}
+use Rattle.osi_fair.proofs.Vocabulary.{one_told, Outcome, route, route_in, Traffic, takes, uses_source, Connection, Course, Left, Finding}
+use Rattle.osi_fair.proofs.Vocabulary.{Kept, NotJudged, Named, after_finding, finding_of, Line, unit as passing, Whole}
 use Rattle.osi_fair.specs.Lines.{passes_own}
 use Rattle.osi_fair.proofs.small_facts_that_many_lemmas_use.{and_false, both, name_so, no_list, number_is}
 use Rattle.osi_fair.proofs.a_unit_of_a_whole_end_passes.{name_first, own_kept, own_passes, own_peers, put_first, row_same}
@@ -13,7 +13,7 @@ use Rattle.osi_fair.proofs.each_connection_has_its_line.{followed_at, AreSettled
 use Rattle.osi_fair.proofs.each_connection_has_its_line.{IsSpare, all_so, asking, idle_line, is_tracked, of, put_some, stray, tracks_keep}
 use Rattle.osi_fair.proofs.each_connection_has_its_line.{tracks_on, why_before}
 use Rattle.osi_fair.proofs.left_selects_no_class.{left_class}
-use Rattle.osi_fair.proofs.names_of_right_stay_apart_though_one_is_lost.{ArePeersApart}
+use Rattle.osi_fair.proofs.names_stay_apart_though_one_is_lost.{AreNamedApart}
 use Rattle.osi_fair.proofs.what_a_line_keeps_though_it_is_lost.{Keeps}
 use Rattle.osi_fair.proofs.what_belongs_to_no_open_connection.{strays_last}
 use Rattle.osi_fair.proofs.what_lasts_at_the_tap.{lasts_passing}
@@ -58,8 +58,8 @@ module _ (u : Value) (s : Traffic) (n p : ℕ) (c : Connection) (left : s.course
 
 -- ---- at the end
 
-module _ (local : Local) (w : Whole) (f : Followed local w) (sane : IsSane w.tap) (peers : ArePeersApart w.tap.connections) (u : Value)
-    (rest : List Value) (e : w.put ≡ u ∷ rest) (begun : w.begun ≡ true) (left : w.tap.course.left_stopped ≡ false) where
+module _ (local : Local) (w : Whole) (f : Followed local w) (sane : IsSane w.tap) (peers : AreNamedApart Right w.tap.connections)
+    (u : Value) (rest : List Value) (e : w.put ≡ u ∷ rest) (begun : w.begun ≡ true) (left : w.tap.course.left_stopped ≡ false) where
   abbrev cs : List Connection
   cs = w.tap.connections
 
@@ -244,8 +244,8 @@ module _ (local : Local) (w : Whole) (f : Followed local w) (sane : IsSane w.tap
       tap = record { connections = l; course = course };
     })) (sym ignored.same) ignored_so
 
-    pub ignored_peers : ArePeersApart (takes Left u w.tap).state.connections
-    ignored_peers = subst ArePeersApart (sym ignored.same) peers
+    pub ignored_peers : AreNamedApart Right (takes Left u w.tap).state.connections
+    ignored_peers = subst (AreNamedApart Right) (sym ignored.same) peers
 
 -- ---- the unit that passes
 
@@ -254,9 +254,9 @@ pub record Passed (local : Local) (w : Whole) (u : Value) (rest : List Value) : 
   pub fine : ((takes Left u w.tap).told.finding ≡ Kept) ⊎ (((takes Left u w.tap).told.finding ≡ NotJudged)
       × ((w.tap.course.strays ≡ true) ⊎ (w.tap.course.loose ≡ true)))
   pub followed : Followed local (record w { put = rest; begun = false; tap = (takes Left u w.tap).state })
-  pub peers : ArePeersApart (takes Left u w.tap).state.connections
+  pub peers : AreNamedApart Right (takes Left u w.tap).state.connections
 
-pub own_goes : (local : Local) (w : Whole) (f : Followed local w) (sane : IsSane w.tap) (peers : ArePeersApart w.tap.connections)
+pub own_goes : (local : Local) (w : Whole) (f : Followed local w) (sane : IsSane w.tap) (peers : AreNamedApart Right w.tap.connections)
     (u : Value) (rest : List Value) (p : ℕ) (c : Connection) (e : w.put ≡ u ∷ rest) (begun : w.begun ≡ true)
     (left : w.tap.course.left_stopped ≡ false) (at : slice_get w.tap.connections p ≡ Some c) (tracked : is_tracked c ≡ true)
     (own : IsOf c.left.reference c.right.reference u) → c.is_judged ≡ true → Passed local w u rest

@@ -1,7 +1,7 @@
 -- A whole calling end ends: it puts nothing then, and what it has put still passes by its lines.
 -- For the law on a whole end.
-use Rattle.osi_fair.proofs.Vocabulary.{[], arith, Bool, Err, false, is_some, List, None, Option, refl, Result, Some, true, ℕ, ◌++◌, ◌∙◌}
-use Rattle.osi_fair.proofs.Vocabulary.{◌∷◌, ◌≡◌, ◌≤◌, ◌⊎◌, append-nil, AllByRecursion, Value, Standing, LinkFault, Class, Two, Local}
+use Rattle.osi_fair.proofs.Vocabulary.{Right, [], arith, Bool, Err, false, is_some, List, None, Option, refl, Result, Some, true, ℕ, ◌++◌}
+use Rattle.osi_fair.proofs.Vocabulary.{◌∙◌, ◌∷◌, ◌≡◌, ◌≤◌, ◌⊎◌, append-nil, AllByRecursion, Value, Standing, LinkFault, Class, Two, Local}
 use Rattle.osi_fair.proofs.Vocabulary.{closed_on, closes_in, IsOrderly, before_class, breaks_in, in_two, leaves, react, taking}
 use Rattle.osi_fair.proofs.Vocabulary.{to_connection, to_linked, to_unknown, user_does, UserCall, Live, Connection, put_at, put_before}
 use Rattle.osi_fair.proofs.Vocabulary.{put_by, put_for, put_in_two, put_leaving, put_linked, put_taking, MayCall, Whole, Connect, request}
@@ -17,7 +17,7 @@ use Rattle.osi_fair.proofs.each_connection_has_its_line.{IsAsking}
 use Rattle.osi_fair.proofs.how_a_calling_end_asks.{Idle, over_calls, over_takes, put_is as put_calling, react_is as react_calling}
 use Rattle.osi_fair.proofs.references_of_requests_rise.{all_gives, closed_gives, ended_gives, sent_gives}
 use Rattle.osi_fair.proofs.what_a_calling_end_still_has.{OffersTwo, SelectsTwo, all_last, over_not, sent_lasts}
-use Rattle.osi_fair.proofs.names_of_right_stay_apart_though_one_is_lost.{ArePeersApart}
+use Rattle.osi_fair.proofs.names_stay_apart_though_one_is_lost.{AreNamedApart}
 use Rattle.osi_fair.proofs.what_the_other_side_closes.{IsDr, IsSane, closed_by}
 use Rattle.osi_fair.proofs.which_units_are_for_a_connection.{IsDc, keep, those, names}
 use Rattle.osi_fair.proofs.what_is_live_at_a_called_end.{IsLive}
@@ -126,7 +126,7 @@ kept_early b v vs h = grind arith
 
 -- ---- a unit, and a call, whether the end ends or not
 
-module _ (local : Local) (w : Whole) (f : Followed local w) (sane : IsSane w.tap) (peers : ArePeersApart w.tap.connections)
+module _ (local : Local) (w : Whole) (f : Followed local w) (sane : IsSane w.tap) (peers : AreNamedApart Right w.tap.connections)
     (offers : OffersTwo w.end) (orderly : IsOrderly w.end) (local_is : w.end.local ≡ local) where
   abbrev after : Value → List Value → Whole
   after u later = record w { end = react u w.end; put = w.put ++ put_for u w.end; coming = later }

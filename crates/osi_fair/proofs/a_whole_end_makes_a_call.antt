@@ -1,14 +1,14 @@
 -- The user of a whole calling end makes a call: what it does to an open connection is acts of its line, and a CR waits to pass.
 -- For the law on a whole end.
-use Rattle.osi_fair.proofs.Vocabulary.{[], ap, arith, Bool, false, if◌then◌else◌, inl, inr, is_some, length, List, None, Option, refl}
-use Rattle.osi_fair.proofs.Vocabulary.{Some, subst, sym, true, ℕ, ◌++◌, ◌+◌, ◌∙◌, ◌∷◌, ◌≡◌, ◌≤◌, eqb-true, append-nil, AllByRecursion}
-use Rattle.osi_fair.proofs.Vocabulary.{slice_get, ◌==◌, window_units, confirm, Connect, destination_of, request, Value, longest_tsdu}
-use Rattle.osi_fair.proofs.Vocabulary.{Standing, with_tsdu, Class, Two, Local, push_other, put_other, beyond, push_here, put_here}
-use Rattle.osi_fair.proofs.Vocabulary.{asks as asks_for, closed_on, closed_with, closes_in, ended_by, link_of, open_link, sent, sent_all}
-use Rattle.osi_fair.proofs.Vocabulary.{proposal, proposal_by, proposes_two, IsOrderly, pumped, value_at, breaks, closes_call, connects}
-use Rattle.osi_fair.proofs.Vocabulary.{sends, sends_all, user_does, UserCall, asked, closing, Live, ends as ends_as, linked, EndReason}
-use Rattle.osi_fair.proofs.Vocabulary.{asked_by, Connection, Left, Half, Follows, link_now, Line, opened_half, put_closing, put_sent}
-use Rattle.osi_fair.proofs.Vocabulary.{put_together, MayCall, Whole}
+use Rattle.osi_fair.proofs.Vocabulary.{Right, [], ap, arith, Bool, false, if◌then◌else◌, inl, inr, is_some, length, List, None, Option}
+use Rattle.osi_fair.proofs.Vocabulary.{refl, Some, subst, sym, true, ℕ, ◌++◌, ◌+◌, ◌∙◌, ◌∷◌, ◌≡◌, ◌≤◌, eqb-true, append-nil}
+use Rattle.osi_fair.proofs.Vocabulary.{AllByRecursion, slice_get, ◌==◌, window_units, confirm, Connect, destination_of, request, Value}
+use Rattle.osi_fair.proofs.Vocabulary.{longest_tsdu, Standing, with_tsdu, Class, Two, Local, push_other, put_other, beyond, push_here}
+use Rattle.osi_fair.proofs.Vocabulary.{put_here, asks as asks_for, closed_on, closed_with, closes_in, ended_by, link_of, open_link, sent}
+use Rattle.osi_fair.proofs.Vocabulary.{sent_all, proposal, proposal_by, proposes_two, IsOrderly, pumped, value_at, breaks, closes_call}
+use Rattle.osi_fair.proofs.Vocabulary.{connects, sends, sends_all, user_does, UserCall, asked, closing, Live, ends as ends_as, linked}
+use Rattle.osi_fair.proofs.Vocabulary.{EndReason, asked_by, Connection, Left, Half, Follows, link_now, Line, opened_half, put_closing}
+use Rattle.osi_fair.proofs.Vocabulary.{put_sent, put_together, MayCall, Whole}
 use Rattle.osi_carrier.specs.Calls.{sent_on}
 use Rattle.osi_carrier.specs.State.{State}
 use Rattle.osi_fair.proofs.small_facts_that_many_lemmas_use.{differ, some_same as item_is}
@@ -25,7 +25,7 @@ use Rattle.osi_fair.proofs.references_of_requests_rise.{all_gives, closed_gives,
 use Rattle.osi_fair.proofs.what_a_calling_end_still_has.{OffersTwo}
 use Rattle.osi_fair.proofs.what_a_whole_end_takes.{IsAnswered, Owner, Puts, all_join, leads_more, of_line, settled_more, some_more}
 use Rattle.osi_fair.proofs.what_a_whole_end_takes.{units_ask, units_owned, units_settled}
-use Rattle.osi_fair.proofs.names_of_right_stay_apart_though_one_is_lost.{ArePeersApart}
+use Rattle.osi_fair.proofs.names_stay_apart_though_one_is_lost.{AreNamedApart}
 use Rattle.osi_fair.proofs.a_unit_of_a_whole_end_passes.{all_two}
 use Rattle.osi_fair.proofs.what_the_other_side_closes.{IsSane}
 use Rattle.osi_fair.proofs.which_units_are_for_a_connection.{AllOurs, IsDc, all_ours, each_picked, is_dc, is_ours, last_ours, named_is}
@@ -39,8 +39,8 @@ same_up n = omega arith
 
 -- ---- a call on an open connection
 
-module _ (local : Local) (w : Whole) (f : Followed local w) (sane : IsSane w.tap) (peers : ArePeersApart w.tap.connections) (t : State)
-    (units : List Value) (n peer : ℕ) (link : Standing) (here : value_at n w.end.live ≡ Some (linked peer link))
+module _ (local : Local) (w : Whole) (f : Followed local w) (sane : IsSane w.tap) (peers : AreNamedApart Right w.tap.connections)
+    (t : State) (units : List Value) (n peer : ℕ) (link : Standing) (here : value_at n w.end.live ≡ Some (linked peer link))
     (rows : (m : ℕ) → (m ≡ n → ⊥) → value_at m t.live ≡ value_at m w.end.live) (class : t.class ≡ w.end.class)
     (given : t.given ≡ w.end.given) (was : w.end.ended ≡ None) (orderly : IsOrderly w.end) (after_row : Linked n peer t)
     (follows : (r q : ℕ) (l : Standing) → r ≡ n → value_at r w.end.live ≡ Some (linked q l) → Follows r q [] units w.end t) where
@@ -428,7 +428,7 @@ broken : {A : Type 0} (reason : EndReason) (s : State) → s.ended ≡ None → 
 broken reason s was h =
     absurd (cc (sym (ap (λ (b : Bool). (if b then s else ends_as reason s).ended) (ap is_some was)) ∙ h))
 
-module _ (local : Local) (w : Whole) (f : Followed local w) (sane : IsSane w.tap) (peers : ArePeersApart w.tap.connections)
+module _ (local : Local) (w : Whole) (f : Followed local w) (sane : IsSane w.tap) (peers : AreNamedApart Right w.tap.connections)
     (newer : Newer w) (offers : OffersTwo w.end) (orderly : IsOrderly w.end) (local_is : w.end.local ≡ local)
     (was : w.end.ended ≡ None) where
   sends_by : (r : ℕ) (tsdu : List ℕ) (o : Option (ℕ × Standing)) → open_link r w.end ≡ o → length tsdu ≤ longest_tsdu →

@@ -1,10 +1,10 @@
 -- A whole calling end takes a unit: what it was for its connection is an act of the line, and the other lines stay.
 -- For the law on a whole end.
-use Rattle.osi_fair.proofs.Vocabulary.{arith, [], ap, Bool, false, inl, inr, is_some, List, None, Option, refl, Some, subst, sym, true, ℕ}
-use Rattle.osi_fair.proofs.Vocabulary.{◌++◌, ◌∙◌, ◌∷◌, ◌≡◌, ◌≤◌, ◌⊎◌, ◌==◌, append-nil, AllByRecursion, slice_get, confirm, Connect}
-use Rattle.osi_fair.proofs.Vocabulary.{destination_of, disconnected, Value, Standing, Two, Local, changes_one, agreed_size, opened_link}
-use Rattle.osi_fair.proofs.Vocabulary.{IsOrderly, to_connection, to_unknown, value_at, asked, closing, Live, linked, Connection, Left}
-use Rattle.osi_fair.proofs.Vocabulary.{link_now, ignores, Line, put_at, put_for, Whole}
+use Rattle.osi_fair.proofs.Vocabulary.{Right, arith, [], ap, Bool, false, inl, inr, is_some, List, None, Option, refl, Some, subst, sym}
+use Rattle.osi_fair.proofs.Vocabulary.{true, ℕ, ◌++◌, ◌∙◌, ◌∷◌, ◌≡◌, ◌≤◌, ◌⊎◌, ◌==◌, append-nil, AllByRecursion, slice_get, confirm}
+use Rattle.osi_fair.proofs.Vocabulary.{Connect, destination_of, disconnected, Value, Standing, Two, Local, changes_one, agreed_size}
+use Rattle.osi_fair.proofs.Vocabulary.{opened_link, IsOrderly, to_connection, to_unknown, value_at, asked, closing, Live, linked}
+use Rattle.osi_fair.proofs.Vocabulary.{Connection, Left, link_now, ignores, Line, put_at, put_for, Whole}
 use Rattle.std.proofs.lemmas.List.{append_assoc}
 unfoldable use Rattle.osi_carrier.specs.React.{react}
 use Rattle.osi_carrier.specs.State.{State}
@@ -15,7 +15,7 @@ use Rattle.osi_fair.proofs.each_connection_has_its_line.{followed_at, AreGiven, 
 use Rattle.osi_fair.proofs.each_connection_has_its_line.{Tracked, asks, closes, is_tracked, over, talks, tracks_keep, tracks_on}
 use Rattle.osi_fair.proofs.what_a_calling_end_still_has.{OffersTwo, Selects, SelectsTwo, unit_after}
 use Rattle.osi_fair.proofs.what_a_whole_end_takes.{Puts, all_join, leads_more, nothing, of_line, of_none, taken_so}
-use Rattle.osi_fair.proofs.names_of_right_stay_apart_though_one_is_lost.{ArePeersApart}
+use Rattle.osi_fair.proofs.names_stay_apart_though_one_is_lost.{AreNamedApart}
 use Rattle.osi_fair.proofs.what_the_other_side_closes.{IsDr, IsSane, closed_by}
 use Rattle.osi_fair.proofs.which_units_are_for_a_connection.{AllOurs, all_ours, picked_first, is_dc, is_ours, last_ours, named_so, names}
 use Rattle.osi_fair.proofs.which_units_are_for_a_connection.{picked_more, picked_other, ours, ours_is, picked_join, those}
@@ -29,7 +29,7 @@ none_first : (xs ys : List Value) → xs ++ ys ≡ [] → xs ≡ []
 none_first [] ys e = refl
 none_first (x ∷ xs) ys e = absurd (cc e)
 
-module _ (local : Local) (w : Whole) (f : Followed local w) (sane : IsSane w.tap) (peers : ArePeersApart w.tap.connections)
+module _ (local : Local) (w : Whole) (f : Followed local w) (sane : IsSane w.tap) (peers : AreNamedApart Right w.tap.connections)
     (offers : OffersTwo w.end) (orderly : IsOrderly w.end) (local_is : w.end.local ≡ local) (was : w.end.ended ≡ None) (u : Value)
     (later : List Value) (come : w.coming ≡ u ∷ later) (lasts : (react u w.end).ended ≡ None)
     (live_dr : IsDr u → (m : ℕ) → closed_by u ≡ Some m → IsLive w.end m ⊎ (w.tap.course.strays ≡ true)) (k : Named u w.end)
@@ -377,7 +377,7 @@ module _ (local : Local) (w : Whole) (f : Followed local w) (sane : IsSane w.tap
   by_row : (o : Option Live) → value_at n s.live ≡ o → Followed local after
   by_row o here = grind (arith, at_gone, at_asked, at_linked, at_closing)
 
-pub end_takes : (local : Local) (w : Whole) → Followed local w → IsSane w.tap → ArePeersApart w.tap.connections → OffersTwo w.end →
+pub end_takes : (local : Local) (w : Whole) → Followed local w → IsSane w.tap → AreNamedApart Right w.tap.connections → OffersTwo w.end →
     IsOrderly w.end → w.end.local ≡ local → w.end.ended ≡ None → (u : Value) (later : List Value) → w.coming ≡ u ∷ later →
     (react u w.end).ended ≡ None → (IsDr u → (m : ℕ) → closed_by u ≡ Some m → IsLive w.end m ⊎ (w.tap.course.strays ≡ true)) →
     SelectsTwo w.end u →

@@ -1,31 +1,34 @@
--- The references of left stay apart too if a connection has lost its judgement, since left broke a rule of it in class 2.
--- For the law on a whole called end.
+-- The references that a side gives stay apart too if a connection has lost its judgement, since that side broke a rule of it in class 2.
+-- For the laws on whole ends. To a called end left gives references, by its CRs; to a calling end right does, by its CCs.
 use Rattle.osi_fair.proofs.Vocabulary.{arith, [], ap, Bool, false, inl, inr, length, List, map, None, Option, refl, set, Some, subst, sym}
-use Rattle.osi_fair.proofs.Vocabulary.{true, ℕ, ◌++◌, ◌∙◌, ◌∷◌, ◌≡◌, ◌⊎◌, eqb-true, list_any, not, slice_get, ◌&&◌, ◌==◌, Connect, Value}
-use Rattle.osi_fair.proofs.Vocabulary.{Class, is_applied, reach_of, begins, is_closed, is_closing, is_named, is_over, is_over_by}
-use Rattle.osi_fair.proofs.Vocabulary.{is_silent, uses, asked_by, connection_after, found_on, judged_on, placed, sent_on, Traffic as State}
-use Rattle.osi_fair.proofs.Vocabulary.{uses_source, Connection, Left, Right, Finding, Reach, Half, found}
+use Rattle.osi_fair.proofs.Vocabulary.{true, ℕ, ◌++◌, ◌∙◌, ◌∷◌, ◌≡◌, ◌⊎◌, eqb-true, list_any, nat_le, not, slice_get, ◌&&◌, ◌==◌, confirm}
+use Rattle.osi_fair.proofs.Vocabulary.{Connect, Value, Class, is_applied, reach_of, begins, code_named, is_closed, is_closing, is_inside}
+use Rattle.osi_fair.proofs.Vocabulary.{is_named, is_offered, is_over, is_over_by, is_silent, other, own, seen, uses, asked_by}
+use Rattle.osi_fair.proofs.Vocabulary.{connection_after, found, found_on, judged_on, placed, sent_on, Traffic as State, uses_source}
+use Rattle.osi_fair.proofs.Vocabulary.{Connection, Direction, Left, Right, Finding, Reach, Half}
 use Rattle.osi_rules.specs.declared.findings.Reach.TheVariants as reach
 use Rattle.osi_fair.proofs.small_facts_that_many_lemmas_use.{differ}
 use Rattle.osi_fair.proofs.what_holds_of_one_item.{HoldsOfEach, after_add, after_map, after_set, none_true}
 use Rattle.osi_fair.proofs.when_a_connection_has_a_name.{IsEarlier, earlier_same, over_other, over_still}
 use Rattle.osi_fair.proofs.what_keeps_names_apart.{AreApart, Lessens, Sound}
-use Rattle.osi_fair.proofs.a_reference_names_one_connection.{applied_found, applied_judged, left_sent}
+use Rattle.osi_fair.proofs.a_reference_names_one_connection.{applied_found, applied_judged, confirm_test, left_sent, not_true, right_goes}
 
 -- ---- what holds
 
--- right knows that left gave the connection this reference, and it is not over for both
-abbrev pub is_known : ℕ → Connection → Bool
-is_known n c = not (is_over Left c && is_over Right c) && (not (is_silent c.seen_by_right.phase) && (c.seen_by_right.reference == n))
+-- the other side knows that this one gave the connection this reference, and it is not over for both
+abbrev pub is_known : Direction → ℕ → Connection → Bool
+is_known d n c =
+    not (is_over d c && is_over (other d) c) && (not (is_silent (seen (other d) c).phase) && ((seen (other d) c).reference == n))
 
 -- this holds of one connection at most, be they judged or not
 abbrev pub OnlyOne : (Connection → Bool) → List Connection → Type 0
 OnlyOne f cs = (i j : ℕ) (c e : Connection) → slice_get cs i ≡ Some c → slice_get cs j ≡ Some e → f c ≡ true → f e ≡ true → i ≡ j
 
-pub record AreNamedApart (cs : List Connection) : Type 0 where
+-- of the references that this side has given
+pub record AreNamedApart (d : Direction) (cs : List Connection) : Type 0 where
   pub lost : (i : ℕ) (c : Connection) → slice_get cs i ≡ Some c → c.is_judged ≡ false → Sound c
-  pub used : (n : ℕ) → OnlyOne (uses Left n) cs
-  pub known : (n : ℕ) → OnlyOne (is_known n) cs
+  pub used : (n : ℕ) → OnlyOne (uses d n) cs
+  pub known : (n : ℕ) → OnlyOne (is_known d n) cs
 
 -- ---- lists
 
@@ -40,7 +43,7 @@ module _ (f : Connection → Bool) (cs : List Connection) (p : ℕ) (new : Conne
       h i p c old y at fc (was (ap f (sym b) ∙ fe)) ∙ sym a
   changed_by old at was i j c e (inr x) (inr y) fc fe = h i j c e x y fc fe
 
-  pub one_changed : (old : Connection) → slice_get cs p ≡ Some old → (f new ≡ true → f old ≡ true) → OnlyOne f (set cs p new)
+  one_changed : (old : Connection) → slice_get cs p ≡ Some old → (f new ≡ true → f old ≡ true) → OnlyOne f (set cs p new)
   one_changed old at was i j c e x y = changed_by old at was i j c e (after_set cs p i new c x) (after_set cs p j new e y)
 
   new_by : ((i : ℕ) (c : Connection) → slice_get cs i ≡ Some c → f c ≡ true → f new ≡ true → ⊥) → (i j : ℕ) (c e : Connection) →
@@ -51,15 +54,15 @@ module _ (f : Connection → Bool) (cs : List Connection) (p : ℕ) (new : Conne
   new_by none i j c e (inr y) (inl (a, b)) fc fe = absurd (none i c y fc (ap f (sym b) ∙ fe))
   new_by none i j c e (inr x) (inr y) fc fe = h i j c e x y fc fe
 
-  pub one_put : ((i : ℕ) (c : Connection) → slice_get cs i ≡ Some c → f c ≡ true → f new ≡ true → ⊥) → OnlyOne f (set cs p new)
+  one_put : ((i : ℕ) (c : Connection) → slice_get cs i ≡ Some c → f c ≡ true → f new ≡ true → ⊥) → OnlyOne f (set cs p new)
   one_put none i j c e x y = new_by none i j c e (after_set cs p i new c x) (after_set cs p j new e y)
 
-pub one_added : (f : Connection → Bool) (cs : List Connection) (new : Connection) → OnlyOne f cs →
+one_added : (f : Connection → Bool) (cs : List Connection) (new : Connection) → OnlyOne f cs →
     ((i : ℕ) (c : Connection) → slice_get cs i ≡ Some c → f c ≡ true → f new ≡ true → ⊥) → OnlyOne f (cs ++ new ∷ [])
 one_added f cs new h none i j c e x y =
     new_by f cs (length cs) new h none i j c e (after_add cs i new c x) (after_add cs j new e y)
 
-pub one_mapped : (f k : Connection → Bool) (g : Connection → Connection) (cs : List Connection) → OnlyOne f cs →
+one_mapped : (f k : Connection → Bool) (g : Connection → Connection) (cs : List Connection) → OnlyOne f cs →
     ((i : ℕ) (c : Connection) → slice_get cs i ≡ Some c → k (g c) ≡ true → f c ≡ true) → OnlyOne k (map g cs)
 one_mapped f k g cs h was i j c e x y fc fe =
     let (c0, at, is) = after_map g cs i c x in
@@ -68,31 +71,31 @@ one_mapped f k g cs h was i j c e x y fc fe =
 
 -- ---- each connection is sound
 
-sound_by : (cs : List Connection) (i : ℕ) (c : Connection) → AreApart cs → AreNamedApart cs → slice_get cs i ≡ Some c → (b : Bool) →
-    c.is_judged ≡ b → Sound c
-sound_by cs i c apart named at true is = apart.sound i c at is
-sound_by cs i c apart named at false is = named.lost i c at is
+sound_by : (d : Direction) (cs : List Connection) (i : ℕ) (c : Connection) → AreApart cs → AreNamedApart d cs → slice_get cs i ≡ Some c →
+    (b : Bool) → c.is_judged ≡ b → Sound c
+sound_by d cs i c apart named at true is = apart.sound i c at is
+sound_by d cs i c apart named at false is = named.lost i c at is
 
-pub each_sound : (cs : List Connection) → AreApart cs → AreNamedApart cs → HoldsOfEach Sound cs
-each_sound cs apart named i c at = sound_by cs i c apart named at c.is_judged refl
+pub each_sound : (d : Direction) (cs : List Connection) → AreApart cs → AreNamedApart d cs → HoldsOfEach Sound cs
+each_sound d cs apart named i c at = sound_by d cs i c apart named at c.is_judged refl
 
--- a unit of right with this reference is for one connection at most
-pub named_known : (a b k : Bool) → (not b && k) ≡ true → (not (a && b) && k) ≡ true
+-- a unit of the other side with this reference is for one connection at most
+named_known : (a b k : Bool) → (not b && k) ≡ true → (not (a && b) && k) ≡ true
 named_known a b k h = grind arith
 
-pub only_named : (cs : List Connection) (n : ℕ) → AreNamedApart cs → OnlyOne (is_named Right n) cs
-only_named cs n named i j c e x y fc fe = named.known n i j c e x y
-    (named_known (is_over Left c) (is_over Right c) (not (is_silent c.seen_by_right.phase) && (c.seen_by_right.reference == n)) fc)
-    (named_known (is_over Left e) (is_over Right e) (not (is_silent e.seen_by_right.phase) && (e.seen_by_right.reference == n)) fe)
+pub only_named : (d : Direction) (cs : List Connection) (n : ℕ) → AreNamedApart d cs → OnlyOne (is_named (other d) n) cs
+only_named d cs n named i j c e x y fc fe = named.known n i j c e x y
+    (named_known (is_over d c) (is_over (other d) c) (not (is_silent (seen (other d) c).phase) && ((seen (other d) c).reference == n)) fc)
+    (named_known (is_over d e) (is_over (other d) e) (not (is_silent (seen (other d) e).phase) && ((seen (other d) e).reference == n)) fe)
 
 -- ---- a packet begins
 
-pub over_more : (j : Bool) (mine seen theirs : Half) → IsEarlier seen theirs → (j && is_over_by mine theirs) ≡ false →
+over_more : (j : Bool) (mine seen theirs : Half) → IsEarlier seen theirs → (j && is_over_by mine theirs) ≡ false →
     (j && is_over_by mine seen) ≡ false
 over_more true mine seen theirs e h = over_still mine.phase seen.phase theirs.phase e.refused e.closing e.closed h
 over_more false mine seen theirs e h = refl
 
-pub used_more : (j : Bool) (mine seen theirs : Half) (k : Bool) → IsEarlier seen theirs → (not (j && is_over_by mine theirs) && k) ≡ true →
+used_more : (j : Bool) (mine seen theirs : Half) (k : Bool) → IsEarlier seen theirs → (not (j && is_over_by mine theirs) && k) ≡ true →
     (not (j && is_over_by mine seen) && k) ≡ true
 used_more j mine seen theirs k e h = more (j && is_over_by mine theirs) refl h
   where
@@ -103,21 +106,21 @@ used_more j mine seen theirs k e h = more (j && is_over_by mine theirs) refl h
     more true is h = absurd (cc h)
     more false is h = kept (j && is_over_by mine seen) (over_more j mine seen theirs e is) h
 
-pub free_more : (a was b k : Bool) → (a ≡ false → was ≡ false) → (not (a && b) && k) ≡ true → (not (was && b) && k) ≡ true
+free_more : (a was b k : Bool) → (a ≡ false → was ≡ false) → (not (a && b) && k) ≡ true → (not (was && b) && k) ≡ true
 free_more a was b k h e = grind arith
 
-pub known_used : (a b k : Bool) → (b ≡ false → a ≡ false) → (not (a && b) && k) ≡ true → (not a && k) ≡ true
+known_used : (a b k : Bool) → (b ≡ false → a ≡ false) → (not (a && b) && k) ≡ true → (not a && k) ≡ true
 known_used a b k h e = grind arith
 
--- what is over for left is over for right as its packet begins
-pub over_both : (j : Bool) (left right known : Half) → IsEarlier known right →
+-- what is over for a side is over for the other as its packet begins
+over_both : (j : Bool) (left right known : Half) → IsEarlier known right →
     (is_closed left.phase ≡ true → is_closing right.phase ≡ true) → (j && is_over_by right left) ≡ false →
     (j && is_over_by left known) ≡ false
 over_both false left right known e closed h = refl
 over_both true left right known e closed h =
     over_other right.phase left.phase known.phase h e.refused e.closing e.closed closed
 
-pub sound_left : (c : Connection) → Sound c → Sound (begins Left c)
+sound_left : (c : Connection) → Sound c → Sound (begins Left c)
 sound_left c s = record {
   left_knows = earlier_same c.right;
   right_knows = s.right_knows;
@@ -125,7 +128,7 @@ sound_left c s = record {
   right_closed = s.right_closed;
 }
 
-pub sound_right : (c : Connection) → Sound c → Sound (begins Right c)
+sound_right : (c : Connection) → Sound c → Sound (begins Right c)
 sound_right c s = record {
   left_knows = s.left_knows;
   right_knows = earlier_same c.left;
@@ -133,41 +136,72 @@ sound_right c s = record {
   right_closed = s.right_closed;
 }
 
-pub left_begins : (cs : List Connection) → AreApart cs → AreNamedApart cs → AreNamedApart (map (begins Left) cs)
-left_begins cs apart named = record {
-  lost = λ i c at j.
-      let (e, was, is) = after_map (begins Left) cs i c at in
-      subst Sound (sym is) (sound_left e (each_sound cs apart named i e was));
-  used = λ n. one_mapped (uses Left n) (uses Left n) (begins Left) cs (named.used n) (λ i c at h.
-      used_more c.is_judged c.left c.seen_by_left c.right (not (is_silent c.left.phase) && (c.left.reference == n))
-      (each_sound cs apart named i c at).left_knows h);
-  known = λ n. one_mapped (is_known n) (is_known n) (begins Left) cs (named.known n) (λ i c at h.
-      free_more (c.is_judged && is_over_by c.left c.right) (is_over Left c) (is_over Right c)
-      (not (is_silent c.seen_by_right.phase) && (c.seen_by_right.reference == n))
-      (over_more c.is_judged c.left c.seen_by_left c.right (each_sound cs apart named i c at).left_knows) h);
-}
+sound_begins : (e : Direction) (c : Connection) → Sound c → Sound (begins e c)
+sound_begins Left c s = sound_left c s
+sound_begins Right c s = sound_right c s
 
-pub right_begins : (cs : List Connection) → AreApart cs → AreNamedApart cs → AreNamedApart (map (begins Right) cs)
-right_begins cs apart named = record {
-  lost = λ i c at j.
-      let (e, was, is) = after_map (begins Right) cs i c at in
-      subst Sound (sym is) (sound_right e (each_sound cs apart named i e was));
-  used = λ n. one_mapped (uses Left n) (uses Left n) (begins Right) cs (named.used n) (λ i c at h. h);
-  known = λ n. one_mapped (uses Left n) (is_known n) (begins Right) cs (named.used n) (λ i c at h.
-      let s = each_sound cs apart named i c at in
-      known_used (is_over Left c) (c.is_judged && is_over_by c.right c.left) (not (is_silent c.left.phase) && (c.left.reference == n))
-      (over_both c.is_judged c.left c.right c.seen_by_left s.left_knows s.left_closed) h);
-}
+-- a packet of this side
+own_used : (d : Direction) (n : ℕ) (c : Connection) → Sound c → uses d n (begins d c) ≡ true → uses d n c ≡ true
+own_used Left n c s h =
+    used_more c.is_judged c.left c.seen_by_left c.right (not (is_silent c.left.phase) && (c.left.reference == n)) s.left_knows h
+own_used Right n c s h =
+    used_more c.is_judged c.right c.seen_by_right c.left (not (is_silent c.right.phase) && (c.right.reference == n)) s.right_knows h
+
+own_known : (d : Direction) (n : ℕ) (c : Connection) → Sound c → is_known d n (begins d c) ≡ true → is_known d n c ≡ true
+own_known Left n c s h =
+    free_more (c.is_judged && is_over_by c.left c.right) (is_over Left c) (is_over Right c)
+    (not (is_silent c.seen_by_right.phase) && (c.seen_by_right.reference == n))
+    (over_more c.is_judged c.left c.seen_by_left c.right s.left_knows) h
+own_known Right n c s h =
+    free_more (c.is_judged && is_over_by c.right c.left) (is_over Right c) (is_over Left c)
+    (not (is_silent c.seen_by_left.phase) && (c.seen_by_left.reference == n))
+    (over_more c.is_judged c.right c.seen_by_right c.left s.right_knows) h
+
+-- a packet of the other side
+other_used : (d : Direction) (n : ℕ) (c : Connection) → uses d n (begins (other d) c) ≡ true → uses d n c ≡ true
+other_used Left n c h = h
+other_used Right n c h = h
+
+other_known : (d : Direction) (n : ℕ) (c : Connection) → Sound c → is_known d n (begins (other d) c) ≡ true → uses d n c ≡ true
+other_known Left n c s h =
+    known_used (is_over Left c) (c.is_judged && is_over_by c.right c.left) (not (is_silent c.left.phase) && (c.left.reference == n))
+    (over_both c.is_judged c.left c.right c.seen_by_left s.left_knows s.left_closed) h
+other_known Right n c s h =
+    known_used (is_over Right c) (c.is_judged && is_over_by c.left c.right) (not (is_silent c.right.phase) && (c.right.reference == n))
+    (over_both c.is_judged c.right c.left c.seen_by_right s.right_knows s.right_closed) h
+
+module _ (d : Direction) (cs : List Connection) (apart : AreApart cs) (named : AreNamedApart d cs) where
+  lost_begins : (e : Direction) (i : ℕ) (c : Connection) → slice_get (map (begins e) cs) i ≡ Some c → Sound c
+  lost_begins e i c at =
+      let (x, was, is) = after_map (begins e) cs i c at in
+      subst Sound (sym is) (sound_begins e x (each_sound d cs apart named i x was))
+
+  pub side_begins : AreNamedApart d (map (begins d) cs)
+  side_begins = record {
+    lost = λ i c at j. lost_begins d i c at;
+    used = λ n. one_mapped (uses d n) (uses d n) (begins d) cs (named.used n)
+        (λ i c at h. own_used d n c (each_sound d cs apart named i c at) h);
+    known = λ n. one_mapped (is_known d n) (is_known d n) (begins d) cs (named.known n)
+        (λ i c at h. own_known d n c (each_sound d cs apart named i c at) h);
+  }
+
+  pub end_begins : AreNamedApart d (map (begins (other d)) cs)
+  end_begins = record {
+    lost = λ i c at j. lost_begins (other d) i c at;
+    used = λ n. one_mapped (uses d n) (uses d n) (begins (other d)) cs (named.used n) (λ i c at h. other_used d n c h);
+    known = λ n. one_mapped (uses d n) (is_known d n) (begins (other d)) cs (named.used n)
+        (λ i c at h. other_known d n c (each_sound d cs apart named i c at) h);
+  }
 
 -- ---- one connection changes
 
-named_set : (cs : List Connection) (p : ℕ) (c new : Connection) → AreNamedApart cs → slice_get cs p ≡ Some c →
-    (new.is_judged ≡ false → Sound new) → ((n : ℕ) → uses Left n new ≡ true → uses Left n c ≡ true) →
-    ((n : ℕ) → is_known n new ≡ true → is_known n c ≡ true) → AreNamedApart (set cs p new)
-named_set cs p c new named at sound used known = record {
+named_set : (d : Direction) (cs : List Connection) (p : ℕ) (c new : Connection) → AreNamedApart d cs → slice_get cs p ≡ Some c →
+    (new.is_judged ≡ false → Sound new) → ((n : ℕ) → uses d n new ≡ true → uses d n c ≡ true) →
+    ((n : ℕ) → is_known d n new ≡ true → is_known d n c ≡ true) → AreNamedApart d (set cs p new)
+named_set d cs p c new named at sound used known = record {
   lost = λ i e there j. lost_by i e (after_set cs p i new e there) j;
-  used = λ n. one_changed (uses Left n) cs p new (named.used n) c at (used n);
-  known = λ n. one_changed (is_known n) cs p new (named.known n) c at (known n);
+  used = λ n. one_changed (uses d n) cs p new (named.used n) c at (used n);
+  known = λ n. one_changed (is_known d n) cs p new (named.known n) c at (known n);
 }
   where
     lost_by : (i : ℕ) (e : Connection) → ((i ≡ p) × (e ≡ new)) ⊎ (slice_get cs i ≡ Some e) → e.is_judged ≡ false → Sound e
@@ -175,96 +209,196 @@ named_set cs p c new named at sound used known = record {
     lost_by i e (inr there) j = named.lost i e there j
 
 -- what is not over for a side is not over for both
-pub known_left : (a b k : Bool) → a ≡ false → k ≡ true → (not (a && b) && k) ≡ true
-known_left a b k h e = grind arith
+known_live : (a b k : Bool) → (a ≡ false) ⊎ (b ≡ false) → k ≡ true → (not (a && b) && k) ≡ true
+known_live a b k h e = grind arith
 
-known_right : (a b k : Bool) → b ≡ false → k ≡ true → (not (a && b) && k) ≡ true
-known_right a b k h e = grind arith
-
-pub not_over : (a k : Bool) → a ≡ false → k ≡ true → (not a && k) ≡ true
+not_over : (a k : Bool) → a ≡ false → k ≡ true → (not a && k) ≡ true
 not_over a k h e = grind arith
 
-pub last_of : (a b : Bool) → (a && b) ≡ true → b ≡ true
+last_of : (a b : Bool) → (a && b) ≡ true → b ≡ true
 last_of a b h = grind arith
 
 -- what has its effect ends no judging
 pub applied_ends_none : (k : Option Class) (f : Finding) → is_applied f ≡ true → reach_of k f ≡ reach.Nothing
 applied_ends_none k f h = grind arith
 
-seen_sent : (v : Value) (c : Connection) → (sent_on Left v c).seen_by_right ≡ c.seen_by_right
-seen_sent v c = grind arith
+seen_sent : (d : Direction) (v : Value) (c : Connection) → seen (other d) (sent_on d v c) ≡ seen (other d) c
+seen_sent d v c = grind arith
 
-judged_sent : (v : Value) (c : Connection) → (sent_on Left v c).is_judged ≡ c.is_judged
-judged_sent v c = grind arith
+judged_sent : (d : Direction) (v : Value) (c : Connection) → (sent_on d v c).is_judged ≡ c.is_judged
+judged_sent d v c = grind arith
 
-module _ (cs : List Connection) (apart : AreApart cs) (named : AreNamedApart cs) (p : ℕ) (c : Connection)
-    (at : slice_get cs p ≡ Some c) where
-  -- a unit of left that has no effect: the connection may be judged no more
-  idle_set : (r : Reach) → is_over Left c ≡ false → AreNamedApart (set cs p (judged_on r c))
-  idle_set reach.Connection live = named_set cs p c (record c { is_judged = false }) named at (λ j.
-      let s = each_sound cs apart named p c at in
+less_used : (d : Direction) (c new : Connection) → Lessens c new → (n : ℕ) → new.is_judged ≡ true → uses d n new ≡ true → uses d n c ≡ true
+less_used Left c new l n j h = (l.used_left n j h).1
+less_used Right c new l n j h = (l.used_right n j h).1
+
+-- it is judged no more
+lost_used : (d : Direction) (n : ℕ) (c : Connection) → is_over d c ≡ false → uses d n (record c { is_judged = false }) ≡ true →
+    uses d n c ≡ true
+lost_used Left n c live h = not_over (is_over Left c) (not (is_silent c.left.phase) && (c.left.reference == n)) live h
+lost_used Right n c live h = not_over (is_over Right c) (not (is_silent c.right.phase) && (c.right.reference == n)) live h
+
+lost_seen : (d : Direction) (c : Connection) → seen d (record c { is_judged = false }) ≡ seen d c
+lost_seen Left c = refl
+lost_seen Right c = refl
+
+live_by : (j over : Bool) → (j && over) ≡ false → j ≡ true → over ≡ false
+live_by j over h k = grind arith
+
+module _ (d : Direction) (s : State) (apart : AreApart s.connections) (named : AreNamedApart d s.connections) (p : ℕ) (c : Connection)
+    (at : slice_get s.connections p ≡ Some c) where
+  abbrev cs : List Connection
+  cs = s.connections
+
+  -- what the other side knows stays
+  still_known : (new : Connection) → seen (other d) new ≡ seen (other d) c → (is_over d c ≡ false) ⊎ (is_over (other d) c ≡ false) →
+      (n : ℕ) → is_known d n new ≡ true → is_known d n c ≡ true
+  still_known new same live n h =
+      known_live (is_over d c) (is_over (other d) c) (not (is_silent (seen (other d) c).phase) && ((seen (other d) c).reference == n)) live
+      (ap (λ (x : Half). not (is_silent x.phase) && (x.reference == n)) (sym same)
+      ∙ last_of (not (is_over d new && is_over (other d) new))
+      (not (is_silent (seen (other d) new).phase) && ((seen (other d) new).reference == n)) h)
+
+  -- a unit of this side that has no effect: the connection may be judged no more
+  idle_set : (r : Reach) → is_over d c ≡ false → AreNamedApart d (set cs p (judged_on r c))
+  idle_set reach.Connection live = named_set d cs p c (record c { is_judged = false }) named at (λ j.
+      let k = each_sound d cs apart named p c at in
       record {
-        left_knows = s.left_knows;
-        right_knows = s.right_knows;
-        left_closed = s.left_closed;
-        right_closed = s.right_closed;
+        left_knows = k.left_knows;
+        right_knows = k.right_knows;
+        left_closed = k.left_closed;
+        right_closed = k.right_closed;
       })
-      (λ n h. not_over (is_over Left c) (not (is_silent c.left.phase) && (c.left.reference == n)) live h)
-      (λ n h. known_left (is_over Left c) (is_over Right c) (not (is_silent c.seen_by_right.phase) && (c.seen_by_right.reference == n))
-      live h)
-  idle_set _ live = named_set cs p c c named at (named.lost p c at) (λ n h. h) (λ n h. h)
+      (λ n h. lost_used d n c live h)
+      (still_known (record c { is_judged = false }) (lost_seen (other d) c) (inl live))
+  idle_set _ live = named_set d cs p c c named at (named.lost p c at) (λ n h. h) (λ n h. h)
 
-  -- one that has its effect
-  module _ (new : Connection) (l : Lessens c new) (judged : new.is_judged ≡ true) where
-    sends_set : (live : is_over Left c ≡ false) → new.seen_by_right ≡ c.seen_by_right → AreNamedApart (set cs p new)
-    sends_set live seen = named_set cs p c new named at (λ j. differ new.is_judged judged j) (λ n h. (l.used_left n judged h).1)
-        (λ n h. known_left (is_over Left c) (is_over Right c) (not (is_silent c.seen_by_right.phase) && (c.seen_by_right.reference == n))
-        live
-        (ap (λ (x : Half). not (is_silent x.phase) && (x.reference == n)) (sym seen)
-        ∙ last_of (not (is_over Left new && is_over Right new))
-        (not (is_silent new.seen_by_right.phase) && (new.seen_by_right.reference == n)) h))
+  -- one that has its effect, and gives no reference
+  sends_set : (v : Value) → Lessens c (sent_on d v c) → c.is_judged ≡ true → is_over d c ≡ false →
+      AreNamedApart d (set cs p (sent_on d v c))
+  sends_set v l judged live =
+      let j = judged_sent d v c ∙ judged in
+      named_set d cs p c (sent_on d v c) named at (λ k. differ (sent_on d v c).is_judged j k)
+      (λ n h. less_used d c (sent_on d v c) l n j h) (still_known (sent_on d v c) (seen_sent d v c) (inl live))
 
-  left_by : (s : State) (v : Value) (k : Option Class) (b : Bool) → is_applied (found_on Left s c v) ≡ b → is_over Left c ≡ false →
-      is_over_by c.left c.seen_by_left ≡ false ⊎ (c.is_judged ≡ false) →
-      AreNamedApart (set cs p (connection_after Left v b (reach_of k (found_on Left s c v)) c))
-  left_by s v k false e live over = idle_set (reach_of k (found_on Left s c v)) live
-  left_by s v k true e live (inr lost) = differ c.is_judged
-      (applied_judged c.is_judged (found Left s.course (uses_source Left s.connections v) c v) e) lost
-  left_by s v k true e live (inl over) =
-      let j = applied_judged c.is_judged (found Left s.course (uses_source Left s.connections v) c v) e in
-      let f = applied_found c.is_judged (found Left s.course (uses_source Left s.connections v) c v) e in
-      let l = left_sent s.course (uses_source Left s.connections v) c v f j (apart.sound p c at j) over in
-      subst (λ (r : Reach). AreNamedApart (set cs p (connection_after Left v true r c)))
-      (sym (applied_ends_none k (found_on Left s c v) e))
-      (sends_set (sent_on Left v c) l (judged_sent v c ∙ j) live (seen_sent v c))
+  -- whether it has its effect or not
+  side_by : (v : Value) (k : Option Class) (b : Bool) → is_applied (found_on d s c v) ≡ b → is_over d c ≡ false →
+      (is_applied (found_on d s c v) ≡ true → AreNamedApart d (set cs p (sent_on d v c))) →
+      AreNamedApart d (set cs p (connection_after d v b (reach_of k (found_on d s c v)) c))
+  side_by v k false e live applied = idle_set (reach_of k (found_on d s c v)) live
+  side_by v k true e live applied =
+      subst (λ (r : Reach). AreNamedApart d (set cs p (connection_after d v true r c)))
+      (sym (applied_ends_none k (found_on d s c v) e)) (applied e)
 
-  live_by : (j over : Bool) → (j && over) ≡ false → (over ≡ false) ⊎ (j ≡ false)
-  live_by j over h = grind arith
+  -- a unit of the other side that is right
+  pub end_set : (new : Connection) → is_over (other d) c ≡ false → new.is_judged ≡ true → c.is_judged ≡ true → own d new ≡ own d c →
+      seen d new ≡ seen d c → seen (other d) new ≡ seen (other d) c → AreNamedApart d (set cs p new)
+  end_set new live judged was same knows known = named_set d cs p c new named at (λ j. differ new.is_judged judged j)
+      (λ n h. subst (λ (x : Half). (not (c.is_judged && is_over_by (own d c) x) && (not (is_silent (own d c).phase)
+      && ((own d c).reference == n))) ≡ true) knows
+      (subst (λ (x : Half). (not (c.is_judged && is_over_by x (seen d new)) && (not (is_silent x.phase) && (x.reference == n)))
+      ≡ true) same
+      (subst (λ (x : Bool). (not (x && is_over_by (own d new) (seen d new)) && (not (is_silent (own d new).phase)
+      && ((own d new).reference == n))) ≡ true) (judged ∙ sym was) h)))
+      (still_known new known (inr live))
 
-  pub left_set : (s : State) (v : Value) (k : Option Class) → is_over Left c ≡ false →
-      AreNamedApart (set cs p (connection_after Left v (is_applied (found_on Left s c v)) (reach_of k (found_on Left s c v)) c))
-  left_set s v k live = left_by s v k (is_applied (found_on Left s c v)) refl live
-      (live_by c.is_judged (is_over_by c.left c.seen_by_left) live)
+-- ---- a unit of left
 
-  -- a unit of right that is right
-  pub right_set : (new : Connection) → is_over Right c ≡ false → new.is_judged ≡ true → c.is_judged ≡ true → new.left ≡ c.left →
-      new.seen_by_left ≡ c.seen_by_left → new.seen_by_right ≡ c.seen_by_right → AreNamedApart (set cs p new)
-  right_set new live judged was left knows seen = named_set cs p c new named at (λ j. differ new.is_judged judged j)
-      (λ n h. subst (λ (x : Half). (not (c.is_judged && is_over_by c.left x) && (not (is_silent c.left.phase) && (c.left.reference == n)))
-      ≡ true) knows
-      (subst (λ (x : Half). (not (c.is_judged && is_over_by x new.seen_by_left) && (not (is_silent x.phase) && (x.reference == n)))
-      ≡ true) left
-      (subst (λ (x : Bool). (not (x && is_over_by new.left new.seen_by_left) && (not (is_silent new.left.phase)
-      && (new.left.reference == n))) ≡ true) (judged ∙ sym was) h)))
-      (λ n h. known_right (is_over Left c) (is_over Right c) (not (is_silent c.seen_by_right.phase) && (c.seen_by_right.reference == n))
-      live
-      (ap (λ (x : Half). not (is_silent x.phase) && (x.reference == n)) (sym seen)
-      ∙ last_of (not (is_over Left new && is_over Right new))
-      (not (is_silent new.seen_by_right.phase) && (new.seen_by_right.reference == n)) h))
+pub left_set : (s : State) (apart : AreApart s.connections) → AreNamedApart Left s.connections → (p : ℕ) (c : Connection) →
+    slice_get s.connections p ≡ Some c → (v : Value) (k : Option Class) → is_over Left c ≡ false →
+    AreNamedApart Left (set s.connections p
+    (connection_after Left v (is_applied (found_on Left s c v)) (reach_of k (found_on Left s c v)) c))
+left_set s apart named p c at v k live = side_by Left s apart named p c at v k (is_applied (found_on Left s c v)) refl live (λ e.
+    let j = applied_judged c.is_judged (found Left s.course (uses_source Left s.connections v) c v) e in
+    let f = applied_found c.is_judged (found Left s.course (uses_source Left s.connections v) c v) e in
+    sends_set Left s apart named p c at v (left_sent s.course (uses_source Left s.connections v) c v f j (apart.sound p c at j)
+    (live_by c.is_judged (is_over_by c.left c.seen_by_left) live j)) j live)
+
+-- ---- a unit of right
+
+-- whether it is a CC
+data Kind (v : Value) : Type 0 where
+  is_cc : (m : ℕ) (x : Connect) → v ≡ confirm m x → Kind v
+  no_cc : ((m : ℕ) (x : Connect) → v ≡ confirm m x → ⊥) → Kind v
+
+kind_of : (v : Value) → Kind v
+kind_of (confirm m x) = is_cc m x refl
+kind_of v = no_cc (λ m x e. cc e)
+
+module _ (s : State) (apart : AreApart s.connections) (named : AreNamedApart Right s.connections) (p : ℕ) (c : Connection)
+    (at : slice_get s.connections p ≡ Some c) where
+  -- a CC gives a reference that is in use nowhere
+  given_free : (x : Connect) (new : Connection) → new.right.reference ≡ x.source →
+      list_any (λ (e : Connection). uses Right x.source e) s.connections ≡ false → (n i : ℕ) (e : Connection) →
+      slice_get s.connections i ≡ Some e → uses Right n e ≡ true → uses Right n new ≡ true → ⊥
+  given_free x new is none n i e there h k =
+      let same : new.right.reference ≡ n = eqb-true new.right.reference n
+      (last_of (not (is_silent new.right.phase)) (new.right.reference == n)
+      (last_of (not (is_over Right new)) (not (is_silent new.right.phase) && (new.right.reference == n)) k)) in
+      differ (uses Right n e) h (subst (λ (m : ℕ). uses Right m e ≡ false) (sym is ∙ same)
+      (none_true (λ (e : Connection). uses Right x.source e) s.connections i e none there))
+
+  opens_set : (m : ℕ) (x : Connect) → list_any (λ (e : Connection). uses Right x.source e) s.connections ≡ false → c.is_judged ≡ true →
+      is_over Right c ≡ false → AreNamedApart Right (set s.connections p (sent_on Right (confirm m x) c))
+  opens_set m x none judged live =
+      let new = sent_on Right (confirm m x) c in
+      record {
+        lost = λ i e there j. lost_by i e (after_set s.connections p i new e there) j;
+        used = λ n. one_put (uses Right n) s.connections p new (named.used n)
+            (λ i e there h k. given_free x new refl none n i e there h k);
+        known = λ n. one_changed (is_known Right n) s.connections p new (named.known n) c at
+            (still_known Right s apart named p c at new refl (inl live) n);
+      }
+    where
+      lost_by : (i : ℕ) (e : Connection) → ((i ≡ p) × (e ≡ sent_on Right (confirm m x) c)) ⊎ (slice_get s.connections i ≡ Some e) →
+          e.is_judged ≡ false → Sound e
+      lost_by i e (inl (same, is)) j = differ e.is_judged (ap (λ (y : Connection). y.is_judged) is ∙ judged) j
+      lost_by i e (inr there) j = named.lost i e there j
+
+  applied_set : (v : Value) → is_over Right c ≡ false → is_applied (found_on Right s c v) ≡ true → Kind v →
+      AreNamedApart Right (set s.connections p (sent_on Right v c))
+  applied_set v live e (no_cc none) =
+      let j = applied_judged c.is_judged (found Right s.course (uses_source Right s.connections v) c v) e in
+      let f = applied_found c.is_judged (found Right s.course (uses_source Right s.connections v) c v) e in
+      sends_set Right s apart named p c at v (right_goes s.course (uses_source Right s.connections v) c v none f j (apart.sound p c at j)
+      (live_by c.is_judged (is_over_by c.right c.seen_by_right) live j)) j live
+  applied_set v live e (is_cc m x is) =
+      let j = applied_judged c.is_judged (found Right s.course (uses_source Right s.connections v) c v) e in
+      let f = applied_found c.is_judged (found Right s.course (uses_source Right s.connections v) c v) e in
+      let in_use = list_any (λ (e : Connection). uses Right x.source e) s.connections in
+      let (silent, unused, nothing) = confirm_test (is_silent c.right.phase) (is_offered c.offer s.course.class x) (is_inside x)
+      (not in_use) s.course.loose (nat_le (code_named x.parameters.size) c.offer.size_code)
+      (ap (λ (u : Value). is_applied (found Right s.course (uses_source Right s.connections u) c u)) (sym is) ∙ f) in
+      subst (λ (u : Value). AreNamedApart Right (set s.connections p (sent_on Right u c))) (sym is)
+      (opens_set m x (not_true in_use unused) j live)
+
+  pub right_set : (v : Value) (k : Option Class) → is_over Right c ≡ false → AreNamedApart Right (set s.connections p
+      (connection_after Right v (is_applied (found_on Right s c v)) (reach_of k (found_on Right s c v)) c))
+  right_set v k live = side_by Right s apart named p c at v k (is_applied (found_on Right s c v)) refl live
+      (λ e. applied_set v live e (kind_of v))
 
 -- ---- a CR
 
-pub is_source : (a b k : Bool) → (not a && (not b && k)) ≡ true → k ≡ true
+module _ (d : Direction) (cs : List Connection) (x : Connect) (named : AreNamedApart d cs)
+    (free : (n i : ℕ) (e : Connection) → slice_get cs i ≡ Some e → uses d n e ≡ true → uses d n (asked_by x) ≡ true → ⊥)
+    (none_known : (n : ℕ) → is_known d n (asked_by x) ≡ true → ⊥) where
+  asked_lost : (i p : ℕ) (c : Connection) → ((i ≡ p) × (c ≡ asked_by x)) ⊎ (slice_get cs i ≡ Some c) → c.is_judged ≡ false → Sound c
+  asked_lost i p c (inl (same, is)) j = differ c.is_judged (ap (λ (y : Connection). y.is_judged) is) j
+  asked_lost i p c (inr there) j = named.lost i c there j
+
+  asked_set : (o : Option ℕ) → AreNamedApart d (placed (asked_by x) cs o)
+  asked_set (Some p) = record {
+    lost = λ i c at j. asked_lost i p c (after_set cs p i (asked_by x) c at) j;
+    used = λ n. one_put (uses d n) cs p (asked_by x) (named.used n) (λ i e at h k. free n i e at h k);
+    known = λ n. one_put (is_known d n) cs p (asked_by x) (named.known n) (λ i e at h k. none_known n k);
+  }
+  asked_set None = record {
+    lost = λ i c at j. asked_lost i (length cs) c (after_add cs i (asked_by x) c at) j;
+    used = λ n. one_added (uses d n) cs (asked_by x) (named.used n) (λ i e at h k. free n i e at h k);
+    known = λ n. one_added (is_known d n) cs (asked_by x) (named.known n) (λ i e at h k. none_known n k);
+  }
+
+is_source : (a b k : Bool) → (not a && (not b && k)) ≡ true → k ≡ true
 is_source a b k h = grind arith
 
 asked_free : (cs : List Connection) (x : Connect) → list_any (λ (e : Connection). uses Left x.source e) cs ≡ false → (n i : ℕ)
@@ -273,23 +407,12 @@ asked_free cs x none n i e at h k =
     differ (uses Left n e) h (subst (λ (m : ℕ). uses Left m e ≡ false) (eqb-true x.source n (is_source false false (x.source == n) k))
     (none_true (λ (e : Connection). uses Left x.source e) cs i e none at))
 
-pub asked_set : (cs : List Connection) (x : Connect) (o : Option ℕ) → list_any (λ (e : Connection). uses Left x.source e) cs ≡ false →
-    AreNamedApart cs → AreNamedApart (placed (asked_by x) cs o)
-asked_set cs x (Some p) none named = record {
-  lost = λ i c at j. lost_by i c (after_set cs p i (asked_by x) c at) j;
-  used = λ n. one_put (uses Left n) cs p (asked_by x) (named.used n) (λ i e at h k. asked_free cs x none n i e at h k);
-  known = λ n. one_put (is_known n) cs p (asked_by x) (named.known n) (λ i e at h k. cc k);
-}
-  where
-    lost_by : (i : ℕ) (c : Connection) → ((i ≡ p) × (c ≡ asked_by x)) ⊎ (slice_get cs i ≡ Some c) → c.is_judged ≡ false → Sound c
-    lost_by i c (inl (same, is)) j = differ c.is_judged (ap (λ (y : Connection). y.is_judged) is) j
-    lost_by i c (inr there) j = named.lost i c there j
-asked_set cs x None none named = record {
-  lost = λ i c at j. lost_by i c (after_add cs i (asked_by x) c at) j;
-  used = λ n. one_added (uses Left n) cs (asked_by x) (named.used n) (λ i e at h k. asked_free cs x none n i e at h k);
-  known = λ n. one_added (is_known n) cs (asked_by x) (named.known n) (λ i e at h k. cc k);
-}
-  where
-    lost_by : (i : ℕ) (c : Connection) → ((i ≡ length cs) × (c ≡ asked_by x)) ⊎ (slice_get cs i ≡ Some c) → c.is_judged ≡ false → Sound c
-    lost_by i c (inl (same, is)) j = differ c.is_judged (ap (λ (y : Connection). y.is_judged) is) j
-    lost_by i c (inr there) j = named.lost i c there j
+-- left gives a reference
+pub left_asked : (cs : List Connection) (x : Connect) (o : Option ℕ) → list_any (λ (e : Connection). uses Left x.source e) cs ≡ false →
+    AreNamedApart Left cs → AreNamedApart Left (placed (asked_by x) cs o)
+left_asked cs x o none named = asked_set Left cs x named (asked_free cs x none) (λ n h. cc h) o
+
+-- right gives none
+pub right_asked : (cs : List Connection) (x : Connect) (o : Option ℕ) → AreNamedApart Right cs →
+    AreNamedApart Right (placed (asked_by x) cs o)
+right_asked cs x o named = asked_set Right cs x named (λ n i e at h k. cc k) (λ n h. cc h) o

@@ -6,7 +6,7 @@ use Rattle.osi_fair.proofs.Vocabulary.{Connection, Left, Right, Phase}
 use Rattle.osi_fair.proofs.small_facts_that_many_lemmas_use.{and_first, and_second, name_so}
 use Rattle.osi_fair.proofs.each_connection_has_its_line.{is_tracked}
 use Rattle.osi_fair.proofs.what_keeps_names_apart.{Sound}
-use Rattle.osi_fair.proofs.names_of_right_stay_apart_though_one_is_lost.{ArePeersApart, each_sound}
+use Rattle.osi_fair.proofs.names_stay_apart_though_one_is_lost.{AreNamedApart, each_sound}
 use Rattle.osi_fair.proofs.what_the_other_side_closes.{IsSane}
 pub use Rattle.osi_fair.proofs.small_facts_that_many_lemmas_use.{both, differ}
 
@@ -58,9 +58,10 @@ pub uses_tracked : (c : Connection) (n : ℕ) → Sound c → is_tracked c ≡ t
 uses_tracked c n s h e =
     grind (arith, name_so, not_over_by, open_not, left_open, there_over, right_there, and_second, there_not_silent, eq-eqb)
 
-pub one_peer : (s : Traffic) → IsSane s → ArePeersApart s.connections → (p q : ℕ) (c e : Connection) → slice_get s.connections p ≡ Some c →
-    slice_get s.connections q ≡ Some e → is_tracked c ≡ true → is_tracked e ≡ true → c.right.reference ≡ e.right.reference → p ≡ q
+pub one_peer : (s : Traffic) → IsSane s → AreNamedApart Right s.connections → (p q : ℕ) (c e : Connection) →
+    slice_get s.connections p ≡ Some c → slice_get s.connections q ≡ Some e → is_tracked c ≡ true → is_tracked e ≡ true →
+    c.right.reference ≡ e.right.reference → p ≡ q
 one_peer s sane peers p q c e at there a b same =
     peers.used e.right.reference p q c e at there
-    (uses_tracked c e.right.reference (each_sound s.connections sane.apart peers p c at) a same)
-    (uses_tracked e e.right.reference (each_sound s.connections sane.apart peers q e there) b refl)
+    (uses_tracked c e.right.reference (each_sound Right s.connections sane.apart peers p c at) a same)
+    (uses_tracked e e.right.reference (each_sound Right s.connections sane.apart peers q e there) b refl)

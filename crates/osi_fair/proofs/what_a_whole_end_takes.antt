@@ -1,9 +1,9 @@
 -- What the line of each connection of a whole calling end is after the end has taken a unit that names a connection.
 -- For the law on a whole end.
-use Rattle.osi_fair.proofs.Vocabulary.{inl, inr, confirm, [], ap, arith, Bool, false, is_some, List, None, refl, Some, subst, sym, true, ℕ}
-use Rattle.osi_fair.proofs.Vocabulary.{◌++◌, ◌∙◌, ◌∷◌, ◌≡◌, ◌≢◌, ◌≤◌, eqb-true, append-nil, AllByRecursion, slice_get, ◌&&◌, ◌==◌, Connect}
-use Rattle.osi_fair.proofs.Vocabulary.{destination_of, disconnected, request, Value, Standing, Two, Local, value_at, asked, linked}
-use Rattle.osi_fair.proofs.Vocabulary.{Traffic, Connection, Half, Line, Whole}
+use Rattle.osi_fair.proofs.Vocabulary.{Right, inl, inr, confirm, [], ap, arith, Bool, false, is_some, List, None, refl, Some, subst, sym}
+use Rattle.osi_fair.proofs.Vocabulary.{true, ℕ, ◌++◌, ◌∙◌, ◌∷◌, ◌≡◌, ◌≢◌, ◌≤◌, eqb-true, append-nil, AllByRecursion, slice_get, ◌&&◌, ◌==◌}
+use Rattle.osi_fair.proofs.Vocabulary.{Connect, destination_of, disconnected, request, Value, Standing, Two, Local, value_at, asked}
+use Rattle.osi_fair.proofs.Vocabulary.{linked, Traffic, Connection, Half, Line, Whole}
 use Rattle.osi_carrier.specs.State.{State}
 use Rattle.osi_fair.proofs.small_facts_that_many_lemmas_use.{first_is, rest_is, differ, no_list, some_same as item_is}
 use Rattle.osi_fair.proofs.a_unit_of_a_whole_end_passes.{all_two}
@@ -11,7 +11,7 @@ use Rattle.osi_fair.proofs.no_two_open_connections_have_one_peer.{one_peer}
 use Rattle.osi_fair.proofs.each_connection_has_its_line.{IsNoCc, followed_at, AreGiven, AreSettled, Followed, Following, IsAnswer}
 use Rattle.osi_fair.proofs.each_connection_has_its_line.{IsAsking, IsOwned, IsSettled, Row, Tracked, Waiting, all_so, asks, closes, over}
 use Rattle.osi_fair.proofs.each_connection_has_its_line.{is_tracked, of, stray, talks}
-use Rattle.osi_fair.proofs.names_of_right_stay_apart_though_one_is_lost.{ArePeersApart}
+use Rattle.osi_fair.proofs.names_stay_apart_though_one_is_lost.{AreNamedApart}
 use Rattle.osi_fair.proofs.what_the_other_side_closes.{IsSane}
 use Rattle.osi_fair.proofs.which_units_are_for_a_connection.{picked_each, AllOurs, IsDc, IsOf, dc_not_ours, picked_first, picked_rest}
 use Rattle.osi_fair.proofs.which_units_are_for_a_connection.{is_dc, is_from, is_ours, leads, named_not, named_so, names, none_ours}
@@ -126,8 +126,9 @@ after_early (d ∷ ds) u v us vs (one, more) none e = differ (is_dc d) one (sym 
 
 -- ---- after the unit
 
-module _ (local : Local) (w : Whole) (f : Followed local w) (sane : IsSane w.tap) (peers : ArePeersApart w.tap.connections) (t : State)
-    (units : List Value) (u : Value) (later : List Value) (n : ℕ) (come : w.coming ≡ u ∷ later) (dest : destination_of u ≡ Some n)
+module _ (local : Local) (w : Whole) (f : Followed local w) (sane : IsSane w.tap) (peers : AreNamedApart Right w.tap.connections)
+    (t : State) (units : List Value) (u : Value) (later : List Value) (n : ℕ) (come : w.coming ≡ u ∷ later)
+    (dest : destination_of u ≡ Some n)
     (rows : (m : ℕ) → (m ≡ n → ⊥) → value_at m t.live ≡ value_at m w.end.live) (class : w.end.class ≡ Some Two → t.class ≡ Some Two)
     (given : w.end.given ≤ t.given) (was : w.end.ended ≡ None)
     (asked_dc : is_dc u ≡ true → value_at n w.end.live ≡ Some asked → value_at n t.live ≡ Some asked)

@@ -4,12 +4,12 @@ use Rattle.osi_fair.proofs.Vocabulary.{[], ap, arith, Bool, false, if◌then◌e
 use Rattle.osi_fair.proofs.Vocabulary.{subst, suc, sym, true, zero, ℕ, ◌++◌, ◌∙◌, ◌∷◌, ◌≡◌, ◌≤◌, ◌⊎◌, eqb-true, append-nil, position}
 use Rattle.osi_fair.proofs.Vocabulary.{slice_get, ◌&&◌, ◌==◌, ◌||◌, Connect, destination_of, HasFieldsInRange, request, Value, Standing}
 use Rattle.osi_fair.proofs.Vocabulary.{Class, Two, Zero, Local, value_at, linked, is_closed, is_closing, is_free, is_open, is_over}
-use Rattle.osi_fair.proofs.Vocabulary.{is_over_by, is_refused, asked_by, asks_kept, Outcome, placed, takes, Connection, Course, Left, Right}
-use Rattle.osi_fair.proofs.Vocabulary.{first_failed, Kept, list_any, Phase, request_tests, Traffic, uses, Whole}
+use Rattle.osi_fair.proofs.Vocabulary.{is_over_by, is_refused, asked_by, asks_kept, Outcome, placed, takes, Connection, Course, Left}
+use Rattle.osi_fair.proofs.Vocabulary.{Right, first_failed, Kept, list_any, Phase, request_tests, Traffic, uses, Whole}
 use Rattle.osi_fair.proofs.small_facts_that_many_lemmas_use.{all_add, and_first, and_second, differ, no_number, set_none}
 use Rattle.osi_fair.proofs.how_a_unit_of_right_passes.{strays_more}
 use Rattle.osi_fair.proofs.a_right_unit_is_not_blamed.{first_there}
-use Rattle.osi_fair.proofs.names_stay_apart_though_one_is_lost.{AreNamedApart, asked_set}
+use Rattle.osi_fair.proofs.names_stay_apart_though_one_is_lost.{AreNamedApart, left_asked}
 use Rattle.osi_fair.proofs.a_reference_names_one_connection.{not_true}
 use Rattle.osi_fair.proofs.what_is_right_passes_each_test.{passes_each}
 use Rattle.osi_fair.proofs.each_connection_of_a_called_end.{AreStrays, Asked, Called, IsFor, IsUnlinked, Running, Stand, Untagged, answers}
@@ -53,7 +53,7 @@ not_zero k l h = grind arith
 -- ---- a CR
 
 module _ (local : Local) (w : Whole) (f : Called local w) (apart : AreApart w.tap.connections)
-    (named : AreNamedApart w.tap.connections) (v : Value) (ranges : HasFieldsInRange v)
+    (named : AreNamedApart Left w.tap.connections) (v : Value) (ranges : HasFieldsInRange v)
     (calm_after : IsCalm (takes Left v w.tap).state.course) where
   abbrev cs : List Connection
   cs = w.tap.connections
@@ -266,16 +266,16 @@ module _ (local : Local) (w : Whole) (f : Called local w) (apart : AreApart w.ta
     by_place (Some p) e =
         let (c, at) = first_there is_free cs p p (asked_by x) e in at_free p (set cs p (asked_by x)) (free_at p c at e)
 
-    names_asked : first_failed (request_tests w.tap x) ≡ Kept → AreNamedApart (takes Left v w.tap).state.connections
+    names_asked : first_failed (request_tests w.tap x) ≡ Kept → AreNamedApart Left (takes Left v w.tap).state.connections
     names_asked kept =
         let t = passes_each (request_tests w.tap x) refl kept in
-        subst (λ (o : Outcome). AreNamedApart o.state.connections) (sym is)
-        (asked_set cs x (position is_free cs) (not_true (list_any (λ (e : Connection). uses Left x.source e) cs) t.1.1.0) named)
+        subst (λ (o : Outcome). AreNamedApart Left o.state.connections) (sym is)
+        (left_asked cs x (position is_free cs) (not_true (list_any (λ (e : Connection). uses Left x.source e) cs) t.1.1.0) named)
 
   -- ---- any unit
 
   abbrev AllAfter : Type 0
-  AllAfter = Called local after × AreNamedApart after.tap.connections
+  AllAfter = Called local after × AreNamedApart Left after.tap.connections
 
   by_came : Came v w.tap (takes Left v w.tap) → AllAfter
   by_came (asks_so x e class kept is) = (by_place x e is (position is_free cs) refl, names_asked x e is kept)
@@ -286,7 +286,7 @@ module _ (local : Local) (w : Whole) (f : Called local w) (apart : AreApart w.ta
   by_came (only q c at class is) = not_zero w.tap.course.class_seen f.class_seen class
   by_came (lost dc strays same) = (
     is_lost local w f apart named v ranges calm_after dc strays same,
-    subst (λ (s : Traffic). AreNamedApart s.connections) (sym same) named,
+    subst (λ (s : Traffic). AreNamedApart Left s.connections) (sym same) named,
   )
 
   pub comes_so : AllAfter

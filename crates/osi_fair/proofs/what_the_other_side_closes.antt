@@ -20,7 +20,7 @@ use Rattle.osi_fair.proofs.when_a_connection_has_a_name.{three}
 use Rattle.osi_fair.proofs.while_no_class_is_selected.{after_change, named_where}
 use Rattle.osi_fair.proofs.what_stays_of_each_connection.{AreDistinct, IsLively, IsStarted, is_there, left_then, right_judged, right_own}
 use Rattle.osi_fair.proofs.what_a_side_knows_stays.{form_first}
-use Rattle.osi_fair.proofs.names_of_right_stay_apart_though_one_is_lost.{ArePeersApart, each_sound}
+use Rattle.osi_fair.proofs.names_stay_apart_though_one_is_lost.{AreNamedApart, each_sound}
 use Rattle.osi_fair.proofs.what_lasts_at_the_tap.{IsCalm}
 pub use Rattle.osi_fair.proofs.small_facts_that_many_lemmas_use.{judged_same}
 
@@ -42,7 +42,7 @@ pub record IsOngoing (c : Course) : Type 0 where
 pub going_of : (c : Course) → IsPlain c → IsOngoing c
 going_of c h = record { sure = calm_of c h; two = h.two }
 
--- both sides are judged, and no connection has lost its judgement
+-- Both sides are judged, and no connection has lost its judgement: what laws on sessions, above this crate, have to ask.
 pub record IsFirm (c : Course) : Type 0 where
   pub firm : c.loose ≡ false
   pub left : c.left_stopped ≡ false
@@ -379,7 +379,7 @@ named_so a b c h = three a b c h
 pub is_name : (c : Connection) (n : ℕ) → Sound c → is_named Right n c ≡ true → c.left.reference ≡ n
 is_name c n sound h = grind (arith, named_so, eqb-true)
 
-module _ (L : ℕ → Type 0) (s : State) (sane : IsSane s) (peers : ArePeersApart s.connections)
+module _ (L : ℕ → Type 0) (s : State) (sane : IsSane s) (peers : AreNamedApart Right s.connections)
     (lively : HoldsOfEach (IsLively L) s.connections) (before : IsPlain s.course) where
   abbrev Comes : Value → Outcome → Type 0
   Comes v o = IsPlain o.state.course → Came L v s o.state
@@ -387,16 +387,18 @@ module _ (L : ℕ → Type 0) (s : State) (sane : IsSane s) (peers : ArePeersApa
   one_by : (v : Value) (q : ℕ) (c : Connection) → slice_get s.connections q ≡ Some c →
       ((n : ℕ) → closed_by v ≡ Some n → c.left.reference ≡ n) → (b : Bool) → c.is_judged ≡ b → Comes v (at_found Right v s q (Some c))
   one_by v q c at is true j h =
-      one_came L s q c at (each_sound s.connections sane.apart peers q c at) (sane.started q c at) sane.distinct lively before.strays j v
+      one_came L s q c at (each_sound Right s.connections sane.apart peers q c at)
+      (sane.started q c at) sane.distinct lively before.strays j v
       is h
   one_by v q c at is false j h =
-      lost_came L s q c at (each_sound s.connections sane.apart peers q c at) (sane.started q c at) sane.distinct lively before.strays j v
+      lost_came L s q c at (each_sound Right s.connections sane.apart peers q c at)
+      (sane.started q c at) sane.distinct lively before.strays j v
       is h
 
   at_one : (v : Value) (q : ℕ) (c : Connection) → slice_get s.connections q ≡ Some c →
       ((n : ℕ) → closed_by v ≡ Some n → is_named Right n c ≡ true) → Comes v (at_found Right v s q (Some c))
   at_one v q c at named =
-      one_by v q c at (λ n e. is_name c n (each_sound s.connections sane.apart peers q c at) (named n e)) c.is_judged refl
+      one_by v q c at (λ n e. is_name c n (each_sound Right s.connections sane.apart peers q c at) (named n e)) c.is_judged refl
 
   there : (v : Value) (q : ℕ) (c : Connection) → slice_get s.connections q ≡ Some c →
       ((n : ℕ) → closed_by v ≡ Some n → is_named Right n c ≡ true) → Comes v (at_place Right v s (Some q))

@@ -25,7 +25,7 @@ pub mod the_first_break_is_not_of_an_end
 pub mod no_unit_of_a_whole_end_is_a_break
 pub mod what_a_taker_passes_over
 pub mod sessions
--- nor any rule later, as long as no connection has lost its judgement
+-- nor any rule later, whatever the other side breaks
 pub mod a_break_ends_no_judging_or_all
 pub mod what_is_halted_stays_halted
 pub mod later_steps_are_events

@@ -1,6 +1,6 @@
--- A tap finds of no unit of an end that it breaks a rule of transport, as long as no break of the other side has ended the judging of
--- one connection alone. For the law that the transport of an end is blamed nowhere.
-use Rattle.std.proofs.Common.{◌≡◌, ◌∙◌, ℕ, Bool, true, false, List, [], ◌∷◌, None, Some, inl, inr, ◌⊎◌}
+-- A tap finds of no unit of an end that it breaks a rule of transport, whatever the other side sends.
+-- For the law that the transport of an end is blamed nowhere.
+use Rattle.std.proofs.Common.{◌≡◌, ◌∙◌, ℕ, Bool, false, List, [], ◌∷◌, None, Some, inl, inr, ◌⊎◌}
 use Rattle.std.proofs.Common.{refl, sym, ap, subst}
 use Rattle.osi_tpdu.specs.Value.{Value}
 use Rattle.osi_class.specs.declared.terms.Local.{Local}
@@ -22,7 +22,6 @@ use Rattle.osi_fair.specs.Naming.{packet as packet_passing, unit as unit_passing
 use Rattle.osi_fair.specs.Wholes as wholes
 use Rattle.osi_fair.proofs.a_connection_is_lost_in_class_2_alone.{IsOfTwo, firm_unless_two, still_two}
 use Rattle.osi_class.specs.declared.terms.Class.TheVariants.{Two, Zero}
-use Rattle.osi_rules.specs.declared.courses.Course.{Course as Judging}
 use Rattle.osi_rules.specs.declared.directions.Direction.TheVariants as way
 use Rattle.osi_stack.specs.State.{Holding}
 use Rattle.osi_honest.specs.Seeing.{IsFresh}
@@ -33,27 +32,20 @@ use Rattle.osi_tap.specs.Tapping.{comes_to}
 use Rattle.osi_watched.specs.Joint.{Joint, Step, Steps, StepsAlong, begin, begins_other, begins_own, passes_other, passes_own, turns}
 use Rattle.osi_watched.specs.Passing.{ComesBySteps}
 use Rattle.osi_watched.specs.Spoilt.{GoesOn, LaterAlong, LaterSteps, spoilt}
-use Rattle.osi_watched.proofs.a_break_ends_no_judging_or_all.{IsGoing, IsLeft, all_ends, begins_going, left_claim, loose_so}
+use Rattle.osi_watched.proofs.a_break_ends_no_judging_or_all.{IsGoing, IsLeft, all_ends, begins_going, left_claim}
 use Rattle.osi_watched.proofs.a_break_ends_no_judging_or_all.{known_too, mild_reach, nothing_goes, part_goes, refused_over, side_known}
 use Rattle.osi_watched.proofs.a_break_ends_no_judging_or_all.{unread_if}
 use Rattle.osi_watched.proofs.a_break_ends_no_judging_or_all.{other_unbroken, own_unbroken, unread_unbroken}
 use Rattle.osi_watched.proofs.an_end_that_is_judged_alone_stays_so.{own_alone}
-use Rattle.osi_watched.proofs.in_class_0_one_side_alone_is_judged.{AfterUnread, IsAlone, IsLoose}
+use Rattle.osi_watched.proofs.in_class_0_one_side_alone_is_judged.{AfterUnread, IsAlone}
 use Rattle.osi_watched.proofs.in_class_0_one_side_alone_is_judged.{all_over, alone, alone_begins}
 use Rattle.osi_watched.proofs.in_class_0_one_side_alone_is_judged.{alone_other}
-use Rattle.osi_watched.proofs.in_class_0_one_side_alone_is_judged.{alone_own, alone_unread, loose_claim, unit_alone, unread_alone}
+use Rattle.osi_watched.proofs.in_class_0_one_side_alone_is_judged.{alone_own, alone_unread, unit_alone, unread_alone}
 use Rattle.osi_watched.proofs.later_steps_are_events.{later_followed, spoilt_followed}
 use Rattle.osi_watched.proofs.steps_are_events.{IsFollowed, begin_followed, own_first, step_followed}
-use Rattle.osi_watched.proofs.the_first_break_is_not_of_an_end.{IsFairAlone, IsFairFrom, IsFairIf, IsFairThroughout, IsNoBreak}
+use Rattle.osi_watched.proofs.the_first_break_is_not_of_an_end.{IsFairAlone, IsFairThroughout, IsNoBreak}
 use Rattle.osi_watched.proofs.sessions.class_0_is_known_once_it_is_selected.{IsKnownOnce, joint_known_once, unit_known_once}
 use Rattle.osi_watched.proofs.sessions.connections_have_the_same_places.{unit_knows}
-
--- What is asked of a tap for the fairness of an end (`Asks`): nothing, or that no connection has lost its judgement. If that is asked, the
--- end may be blamed after a loss (`May`).
-pub record IsAsked (Asks : Judging → Type 0) (May : Type 0) : Type 0 where
-  pub same : (a b : Judging) → b.loose ≡ a.loose → Asks a → Asks b
-  pub lost : (c : Judging) → Asks c ⊎ May
-  pub fresh : Asks (fresh.traffic.course)
 
 other_goes : (d : Direction) (c : Course) → IsGoing c → is_stopped (sides.other (way_of d)) c.traffic.course ≡ false
 other_goes Left c j = j.right
@@ -66,10 +58,6 @@ begins_marks Right e c = refl
 begins_two : (e : Direction) (c : Course) → IsOfTwo c.traffic.course → IsOfTwo (packet_begins e c).traffic.course
 begins_two Left c h = still_two (packet_passing way.Left) c.traffic h
 begins_two Right c h = still_two (packet_passing way.Right) c.traffic h
-
-begins_loose : (e : Direction) (c : Course) → (packet_begins e c).traffic.course.loose ≡ c.traffic.course.loose
-begins_loose Left c = refl
-begins_loose Right c = refl
 
 zero_not : Some Zero ≡ Some Two → ⊥
 zero_not e = cc e
@@ -85,56 +73,45 @@ judged_of c j firm = record { left = j.left; right = j.right; firm = firm; left_
 firm_in_zero : (c : Course) → IsOfTwo c.traffic.course → c.traffic.course.class ≡ Some Zero → c.traffic.course.loose ≡ false
 firm_in_zero c h zero = firm_unless_two c.traffic.course h (λ e. zero_not (sym zero ∙ e))
 
-module _ (d : Direction) (Asks : Judging → Type 0) (May : Type 0) (asked : IsAsked Asks May) where
+module _ (d : Direction) where
   -- both sides are judged, and this side has broken no rule
   pub record IsWhole (c : Course) : Type 0 where
     pub going : IsGoing c
     pub two : IsOfTwo c.traffic.course
-    pub asks : Asks c.traffic.course
     pub unbroken : (marks_of d c).broke ≡ None
 
-  -- or nothing is judged any more; or in class 0 this side alone; or a connection has lost its judgement
+  -- or nothing is judged any more; or in class 0 this side alone
   pub data IsBlamedNowhere (c : Course) : Type 0 where
     is_whole : IsWhole c → IsBlamedNowhere c
     is_left : IsLeft d c → IsBlamedNowhere c
     is_alone : IsAlone d c → (marks_of d c).broke ≡ None → IsBlamedNowhere c
-    is_loose : May → IsLoose c → IsBlamedNowhere c
 
   -- what stays, whatever passes
   begins_so : (e : Direction) (c : Course) → IsBlamedNowhere c → IsBlamedNowhere (packet_begins e c)
   begins_so e c (is_whole w) = is_whole (record {
     going = begins_going e c w.going;
     two = begins_two e c w.two;
-    asks = asked.same c.traffic.course (packet_begins e c).traffic.course (begins_loose e c) w.asks;
     unbroken = begins_marks d e c ∙ w.unbroken;
   })
   begins_so e c (is_left l) = is_left ((left_claim d).begins e c l)
   begins_so e c (is_alone a none) = is_alone (alone_begins d e c a) (begins_marks d e c ∙ none)
-  begins_so e c (is_loose may p) = is_loose may (loose_claim.begins e c p)
 
   unit_two : (e : Direction) (at : ℕ) (v : Value) (c : Course) → IsOfTwo c.traffic.course → IsOfTwo (unit_passes e at v c).traffic.course
   unit_two e at v c h = subst (λ (s : Traffic). IsOfTwo s.course) (sym (unit_knows e at v c))
       (still_two (unit_passing (way_of e) v) c.traffic h)
-
-  other_lost : (at : ℕ) (v : Value) (c : Course) → IsWhole c → (takes (way_of (other d)) v c.traffic).told.reach ≡ reach.Connection →
-      Asks (unit_passes (other d) at v c).traffic.course ⊎ May → IsBlamedNowhere (unit_passes (other d) at v c)
-  other_lost at v c w is (inl asks) = is_whole (record {
-    going = part_goes (other d) at v c is w.going;
-    two = unit_two (other d) at v c w.two;
-    asks = asks;
-    unbroken = other_unbroken d at v c ∙ w.unbroken;
-  })
-  other_lost at v c w is (inr may) = is_loose may (loose_so (other d) at v c reach.Connection is)
 
   other_by : (at : ℕ) (v : Value) (c : Course) → IsKnownOnce c.traffic → IsWhole c → (r : Reach) →
       (takes (way_of (other d)) v c.traffic).told.reach ≡ r → IsBlamedNowhere (unit_passes (other d) at v c)
   other_by at v c once w reach.Nothing is = is_whole (record {
     going = nothing_goes (other d) at v c is w.going;
     two = unit_two (other d) at v c w.two;
-    asks = asked.same c.traffic.course (unit_passes (other d) at v c).traffic.course (loose_so (other d) at v c reach.Nothing is) w.asks;
     unbroken = other_unbroken d at v c ∙ w.unbroken;
   })
-  other_by at v c once w reach.Connection is = other_lost at v c w is (asked.lost (unit_passes (other d) at v c).traffic.course)
+  other_by at v c once w reach.Connection is = is_whole (record {
+    going = part_goes (other d) at v c is w.going;
+    two = unit_two (other d) at v c w.two;
+    unbroken = other_unbroken d at v c ∙ w.unbroken;
+  })
   other_by at v c once w reach.Side is =
       is_alone (unit_alone d at v c (judged_of c w.going (firm_in_zero c w.two (side_known (other d) at v c is once))) once is)
       (other_unbroken d at v c ∙ w.unbroken)
@@ -152,9 +129,8 @@ module _ (d : Direction) (Asks : Judging → Type 0) (May : Type 0) (asked : IsA
       by (is_whole w) = other_by at v c once w (takes (way_of (other d)) v c.traffic).told.reach refl
       by (is_left l) = is_left ((left_claim d).passes (other d) at v c l)
       by (is_alone a none) = is_alone (alone_other d at v c a) (other_unbroken d at v c ∙ none)
-      by (is_loose may p) = is_loose may (loose_claim.passes (other d) at v c p)
 
-  module _ (proper : AllProper) (is_caller : Bool) (local : Local) (fair : IsFairIf Asks (way_of d) (wholes.begin is_caller local))
+  module _ (proper : AllProper) (is_caller : Bool) (local : Local) (fair : IsFairThroughout (way_of d) (wholes.begin is_caller local))
       (fair_alone : IsFairAlone (way_of d) (wholes.begin is_caller local)) where
     abbrev first : wholes.Whole
     first = wholes.begin is_caller local
@@ -166,8 +142,7 @@ module _ (d : Direction) (Asks : Judging → Type 0) (May : Type 0) (asked : IsA
         let s = own_first d first old new v (read, octets, put) f in
         subst (λ (t : Traffic). IsNoBreak (takes (way_of d) v t).told.finding) f.tap
         (fair f.events f.whole v s.rest f.along (f.begun ∙ begun) s.is
-        (ap (λ (t : Traffic). is_stopped (sides.other (way_of d)) t.course) f.tap ∙ other_goes d old.course w.going)
-        (subst (λ (t : Traffic). Asks t.course) (sym f.tap) w.asks))
+        (ap (λ (t : Traffic). is_stopped (sides.other (way_of d)) t.course) f.tap ∙ other_goes d old.course w.going))
 
     own_passes_so : (at : ℕ) (v : Value) (old new : Joint) → Steps d (passes_own at v) old new → IsFollowed d first old →
         IsBlamedNowhere old.course → IsBlamedNowhere (unit_passes d at v old.course)
@@ -175,7 +150,6 @@ module _ (d : Direction) (Asks : Judging → Type 0) (May : Type 0) (asked : IsA
     own_passes_so at v old new step f (is_alone a none) =
         let kept = own_alone d proper is_caller local fair_alone at v old new step f a in
         is_alone (alone_own d at v old.course kept a) (own_unbroken d at v old.course (subst IsNoBreak (sym kept) tt) ∙ none)
-    own_passes_so at v old new step f (is_loose may p) = is_loose may (loose_claim.passes d at v old.course p)
     own_passes_so at v old new step f (is_whole w) = by (mild_reach d at v old.course _ refl none)
       where
         none : IsNoBreak (takes (way_of d) v old.course.traffic).told.finding
@@ -189,8 +163,6 @@ module _ (d : Direction) (Asks : Judging → Type 0) (May : Type 0) (asked : IsA
         by (inl is) = is_whole (record {
           going = nothing_goes d at v old.course is w.going;
           two = unit_two d at v old.course w.two;
-          asks = asked.same old.course.traffic.course (unit_passes d at v old.course).traffic.course
-              (loose_so d at v old.course reach.Nothing is) w.asks;
           unbroken = unbroken;
         })
         by (inr is) = is_left (record { over = all_ends d at v old.course is; unbroken = unbroken })
@@ -263,7 +235,6 @@ module _ (d : Direction) (Asks : Judging → Type 0) (May : Type 0) (asked : IsA
       unread_so (is_whole w) = unread_by w.unbroken (unread_whole w (class_for (way_of (other d)) c.traffic.course) refl)
       unread_so (is_left l) = is_left ((left_claim d).bad (other d) at cause c l)
       unread_so (is_alone a none) = is_alone (alone_unread d at cause c a) (unread_unbroken d at cause c ∙ none)
-      unread_so (is_loose may p) = is_loose may (loose_claim.bad (other d) at cause c p)
 
     spoilt_so : (at : ℕ) (cause : Cause) (packets : List (List ℕ)) → units_in packets ≡ [] → (j : Joint) → Stood j →
         Stood (spoilt d at cause packets j)
@@ -278,8 +249,8 @@ module _ (d : Direction) (Asks : Judging → Type 0) (May : Type 0) (asked : IsA
   nothing Left = refl
   nothing Right = refl
 
-  pub never_blamed : AllProper → (is_caller : Bool) (local : Local) (h : Holding) (capture : Capture) → IsFresh is_caller local h →
-      IsFairIf Asks (way_of d) (wholes.begin is_caller local) → IsFairAlone (way_of d) (wholes.begin is_caller local) →
+  never_blamed : AllProper → (is_caller : Bool) (local : Local) (h : Holding) (capture : Capture) → IsFresh is_caller local h →
+      IsFairThroughout (way_of d) (wholes.begin is_caller local) → IsFairAlone (way_of d) (wholes.begin is_caller local) →
       ComesBySteps d capture h → IsBlamedNowhere (comes_to capture).course
   never_blamed proper is_caller local h capture anew fair fair_alone comes = by comes.on
     where
@@ -289,7 +260,6 @@ module _ (d : Direction) (Asks : Judging → Type 0) (May : Type 0) (asked : IsA
         nowhere = is_whole (record {
           going = record { left = refl; right = refl; left_goes = refl; right_goes = refl };
           two = record { lost = λ e. absurd (cc e); seen = λ e. absurd (cc e) };
-          asks = asked.fresh;
           unbroken = nothing d;
         });
       })
@@ -300,36 +270,13 @@ module _ (d : Direction) (Asks : Judging → Type 0) (May : Type 0) (asked : IsA
           (later_along_so proper is_caller local fair fair_alone g.steps (spoilt d g.at g.cause g.packets comes.last) g.end g.along
           (spoilt_so proper is_caller local fair fair_alone g.at g.cause g.packets g.none comes.last last)).nowhere
 
-  differ : {A : Type 0} (b : Bool) → b ≡ true → b ≡ false → A
-  differ b h k = absurd (cc)
+  unbroken_by : (c : Course) → IsBlamedNowhere c → (marks_of d c).broke ≡ None
+  unbroken_by c (is_whole w) = w.unbroken
+  unbroken_by c (is_left l) = l.unbroken
+  unbroken_by c (is_alone a none) = none
 
-  unbroken_by : (c : Course) → (May → c.traffic.course.loose ≡ false) → IsBlamedNowhere c → (marks_of d c).broke ≡ None
-  unbroken_by c firm (is_whole w) = w.unbroken
-  unbroken_by c firm (is_left l) = l.unbroken
-  unbroken_by c firm (is_alone a none) = none
-  unbroken_by c firm (is_loose may loose) = differ c.traffic.course.loose loose (firm may)
-
-  asked_unbroken : AllProper → (is_caller : Bool) (local : Local) (h : Holding) (capture : Capture) → IsFresh is_caller local h →
-      IsFairIf Asks (way_of d) (wholes.begin is_caller local) → IsFairAlone (way_of d) (wholes.begin is_caller local) →
-      ComesBySteps d capture h → (May → (comes_to capture).course.traffic.course.loose ≡ false) →
-      (marks_of d (comes_to capture).course).broke ≡ None
-  asked_unbroken proper is_caller local h capture anew fair fair_alone comes firm =
-      unbroken_by (comes_to capture).course firm (never_blamed proper is_caller local h capture anew fair fair_alone comes)
-
--- whatever connections have lost their judgement
-pub always_unbroken : (d : Direction) → AllProper → (is_caller : Bool) (local : Local) (h : Holding) (capture : Capture) →
-    IsFresh is_caller local h → IsFairThroughout (way_of d) (wholes.begin is_caller local) →
-    IsFairAlone (way_of d) (wholes.begin is_caller local) → ComesBySteps d capture h → (marks_of d (comes_to capture).course).broke ≡ None
-always_unbroken d proper is_caller local h capture anew fair fair_alone comes =
-    asked_unbroken d (λ c. Unit {0}) ⊥ (record { same = λ a b e k. tt; lost = λ c. inl tt; fresh = tt }) proper is_caller local h capture
-    anew (λ events w unit rest along begun put judged asks. fair events w unit rest along begun put judged) fair_alone comes
-    (λ may. absurd may)
-
--- as long as none has
-pub firm_unbroken : (d : Direction) → AllProper → (is_caller : Bool) (local : Local) (h : Holding) (capture : Capture) →
-    IsFresh is_caller local h → IsFairFrom (way_of d) (wholes.begin is_caller local) →
-    IsFairAlone (way_of d) (wholes.begin is_caller local) → ComesBySteps d capture h →
-    (comes_to capture).course.traffic.course.loose ≡ false → (marks_of d (comes_to capture).course).broke ≡ None
-firm_unbroken d proper is_caller local h capture anew fair fair_alone comes firm =
-    asked_unbroken d (λ c. c.loose ≡ false) (Unit {0}) (record { same = λ a b e k. e ∙ k; lost = λ c. inr tt; fresh = refl }) proper
-    is_caller local h capture anew fair fair_alone comes (λ may. firm)
+  pub always_unbroken : AllProper → (is_caller : Bool) (local : Local) (h : Holding) (capture : Capture) → IsFresh is_caller local h →
+      IsFairThroughout (way_of d) (wholes.begin is_caller local) → IsFairAlone (way_of d) (wholes.begin is_caller local) →
+      ComesBySteps d capture h → (marks_of d (comes_to capture).course).broke ≡ None
+  always_unbroken proper is_caller local h capture anew fair fair_alone comes =
+      unbroken_by (comes_to capture).course (never_blamed proper is_caller local h capture anew fair fair_alone comes)

@@ -9,7 +9,6 @@ use Rattle.osi_watched.proofs.Vocabulary.{passes_own, Step, Steps, StepsAlong, t
 use Rattle.osi_class.specs.declared.terms.Class.TheVariants.{Zero}
 use Rattle.osi_rules.specs.declared.findings.Finding.TheVariants.{Kept}
 use Rattle.osi_rules.specs.Sides as sides
-use Rattle.osi_rules.specs.declared.courses.Course.{Course as Rules}
 use Rattle.osi_fair.specs.Wholes as wholes
 use Rattle.osi_tap.specs.Courses.{Course, packet_begins}
 use Rattle.osi_tap.specs.Tapping as tapping
@@ -29,12 +28,6 @@ IsNoBreak _ = Unit {0}
 abbrev pub IsFairFrom : Way → Whole → Type 0
 IsFairFrom d first = (events : List Event) (w : Whole) (unit : Value) (rest : List Value) → HappenAlong d first events w →
     w.begun ≡ true → w.put ≡ unit ∷ rest → is_stopped (sides.other d) w.tap.course ≡ false → w.tap.course.loose ≡ false →
-    IsNoBreak (takes d unit w.tap).told.finding
-
--- or as long as that is so at the tap
-abbrev pub IsFairIf : (Rules → Type 0) → Way → Whole → Type 0
-IsFairIf Asks d first = (events : List Event) (w : Whole) (unit : Value) (rest : List Value) → HappenAlong d first events w →
-    w.begun ≡ true → w.put ≡ unit ∷ rest → is_stopped (sides.other d) w.tap.course ≡ false → Asks w.tap.course →
     IsNoBreak (takes d unit w.tap).told.finding
 
 -- also after a connection has lost its judgement

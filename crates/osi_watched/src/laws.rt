@@ -82,17 +82,16 @@ pub fn the_transport_of_an_end_is_never_blamed_first()
 
 /// The transport of an end is blamed nowhere. Take any run of an end of this library from its beginning, and any capture of it, as in
 /// [`the_transport_of_an_end_is_never_blamed_first`]. The tap has found of no unit of the end that it breaks a rule, be the end the called
-/// one (`called`) or the calling one (`calling`): not before a break of the other side, and not after it. Of a calling end this holds as
-/// long as no break of the other side has ended the judging of one connection alone. So it is after a break that a taker passes over, after
-/// one with which all judging ends, and in class 0 after one with which the judging of the other side ends, or after what nobody can read;
-/// and for a called end after one with which the judging of a connection ends.
+/// one (`called`) or the calling one (`calling`): not before a break of the other side, and not after it. So it is after a break that a
+/// taker passes over, after one with which all judging ends, or in class 2 that of one connection, and in class 0 after one with which the
+/// judging of the other side ends, or after what nobody can read.
 pub fn the_transport_of_an_end_is_blamed_nowhere()
     ensures called { (local : Local) (begin end : Holding) (turns : List Turn) (capture : Capture) →
         IsFresh false local begin → Run begin turns end → AreOctets capture → IsSeen Direction.Right turns capture →
         (comes_to capture).course.right.broke ≡ None }
     ensures calling { (local : Local) (begin end : Holding) (turns : List Turn) (capture : Capture) →
         IsFresh true local begin → Run begin turns end → AreOctets capture → IsSeen Direction.Left turns capture →
-        (comes_to capture).course.traffic.course.loose ≡ false → (comes_to capture).course.left.broke ≡ None }
+        (comes_to capture).course.left.broke ≡ None }
 {
     few_octets_fit();
     serial_digits();

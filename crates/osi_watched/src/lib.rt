@@ -12,6 +12,8 @@
 //!   reports nothing and hands nothing over: what a turn does to the carrier of an end is units that arrive and calls. So as
 //!   long as nobody has broken a rule at the tap, both sides are judged there, and no unit of the end is a break. What comes
 //!   after the first break doesn't change it: [`laws::the_transport_of_an_end_is_never_blamed_first`].
+//! - **Nor is it blamed after the first break**, called or calling, in either class: what a break of the other side leaves to be judged
+//!   of the end is right, or not judged, or beyond what the rules look at: [`laws::the_transport_of_an_end_is_blamed_nowhere`].
 //! - **The session of an end is not to blame for what a tap shows of it.** `IsShownOf` (`specs/Shown`) says what a tap has joined of a
 //!   connection beside what was done there: [`laws::a_session_that_is_shown_is_not_to_blame`]. It goes on so packet by packet:
 //!   [`laws::what_a_tap_shows_goes_on`]. A unit is joined at the place that the rules of transport tell:

@@ -3,6 +3,7 @@
 use Rattle.osi_watched.proofs.Vocabulary.{ap, false, is_some, None, Some, subst, sym, ℕ, ◌∙◌, ◌≡◌, Zero, Local, Carrier, Traffic}
 use Rattle.osi_watched.proofs.Vocabulary.{lines, selected, selecting, Called, IsInZero, IsCalm, Whole, Joint, List, Value}
 use Rattle.osi_judge.specs.declared.directions.Direction.TheVariants as side
+use Rattle.osi_rules.specs.declared.directions.Direction.TheVariants as way
 use Rattle.osi_fair.specs.Wholes.{begin}
 use Rattle.osi_fair.proofs.a_called_end_is_fair.{Joined, Stage, all_joined, first_joined}
 use Rattle.osi_fair.proofs.names_stay_apart_though_one_is_lost.{AreNamedApart}
@@ -20,7 +21,7 @@ in_zero limit s begun units (over gone puts) lasts = over_not s.ended gone lasts
 -- with what keeps references apart at the tap
 pub record HasCalled (local : Local) (w : Whole) : Type 0 where
   pub called : Called local w
-  pub named : AreNamedApart w.tap.connections
+  pub named : AreNamedApart way.Left w.tap.connections
 
 lines_by : (local : Local) (w : Whole) → Stage local w → w.end.ended ≡ None → (w.end.class ≡ Some Zero → ⊥) → HasCalled local w
 lines_by local w (lines f called named) lasts two = record { called = f; named = named }

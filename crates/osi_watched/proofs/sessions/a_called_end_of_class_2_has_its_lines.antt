@@ -4,6 +4,7 @@ use Rattle.osi_watched.proofs.Vocabulary.{false, refl, subst, sym, AllByRecursio
 use Rattle.osi_watched.proofs.Vocabulary.{CanBeWritten, lines, selected, selecting, Called, IsCalled, NamesApart as AreApart}
 use Rattle.osi_watched.proofs.Vocabulary.{IsOngoing, Whole, Joint}
 use Rattle.osi_judge.specs.declared.directions.Direction.TheVariants as side
+use Rattle.osi_rules.specs.declared.directions.Direction.TheVariants as way
 use Rattle.osi_fair.specs.Wholes.{begin}
 use Rattle.osi_fair.proofs.a_called_end_is_fair.{Stage}
 use Rattle.osi_fair.proofs.names_stay_apart_though_one_is_lost.{AreNamedApart}
@@ -16,7 +17,7 @@ pub record HasLines (local : Local) (w : Whole) : Type 0 where
   pub called : Called local w
   pub end : IsCalled local w.end
   pub apart : AreApart w.tap.connections
-  pub named : AreNamedApart w.tap.connections
+  pub named : AreNamedApart way.Left w.tap.connections
 
 module _ (local : Local) (j : Joint) (f : IsFollowed side.Right (begin false local) j) (can : AllByRecursion CanBeWritten j.put)
     (two : AllByRecursion AnswersTwo j.put) (clear : IsOngoing j.course.traffic.course) where

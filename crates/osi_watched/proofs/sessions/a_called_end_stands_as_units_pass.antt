@@ -18,7 +18,7 @@ use Rattle.osi_fair.proofs.what_the_other_side_closes.{IsOngoing}
 use Rattle.osi_watched.proofs.sessions.a_called_end_of_class_2_has_its_lines.{has_lines}
 use Rattle.osi_watched.proofs.sessions.a_called_end_takes_what_is_in_flight.{called_dr, called_takes}
 use Rattle.osi_watched.proofs.sessions.a_calling_end_stands_as_units_pass.{AreShutAtJoint, known_at, own_passes_shut}
-use Rattle.osi_watched.proofs.sessions.a_right_dt_has_one_place.{AreUsedApart, called_apart}
+use Rattle.osi_watched.proofs.sessions.a_right_dt_has_one_place.{AreUsedApart, named_apart}
 use Rattle.osi_watched.proofs.sessions.a_turn_does_what_its_deeds_say.{units_join}
 use Rattle.osi_watched.proofs.sessions.a_turn_leaves_all_standing.{Turns}
 use Rattle.osi_watched.proofs.sessions.all_connections_stand.{AllStand, all_room}
@@ -86,7 +86,7 @@ module _ (local : Local) (proper : AllProper) where
   used_apart deeds j clear h =
       let f = h.called.ahead.followed in
       let lines = has_lines local j f h.can h.called.two clear in
-      subst (λ (s : State). AreUsedApart Right s.connections) f.tap (called_apart f.whole.tap.connections lines.apart lines.named)
+      subst (λ (s : State). AreUsedApart Right s.connections) f.tap (named_apart Right f.whole.tap.connections lines.apart lines.named)
 
   pub passes_own_stands : (deeds : ℕ → Deeds) (at : ℕ) (unit : Value) (old new : Joint) → Steps Right (passes_own at unit) old new →
       IsProper Right unit old.course → IsOngoing old.course.traffic.course → StandsCalled deeds old → StandsCalled deeds new

@@ -32,7 +32,7 @@ use Rattle.osi_watched.specs.ShownPlaces.{HaveSamePlaces}
 use Rattle.osi_watched.proofs.sessions.a_called_end_hears_what_breaks_no_rule.{dt_closed}
 use Rattle.osi_watched.proofs.sessions.a_calling_end_is_ready.{IsPlain}
 use Rattle.osi_watched.proofs.sessions.a_cc_comes_before_what_is_put_for_it.{nothing_waits}
-use Rattle.osi_watched.proofs.sessions.a_right_dt_has_one_place.{AreUsedApart, calling_apart}
+use Rattle.osi_watched.proofs.sessions.a_right_dt_has_one_place.{AreUsedApart, named_apart}
 use Rattle.osi_watched.proofs.sessions.a_unit_after_a_dr_leaves_all_standing.{after_keeps}
 use Rattle.osi_watched.proofs.sessions.a_unit_is_joined_where_it_is_named.{joined_any}
 use Rattle.osi_watched.proofs.sessions.after_too_many_nobody_is_to_blame.{NoneIsToBlame}
@@ -172,7 +172,7 @@ module _ (local : Local) (deeds : ℕ → Deeds) (is_live : ℕ → Bool) (put :
   cc_heard n x c p w places applied =
       let lasts = subst (λ (s : State). IsOngoing s.course) (sym w.tap) p.lasts in
       let apart = subst (λ (s : State). AreUsedApart Left s.connections) w.tap
-      (calling_apart w.whole.tap.connections w.follows.kept.sane.apart (w.follows.peers lasts)) in
+      (named_apart Left w.whole.tap.connections w.follows.kept.sane.apart (w.follows.peers lasts)) in
       none_written_so (Some x.source) w.whole.put put w.same w.can can
       (nothing_waits n x c.traffic c.sessions places apart applied w.whole.put
       (subst (λ (s : State). AllByRecursion (λ (u : Value). IsOwned s u) w.whole.put) w.tap (w.follows.followed lasts).owned))

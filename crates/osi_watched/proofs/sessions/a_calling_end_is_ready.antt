@@ -32,7 +32,7 @@ use Rattle.osi_watched.specs.Joint.{Joint, Steps, TakesTurn, begin, begins_other
 use Rattle.osi_watched.specs.ShownPlaces.{HaveSamePlaces}
 use Rattle.osi_watched.proofs.steps_are_events.{IsFollowed, begin_followed, own_first}
 use Rattle.osi_watched.proofs.what_a_taker_passes_over.{IsMild}
-use Rattle.osi_watched.proofs.sessions.a_right_dt_has_one_place.{AreUsedApart, calling_apart}
+use Rattle.osi_watched.proofs.sessions.a_right_dt_has_one_place.{AreUsedApart, named_apart}
 use Rattle.osi_watched.proofs.sessions.a_turn_does_what_its_deeds_say.{turn_leaves, units_join}
 use Rattle.osi_watched.proofs.sessions.crs_that_wait_are_above_those_that_passed.{AreAbove, above_along, passes_asked}
 use Rattle.osi_watched.proofs.sessions.each_cr_that_passes_gives_a_new_reference.{AreAhead, GoesOn, IsUpTo, begins_other_ahead}
@@ -99,7 +99,7 @@ module _ (local : Local) (two : local.class2 ≡ true) where
   peers_apart j f clear =
       let w = whole_joined j f in
       subst (λ (s : State). AreUsedApart Left s.connections) f.tap
-      (calling_apart f.whole.tap.connections w.kept.sane.apart
+      (named_apart Left f.whole.tap.connections w.kept.sane.apart
       (w.peers (subst (λ (s : State). IsOngoing s.course) (sym f.tap) clear)))
 
   pub record IsCalling (deeds : ℕ → Deeds) (j : Joint) : Type 0 where

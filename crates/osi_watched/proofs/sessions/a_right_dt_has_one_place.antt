@@ -34,7 +34,6 @@ use Rattle.osi_fair.specs.Naming.{packet, rubbish, unit}
 use Rattle.osi_fair.proofs.a_reference_names_one_connection.{fresh_apart, passes_apart}
 use Rattle.osi_fair.proofs.all_are_judged_unless_one_broke.{IsJudged}
 use Rattle.osi_fair.proofs.names_stay_apart_though_one_is_lost.{AreNamedApart, OnlyOne, each_sound}
-use Rattle.osi_fair.proofs.names_of_right_stay_apart_though_one_is_lost.{ArePeersApart, each_sound as each_peer_sound}
 use Rattle.osi_fair.proofs.what_holds_of_one_item.{HoldsOfEach}
 use Rattle.osi_fair.proofs.what_keeps_names_apart.{AreApart, Sound}
 use Rattle.osi_tap.specs.declared.marks.Cause.{Cause}
@@ -353,11 +352,8 @@ judged_apart Right cs apart judged = record {
   used = λ n i j c e at there fc fe. apart.used_left n i j c e at there (judged i c at) (judged j e there) fc fe;
 }
 
-pub called_apart : (cs : List Connection) → AreApart cs → AreNamedApart cs → AreUsedApart Right cs
-called_apart cs apart named = record { sound = each_sound cs apart named; used = λ n. named.used n }
-
-pub calling_apart : (cs : List Connection) → AreApart cs → ArePeersApart cs → AreUsedApart Left cs
-calling_apart cs apart peers = record { sound = each_peer_sound cs apart peers; used = λ n. peers.used n }
+pub named_apart : (d : Direction) (cs : List Connection) → AreApart cs → AreNamedApart (way_of (other d)) cs → AreUsedApart d cs
+named_apart d cs apart named = record { sound = each_sound (way_of (other d)) cs apart named; used = λ n. named.used n }
 
 lost_uses : (j over silent same : Bool) → j ≡ false → silent ≡ false → same ≡ true → (not (j && over) && (not silent && same)) ≡ true
 lost_uses true over silent same a b c = absurd (cc)

@@ -120,7 +120,7 @@ item c e o h k = cc
 -- ---- the CCs that a called end has put
 
 module _ (local : Local) (w : Whole) (t : Sessions) (f : Called local w) (apart : AreApart w.tap.connections)
-    (named : AreNamedApart w.tap.connections) (places : HaveSamePlaces w.tap.connections t.live) where
+    (named : AreNamedApart Left w.tap.connections) (places : HaveSamePlaces w.tap.connections t.live) where
   abbrev StandsAt : ℕ → Connection → Type 0
   StandsAt p c = Stand local f.shut w.end w.coming (units_at p f.tagged) (units_at p f.came) (w.begun && first_at p f.tagged) (f.refs p) c
 
@@ -269,7 +269,7 @@ module _ (local : Local) (w : Whole) (t : Sessions) (f : Called local w) (apart 
       is_open e.right.phase ≡ true → e.left.reference ≡ n → A
   open_not n r ts k i e at lives is =
       let (j, here, one) = at_same w.tap.connections t.live i e places at in
-      let used = still_used side.Right n e j one (each_sound w.tap.connections apart named i e at) lives
+      let used = still_used side.Right n e j one (each_sound Left w.tap.connections apart named i e at) lives
       (ap (λ (m : ℕ). Some m) (one.calling ∙ is)) in
       let same : k.place ≡ i =
       named.used n k.place i k.c e k.at at (used_at n r ts k) used in

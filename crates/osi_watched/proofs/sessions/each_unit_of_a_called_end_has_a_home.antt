@@ -84,7 +84,7 @@ not_empty [] ys v e = absurd (cc)
 not_empty (x ∷ xs) ys v e = absurd (cc)
 
 module _ (local : Local) (w : Whole) (t : Sessions) (f : Called local w) (apart : NamesApart w.tap.connections)
-    (named : AreNamedApart w.tap.connections) (places : HaveSamePlaces w.tap.connections t.live) (lasts : w.end.ended ≡ None) where
+    (named : AreNamedApart way.Left w.tap.connections) (places : HaveSamePlaces w.tap.connections t.live) (lasts : w.end.ended ≡ None) where
   abbrev StandsAt : ℕ → Connection → Type 0
   StandsAt p c = Stand local f.shut w.end w.coming (units_at p f.tagged) (units_at p f.came) (w.begun && first_at p f.tagged) (f.refs p) c
 
@@ -94,7 +94,7 @@ module _ (local : Local) (w : Whole) (t : Sessions) (f : Called local w) (apart 
       is_open e.right.phase ≡ true → reference_of Left j ≡ Some x.source → ⊥
   none_open x p c at a i e j there here lives is =
       let used = still_used Right x.source e j (one_at w.tap.connections t.live i e j places there here)
-      (each_sound w.tap.connections apart named i e there) lives is in
+      (each_sound way.Left w.tap.connections apart named i e there) lives is in
       let same : p ≡ i = named.used x.source p i c e at there (used_asked x c a) used in
       let one : c ≡ e = item (sym at ∙ ap (λ (n : ℕ). slice_get w.tap.connections n) same ∙ there) in
       differ (is_open e.right.phase) lives

@@ -155,7 +155,9 @@ module _ (local : Local) (w : Whole) (t : Sessions) (f : Followed local w) (plac
       let name : g.r ≡ q = sym g.left ∙ mine in
       let h : HasFirst q g.peer w.coming =
       row_first local w.end w.coming q g.peer g.line (subst (λ (n : ℕ). Row local w.end w.coming n g.peer g.line) name g.row) lasts waits in
-      let same : x ≡ h.x = first_cc q x h.x (those q front) (those q rest) h.firsts h.later (sym those_come ∙ h.is) those_first
+      let both : those q front ++ confirm q x ∷ those q rest ≡ h.firsts ++ confirm q h.x ∷ h.later =
+      ◌∙◌ {c = h.firsts ++ confirm q h.x ∷ h.later} (sym those_come) h.is in
+      let same : x ≡ h.x = first_cc q x h.x (those q front) (those q rest) h.firsts h.later both those_first
       (all_so IsDc (IsNotCc q) (dc_not_cc q) h.firsts h.dcs) in
       subst (λ (n : ℕ). HasHome Left n x.source w.tap t) mine
       (subst (λ (n : ℕ). HasHome Left c.left.reference n w.tap t) (g.right ∙ sym (ap (λ (k : Connect). k.source) same ∙ h.source))

@@ -41,7 +41,7 @@ use Rattle.osi_fair.specs.Wholes as wholes
 use Rattle.osi_fair.proofs.a_calling_end_is_fair_in_class_2.{Joined as Follows, next_joined}
 use Rattle.osi_fair.proofs.a_dr_for_what_is_gone.{before_going}
 use Rattle.osi_fair.proofs.a_reference_names_one_connection.{applied_judged}
-use Rattle.osi_fair.proofs.names_of_right_stay_apart_though_one_is_lost.{each_sound}
+use Rattle.osi_fair.proofs.names_stay_apart_though_one_is_lost.{each_sound}
 use Rattle.osi_fair.proofs.each_connection_has_its_line.{Followed, IsAnswer, Tracked, all_so, is_tracked}
 use Rattle.osi_fair.proofs.no_two_open_connections_have_one_peer.{both, differ, left_open}
 use Rattle.osi_fair.proofs.what_becomes_of_a_connection.{IsIdle, Told, comes_for}
@@ -382,7 +382,7 @@ module _ (local : Local) (v : Value) (w : Whole) (j : Follows local w) (on : All
       Told v w.tap (takes way.Right v w.tap) ⊎ IsIdle v w.tap (takes way.Right v w.tap) → Tracked w.tap.connections r
   tracked_of r may one (inr idle) = no_dc r idle.m idle.source v one idle.dc
   tracked_of r may one (inl t) =
-      let sound = each_sound w.tap.connections j.kept.sane.apart (j.peers clear) t.q t.c t.at in
+      let sound = each_sound way.Right w.tap.connections j.kept.sane.apart (j.peers clear) t.q t.c t.at in
       let same : t.c.left.reference ≡ r =
       is_name t.c t.n sound t.named ∙ same_name (destination_of v) t.n r t.dest (destination_is r v one) in
       named_there_by r may t (is_open t.c.left.phase) refl same (right_there r one t t.c.is_judged refl)

@@ -2,9 +2,9 @@ use Rattle.std.proofs.Common.{false, true}
 use Rattle.osi_judge.specs.declared.directions.Direction.TheVariants.{Left, Right}
 use Rattle.osi_stack.proofs.called.what_is_sent_is_short.{SpduLaws}
 use Rattle.osi_honest.proofs.class_0.what_a_session_answers_fits.{all_proper}
-use Rattle.osi_watched.proofs.no_unit_of_a_whole_end_is_a_break.{called_is_fair_in_class_0, called_is_fair_throughout, calling_is_fair}
-use Rattle.osi_watched.proofs.no_unit_of_a_whole_end_is_a_break.{calling_is_fair_in_class_0}
-use Rattle.osi_watched.proofs.no_unit_of_an_end_breaks_a_rule.{always_unbroken, firm_unbroken}
+use Rattle.osi_watched.proofs.no_unit_of_a_whole_end_is_a_break.{called_is_fair_in_class_0, called_is_fair_throughout}
+use Rattle.osi_watched.proofs.no_unit_of_a_whole_end_is_a_break.{calling_is_fair_in_class_0, calling_is_fair_throughout}
+use Rattle.osi_watched.proofs.no_unit_of_an_end_breaks_a_rule.{always_unbroken}
 use Rattle.osi_watched.proofs.laws.the_transport_of_an_end_is_blamed_nowhere.Goals as goal
 
 pub returns-clause-called : goal.returns-clause-called
@@ -15,8 +15,8 @@ returns-clause-called c = λ local begin end turns capture fresh run octets seen
     (c.a_capture_of_an_end_is_steps.ensures Right false local begin end turns capture fresh run octets seen)
 
 pub returns-clause-calling : goal.returns-clause-calling
-returns-clause-calling c = λ local begin end turns capture fresh run octets seen firm.
+returns-clause-calling c = λ local begin end turns capture fresh run octets seen.
     let law : SpduLaws = record { room = c.few_octets_fit.ensures; digits = c.serial_digits.ensures } in
-    firm_unbroken Left (all_proper law c.what_closes_sends_nothing.ensures.octets) true local begin capture fresh
-    (calling_is_fair local) (calling_is_fair_in_class_0 local)
-    (c.a_capture_of_an_end_is_steps.ensures Left true local begin end turns capture fresh run octets seen) firm
+    always_unbroken Left (all_proper law c.what_closes_sends_nothing.ensures.octets) true local begin capture fresh
+    (calling_is_fair_throughout local) (calling_is_fair_in_class_0 local)
+    (c.a_capture_of_an_end_is_steps.ensures Left true local begin end turns capture fresh run octets seen)
