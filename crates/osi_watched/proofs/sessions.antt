@@ -47,7 +47,6 @@ pub mod a_calling_end_hears_what_breaks_no_rule
 pub mod what_has_come_before_a_cc
 pub mod a_calling_end_stands_as_units_pass
 pub mod class_0_is_known_once_it_is_selected
-pub mod what_passes_is_no_break_while_none_is_told
 pub mod a_whole_end_runs_along
 pub mod what_a_turn_puts_goes_to_its_peer
 pub mod each_unit_of_a_calling_end_has_a_home

@@ -285,13 +285,6 @@ module _ (d : Direction) (at : ℕ) (is_live : ℕ → Bool) (coming : List Valu
       (taken (other d) at v (takes (way_of (other d)) v s).told.meaning (takes (way_of (other d)) v s).told.place t)
   other_shut v = unit_shut d (other d) at v is_live coming (v ∷ []) s t places h (other_here v)
 
--- one that changes nothing
-pub same_shut : (d : Direction) (is_live : ℕ → Bool) (coming more : List Value) (s : State) (t : Sessions) →
-    AreShut d is_live coming s t → AreShut d is_live (coming ++ more) s t
-same_shut d is_live coming more s t h = record {
-  each = λ i c j there here judged closing. grown d is_live coming more j j refl (h.each i c j there here judged closing);
-}
-
 -- ---- a turn of the end
 
 pub turn_shut : (d : Direction) (is_live then_live : ℕ → Bool) (coming then_coming : List Value) (s : State) (t : Sessions) →
