@@ -233,7 +233,7 @@ pub use Rattle.osi_fair.proofs.what_is_right_passes_each_test.{passes_each}
 pub use Rattle.osi_fair.proofs.what_keeps_names_apart.{AreApart as NamesApart, Sound}
 pub use Rattle.osi_fair.proofs.what_lasts_at_the_tap.{lasts_passing}
 pub use Rattle.osi_fair.proofs.what_stays_of_each_connection.{left_then, own_stays, right_passes}
-pub use Rattle.osi_fair.proofs.what_the_other_side_closes.{is_name, IsClear, IsFirm}
+pub use Rattle.osi_fair.proofs.what_the_other_side_closes.{going_on, is_name, IsClear, IsFirm, IsOngoing}
 pub use Rattle.osi_fair.proofs.which_requests_are_put.{asked_among, call_asks, unit_asks}
 pub use Rattle.osi_fair.proofs.which_unit_comes_to_a_called_end.{asks_so, Came, came_so, for_one, IsCalm, lost}
 pub use Rattle.osi_fair.proofs.which_unit_comes_to_a_called_end.{only}

@@ -156,7 +156,7 @@ if_judged : (b : Bool) (d : Direction) (v : Value) (s : State) (r : Route) →
 if_judged true d v s r = to_none d NotJudged s
 if_judged false d v s r = by_route d v s r
 
-takes_reach : (d : Direction) (v : Value) (s : State) → IsReached d s (takes d v s)
+pub takes_reach : (d : Direction) (v : Value) (s : State) → IsReached d s (takes d v s)
 takes_reach d v s = if_judged (is_stopped d s.course) d v s (route d s.course v)
 
 -- what ends all judging is told

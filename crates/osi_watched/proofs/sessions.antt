@@ -8,6 +8,7 @@ pub mod a_right_dt_has_one_place
 pub mod a_dt_that_is_no_break_is_right
 pub mod what_stands_of_a_connection
 pub mod what_a_unit_does_at_its_place
+pub mod what_holds_of_a_lost_connection
 pub mod all_connections_stand
 pub mod right_units_leave_all_standing
 pub mod ccs_and_crs_leave_all_standing
@@ -46,7 +47,6 @@ pub mod a_calling_end_hears_what_breaks_no_rule
 pub mod what_has_come_before_a_cc
 pub mod a_calling_end_stands_as_units_pass
 pub mod class_0_is_known_once_it_is_selected
-pub mod what_passes_is_no_break_while_none_is_told
 pub mod a_whole_end_runs_along
 pub mod what_a_turn_puts_goes_to_its_peer
 pub mod each_unit_of_a_calling_end_has_a_home
@@ -82,6 +82,7 @@ pub mod nobody_of_a_calling_end_is_to_blame_until_class_2
 pub mod no_calling_end_is_blamed_first_in_class_0
 pub mod no_calling_end_is_blamed_first
 pub mod no_connection_is_opened_before_a_class_is_selected
+pub mod what_stands_after_a_loss_stands_before_one
 pub mod no_session_of_a_called_end_breaks_first
 pub mod a_called_end_hears_what_comes_until_class_2
 pub mod a_called_end_stands_in_class_0
@@ -103,6 +104,8 @@ pub mod an_end_beside_a_tap_that_judges_all
 pub mod an_end_goes_on_as_if_no_break_had_come
 pub mod a_break_in_class_0_leaves_an_end_alone
 pub mod no_session_of_an_end_is_to_blame
+pub mod no_session_of_an_end_is_to_blame_after_a_loss
+pub mod a_loss_is_in_class_2_at_a_tap
 pub mod no_end_is_to_blame_after_a_break
 pub mod what_is_judged_within_a_bound
 pub mod nobody_else_is_to_blame_within_a_bound

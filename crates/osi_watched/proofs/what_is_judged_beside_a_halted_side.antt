@@ -1,6 +1,6 @@
 -- In class 0 a break of the other side changes nothing that is judged of an end but that the other side is not judged any more. So a tap
 -- judges what the end sends after it as if the break had not come. For the sessions of an end after such a break.
-use Rattle.std.proofs.Common.{◌≡◌, ◌∙◌, ◌⊎◌, inl, inr, refl, sym, ap, subst, ℕ, Bool, true, false, if◌then◌else◌, Option, Some, None}
+use Rattle.std.proofs.Common.{◌≡◌, ◌∙◌, refl, sym, ap, subst, ℕ, Bool, true, false, if◌then◌else◌, Option, Some, None}
 use Rattle.std.specs.Prelude.{position, slice_get, slice_set}
 use Rattle.osi_tpdu.specs.Value.{Connect, Value, acknowledge, confirm, data0, data2, disconnect, disconnected, error, request}
 use Rattle.osi_class.specs.declared.terms.Class.{Class}
@@ -10,6 +10,8 @@ use Rattle.osi_judge.specs.declared.directions.Direction.{Direction}
 use Rattle.osi_judge.specs.declared.directions.Direction.TheVariants.{Left, Right}
 use Rattle.osi_rules.specs.declared.connections.Connection.{Connection}
 use Rattle.osi_rules.specs.declared.courses.Course.{Course as Judging}
+use Rattle.osi_rules.specs.declared.directions.Direction.{Direction as Way}
+use Rattle.osi_rules.specs.declared.directions.Direction.TheVariants as way
 use Rattle.osi_rules.specs.declared.findings.Finding.{Finding}
 use Rattle.osi_rules.specs.declared.findings.Finding.TheVariants.{Broke, Kept, NotJudged, Outside, TooMany}
 use Rattle.osi_rules.specs.declared.findings.Reach.{Reach}
@@ -23,103 +25,137 @@ use Rattle.osi_rules.specs.Sides as sides
 use Rattle.osi_rules.specs.Sides.{is_live, is_named}
 use Rattle.osi_rules.specs.Traffic as traffic
 use Rattle.osi_rules.specs.Traffic.{Outcome, State, asks_by, asks_of, at_found, at_place, class_for, connection_after, course_after}
-use Rattle.osi_rules.specs.Traffic.{course_after_none, found_on, is_stopped, none_told, one_told, reached, request_tests, route, route_in}
-use Rattle.osi_rules.specs.Traffic.{routed, stops, takes, unnamed, unnamed_told, uses_source}
+use Rattle.osi_rules.specs.Traffic.{course_after_none, found_on, has_broken, in_doubt, is_report, is_stopped, none_told, noted, one_told}
+use Rattle.osi_rules.specs.Traffic.{reached, request_tests, route, route_in, routed, stops, takes, unnamed, unnamed_by, unnamed_told}
+use Rattle.osi_rules.specs.Traffic.{uses_source}
 use Rattle.osi_rules.proofs.a_stop_is_said.{stops_last}
 use Rattle.osi_fair.proofs.while_no_class_is_selected.{set_same}
 use Rattle.osi_tap.specs.declared.marks.Cause.{Cause}
 use Rattle.osi_tap.specs.Connections.{all_begin, taken}
 use Rattle.osi_tap.specs.Courses.{Course, packet_begins, unit_passes, unread, way_of}
 use Rattle.osi_watched.proofs.a_break_ends_no_judging_or_all.{refused_traffic, refuses, unread_sessions}
-use Rattle.osi_watched.proofs.the_first_break_is_not_of_an_end.{IsNoBreak}
 use Rattle.osi_watched.proofs.sessions.connections_have_the_same_places.{unit_joins, unit_knows}
 use Rattle.osi_watched.proofs.sessions.what_has_no_effect_joins_nothing.{joins_none}
+use Rattle.osi_watched.proofs.sessions.what_the_stage_of_a_calling_end_says.{IsDt0}
 
 -- ---- the other side is not judged any more
 
--- beside an end that sends in this direction
-abbrev pub halts : Direction → State → State
-halts d s = record s { course = stops (way_of (other d)) s.course }
+-- what is noted of the breaks of this side is this
+abbrev erring : Way → Bool → Judging → Judging
+erring way.Left erred c = record c { left_erred = erred }
+erring way.Right erred c = record c { right_erred = erred }
 
-abbrev pub halts_after : Direction → Outcome → Outcome
-halts_after d o = record { told = o.told; state = halts d o.state }
+-- beside an end that sends in this direction
+abbrev halting : Direction → (erred : Bool) → Judging → Judging
+halting d erred c = erring (way_of (other d)) erred (stops (way_of (other d)) c)
+
+abbrev pub halts : Direction → (erred : Bool) → State → State
+halts d erred s = record s { course = halting d erred s.course }
+
+abbrev pub halts_after : Direction → (erred : Bool) → Outcome → Outcome
+halts_after d erred o = record { told = o.told; state = halts d erred o.state }
 
 -- ---- a unit of the end
 
-reached_same : (d : Direction) (r : Reach) (c : Judging) →
-    reached (way_of d) r (stops (way_of (other d)) c) ≡ stops (way_of (other d)) (reached (way_of d) r c)
-reached_same d reach.Nothing c = refl
-reached_same Left reach.Connection c = refl
-reached_same Right reach.Connection c = refl
-reached_same Left reach.Side c = refl
-reached_same Right reach.Side c = refl
-reached_same Left reach.Everything c = refl
-reached_same Right reach.Everything c = refl
+reached_same : (d : Direction) (r : Reach) (erred : Bool) (c : Judging) →
+    reached (way_of d) r (halting d erred c) ≡ halting d erred (reached (way_of d) r c)
+reached_same Left reach.Nothing erred c = refl
+reached_same Right reach.Nothing erred c = refl
+reached_same Left reach.Connection erred c = refl
+reached_same Right reach.Connection erred c = refl
+reached_same Left reach.Side erred c = refl
+reached_same Right reach.Side erred c = refl
+reached_same Left reach.Everything erred c = refl
+reached_same Right reach.Everything erred c = refl
 
-none_same : (d : Direction) (f : Finding) (s : State) → none_told (way_of d) f (halts d s) ≡ halts_after d (none_told (way_of d) f s)
-none_same Left f s = λ i. record {
+noted_same : (d : Direction) (f : Finding) (erred : Bool) (c : Judging) →
+    noted (way_of d) f (halting d erred c) ≡ halting d erred (noted (way_of d) f c)
+noted_same Left Kept erred c = refl
+noted_same Left NotJudged erred c = refl
+noted_same Left Outside erred c = refl
+noted_same Left TooMany erred c = refl
+noted_same Left (Broke r) erred c = refl
+noted_same Right Kept erred c = refl
+noted_same Right NotJudged erred c = refl
+noted_same Right Outside erred c = refl
+noted_same Right TooMany erred c = refl
+noted_same Right (Broke r) erred c = refl
+
+-- how far a finding reaches, and that it is noted
+found_so_same : (d : Direction) (f : Finding) (r : Reach) (erred : Bool) (c : Judging) →
+    noted (way_of d) f (reached (way_of d) r (halting d erred c)) ≡ halting d erred (noted (way_of d) f (reached (way_of d) r c))
+found_so_same d f r erred c = ap (noted (way_of d) f) (reached_same d r erred c) ∙ noted_same d f erred (reached (way_of d) r c)
+
+none_same : (d : Direction) (erred : Bool) (f : Finding) (s : State) →
+    none_told (way_of d) f (halts d erred s) ≡ halts_after d erred (none_told (way_of d) f s)
+none_same Left erred f s = λ i. record {
   told = (none_told (way_of Left) f s).told;
-  state = record s { course = reached_same Left (reach_of (class_for (way_of Left) s.course) f) s.course i };
+  state = record s { course = found_so_same Left f (reach_of (class_for (way_of Left) s.course) f) erred s.course i };
 }
-none_same Right f s = λ i. record {
+none_same Right erred f s = λ i. record {
   told = (none_told (way_of Right) f s).told;
-  state = record s { course = reached_same Right (reach_of (class_for (way_of Right) s.course) f) s.course i };
+  state = record s { course = found_so_same Right f (reach_of (class_for (way_of Right) s.course) f) erred s.course i };
 }
 
-after_none_same : (d : Direction) (v : Value) (c : Judging) →
-    course_after_none v (stops (way_of (other d)) c) ≡ stops (way_of (other d)) (course_after_none v c)
-after_none_same Left (disconnect n source reason user) c = refl
-after_none_same Right (disconnect n source reason user) c = refl
-after_none_same d (request x) c = refl
-after_none_same d (confirm n x) c = refl
-after_none_same d (disconnected n source) c = refl
-after_none_same d (data0 end user) c = refl
-after_none_same d (data2 n number end user) c = refl
-after_none_same d (acknowledge credit n number) c = refl
-after_none_same d (error n cause) c = refl
+after_none_same : (d : Direction) (erred : Bool) (v : Value) (c : Judging) →
+    course_after_none v (halting d erred c) ≡ halting d erred (course_after_none v c)
+after_none_same Left erred (disconnect n source reason user) c = refl
+after_none_same Right erred (disconnect n source reason user) c = refl
+after_none_same d erred (request x) c = refl
+after_none_same d erred (confirm n x) c = refl
+after_none_same d erred (disconnected n source) c = refl
+after_none_same d erred (data0 end user) c = refl
+after_none_same d erred (data2 n number end user) c = refl
+after_none_same d erred (acknowledge credit n number) c = refl
+after_none_same d erred (error n cause) c = refl
 
-after_same : (d : Direction) (c : Connection) (v : Value) (b : Bool) (k : Judging) →
-    course_after (way_of d) c v b (stops (way_of (other d)) k) ≡ stops (way_of (other d)) (course_after (way_of d) c v b k)
-after_same Left c (disconnect n source reason user) b k = refl
-after_same Right c (disconnect n source reason user) b k = refl
-after_same Left c (confirm n x) true k = refl
-after_same Right c (confirm n x) true k = refl
-after_same d c (confirm n x) false k = refl
-after_same d c (request x) b k = refl
-after_same d c (disconnected n source) b k = refl
-after_same d c (data0 end user) b k = refl
-after_same d c (data2 n number end user) b k = refl
-after_same d c (acknowledge credit n number) b k = refl
-after_same d c (error n cause) b k = refl
+after_same : (d : Direction) (erred : Bool) (c : Connection) (v : Value) (b : Bool) (k : Judging) →
+    course_after (way_of d) c v b (halting d erred k) ≡ halting d erred (course_after (way_of d) c v b k)
+after_same Left erred c (disconnect n source reason user) b k = refl
+after_same Right erred c (disconnect n source reason user) b k = refl
+after_same Left erred c (confirm n x) true k = refl
+after_same Right erred c (confirm n x) true k = refl
+after_same d erred c (confirm n x) false k = refl
+after_same d erred c (request x) b k = refl
+after_same d erred c (disconnected n source) b k = refl
+after_same d erred c (data0 end user) b k = refl
+after_same d erred c (data2 n number end user) b k = refl
+after_same d erred c (acknowledge credit n number) b k = refl
+after_same d erred c (error n cause) b k = refl
 
-found_same : (d : Direction) (s : State) (c : Connection) (v : Value) →
-    found_on (way_of d) (halts d s) c v ≡ found_on (way_of d) s c v
-found_same d s c v = by c.is_judged
+-- an ER may answer a break of the other side
+abbrev IsEr : Value → Type 0
+IsEr (error n cause) = Unit {0}
+IsEr v = ⊥
+
+found_same : (d : Direction) (erred : Bool) (s : State) (c : Connection) (v : Value) → (IsEr v → ⊥) →
+    found_on (way_of d) (halts d erred s) c v ≡ found_on (way_of d) s c v
+found_same d erred s c v plain = by c.is_judged
   where
-    one : (d : Direction) (v : Value) →
-        traffic.found (way_of d) (halts d s).course (uses_source (way_of d) s.connections v) c v
+    one : (d : Direction) (v : Value) → (IsEr v → ⊥) →
+        traffic.found (way_of d) (halts d erred s).course (uses_source (way_of d) s.connections v) c v
         ≡ traffic.found (way_of d) s.course (uses_source (way_of d) s.connections v) c v
-    one Left (request x) = refl
-    one Left (confirm n x) = refl
-    one Left (disconnect n source reason user) = refl
-    one Left (disconnected n source) = refl
-    one Left (data0 end user) = refl
-    one Left (data2 n number end user) = refl
-    one Left (acknowledge credit n number) = refl
-    one Left (error n cause) = refl
-    one Right (request x) = refl
-    one Right (confirm n x) = refl
-    one Right (disconnect n source reason user) = refl
-    one Right (disconnected n source) = refl
-    one Right (data0 end user) = refl
-    one Right (data2 n number end user) = refl
-    one Right (acknowledge credit n number) = refl
-    one Right (error n cause) = refl
+    one Left (request x) plain = refl
+    one Left (confirm n x) plain = refl
+    one Left (disconnect n source reason user) plain = refl
+    one Left (disconnected n source) plain = refl
+    one Left (data0 end user) plain = refl
+    one Left (data2 n number end user) plain = refl
+    one Left (acknowledge credit n number) plain = refl
+    one Left (error n cause) plain = absurd (plain tt)
+    one Right (request x) plain = refl
+    one Right (confirm n x) plain = refl
+    one Right (disconnect n source reason user) plain = refl
+    one Right (disconnected n source) plain = refl
+    one Right (data0 end user) plain = refl
+    one Right (data2 n number end user) plain = refl
+    one Right (acknowledge credit n number) plain = refl
+    one Right (error n cause) plain = absurd (plain tt)
 
     by : (b : Bool) →
-        (if b then traffic.found (way_of d) (halts d s).course (uses_source (way_of d) s.connections v) c v else NotJudged)
+        (if b then traffic.found (way_of d) (halts d erred s).course (uses_source (way_of d) s.connections v) c v else NotJudged)
         ≡ (if b then traffic.found (way_of d) s.course (uses_source (way_of d) s.connections v) c v else NotJudged)
-    by true = one d v
+    by true = one d v plain
     by false = refl
 
 -- what is told of a unit for a connection, by what is found of it and how far that reaches
@@ -128,179 +164,162 @@ by_finding d place c v s f r k = record {
   told = record { finding = f; meaning = traffic.meaning_if (is_applied f) (traffic.meant v); place = Some place; reach = r };
   state = record {
     connections = slice_set s.connections place (connection_after (way_of d) v (is_applied f) r c);
-    course = reached (way_of d) r k;
+    course = noted (way_of d) f (reached (way_of d) r k);
   };
 }
 
-one_same : (d : Direction) (place : ℕ) (c : Connection) (v : Value) (s : State) →
-    one_told (way_of d) place c v (halts d s) ≡ halts_after d (one_told (way_of d) place c v s)
-one_same d place c v s = by d
+one_same : (d : Direction) (erred : Bool) (place : ℕ) (c : Connection) (v : Value) (s : State) → (IsEr v → ⊥) →
+    one_told (way_of d) place c v (halts d erred s) ≡ halts_after d erred (one_told (way_of d) place c v s)
+one_same d erred place c v s plain = by d
   where
     last : (d : Direction) (f : Finding) (r : Reach) →
-        by_finding d place c v s f r (course_after (way_of d) c v (is_applied f) (halts d s).course)
-        ≡ halts_after d (by_finding d place c v s f r (course_after (way_of d) c v (is_applied f) s.course))
+        by_finding d place c v s f r (course_after (way_of d) c v (is_applied f) (halts d erred s).course)
+        ≡ halts_after d erred (by_finding d place c v s f r (course_after (way_of d) c v (is_applied f) s.course))
     last d f r =
-        ap (by_finding d place c v s f r) (after_same d c v (is_applied f) s.course)
+        ap (by_finding d place c v s f r) (after_same d erred c v (is_applied f) s.course)
         ∙ (λ i. record {
           told = (by_finding d place c v s f r (course_after (way_of d) c v (is_applied f) s.course)).told;
           state = record {
             connections = slice_set s.connections place (connection_after (way_of d) v (is_applied f) r c);
-            course = reached_same d r (course_after (way_of d) c v (is_applied f) s.course) i;
+            course = found_so_same d f r erred (course_after (way_of d) c v (is_applied f) s.course) i;
           };
         })
 
-    by : (d : Direction) → one_told (way_of d) place c v (halts d s) ≡ halts_after d (one_told (way_of d) place c v s)
+    by : (d : Direction) → one_told (way_of d) place c v (halts d erred s) ≡ halts_after d erred (one_told (way_of d) place c v s)
     by Left =
         ap (λ (f : Finding). by_finding Left place c v s f (reach_of (class_for (way_of Left) s.course) f)
-        (course_after (way_of Left) c v (is_applied f) (halts Left s).course)) (found_same Left s c v)
+        (course_after (way_of Left) c v (is_applied f) (halts Left erred s).course)) (found_same Left erred s c v plain)
         ∙ last Left (found_on (way_of Left) s c v) (reach_of (class_for (way_of Left) s.course) (found_on (way_of Left) s c v))
     by Right =
         ap (λ (f : Finding). by_finding Right place c v s f (reach_of (class_for (way_of Right) s.course) f)
-        (course_after (way_of Right) c v (is_applied f) (halts Right s).course)) (found_same Right s c v)
+        (course_after (way_of Right) c v (is_applied f) (halts Right erred s).course)) (found_same Right erred s c v plain)
         ∙ last Right (found_on (way_of Right) s c v) (reach_of (class_for (way_of Right) s.course) (found_on (way_of Right) s c v))
 
-unnamed_same : (d : Direction) (v : Value) (s : State) → unnamed_told (way_of d) v (halts d s) ≡ halts_after d (unnamed_told (way_of d) v s)
-unnamed_same d v s = by d
+report_same : (v : Value) → (IsEr v → ⊥) → (a b : Bool) → is_report a v ≡ is_report b v
+report_same (error n cause) plain a b = absurd (plain tt)
+report_same v plain a b = refl
+
+-- what is found of it, if it reports a break or not
+abbrev found_if : Judging → Value → (reports : Bool) → Finding
+found_if c v reports = if reports then NotJudged else (if c.loose then in_doubt (unnamed_by c.strays v) else unnamed_by c.strays v)
+
+unnamed_same : (d : Direction) (erred : Bool) (v : Value) (s : State) → (IsEr v → ⊥) →
+    unnamed_told (way_of d) v (halts d erred s) ≡ halts_after d erred (unnamed_told (way_of d) v s)
+unnamed_same d erred v s plain = by d
   where
     told : (d : Direction) (f : Finding) →
-        none_told (way_of d) f (record s { course = course_after_none v (halts d s).course })
-        ≡ halts_after d (none_told (way_of d) f (record s { course = course_after_none v s.course }))
+        none_told (way_of d) f (record s { course = course_after_none v (halts d erred s).course })
+        ≡ halts_after d erred (none_told (way_of d) f (record s { course = course_after_none v s.course }))
     told d f =
-        ap (λ (k : Judging). none_told (way_of d) f (record s { course = k })) (after_none_same d v s.course)
-        ∙ none_same d f (record s { course = course_after_none v s.course })
+        ap (λ (k : Judging). none_told (way_of d) f (record s { course = k })) (after_none_same d erred v s.course)
+        ∙ none_same d erred f (record s { course = course_after_none v s.course })
 
-    by : (d : Direction) → unnamed_told (way_of d) v (halts d s) ≡ halts_after d (unnamed_told (way_of d) v s)
-    by Left = told Left (unnamed s.course v)
-    by Right = told Right (unnamed s.course v)
+    by : (d : Direction) → unnamed_told (way_of d) v (halts d erred s) ≡ halts_after d erred (unnamed_told (way_of d) v s)
+    by Left =
+        ap (λ (x : Bool). none_told (way_of Left) (found_if s.course v x)
+        (record s { course = course_after_none v (halts Left erred s).course }))
+        (report_same v plain erred s.course.right_erred)
+        ∙ told Left (unnamed (way_of Left) s.course v)
+    by Right =
+        ap (λ (x : Bool). none_told (way_of Right) (found_if s.course v x)
+        (record s { course = course_after_none v (halts Right erred s).course }))
+        (report_same v plain erred s.course.left_erred)
+        ∙ told Right (unnamed (way_of Right) s.course v)
 
-at_found_same : (d : Direction) (v : Value) (s : State) (p : ℕ) (o : Option Connection) →
-    at_found (way_of d) v (halts d s) p o ≡ halts_after d (at_found (way_of d) v s p o)
-at_found_same d v s p None = unnamed_same d v s
-at_found_same d v s p (Some c) = one_same d p c v s
+at_found_same : (d : Direction) (erred : Bool) (v : Value) (s : State) (p : ℕ) (o : Option Connection) → (IsEr v → ⊥) →
+    at_found (way_of d) v (halts d erred s) p o ≡ halts_after d erred (at_found (way_of d) v s p o)
+at_found_same d erred v s p None plain = unnamed_same d erred v s plain
+at_found_same d erred v s p (Some c) plain = one_same d erred p c v s plain
 
-at_place_same : (d : Direction) (v : Value) (s : State) (o : Option ℕ) →
-    at_place (way_of d) v (halts d s) o ≡ halts_after d (at_place (way_of d) v s o)
-at_place_same d v s None = unnamed_same d v s
-at_place_same d v s (Some p) = at_found_same d v s p (slice_get s.connections p)
+at_place_same : (d : Direction) (erred : Bool) (v : Value) (s : State) (o : Option ℕ) → (IsEr v → ⊥) →
+    at_place (way_of d) v (halts d erred s) o ≡ halts_after d erred (at_place (way_of d) v s o)
+at_place_same d erred v s None plain = unnamed_same d erred v s plain
+at_place_same d erred v s (Some p) plain = at_found_same d erred v s p (slice_get s.connections p) plain
 
-asks_by_same : (d : Direction) (f : Finding) (x : Connect) (s : State) →
-    asks_by (way_of d) f x (halts d s) ≡ halts_after d (asks_by (way_of d) f x s)
-asks_by_same d Kept x s = refl
-asks_by_same d NotJudged x s = none_same d NotJudged s
-asks_by_same d Outside x s = none_same d Outside s
-asks_by_same d TooMany x s = none_same d TooMany s
-asks_by_same d (Broke r) x s = none_same d (Broke r) s
+asks_by_same : (d : Direction) (erred : Bool) (f : Finding) (x : Connect) (s : State) →
+    asks_by (way_of d) f x (halts d erred s) ≡ halts_after d erred (asks_by (way_of d) f x s)
+asks_by_same d erred Kept x s = refl
+asks_by_same d erred NotJudged x s = none_same d erred NotJudged s
+asks_by_same d erred Outside x s = none_same d erred Outside s
+asks_by_same d erred TooMany x s = none_same d erred TooMany s
+asks_by_same d erred (Broke r) x s = none_same d erred (Broke r) s
 
-asks_same : (d : Direction) (v : Value) (s : State) → asks_of (way_of d) v (halts d s) ≡ halts_after d (asks_of (way_of d) v s)
-asks_same Left (request x) s = asks_by_same Left (first_failed (request_tests s x)) x s
-asks_same Right (request x) s = asks_by_same Right (first_failed (request_tests s x)) x s
-asks_same d (confirm n x) s = none_same d NotJudged s
-asks_same d (disconnect n source reason user) s = none_same d NotJudged s
-asks_same d (disconnected n source) s = none_same d NotJudged s
-asks_same d (data0 end user) s = none_same d NotJudged s
-asks_same d (data2 n number end user) s = none_same d NotJudged s
-asks_same d (acknowledge credit n number) s = none_same d NotJudged s
-asks_same d (error n cause) s = none_same d NotJudged s
+asks_same : (d : Direction) (erred : Bool) (v : Value) (s : State) →
+    asks_of (way_of d) v (halts d erred s) ≡ halts_after d erred (asks_of (way_of d) v s)
+asks_same Left erred (request x) s = asks_by_same Left erred (first_failed (request_tests s x)) x s
+asks_same Right erred (request x) s = asks_by_same Right erred (first_failed (request_tests s x)) x s
+asks_same d erred (confirm n x) s = none_same d erred NotJudged s
+asks_same d erred (disconnect n source reason user) s = none_same d erred NotJudged s
+asks_same d erred (disconnected n source) s = none_same d erred NotJudged s
+asks_same d erred (data0 end user) s = none_same d erred NotJudged s
+asks_same d erred (data2 n number end user) s = none_same d erred NotJudged s
+asks_same d erred (acknowledge credit n number) s = none_same d erred NotJudged s
+asks_same d erred (error n cause) s = none_same d erred NotJudged s
 
-routed_same : (d : Direction) (v : Value) (s : State) (r : Route) →
-    routed (way_of d) v (halts d s) r ≡ halts_after d (routed (way_of d) v s r)
-routed_same d v s Asks = asks_same d v s
-routed_same d v s (Named n) = at_place_same d v s (position (is_named (way_of d) n) s.connections)
-routed_same d v s Only = at_place_same d v s (position (is_live (way_of d)) s.connections)
-routed_same d v s (Unnamed f) = none_same d f s
+routed_same : (d : Direction) (erred : Bool) (v : Value) (s : State) (r : Route) → (IsEr v → ⊥) →
+    routed (way_of d) v (halts d erred s) r ≡ halts_after d erred (routed (way_of d) v s r)
+routed_same d erred v s Asks plain = asks_same d erred v s
+routed_same d erred v s (Named n) plain = at_place_same d erred v s (position (is_named (way_of d) n) s.connections) plain
+routed_same d erred v s Only plain = at_place_same d erred v s (position (is_live (way_of d)) s.connections) plain
+routed_same d erred v s (Unnamed f) plain = none_same d erred f s
 
 -- ---- for which connection it is
 
--- an ER is right in class 0 if the other side broke a rule, and only then
-abbrev IsEr : Value → Type 0
-IsEr (error n cause) = Unit {0}
-IsEr v = ⊥
-
-er_breaks : (d : Direction) (v : Value) → IsEr v → (b : Bool) → b ≡ false →
-    traffic.route_zero (way_of d) b v ≡ Unnamed (Broke rule.WrongForm)
-er_breaks d (error n cause) h true e = absurd (cc)
-er_breaks Left (error n cause) h false e = refl
-er_breaks Right (error n cause) h false e = refl
-er_breaks d (request x) h b e = absurd h
-er_breaks d (confirm n x) h b e = absurd h
-er_breaks d (disconnect n source reason user) h b e = absurd h
-er_breaks d (disconnected n source) h b e = absurd h
-er_breaks d (data0 end user) h b e = absurd h
-er_breaks d (data2 n number end user) h b e = absurd h
-er_breaks d (acknowledge credit n number) h b e = absurd h
-
 zero_route : (d : Direction) (v : Value) → (IsEr v → ⊥) → (a b : Bool) →
     traffic.route_zero (way_of d) a v ≡ traffic.route_zero (way_of d) b v
-zero_route d (error n cause) h a b = absurd (h tt)
-zero_route Left v h true true = refl
-zero_route Left v h true false = refl
-zero_route Left v h false true = refl
-zero_route Left v h false false = refl
-zero_route Right v h true true = refl
-zero_route Right v h true false = refl
-zero_route Right v h false true = refl
-zero_route Right v h false false = refl
+zero_route d (error n cause) plain a b = absurd (plain tt)
+zero_route Left v plain true true = refl
+zero_route Left v plain true false = refl
+zero_route Left v plain false true = refl
+zero_route Left v plain false false = refl
+zero_route Right v plain true true = refl
+zero_route Right v plain true false = refl
+zero_route Right v plain false true = refl
+zero_route Right v plain false false = refl
 
-er_or : (v : Value) → IsEr v ⊎ (IsEr v → ⊥)
-er_or (error n cause) = inl tt
-er_or v = inr (λ h. h)
-
-module _ (d : Direction) (v : Value) (s : State) (goes : is_stopped (way_of d) s.course ≡ false)
-    (theirs : is_stopped (way_of (other d)) s.course ≡ false) (none : IsNoBreak (takes (way_of d) v s).told.finding) where
+module _ (d : Direction) (v : Value) (erred : Bool) (s : State) (goes : is_stopped (way_of d) s.course ≡ false) (plain : IsEr v → ⊥) where
   abbrev by_class : Option Class → Bool → Route
   by_class k b = route_in k (way_of d) b v
 
-  goes_there : takes (way_of d) v s ≡ routed (way_of d) v s (by_class (class_for (way_of d) s.course) false)
-  goes_there =
-      ap (λ (b : Bool). if b then none_told (way_of d) NotJudged s else routed (way_of d) v s (route (way_of d) s.course v)) goes
-      ∙ by d theirs
-    where
-      by : (d : Direction) → is_stopped (way_of (other d)) s.course ≡ false → routed (way_of d) v s (route (way_of d) s.course v)
-          ≡ routed (way_of d) v s (route_in (class_for (way_of d) s.course) (way_of d) false v)
-      by Left h = ap (λ (b : Bool). routed (way_of Left) v s (route_in (class_for (way_of Left) s.course) (way_of Left) b v)) h
-      by Right h = ap (λ (b : Bool). routed (way_of Right) v s (route_in (class_for (way_of Right) s.course) (way_of Right) b v)) h
+  abbrev theirs : Bool
+  theirs = has_broken (sides.other (way_of d)) s.course
 
-  no_er : IsEr v → class_for (way_of d) s.course ≡ Some Zero → ⊥
-  no_er er zero =
-      subst IsNoBreak
-      (ap (λ (o : Outcome). o.told.finding) (goes_there ∙ ap (λ (k : Option Class). routed (way_of d) v s (by_class k false)) zero
-      ∙ ap (routed (way_of d) v s) (er_breaks d v er false refl))) none
+  goes_there : takes (way_of d) v s ≡ routed (way_of d) v s (by_class (class_for (way_of d) s.course) theirs)
+  goes_there = ap (λ (b : Bool). if b then none_told (way_of d) NotJudged s else routed (way_of d) v s (route (way_of d) s.course v)) goes
 
-  route_so : (k : Option Class) → class_for (way_of d) s.course ≡ k → by_class k true ≡ by_class k false
-  route_so None is = refl
-  route_so (Some Two) is = refl
-  route_so (Some Zero) is = zero_by (er_or v)
-    where
-      zero_by : IsEr v ⊎ (IsEr v → ⊥) → by_class (Some Zero) true ≡ by_class (Some Zero) false
-      zero_by (inl er) = absurd (no_er er is)
-      zero_by (inr not) = zero_route d v not true false
+  route_so : (k : Option Class) → by_class k true ≡ by_class k theirs
+  route_so None = refl
+  route_so (Some Two) = refl
+  route_so (Some Zero) = zero_route d v plain true theirs
 
-  halted_there : takes (way_of d) v (halts d s) ≡ routed (way_of d) v (halts d s) (by_class (class_for (way_of d) s.course) true)
+  halted_there : takes (way_of d) v (halts d erred s)
+      ≡ routed (way_of d) v (halts d erred s) (by_class (class_for (way_of d) s.course) true)
   halted_there = by d goes
     where
-      by : (d : Direction) → is_stopped (way_of d) s.course ≡ false → takes (way_of d) v (halts d s)
-          ≡ routed (way_of d) v (halts d s) (route_in (class_for (way_of d) s.course) (way_of d) true v)
+      by : (d : Direction) → is_stopped (way_of d) s.course ≡ false → takes (way_of d) v (halts d erred s)
+          ≡ routed (way_of d) v (halts d erred s) (route_in (class_for (way_of d) s.course) (way_of d) true v)
       by Left h =
-          ap (λ (b : Bool). if b then none_told (way_of Left) NotJudged (halts Left s)
-          else routed (way_of Left) v (halts Left s) (route_in (class_for (way_of Left) s.course) (way_of Left) true v)) h
+          ap (λ (b : Bool). if b then none_told (way_of Left) NotJudged (halts Left erred s)
+          else routed (way_of Left) v (halts Left erred s) (route_in (class_for (way_of Left) s.course) (way_of Left) true v)) h
       by Right h =
-          ap (λ (b : Bool). if b then none_told (way_of Right) NotJudged (halts Right s)
-          else routed (way_of Right) v (halts Right s) (route_in (class_for (way_of Right) s.course) (way_of Right) true v)) h
+          ap (λ (b : Bool). if b then none_told (way_of Right) NotJudged (halts Right erred s)
+          else routed (way_of Right) v (halts Right erred s) (route_in (class_for (way_of Right) s.course) (way_of Right) true v)) h
 
   -- it is found to be the same, and leaves the same
-  pub own_same : takes (way_of d) v (halts d s) ≡ halts_after d (takes (way_of d) v s)
+  pub own_same : takes (way_of d) v (halts d erred s) ≡ halts_after d erred (takes (way_of d) v s)
   own_same =
-      halted_there ∙ ap (routed (way_of d) v (halts d s)) (route_so (class_for (way_of d) s.course) refl)
-      ∙ routed_same d v s (by_class (class_for (way_of d) s.course) false) ∙ ap (halts_after d) (sym goes_there)
+      halted_there ∙ ap (routed (way_of d) v (halts d erred s)) (route_so (class_for (way_of d) s.course))
+      ∙ routed_same d erred v s (by_class (class_for (way_of d) s.course) theirs) plain ∙ ap (halts_after d erred) (sym goes_there)
 
 -- ---- the break
 
 -- of such a unit of the other side, which has no effect
 abbrev Halts : Direction → State → Outcome → Type 0
-Halts e s o = is_applied o.told.finding ≡ false → o.told.reach ≡ reach.Side → o.state ≡ record s { course = stops (way_of e) s.course }
+Halts e s o = is_applied o.told.finding ≡ false → o.told.reach ≡ reach.Side →
+    o.state ≡ record s { course = noted (way_of e) o.told.finding (stops (way_of e) s.course) }
 
 none_halts : (e : Direction) (f : Finding) (s : State) → Halts e s (none_told (way_of e) f s)
-none_halts e f s unapplied side = ap (λ (r : Reach). record s { course = reached (way_of e) r s.course }) side
+none_halts e f s unapplied side = ap (λ (r : Reach). record s { course = noted (way_of e) f (reached (way_of e) r s.course) }) side
 
 -- a DT of class 0, or a DC
 abbrev IsThere : Value → Type 0
@@ -309,8 +328,9 @@ IsThere (disconnected n source) = Unit {0}
 IsThere v = ⊥
 
 unnamed_halts : (e : Direction) (v : Value) (s : State) → IsThere v → Halts e s (unnamed_told (way_of e) v s)
-unnamed_halts e (data0 end user) s h unapplied side = none_halts e (unnamed s.course (data0 end user)) s unapplied side
-unnamed_halts e (disconnected n source) s h unapplied side = none_halts e (unnamed s.course (disconnected n source)) s unapplied side
+unnamed_halts e (data0 end user) s h unapplied side = none_halts e (unnamed (way_of e) s.course (data0 end user)) s unapplied side
+unnamed_halts e (disconnected n source) s h unapplied side =
+    none_halts e (unnamed (way_of e) s.course (disconnected n source)) s unapplied side
 unnamed_halts e v s h unapplied side = absurd h
 
 after_there : (e : Direction) (c : Connection) (v : Value) (b : Bool) (k : Judging) → IsThere v → course_after (way_of e) c v b k ≡ k
@@ -327,8 +347,8 @@ one_halts e p c v s there h unapplied side =
       connections = (ap (λ (b : Bool). slice_set s.connections p (connection_after (way_of e) v b r c)) unapplied
           ∙ ap (λ (x : Reach). slice_set s.connections p (connection_after (way_of e) v false x c)) side
           ∙ set_same s.connections p c there) i;
-      course = (ap (reached (way_of e) r) (after_there e c v (is_applied f) s.course h)
-          ∙ ap (λ (x : Reach). reached (way_of e) x s.course) side) i;
+      course = (ap (λ (k : Judging). noted (way_of e) f (reached (way_of e) r k)) (after_there e c v (is_applied f) s.course h)
+          ∙ ap (λ (x : Reach). noted (way_of e) f (reached (way_of e) x s.course)) side) i;
     }
 
 found_halts : (e : Direction) (p : ℕ) (o : Option Connection) (v : Value) (s : State) → slice_get s.connections p ≡ o → IsThere v →
@@ -360,42 +380,69 @@ pub break_halts : (e : Direction) (v : Value) (s : State) → class_for (way_of 
 break_halts e v s zero goes =
     subst (Halts e s)
     (sym (ap (λ (b : Bool). if b then none_told (way_of e) NotJudged s else routed (way_of e) v s (route (way_of e) s.course v)) goes
-    ∙ ap (λ (k : Option Class). routed (way_of e) v s (route_in k (way_of e) (is_stopped (sides.other (way_of e)) s.course) v)) zero))
-    (zero_halts e (is_stopped (sides.other (way_of e)) s.course) v s)
+    ∙ ap (λ (k : Option Class). routed (way_of e) v s (route_in k (way_of e) (has_broken (sides.other (way_of e)) s.course) v)) zero))
+    (zero_halts e (has_broken (sides.other (way_of e)) s.course) v s)
 
 -- ---- at a tap
 
--- What has passed with the break, and what would have without it: the same is joined, and judged of the end.
-pub record IsBeside (d : Direction) (c without : Course) : Type 0 where
-  pub sessions : c.sessions ≡ without.sessions
-  pub traffic : c.traffic ≡ halts d without.traffic
+-- what is noted of a side, and nothing of the other
+noted_is : (e : Direction) (f : Finding) (c : Judging) →
+    noted (way_of e) f c ≡ erring (way_of e) (traffic.has_erred (way_of e) (noted (way_of e) f c)) c
+noted_is Left Kept c = refl
+noted_is Left NotJudged c = refl
+noted_is Left Outside c = refl
+noted_is Left TooMany c = refl
+noted_is Left (Broke r) c = refl
+noted_is Right Kept c = refl
+noted_is Right NotJudged c = refl
+noted_is Right Outside c = refl
+noted_is Right TooMany c = refl
+noted_is Right (Broke r) c = refl
 
-begins_same : (d e : Direction) (s : State) → traffic.packet_begins (way_of e) (halts d s) ≡ halts d (traffic.packet_begins (way_of e) s)
-begins_same Left Left s = refl
-begins_same Left Right s = refl
-begins_same Right Left s = refl
-begins_same Right Right s = refl
+-- nothing is noted
+erring_same : (e : Direction) (c : Judging) → c ≡ erring (way_of e) (traffic.has_erred (way_of e) c) c
+erring_same Left c = refl
+erring_same Right c = refl
+
+-- What has passed with the break, and what would have without it: the same is joined, and judged of the end. That the other side broke a
+-- rule may be noted.
+pub record IsBeside (d : Direction) (c without : Course) : Type 0 where
+  pub erred : Bool
+  pub sessions : c.sessions ≡ without.sessions
+  pub traffic : c.traffic ≡ halts d erred without.traffic
+
+begins_same : (d e : Direction) (erred : Bool) (s : State) →
+    traffic.packet_begins (way_of e) (halts d erred s) ≡ halts d erred (traffic.packet_begins (way_of e) s)
+begins_same Left Left erred s = refl
+begins_same Left Right erred s = refl
+begins_same Right Left erred s = refl
+begins_same Right Right erred s = refl
 
 pub beside_begins : (d e : Direction) (c without : Course) → IsBeside d c without → IsBeside d (packet_begins e c) (packet_begins e without)
 beside_begins d e c without b = record {
+  erred = b.erred;
   sessions = ap (all_begin e) b.sessions;
-  traffic = ap (traffic.packet_begins (way_of e)) b.traffic ∙ begins_same d e without.traffic;
+  traffic = ap (traffic.packet_begins (way_of e)) b.traffic ∙ begins_same d e b.erred without.traffic;
 }
+
+no_er : (v : Value) → IsDt0 v → IsEr v → ⊥
+no_er (data0 end user) dt er = er
+no_er v dt er = dt
 
 -- a unit of the end
 pub beside_own : (d : Direction) (at : ℕ) (v : Value) (c without : Course) → is_stopped (way_of d) without.traffic.course ≡ false →
-    is_stopped (way_of (other d)) without.traffic.course ≡ false → IsNoBreak (takes (way_of d) v without.traffic).told.finding →
-    IsBeside d c without →
+    IsDt0 v → IsBeside d c without →
     IsBeside d (unit_passes d at v c) (unit_passes d at v without)
     × ((takes (way_of d) v c.traffic).told.finding ≡ (takes (way_of d) v without.traffic).told.finding)
-beside_own d at v c without goes theirs none b =
-    let same : takes (way_of d) v c.traffic ≡ halts_after d (takes (way_of d) v without.traffic) =
-    ap (takes (way_of d) v) b.traffic ∙ own_same d v without.traffic goes theirs none in (
+beside_own d at v c without goes dt b =
+    let same : takes (way_of d) v c.traffic ≡ halts_after d b.erred (takes (way_of d) v without.traffic) =
+    ap (takes (way_of d) v) b.traffic ∙ own_same d v b.erred without.traffic goes (no_er v dt) in (
       record {
+        erred = b.erred;
         sessions = unit_joins d at v c ∙ ap (λ (o : Outcome). taken d at v o.told.meaning o.told.place c.sessions) same
             ∙ ap (taken d at v (takes (way_of d) v without.traffic).told.meaning (takes (way_of d) v without.traffic).told.place) b.sessions
             ∙ sym (unit_joins d at v without);
-        traffic = unit_knows d at v c ∙ ap (λ (o : Outcome). o.state) same ∙ ap (halts d) (sym (unit_knows d at v without));
+        traffic = unit_knows d at v c ∙ ap (λ (o : Outcome). o.state) same ∙ ap (halts d b.erred) (sym (unit_knows d at v without));
       },
       ap (λ (o : Outcome). o.told.finding) same,
     )
@@ -406,6 +453,7 @@ pub beside_other : (d : Direction) (at : ℕ) (v : Value) (c without : Course) �
 beside_other d at v c without stopped b =
     let same = stops_last (way_of (other d)) v c.traffic stopped in
     record {
+      erred = b.erred;
       sessions = unit_joins (other d) at v c ∙ ap (λ (o : Outcome). taken (other d) at v o.told.meaning o.told.place c.sessions) same
           ∙ b.sessions;
       traffic = unit_knows (other d) at v c ∙ ap (λ (o : Outcome). o.state) same ∙ b.traffic;
@@ -415,16 +463,24 @@ beside_other d at v c without stopped b =
 pub beside_break : (d : Direction) (at : ℕ) (v : Value) (c : Course) → class_for (way_of (other d)) c.traffic.course ≡ Some Zero →
     is_stopped (way_of (other d)) c.traffic.course ≡ false → is_applied (takes (way_of (other d)) v c.traffic).told.finding ≡ false →
     (takes (way_of (other d)) v c.traffic).told.reach ≡ reach.Side → IsBeside d (unit_passes (other d) at v c) c
-beside_break d at v c zero goes unapplied side = record {
-  sessions = joins_none (other d) at v c unapplied;
-  traffic = unit_knows (other d) at v c ∙ break_halts (other d) v c.traffic zero goes unapplied side;
-}
+beside_break d at v c zero goes unapplied side =
+    let e = other d in
+    let f = (takes (way_of e) v c.traffic).told.finding in
+    let stopped = stops (way_of e) c.traffic.course in
+    record {
+      erred = traffic.has_erred (way_of e) (noted (way_of e) f stopped);
+      sessions = joins_none e at v c unapplied;
+      traffic = unit_knows e at v c ∙ break_halts e v c.traffic zero goes unapplied side
+          ∙ ap (λ (k : Judging). record c.traffic { course = k }) (noted_is e f stopped);
+    }
 
 -- or what nobody can read
 pub beside_unread : (d : Direction) (at : ℕ) (k : Cause) (c : Course) → class_for (way_of (other d)) c.traffic.course ≡ Some Zero →
     unread (other d) at k c ≡ refuses (other d) at k c → IsBeside d (unread (other d) at k c) c
 beside_unread d at k c zero is = record {
+  erred = traffic.has_erred (way_of (other d)) (stops (way_of (other d)) c.traffic.course);
   sessions = unread_sessions (other d) at k c;
   traffic = ap (λ (x : Course). x.traffic) is ∙ refused_traffic (other d) at k c
-      ∙ ap (λ (x : Option Class). record c.traffic { course = reached (way_of (other d)) (reach_by x false) c.traffic.course }) zero;
+      ∙ ap (λ (x : Option Class). record c.traffic { course = reached (way_of (other d)) (reach_by x false) c.traffic.course }) zero
+      ∙ ap (λ (j : Judging). record c.traffic { course = j }) (erring_same (other d) (stops (way_of (other d)) c.traffic.course));
 }

@@ -243,13 +243,14 @@ pub fn no_session_of_an_end_is_blamed_first()
     the_first_break_is_the_earliest();
 }
 
-/// No session of an end is to blame after breaks of the other side. Take any run of an end of this library from its beginning, and any
-/// capture of it, as in [`no_session_of_an_end_is_blamed_first`]. As long as no break of the other side has ended the judging of one
-/// connection alone, in class 2, no session of the end is to blame for what has passed, in either class, on any of its connections, open or
-/// over, be the end the called one (`called`) or the calling one (`calling`). So it is after DTs beyond the credit or longer than the size,
-/// after a CC with a larger size, and after a DT, an AK or a second DR on a connection that its sender had closed; so it is after a break
-/// with which all judging ends; and so it is in class 0 after one with which the judging of the other side ends, a TSDU that is too long
-/// among them, or after what nobody can read.
+/// No session of an end is to blame, whatever the other side breaks. Take any run of an end of this library from its beginning, and any
+/// capture of it, as in [`no_session_of_an_end_is_blamed_first`]. Then no session of the end is to blame for what has passed, in either
+/// class, on any of its connections, open or over, be the end the called one (`called`) or the calling one (`calling`).
+///
+/// So it is after DTs beyond the credit or longer than the size, after a CC with a larger size, and after a DT, an AK or a second DR on a
+/// connection that its sender had closed: a taker passes over these. So it is after a break with which all judging ends. In class 2 it is
+/// so after a break with which the judging of one connection ends: the sessions of the others are judged on. And in class 0 it is so after
+/// one with which the judging of the other side ends, a TSDU that is too long among them, or after what nobody can read.
 ///
 /// It is assumed that fewer than 2^64 units have passed.
 pub fn no_session_of_an_end_is_to_blame_after_a_break()
@@ -258,13 +259,13 @@ pub fn no_session_of_an_end_is_to_blame_after_a_break()
         length (comes_to capture).course.past < 2 ^ 64 →
         (slice_get (comes_to capture).course.sessions.live i ≡ Some j)
         ⊎ (slice_get (comes_to capture).course.sessions.done i ≡ Some j) →
-        (comes_to capture).course.traffic.course.loose ≡ false → ¬ (IsToBlame Direction.Right j) }
+        ¬ (IsToBlame Direction.Right j) }
     ensures calling { (local : Local) (begin end : Holding) (turns : List Turn) (capture : Capture) (i : ℕ) (j : Joined) →
         IsFresh true local begin → Run begin turns end → AreOctets capture → IsSeen Direction.Left turns capture →
         length (comes_to capture).course.past < 2 ^ 64 →
         (slice_get (comes_to capture).course.sessions.live i ≡ Some j)
         ⊎ (slice_get (comes_to capture).course.sessions.done i ≡ Some j) →
-        (comes_to capture).course.traffic.course.loose ≡ false → ¬ (IsToBlame Direction.Left j) }
+        ¬ (IsToBlame Direction.Left j) }
 {
     few_octets_fit();
     serial_digits();

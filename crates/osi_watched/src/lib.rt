@@ -24,10 +24,10 @@
 //! - **No session of an end is blamed first**, called or calling, in either class, with any number of connections. At each step of a
 //!   `Joint` from the beginning these premises hold as long as nobody breaks a rule, so the first break of all, of transport or of a
 //!   session, is of the other side: [`laws::no_session_of_an_end_is_blamed_first`].
-//! - **Nor is one to blame after a break of the other side**, as long as no connection of class 2 has lost its judgement alone. A break of
-//!   class 0 ends the judging of the other side. The end takes nothing of its packet and is over with it, and the tap joins nothing more
-//!   of that side. So both go on as if the break had not come:
-//!   [`laws::no_session_of_an_end_is_to_blame_after_a_break`].
+//! - **Nor is one to blame after a break of the other side**, in either class. In class 2 a break may end the judging of one
+//!   connection: the tap joins nothing more of it, and the others go on as if it weren't there. A break of class 0 ends the judging of
+//!   the other side. The end takes nothing of its packet and is over with it, and the tap joins nothing more of that side. So both go on
+//!   as if the break had not come: [`laws::no_session_of_an_end_is_to_blame_after_a_break`].
 //! - **A tap with a bound for each connection blames no end first either.** `IsCourseOf` (`specs/Bounded`) says what it judges beside a tap
 //!   without one: [`watches::a_bound_changes_nothing_that_is_judged`]. Of a connection of which more has passed than it judges it says what
 //!   it said before. So in each moment nobody of a side is to blame whom a tap without a bound doesn't blame in it or before it:

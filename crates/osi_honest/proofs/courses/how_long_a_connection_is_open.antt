@@ -232,7 +232,7 @@ module _ (is_caller : Bool) (r : ℕ) where
           ends = inr b.is;
         }
 
-  open_then : (peer : ℕ) (xs ys more puts : List Marked) (t u : Stage) → WhileOpen r peer xs ys t → L t more puts u →
+  pub open_then : (peer : ℕ) (xs ys more puts : List Marked) (t u : Stage) → WhileOpen r peer xs ys t → L t more puts u →
       WhileOpen r peer (xs ++ more) (ys ++ puts) u
   open_then peer xs ys more puts t u a h = open_by xs ys more puts u peer t a h a.ends
 

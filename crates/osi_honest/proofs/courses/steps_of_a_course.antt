@@ -2,11 +2,12 @@
 -- For the course of a connection.
 use Rattle.osi_honest.proofs.Vocabulary.{[], ap, append_assoc, Bool, inl, IsSome, List, map, refl, subst, sym, ℕ, ◌++◌, ◌<◌, ◌∙◌, ◌≡◌}
 use Rattle.osi_honest.proofs.Vocabulary.{append-nil, Value, unit_of, Move, packets, State as Carrier, End, all_did, Deeds, no_deeds}
-use Rattle.osi_honest.proofs.Vocabulary.{then_did, units_given, units_taken, all_units, Marked, units_at}
+use Rattle.osi_honest.proofs.Vocabulary.{has_given, then_did, units_given, units_taken, all_units, Marked, units_at}
 use Rattle.osi_honest.proofs.class_0.what_class_0_writes_of_a_tsdu.{packets_joined}
 use Rattle.osi_honest.proofs.courses.how_long_a_connection_is_open.{Life, Rests, Stage, life_rests, life_then, life_then_rests}
 use Rattle.osi_honest.proofs.courses.how_long_a_connection_is_open.{life_to_past, rests_over, stage_at, stage_over}
-use Rattle.osi_honest.proofs.courses.how_long_a_connection_is_open.Stage.{past}
+use Rattle.osi_honest.proofs.courses.how_long_a_connection_is_open.Stage.{early, past}
+use Rattle.osi_honest.proofs.courses.the_first_cc_opens_a_connection.{FirstOf, StaysGiven, first_rests, first_then, first_then_rests}
 use Rattle.osi_honest.proofs.courses.units_of_each_connection.{AreAccounted, accounted_more, all_units_more, marked, marked_all}
 use Rattle.osi_honest.proofs.courses.units_of_each_connection.{none_marked, nowhere, units_more}
 use Rattle.osi_honest.proofs.courses.what_calls_of_a_link_say.{taken_more, then_joined, then_none}
@@ -67,16 +68,21 @@ pub record StepsBy (is_caller : Bool) (used : List Value) (T : States) (deeds : 
   pub all : all_units took ≡ used
   pub taken : (r : ℕ) → 0 < r → units_taken (more r).calls ≡ units_at r took
   pub life : (r : ℕ) → 0 < r → Life is_caller r (stage_at r before) took put (stage_at r e.carrier)
+  -- if the connection awaits its CC
+  pub first : (r : ℕ) → 0 < r → FirstOf is_caller r before took put e.carrier
 
--- each connection is as open as it was, or past
+-- each connection is as open as it was, or past; and a reference that was given stays so while it may open
 abbrev pub AllRest : Carrier → Carrier → Type 0
-AllRest old new = (r : ℕ) → Rests (stage_at r old) (stage_at r new)
+AllRest old new = (r : ℕ) → Rests (stage_at r old) (stage_at r new) × StaysGiven r old new
 
 pub same_rest : (c : Carrier) → AllRest c c
-same_rest c = λ r. inl refl
+same_rest c = λ r. (inl refl, λ now has. has)
 
 pub over_rest : (old new : Carrier) → IsSome new.ended → AllRest old new
-over_rest old new ended = λ r. rests_over r (stage_at r old) new ended
+over_rest old new ended = λ r. (
+  rests_over r (stage_at r old) new ended,
+  λ now has. absurd (let both : past ≡ early = sym (stage_over r new ended) ∙ now in cc),
+)
 
 -- no unit arrives
 abbrev pub Steps : Bool → States → (ℕ → Deeds) → Carrier → End → Type 0
@@ -86,8 +92,9 @@ pub step_each : (is_caller : Bool) (used : List Value) (T : States) (deeds : ℕ
     (put took : List Marked) →
     e.carrier.outgoing ≡ before.outgoing ++ packets (all_units put) → AreAccounted put → all_units took ≡ used →
     ((r : ℕ) → 0 < r → Life is_caller r (stage_at r before) took put (stage_at r e.carrier)) →
+    ((r : ℕ) → 0 < r → FirstOf is_caller r before took put e.carrier) →
     ((r : ℕ) → StepAt r put took (T r) (deeds r) e) → StepsBy is_caller used T deeds before e
-step_each is_caller used T deeds before e put took written accounted all life each = record {
+step_each is_caller used T deeds before e put took written accounted all life first each = record {
   more = λ r. (each r).more;
   there = λ r. (each r).there;
   put = put;
@@ -98,6 +105,7 @@ step_each is_caller used T deeds before e put took written accounted all life ea
   all = all;
   taken = λ r. (each r).taken;
   life = life;
+  first = first;
 }
 
 -- nothing is done at any, and nothing is put
@@ -105,7 +113,8 @@ pub step_none : (is_caller : Bool) (T : States) (deeds : ℕ → Deeds) (before 
     e.carrier.outgoing ≡ before.outgoing → AllRest before e.carrier → HoldEach T deeds e → Steps is_caller T deeds before e
 step_none is_caller T deeds before e same rest there =
     step_each is_caller [] T deeds before e [] [] (same ∙ sym (append-nil before.outgoing)) tt refl
-    (λ r some. life_rests is_caller r (stage_at r before) (stage_at r e.carrier) [] tt (rest r))
+    (λ r some. life_rests is_caller r (stage_at r before) (stage_at r e.carrier) [] tt (rest r).0)
+    (λ r some. first_rests is_caller r before e.carrier [] tt (rest r).0 (rest r).1)
     (λ r. step_idle r [] [] (T r) (deeds r) e (λ some. refl) (λ some. refl) (there r))
 
 pub step_then : (is_caller : Bool) (used others : List Value) (S T : States) (deeds : ℕ → Deeds) (before : Carrier) (mid new : End) →
@@ -133,6 +142,8 @@ step_then is_caller used others S T deeds before mid new a next =
           ∙ ap (λ (l : List Value). units_at r a.took ++ l) (b.taken r some) ∙ sym (units_more r a.took b.took);
       life = λ r some. life_then is_caller r (stage_at r before) a.took a.put (stage_at r mid.carrier) b.took b.put
           (stage_at r new.carrier) (a.life r some) (b.life r some);
+      first = λ r some. first_then is_caller r before mid.carrier new.carrier a.took a.put b.took b.put (a.first r some) (b.life r some)
+          (b.first r some);
     }
 
 -- units arrived before
@@ -164,6 +175,13 @@ step_more is_caller used others T deeds before e ended a = record {
       (a.life r some)
       (subst (λ (s : Stage). Life is_caller r s (marked 0 others) [] s) (sym (stage_over r e.carrier ended))
       (life_to_past is_caller r past (marked 0 others) [] (none_marked r others some) tt)));
+  first = λ r some.
+      subst (λ (l : List Marked). FirstOf is_caller r before (a.took ++ marked 0 others) l e.carrier) (append-nil a.put)
+      (first_then is_caller r before e.carrier e.carrier a.took a.put (marked 0 others) [] (a.first r some)
+      (subst (λ (s : Stage). Life is_caller r s (marked 0 others) [] (stage_at r e.carrier)) (sym (stage_over r e.carrier ended))
+      (subst (λ (s : Stage). Life is_caller r past (marked 0 others) [] s) (sym (stage_over r e.carrier ended))
+      (life_to_past is_caller r past (marked 0 others) [] (none_marked r others some) tt)))
+      (λ has now. absurd (let both : past ≡ early = sym (stage_over r e.carrier ended) ∙ now in cc)));
 }
 
 -- the same with another end that has put as much
@@ -181,12 +199,14 @@ step_as is_caller used S T deeds before e new a same rest next = record {
   all = a.all;
   taken = a.taken;
   life = λ r some. life_then_rests is_caller r (stage_at r before) a.took a.put (stage_at r e.carrier) (stage_at r new.carrier)
-      (a.life r some) (rest r);
+      (a.life r some) (rest r).0;
+  first = λ r some. first_then_rests is_caller r before e.carrier new.carrier a.took a.put (a.first r some) (rest r).0 (rest r).1;
 }
 
 -- the same since another carrier that had put as much
 pub step_since : (is_caller : Bool) (used : List Value) (T : States) (deeds : ℕ → Deeds) (before other : Carrier) (e : End) →
-    other.outgoing ≡ before.outgoing → ((r : ℕ) → stage_at r other ≡ stage_at r before) → StepsBy is_caller used T deeds other e →
+    other.outgoing ≡ before.outgoing → ((r : ℕ) → (stage_at r other ≡ stage_at r before) × (has_given r other ≡ has_given r before)) →
+    StepsBy is_caller used T deeds other e →
     StepsBy is_caller used T deeds before e
 step_since is_caller used T deeds before other e same as_open a = record {
   more = a.more;
@@ -198,5 +218,6 @@ step_since is_caller used T deeds before other e same as_open a = record {
   took = a.took;
   all = a.all;
   taken = a.taken;
-  life = λ r some. subst (λ (s : Stage). Life is_caller r s a.took a.put (stage_at r e.carrier)) (as_open r) (a.life r some);
+  life = λ r some. subst (λ (s : Stage). Life is_caller r s a.took a.put (stage_at r e.carrier)) (as_open r).0 (a.life r some);
+  first = λ r some has now. a.first r some ((as_open r).1 ∙ has) ((as_open r).0 ∙ now);
 }

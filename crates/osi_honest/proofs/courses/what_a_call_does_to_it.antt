@@ -1,6 +1,7 @@
 -- A call of the user: what becomes of the course of one connection, whichever connection the call is for.
 -- For the course of a connection.
-use Rattle.osi_honest.proofs.Vocabulary.{[], ap, Bool, false, if◌then◌else◌, is_some, length, List, nat_le, nat_lt, None, not, Option}
+use Rattle.osi_honest.proofs.Vocabulary.{[], ap, arith, Bool, false, if◌then◌else◌, is_some, length, List, nat_le, nat_lt, None, not}
+use Rattle.osi_honest.proofs.Vocabulary.{Option}
 use Rattle.osi_honest.proofs.Vocabulary.{option_map, refl, Some, subst, sym, true, ℕ, ◌&&◌, ◌++◌, ◌+◌, ◌<◌, ◌==◌, ◌∙◌, ◌∷◌, ◌≡◌, ◌≢◌}
 use Rattle.osi_honest.proofs.Vocabulary.{eqb-true, tsap_octets, request, Value, Standing, tsdus_out, push_other, push_here, closed_on}
 use Rattle.osi_honest.proofs.Vocabulary.{closed_with, link_of, may_connect, open_link, proposal, proposes_two, IsOrderly, value_at, asked}
@@ -19,6 +20,7 @@ use Rattle.osi_honest.proofs.class_0.what_a_call_does_in_class_0.{granted_proper
 use Rattle.osi_honest.proofs.class_0.what_packets_do_in_class_0.{never_lasts}
 use Rattle.osi_honest.proofs.courses.a_connection_without_a_unit.{connect_rests, given_up_rests, session_life}
 use Rattle.osi_honest.proofs.courses.steps_of_a_course.{HasNone, HoldEach, StepAt, Steps, step_each, step_idle}
+use Rattle.osi_honest.proofs.courses.the_first_cc_opens_a_connection.{StaysGiven, first_of, given_more, session_given}
 use Rattle.osi_honest.proofs.courses.units_of_each_connection.{AreAccounted, marked, none_marked, nowhere, unequal}
 use Rattle.osi_honest.proofs.courses.what_a_session_puts.{Puts, closing_accounted, closing_puts, put_closing, puts_none, session_accounted}
 use Rattle.osi_honest.proofs.courses.what_a_session_puts.{session_others, session_puts, session_written}
@@ -265,9 +267,10 @@ module _ (is_caller : Bool) (moves : ℕ → Deeds) (e : End) (lasts : e.carrier
 
   each_then : (new : End) (put : List Marked) → Puts e.carrier put new.carrier → AreAccounted put →
       ((r : ℕ) → 0 < r → Life is_caller r (stage_at r e.carrier) [] put (stage_at r new.carrier)) →
-      ((r : ℕ) → StepAt r put [] (Course is_caller r) (moves r) new) → AllThen new
-  each_then new put written accounted life each =
-      step_each is_caller [] (CourseAll is_caller) moves e.carrier new put [] written accounted refl life each
+      ((r : ℕ) → StaysGiven r e.carrier new.carrier) → ((r : ℕ) → StepAt r put [] (Course is_caller r) (moves r) new) → AllThen new
+  each_then new put written accounted life stays each =
+      step_each is_caller [] (CourseAll is_caller) moves e.carrier new put [] written accounted refl life
+      (λ r some. first_of is_caller r e.carrier new.carrier [] put tt (life r some) (λ has was now. (tt, stays r now has))) each
 
   pub user_steps : (call : UserCall) → IsAccepted call e → HasSerialIn call → AllThen (user_does call e)
   user_steps (connecting c) allowed serial =
@@ -281,11 +284,13 @@ module _ (is_caller : Bool) (moves : ℕ → Deeds) (e : End) (lasts : e.carrier
       )
       (λ r some. life_rests is_caller r (stage_at r e.carrier) (stage_at r (connects c e).carrier) (marked 0 (request_put c e))
       (none_marked r (request_put c e) some) (connect_rests r c e orderly lasts))
+      (λ r now has. given_more r e.carrier.given (e.carrier.given + 1) (omega arith) has)
       (λ r. connect_steps is_caller r (moves r) e lasts c (r == e.carrier.given + 1) refl allowed (course r))
   user_steps (calling q call) allowed serial =
       each_then (to_session q (called call) e) (session_puts q (called call) e) (session_written q (called call) e)
       (session_accounted q (called call) e (course_given is_caller q (moves q) e (course q)))
       (λ r some. session_life is_caller q r some (called call) e)
+      (λ r now has. ap (λ (n : ℕ). nat_lt 0 r && nat_le r n) (session_given q (called call) e) ∙ has)
       (λ r. call_steps is_caller r (moves r) e lasts q call (r == q) refl allowed serial (course r))
   user_steps (disconnecting q) allowed serial =
       let put : List Marked = marked 0 (put_closing q (open_link q e.carrier) e.carrier) in
@@ -294,6 +299,8 @@ module _ (is_caller : Bool) (moves : ℕ → Deeds) (e : End) (lasts : e.carrier
       (λ r some. subst (λ (c : Carrier). Life is_caller r (stage_at r e.carrier) [] put (stage_at r c)) (sym (disconnect_carrier q e))
       (life_rests is_caller r (stage_at r e.carrier) (stage_at r (closed_with q 128 e.carrier)) put
       (none_marked r (put_closing q (open_link q e.carrier) e.carrier) some) (given_up_rests q r e.carrier)))
+      (λ r now has. ap (has_given r) (disconnect_carrier q e)
+      ∙ ap (λ (n : ℕ). nat_lt 0 r && nat_le r n) (closed_given q 128 (open_link q e.carrier) e.carrier) ∙ has)
       (λ r. given_steps is_caller r (moves r) e lasts q (r == q) refl allowed (course r))
   user_steps breaking allowed serial =
       each_then (breaks e) []
@@ -301,4 +308,5 @@ module _ (is_caller : Bool) (moves : ℕ → Deeds) (e : End) (lasts : e.carrier
       (λ r some. life_rests is_caller r (stage_at r e.carrier) (stage_at r (breaks e).carrier) [] tt
       (rests_over r (stage_at r e.carrier) (breaks e).carrier
       (ap (λ (x : End). is_some x.carrier.ended) (break_is is_caller 0 (moves 0) e lasts))))
+      (λ r now has. ap (λ (x : End). has_given r x.carrier) (break_is is_caller 0 (moves 0) e lasts) ∙ has)
       (λ r. break_steps is_caller r (moves r) e lasts (course r))

@@ -5,12 +5,14 @@ use Rattle.osi_honest.proofs.Vocabulary.{true, ℕ, ◌++◌, ◌<◌, ◌==◌,
 use Rattle.osi_honest.proofs.Vocabulary.{Value, Local, orderly_fresh, may_connect, Rows, value_at, packets, State as Carrier, Broken}
 use Rattle.osi_honest.proofs.Vocabulary.{called, breaks_attended, connect_attended, feeds_attended, session_attended, first_keep}
 use Rattle.osi_honest.proofs.Vocabulary.{kept_first, session_carried, disconnect_attended, disconnect_carrier, connect_orderly, open_none}
-use Rattle.osi_honest.proofs.Vocabulary.{terms_error, without_first, ends, IsAccepted, user_does, UserCall, breaking, calling, connecting}
+use Rattle.osi_honest.proofs.Vocabulary.{has_given, terms_error, without_first, ends, IsAccepted, user_does, UserCall, breaking, calling}
+use Rattle.osi_honest.proofs.Vocabulary.{connecting}
 use Rattle.osi_honest.proofs.Vocabulary.{disconnecting, Call, Calls, carried_in, put_back, used_in, carrying, feeding, telling, End}
 use Rattle.osi_honest.proofs.Vocabulary.{fresh_end, Holding, IsAttended, Line, all_did, Continues, ContinuesAlong, Course, Deeds, no_deeds}
 use Rattle.osi_honest.proofs.Vocabulary.{SoFar, units_taken, unknown, all_units, Marked, units_at, IsFresh, Act, Acts, carried_by, Run}
 use Rattle.osi_honest.proofs.Vocabulary.{Takes, Turn, used_by, serving, using}
 use Rattle.osi_honest.proofs.courses.steps_of_a_course.{AllRest, HoldEach, Steps}
+use Rattle.osi_honest.proofs.courses.the_first_cc_opens_a_connection.{FirstOf, first_rests}
 use Rattle.osi_honest.proofs.courses.the_connections_of_each_class.{IsSound, request_class, sound_same}
 use Rattle.osi_honest.proofs.courses.the_connections_of_each_class.ByClass.{none as no_connection}
 use Rattle.osi_honest.proofs.courses.what_a_call_does_to_it.{user_steps}
@@ -104,6 +106,8 @@ carried_beside r octets e =
 pub record TurnOf (is_caller : Bool) (moves : ℕ → Deeds) (turn : Turn) (old new : Holding) : Type 0 where
   pub on : Continues is_caller moves old turn new
   pub life : (r : ℕ) → 0 < r → Life is_caller r (stage_at r old.end.carrier) on.took on.put (stage_at r new.end.carrier)
+  -- if the connection awaits its CC
+  pub first : (r : ℕ) → 0 < r → FirstOf is_caller r old.end.carrier on.took on.put new.end.carrier
 
 module _ (known : Known) (is_caller : Bool) (moves : ℕ → Deeds) where
   abbrev Courses : (ℕ → Deeds) → End → Type 0
@@ -132,6 +136,7 @@ module _ (known : Known) (is_caller : Bool) (moves : ℕ → Deeds) where
       lives = λ r some. lives is_caller r some old.end.carrier new.end.carrier s.took s.put (s.life r some);
     };
     life = s.life;
+    first = s.first;
   }
 
   -- a piece was fed
@@ -156,6 +161,7 @@ module _ (known : Known) (is_caller : Bool) (moves : ℕ → Deeds) where
       lives = λ r some. lives is_caller r some old.end.carrier new.end.carrier f.steps.took f.steps.put (f.steps.life r some);
     };
     life = f.steps.life;
+    first = f.steps.first;
   }
 
   -- nothing was used or put
@@ -178,9 +184,10 @@ module _ (known : Known) (is_caller : Bool) (moves : ℕ → Deeds) where
       all = refl;
       taken = λ r some. refl;
       lives = λ r some. lives is_caller r some old.end.carrier new.end.carrier [] []
-          (life_rests is_caller r (stage_at r old.end.carrier) (stage_at r new.end.carrier) [] tt (rest r));
+          (life_rests is_caller r (stage_at r old.end.carrier) (stage_at r new.end.carrier) [] tt (rest r).0);
     };
-    life = λ r some. life_rests is_caller r (stage_at r old.end.carrier) (stage_at r new.end.carrier) [] tt (rest r);
+    life = λ r some. life_rests is_caller r (stage_at r old.end.carrier) (stage_at r new.end.carrier) [] tt (rest r).0;
+    first = λ r some. first_rests is_caller r old.end.carrier new.end.carrier [] tt (rest r).0 (rest r).1;
   }
 
   nothing_put : (old new put : List ℕ) → new ≡ old ++ put → new ≡ old → put ≡ []
@@ -198,7 +205,10 @@ module _ (known : Known) (is_caller : Bool) (moves : ℕ → Deeds) where
       (subst (λ (x : Holding). Courses moves x.end) (sym c.1)
       (λ r. course_beside is_caller r (moves r) old.end (record old.end { lines = without_first old.end.lines }) (told_beside r old.end)
       (course r)))
-      (λ r. inl (ap (λ (x : Holding). stage_at r x.end.carrier) c.1))
+      (λ r. (
+        inl (ap (λ (x : Holding). stage_at r x.end.carrier) c.1),
+        λ now has. ap (λ (x : Holding). has_given r x.end.carrier) c.1 ∙ has,
+      ))
   serving_turn turn (carrying octets) old new used b course c is =
       quiet_turn turn old new used
       (nothing_put old.end.carrier.outgoing (octets ++ new.end.carrier.outgoing) turn.put is
@@ -206,7 +216,10 @@ module _ (known : Known) (is_caller : Bool) (moves : ℕ → Deeds) where
       (sym (ap (λ (x : Holding). x.held.octets) c))
       (λ r. course_beside is_caller r (moves r) (put_back octets new.end) new.end (carried_beside r octets new.end)
       (subst (λ (x : Holding). Course is_caller r (moves r) x.end) c (course r)))
-      (λ r. inl (sym (ap (λ (x : Holding). stage_at r x.end.carrier) c)))
+      (λ r. (
+        inl (sym (ap (λ (x : Holding). stage_at r x.end.carrier) c)),
+        λ now has. sym (ap (λ (x : Holding). has_given r x.end.carrier) c) ∙ has,
+      ))
 
   act_turn : (turn : Turn) (act : Act) (old new : Holding) → turn.used ≡ used_by act → Between old.end → Courses moves old.end →
       Acts old act new → carried_by act ++ new.end.carrier.outgoing ≡ old.end.carrier.outgoing ++ turn.put →

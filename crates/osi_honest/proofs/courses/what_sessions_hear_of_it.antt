@@ -1,6 +1,7 @@
 -- The events of a packet are handled: what becomes of the course of one connection, and that what its session sends is handed in.
 -- For the course of a connection.
-use Rattle.osi_honest.proofs.Vocabulary.{[], ap, Bool, false, inl, inr, is_some, length, List, map, None, Option, refl, Some, subst, suc}
+use Rattle.osi_honest.proofs.Vocabulary.{[], ap, Bool, false, inl, inr, is_some, length, List, map, nat_le, nat_lt, ◌&&◌, has_given, None}
+use Rattle.osi_honest.proofs.Vocabulary.{Option, refl, Some, subst, suc}
 use Rattle.osi_honest.proofs.Vocabulary.{sym, true, zero, ℕ, ◌++◌, ◌+◌, ◌==◌, ◌∙◌, ◌∷◌, ◌≡◌, ◌≢◌, eq-eqb, eqb-true, append-nil, unit_of}
 use Rattle.osi_honest.proofs.Vocabulary.{MovesAlong, tsdus_out, push_here, open_link, Happening, told_opened as opened, tsdu, value_at}
 use Rattle.osi_honest.proofs.Vocabulary.{EndReason, after_input, broken, came, Input, Listener, linked_up, session_react as react, awaits}
@@ -21,6 +22,7 @@ use Rattle.osi_honest.proofs.class_0.what_packets_do_in_class_0.{never_lasts}
 use Rattle.osi_honest.proofs.courses.a_connection_without_a_unit.{event_life}
 use Rattle.osi_honest.proofs.courses.steps_of_a_course.{HasNone, HoldEach, StepAt, States, Steps, same_rest, step_each, step_idle}
 use Rattle.osi_honest.proofs.courses.steps_of_a_course.{step_none, step_on, step_since, step_then, step_as}
+use Rattle.osi_honest.proofs.courses.the_first_cc_opens_a_connection.{event_given, first_of}
 use Rattle.osi_honest.proofs.courses.units_of_each_connection.{unequal}
 use Rattle.osi_honest.proofs.courses.what_a_link_takes_and_is_handed.{link_shut, over_unlinked}
 use Rattle.osi_honest.proofs.courses.what_a_session_puts.{IsGivenIfOpen, event_accounted, event_others, event_puts, event_unlinked}
@@ -329,6 +331,8 @@ module _ (known : Known) (is_caller : Bool) where
       step_each is_caller [] (WaitAll rest) moves e.carrier (hears x e) (event_puts x e) [] (event_written x e)
       (event_accounted x e (waits_given is_caller (told_of x) (x ∷ rest) (moves (told_of x)) e (w (told_of x)))) refl
       (λ r some. event_life is_caller r some x e)
+      (λ r some. first_of is_caller r e.carrier (hears x e).carrier [] (event_puts x e) tt (event_life is_caller r some x e)
+      (λ has was now. (tt, ap (λ (n : ℕ). nat_lt 0 r && nat_le r n) (event_given x e) ∙ has)))
       (λ r. one_heard known is_caller r x rest (moves r) e (w r))
 
   -- so many of the events
@@ -345,7 +349,8 @@ module _ (known : Known) (is_caller : Bool) where
       let mid = hears_next e in
       let one : Steps is_caller (WaitAll rest) moves e.carrier mid =
       subst (Steps is_caller (WaitAll rest) moves e.carrier) (sym (first_is x rest e is))
-      (step_since is_caller [] (WaitAll rest) moves e.carrier (with_events rest e).carrier (hears x (with_events rest e)) refl (λ r. refl)
+      (step_since is_caller [] (WaitAll rest) moves e.carrier (with_events rest e).carrier (hears x (with_events rest e)) refl
+      (λ r. (refl, refl))
       (event_heard x rest moves (with_events rest e)
       (λ r. waits_as is_caller r (moves r) e (with_events rest e) (x ∷ rest) (untold_beside known is_caller r rest e) (w r)))) in
       step_then is_caller [] [] (WaitAll rest) (NowAll is_caller) moves e.carrier mid (hears_times n mid) one
@@ -368,5 +373,5 @@ module _ (known : Known) (is_caller : Bool) where
   attended moves e w =
       step_as is_caller [] (CourseAll is_caller) (CourseAll is_caller) moves e.carrier (hears_all e) (attends e) (all_heard moves e w)
       (ap (λ (c : Carrier). c.outgoing) (concluded_carrier (hears_all e)))
-      (λ r. inl (ap (stage_at r) (concluded_carrier (hears_all e))))
+      (λ r. (inl (ap (stage_at r) (concluded_carrier (hears_all e))), λ now has. ap (has_given r) (concluded_carrier (hears_all e)) ∙ has))
       (λ r after course. concluded_by known is_caller r (hears_all e).carrier.ended after (hears_all e) refl course)

@@ -18,6 +18,7 @@ use Rattle.osi_honest.proofs.courses.how_long_a_connection_is_open.{Life, life_t
 use Rattle.osi_honest.proofs.courses.steps_of_a_course.{HoldEach, StepAt, States, StepsBy, done_by, same_rest, step_as, step_each}
 use Rattle.osi_honest.proofs.courses.steps_of_a_course.{step_idle, step_none, step_then}
 use Rattle.osi_honest.proofs.courses.the_connections_of_each_class.{IsSound, sound_unit}
+use Rattle.osi_honest.proofs.courses.the_first_cc_opens_a_connection.{FirstOf, first_of, unit_not_cc}
 use Rattle.osi_honest.proofs.courses.units_of_each_connection.{elsewhere, given_accounted, marked, marked_all, marked_own, none_marked}
 use Rattle.osi_honest.proofs.courses.units_of_each_connection.{nowhere, plain_accounted, unequal}
 use Rattle.osi_honest.proofs.courses.what_a_link_takes_and_is_handed.{HasFew, has_few, takes_in}
@@ -416,6 +417,13 @@ module _ (is_caller : Bool) where
         subst (Life is_caller r (stage_at r e.carrier) (marked 0 (v ∷ [])) []) (sym (stage_over r changed.carrier then_ended))
         (life_to_past is_caller r (stage_at r e.carrier) (marked 0 (v ∷ [])) [] (none_marked r (v ∷ []) some) tt)
 
+    unit_first : (r q : ℕ) (units : List Value) →
+        Life is_caller r (stage_at r e.carrier) (marked q (v ∷ [])) (marked q units) (stage_at r changed.carrier) →
+        FirstOf is_caller r e.carrier (marked q (v ∷ [])) (marked q units) changed.carrier
+    unit_first r q units life =
+        first_of is_caller r e.carrier changed.carrier (marked q (v ∷ [])) (marked q units) tt life
+        (λ has was now. let (none, has_then) = unit_not_cc r v e.carrier h has was now in ((none, tt), has_then))
+
     does_steps : e.carrier.ended ≡ None → Does (connection_of v e.carrier) v e.carrier (react v e.carrier) →
         StepsBy is_caller (v ∷ []) (AfterAll v) moves e.carrier changed
     does_steps lasted (takes peer link after here is then_is) =
@@ -426,6 +434,8 @@ module _ (is_caller : Bool) where
         (given_accounted q peer (all_given (handed_out after)) (above_zero q (linked peer link) e.carrier.live h.orderly.rise here))
         (marked_all q (v ∷ []))
         (λ r some. taken_life is_caller r some v e.carrier h lasted (side_of r lasted) q refl peer link after here is then_is)
+        (λ r some. unit_first r q units (taken_life is_caller r some v e.carrier h lasted (side_of r lasted) q refl peer link after here is
+        then_is))
         (λ r. taken_at is_caller r (moves r) v e h q (r == q) refl refl lasted (calm r) peer link after here is then_is)
     does_steps lasted (passes units written plain act) =
         let q = connection_of v e.carrier in
@@ -433,6 +443,7 @@ module _ (is_caller : Bool) where
         (written ∙ ap (λ (l : List Value). e.carrier.outgoing ++ packets l) (sym (marked_all 0 units)))
         (plain_accounted units plain) (marked_all 0 (v ∷ []))
         (λ r some. passed_life is_caller r some v e.carrier h lasted (side_of r lasted) units q refl act)
+        (λ r some. unit_first r 0 units (passed_life is_caller r some v e.carrier h lasted (side_of r lasted) units q refl act))
         (λ r. passed is_caller r (moves r) v e h units (idle_at is_caller r (moves r) v e h units q (r == q) refl refl lasted (calm r) act))
 
     unit_by : (o : Option EndReason) → e.carrier.ended ≡ o → StepsBy is_caller (v ∷ []) (AfterAll v) moves e.carrier changed
@@ -442,6 +453,8 @@ module _ (is_caller : Bool) where
         step_each is_caller (v ∷ []) (AfterAll v) moves e.carrier changed [] (marked 0 (v ∷ []))
         (ap (λ (c : Carrier). c.outgoing) same ∙ sym (append-nil e.carrier.outgoing)) tt (marked_all 0 (v ∷ []))
         (λ r some. over_life r some (ap is_some ended) (ap (λ (c : Carrier). is_some c.ended) same ∙ ap is_some ended))
+        (λ r some. unit_first r 0 [] (over_life r some (ap is_some ended)
+        (ap (λ (c : Carrier). is_some c.ended) same ∙ ap is_some ended)))
         (λ r. passed is_caller r (moves r) v e h []
         (ended_idle is_caller r (moves r) v e h (calm r) (ap (λ (c : Carrier). is_some c.ended) same ∙ ap is_some ended)))
 

@@ -1,30 +1,30 @@
--- As long as nobody has broken a rule and class 0 is not selected at the tap, each CC that a called end has put and that has not passed
+-- As long as both sides are judged and class 0 is not selected at the tap, each CC that a called end has put and that has not passed
 -- selects class 2; or the end has selected class 0, and the CC that says so is the first unit that waits.
 -- For all connections of a called end and a tap.
 use Rattle.osi_watched.proofs.Vocabulary.{false, inl, inr, subst, sym, ◌⊎◌, AllByRecursion, Local, Traffic, CanBeWritten, lines, selected}
-use Rattle.osi_watched.proofs.Vocabulary.{selecting, Selecting, IsClear, Joint, HaveSamePlaces}
+use Rattle.osi_watched.proofs.Vocabulary.{selecting, Selecting, Joint, HaveSamePlaces}
 use Rattle.osi_judge.specs.declared.directions.Direction.TheVariants as side
 use Rattle.osi_fair.specs.Wholes.{begin}
 use Rattle.osi_fair.proofs.a_called_end_is_fair.{Stage}
 use Rattle.osi_watched.proofs.steps_are_events.{IsFollowed}
 use Rattle.osi_watched.proofs.sessions.a_called_end_has_its_lines.{called_joined}
-use Rattle.osi_watched.proofs.sessions.a_called_end_of_class_2_has_its_lines.{calm_of}
+use Rattle.osi_fair.proofs.what_the_other_side_closes.{IsOngoing}
 use Rattle.osi_watched.proofs.sessions.each_cc_of_a_called_end_opens_another_connection.{put_answers_two}
 use Rattle.osi_watched.proofs.sessions.units_written_alike_have_the_same_ccs.{AnswersTwo, two_alike}
 
 module _ (local : Local) (j : Joint) (f : IsFollowed side.Right (begin false local) j) (can : AllByRecursion CanBeWritten j.put)
-    (clear : IsClear j.course.traffic.course) (places : HaveSamePlaces j.course.traffic.connections j.course.sessions.live) where
-  abbrev tap_clear : IsClear f.whole.tap.course
-  tap_clear = subst (λ (s : Traffic). IsClear s.course) (sym f.tap) clear
+    (clear : IsOngoing j.course.traffic.course) (places : HaveSamePlaces j.course.traffic.connections j.course.sessions.live) where
+  abbrev tap_clear : IsOngoing f.whole.tap.course
+  tap_clear = subst (λ (s : Traffic). IsOngoing s.course) (sym f.tap) clear
 
   by_stage : Stage local f.whole → AllByRecursion AnswersTwo j.put ⊎ Selecting local f.whole
   by_stage (lines h c named) =
       inl (two_alike f.whole.put j.put (record { same = f.put; can = f.can; can_too = can })
       (put_answers_two local f.whole j.course.sessions h (called_joined local j f).apart
-      ((called_joined local j f).judged tap_clear.sure.firm)
+      named
       (subst (λ (s : Traffic). HaveSamePlaces s.connections j.course.sessions.live) (sym f.tap) places)))
   by_stage (selecting z) = inr z
   by_stage (selected z) = absurd (tap_clear.two z.class)
 
   pub answers_or_selects : AllByRecursion AnswersTwo j.put ⊎ Selecting local f.whole
-  answers_or_selects = by_stage ((called_joined local j f).stage (calm_of f.whole.tap.course tap_clear))
+  answers_or_selects = by_stage ((called_joined local j f).stage tap_clear.sure)

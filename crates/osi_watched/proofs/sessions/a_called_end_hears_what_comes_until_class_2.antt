@@ -40,7 +40,7 @@ use Rattle.osi_watched.proofs.sessions.steps_of_either_class_leave_all_standing.
 use Rattle.osi_watched.proofs.sessions.what_a_turn_puts_goes_to_its_peer.{all_of_both}
 use Rattle.osi_watched.proofs.sessions.what_is_in_flight_to_an_end.{flight_same, known_of}
 use Rattle.osi_watched.proofs.sessions.what_passes_leaves_all_standing as in_two
-use Rattle.osi_watched.proofs.sessions.what_passes_leaves_all_standing.{IsHeard}
+use Rattle.osi_watched.proofs.sessions.what_passes_leaves_all_standing.{IsHeardFirm}
 use Rattle.osi_watched.proofs.sessions.what_stands_of_a_connection.{Known}
 use Rattle.osi_rules.specs.Traffic.{has_broken}
 
@@ -212,7 +212,7 @@ module _ (deeds : ℕ → Deeds) (r : ℕ) (end : Carrier) (put : List Value) (b
       asks : IsAsking v
       asks = only_asking c.traffic k.right.goes seen v k.right.mild
 
-      asked_heard : (u : Value) → IsAsking u → IsHeard Right (known coming) (known (coming ++ u ∷ [])) u put c.traffic c.sessions
+      asked_heard : (u : Value) → IsAsking u → IsHeardFirm Right (known coming) (known (coming ++ u ∷ [])) u put c.traffic c.sessions
       asked_heard (request x) a = same_known coming (request x) refl
       asked_heard (disconnected n source) a = same_known coming (disconnected n source) refl
       asked_heard (confirm n x) a = absurd a
@@ -243,7 +243,7 @@ module _ (deeds : ℕ → Deeds) (r : ℕ) (end : Carrier) (put : List Value) (b
       unseen_early : Early (coming ++ v ∷ []) (after v c)
       unseen_early = record {
         sure = sure_claim.passes Left at v c h.sure;
-        all = in_two.other_stands Right deeds (known coming) (known (coming ++ v ∷ [])) at v put begun c k.right.firm k.right.goes
+        all = in_two.other_stands_firm Right deeds (known coming) (known (coming ++ v ∷ [])) at v put begun c k.right.firm k.right.goes
             (λ e. none_some c.traffic.course.class_seen Zero seen e) k.right.mild (asked_heard v asks) h.all;
         uncalled = uncalled_claim.passes Left at v c h.uncalled;
         asking = λ none. all_of_both IsAsking coming (v ∷ []) (h.asking (sym (class_was v c) ∙ none)) (asks, tt);

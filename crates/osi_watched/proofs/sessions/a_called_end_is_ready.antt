@@ -1,8 +1,10 @@
 -- A called end of class 2 is ready for each CC that passes: what waits after it is all that was put at its connection, nothing was taken
--- there, nothing in flight is for it, and its reference is new. Each step keeps it so, as long as nobody breaks a rule.
+-- there, nothing in flight is for it, and its reference is new. Each step keeps it so, also if a connection has lost its judgement.
 -- For all connections of an end and a tap.
 use Rattle.std.proofs.Common.{◌≡◌, ◌∙◌, ◌⊎◌, inl, inr, refl, sym, ap, subst, ℕ, ◌<◌, ◌≤◌, Bool, true, false, List, [], ◌∷◌, ◌++◌, Some}
-use Rattle.std.proofs.Common.{None, Option, IsSome, arith, is_some}
+use Rattle.std.proofs.Common.{None, Option, IsSome, arith, if◌then◌else◌, is_some}
+use Rattle.std.specs.Prelude.{nat_le, slice_get}
+use Rattle.std.proofs.lemmas.Bool.{leb-false, leb-true}
 use Rattle.std.specs.List.{AllByRecursion}
 use Rattle.std.proofs.lemmas.List.{append-nil}
 use Rattle.osi_tpdu.specs.Packet.{units_of}
@@ -10,15 +12,19 @@ use Rattle.osi_tpdu.specs.Value.{Value, acknowledge, confirm, data0, data2, disc
 use Rattle.osi_class.specs.declared.terms.Class.{Class}
 use Rattle.osi_class.specs.declared.terms.Class.TheVariants.{Two, Zero}
 use Rattle.osi_class.specs.declared.terms.Local.{Local}
-use Rattle.osi_carrier.specs.State.{State as Carrier}
+use Rattle.osi_class.specs.Link.{Standing}
+use Rattle.osi_carrier.specs.Calls.{link_of}
+use Rattle.osi_carrier.specs.Rows.{value_at}
+use Rattle.osi_carrier.specs.State.{Connection as Live, State as Carrier, asked, closing, linked}
 use Rattle.osi_carrier.specs.declared.ends.EndReason.{EndReason}
 use Rattle.osi_judge.specs.declared.directions.Direction.TheVariants.{Right}
 use Rattle.osi_rules.specs.Traffic.{State}
+use Rattle.osi_rules.specs.declared.connections.Connection.{Connection}
+use Rattle.osi_rules.specs.Sides.{is_refused}
+use Rattle.osi_stack.specs.Calls.{has_given}
 use Rattle.osi_stack.specs.State.{Holding}
 use Rattle.osi_fair.specs.Wholes.{Whole}
 use Rattle.osi_fair.specs.Wholes as wholes
-use Rattle.osi_fair.proofs.all_are_judged_unless_one_broke.{AreJudged}
-use Rattle.osi_fair.proofs.what_the_other_side_closes.{IsClear}
 use Rattle.osi_fair.proofs.which_units_are_for_a_connection.{picked_join, picked_rest}
 use Rattle.osi_honest.specs.Arriving.{AreApart}
 use Rattle.osi_honest.specs.Courses.{Continues, Deeds, no_deeds, then_did, units_in, units_read, units_taken}
@@ -27,7 +33,8 @@ use Rattle.osi_honest.specs.Seeing.{IsFresh}
 use Rattle.osi_honest.specs.Turns.{Turn}
 use Rattle.osi_honest.proofs.class_0.what_a_call_does_in_class_0.{over_acts}
 use Rattle.osi_honest.proofs.class_0.what_a_packet_does_in_class_0.{AllProper}
-use Rattle.osi_honest.proofs.courses.how_long_a_connection_is_open.{Life, Stage, WhenPast, past, stage_at, stage_over}
+use Rattle.osi_honest.proofs.courses.how_long_a_connection_is_open.{Life, Stage, WhenPast, amid, early, past, stage_at, stage_by}
+use Rattle.osi_honest.proofs.courses.how_long_a_connection_is_open.{stage_is, stage_over}
 use Rattle.osi_honest.proofs.courses.units_of_each_connection.{all_units_more}
 use Rattle.osi_honest.proofs.courses.what_calls_of_a_link_say.{taken_more}
 use Rattle.osi_honest.proofs.reading.what_is_written_is_read_again.{CanBeWritten}
@@ -36,20 +43,25 @@ use Rattle.osi_tap.specs.Courses.{Course}
 use Rattle.osi_watched.specs.Joint.{Joint, Steps, TakesTurn, begin, begins_other, begins_own, passes_other, passes_own}
 use Rattle.osi_watched.specs.Shown.{parts_of}
 use Rattle.osi_watched.specs.ShownPlaces.{HaveSamePlaces}
+use Rattle.osi_fair.proofs.small_facts_that_many_lemmas_use.{differ}
+use Rattle.osi_fair.proofs.what_becomes_of_a_called_end.{above_up}
 use Rattle.osi_watched.proofs.a_carrier_does_events.{none_of}
+use Rattle.osi_watched.proofs.small_facts_that_many_lemmas_use.{amid_not, given_so, past_not}
 use Rattle.osi_watched.proofs.steps_are_events.{IsFollowed, begin_followed}
+use Rattle.osi_fair.proofs.what_the_other_side_closes.{IsOngoing}
 use Rattle.osi_watched.proofs.sessions.a_called_end_of_class_2_has_its_lines.{HasLines, has_lines}
 use Rattle.osi_watched.proofs.sessions.a_called_end_of_class_2_puts_no_dt_of_class_0.{called_turn_two}
+use Rattle.osi_watched.proofs.sessions.a_calling_end_takes_what_is_in_flight.{early_lasts}
 use Rattle.osi_watched.proofs.sessions.a_turn_does_what_its_deeds_say.{turn_leaves, turn_uses, units_join}
-use Rattle.osi_watched.proofs.sessions.a_unit_is_joined_where_it_is_named.{joined_named}
+use Rattle.osi_watched.proofs.sessions.a_unit_is_joined_where_it_is_named.{joined_any}
 use Rattle.osi_watched.proofs.sessions.all_connections_stand.{there_too}
 use Rattle.osi_watched.proofs.sessions.ccs_that_wait_are_above_those_that_passed.{AreAboveAt, above_along}
 use Rattle.osi_watched.proofs.sessions.each_cc_of_a_called_end_opens_another_connection.{put_ordered}
 use Rattle.osi_watched.proofs.sessions.each_cc_that_passes_gives_a_new_reference.{GoesOn, IsAhead, above_unused, begins_other_ahead}
 use Rattle.osi_watched.proofs.sessions.each_cc_that_passes_gives_a_new_reference.{begins_own_ahead, passes_above, passes_other_ahead}
 use Rattle.osi_watched.proofs.sessions.each_cc_that_passes_gives_a_new_reference.{passes_own_ahead, turns_ahead, waits_above}
-use Rattle.osi_watched.proofs.sessions.each_cr_that_passes_gives_a_new_reference.{IsUpTo}
-use Rattle.osi_watched.proofs.sessions.each_unit_of_a_called_end_has_a_home.{called_marked}
+use Rattle.osi_watched.proofs.sessions.each_cr_that_passes_gives_a_new_reference.{AreUpTo, IsUpTo}
+use Rattle.osi_watched.proofs.sessions.each_unit_of_a_called_end_has_a_home.{OpensByNoCc, called_marked}
 use Rattle.osi_watched.proofs.sessions.each_unit_of_a_turn_has_one_connection.{HasHome, IsMarked}
 use Rattle.osi_watched.proofs.sessions.nothing_comes_before_a_cc_passes.{IsBelow, below_higher, none_waits}
 use Rattle.osi_watched.proofs.sessions.nothing_is_done_before_a_cr_passes.{known_from, may_take}
@@ -57,7 +69,7 @@ use Rattle.osi_watched.proofs.sessions.references_of_an_end_are_distinct.{GivesN
 use Rattle.osi_watched.proofs.sessions.units_written_alike_have_the_same_ccs.{AnswersTwo, AreAlike, AreOrdered, HasCc, IsCc, has_either}
 use Rattle.osi_watched.proofs.sessions.units_written_alike_have_the_same_ccs.{has_back, has_front, none_before, not_twice_alike}
 use Rattle.osi_watched.proofs.sessions.units_written_alike_have_the_same_ccs.{ordered_alike}
-use Rattle.osi_watched.proofs.sessions.what_a_turn_puts_goes_to_its_peer.{all_back, all_of_both}
+use Rattle.osi_watched.proofs.sessions.what_a_turn_puts_goes_to_its_peer.{all_back, all_of_both, same_units}
 use Rattle.osi_watched.proofs.sessions.what_an_end_takes_at_a_connection.{apart_none, during_taken}
 use Rattle.osi_watched.proofs.sessions.what_is_in_flight_to_an_end.{parts_taken}
 use Rattle.osi_watched.proofs.sessions.what_is_left_for_an_end.{left_empty}
@@ -105,6 +117,41 @@ past_none : (r : ℕ) (s t : Stage) (took put : List Marked) → s ≡ past → 
 past_none r s t took put e life =
     apart_none r took (let w : WhenPast r took put t = subst (λ (x : Stage). Life false r x took put t) e life in w.none_took)
 
+-- of a connection that has lost its judgement left knows no refusal
+abbrev pub AreKnown : Course → Type 0
+AreKnown c = (i : ℕ) (e : Connection) → slice_get c.traffic.connections i ≡ Some e → e.is_judged ≡ false →
+    is_refused e.seen_by_left.phase ≡ false
+
+-- a connection that the end does not have open is at no such stage
+not_amid : {A : Type 0} (peer : ℕ) (over given : Bool) (o : Option Live) →
+    (if◌then◌else◌ {A = Option (ℕ × Standing)} over None (link_of o)) ≡ None → stage_by over given o ≡ amid peer → A
+not_amid peer true given o shut is = absurd (cc is)
+not_amid peer false true None shut is = absurd (cc is)
+not_amid peer false false None shut is = absurd (cc is)
+not_amid peer false given (Some asked) shut is = absurd (cc is)
+not_amid peer false given (Some (linked m l)) shut is = absurd (cc shut)
+not_amid peer false given (Some (closing m)) shut is = absurd (cc is)
+
+-- a connection that may open at a called end has no reference yet
+early_not_given : (r : ℕ) (c : Carrier) → c.ended ≡ None → ((m : ℕ) → value_at m c.live ≡ Some asked → ⊥) → stage_at r c ≡ early →
+    has_given r c ≡ false
+early_not_given r c lasts none may = by (has_given r c) (value_at r c.live) refl refl
+  where
+    by : (b : Bool) (o : Option Live) → has_given r c ≡ b → value_at r c.live ≡ o → b ≡ false
+    by false o given there = refl
+    by true (Some asked) given there = absurd (none r there)
+    by true (Some (linked peer link)) given there =
+        amid_not (stage_at r c) peer may (stage_is r c (Some (linked peer link)) true lasts given there)
+    by true v given there =
+        past_not (stage_at r c) may (stage_is r c v true lasts given there)
+
+above_given : (r : ℕ) (c : Carrier) → 0 < r → has_given r c ≡ false → c.given < r
+above_given r c some not = by (nat_le r c.given) refl
+  where
+    by : (b : Bool) → nat_le r c.given ≡ b → c.given < r
+    by true e = differ (has_given r c) (given_so r c some (leb-true r c.given e)) not
+    by false e = leb-false r c.given e
+
 -- ---- a called end and a tap
 
 module _ (local : Local) where
@@ -143,14 +190,25 @@ module _ (local : Local) where
         two = tt;
       }
 
+  -- such a reference is above all that the tap knows
+  pub early_above : (deeds : ℕ → Deeds) (j : Joint) (h : IsCalled deeds j) → AllByRecursion CanBeWritten j.put →
+      IsOngoing j.course.traffic.course → (r : ℕ) → 0 < r → stage_at r j.holding.end.carrier ≡ early → h.ahead.bound < r
+  early_above deeds j h can clear r some may =
+      let f = h.ahead.followed in
+      let lasts = none_of f.whole.end.ended (sym f.like.over ∙ ap is_some (early_lasts r j.holding.end.carrier may)) in
+      let there : stage_at r f.whole.end ≡ early = ap (stage_at r) (f.like.lasts lasts) ∙ may in
+      let given = early_not_given r f.whole.end lasts (has_lines local j f can h.two clear).end.none there in
+      let over = above_given r f.whole.end some given in
+      let most = above_up f.whole.end.given h.ahead.bound f.whole.put h.ahead.above in
+      omega (arith, over, most)
+
   -- ---- a unit that passes
 
   pub is_ready : (deeds : ℕ → Deeds) (at : ℕ) (unit : Value) (old new : Joint) → Steps Right (passes_own at unit) old new →
-      IsClear old.course.traffic.course → AreJudged old.course.traffic →
-      HaveSamePlaces old.course.traffic.connections old.course.sessions.live → IsCalled deeds old →
+      HaveSamePlaces old.course.traffic.connections old.course.sessions.live → AreKnown old.course → IsCalled deeds old →
       IsReady Right deeds (known_from (may_take old.holding.end.carrier) (units_in old.coming)) unit new.put old.course.traffic
       old.course.sessions
-  is_ready deeds at (confirm m x) old new (read, octets, put, begun, is) clear judged places h =
+  is_ready deeds at (confirm m x) old new (read, octets, put, begun, is) places known h =
       let less = passes_above first at m x old new (read, octets, put, begun, is) h.ahead in
       let has : HasCc m x.source old.put = subst (HasCc m x.source) (sym put) (inl (refl, refl)) in
       let all : (deeds x.source).put ≡ waiting_for (Some m) new.put =
@@ -158,8 +216,7 @@ module _ (local : Local) where
       let none = h.unheard x.source less in (
         λ p j place here.
             let (c, there) = there_too old.course.traffic.connections old.course.sessions.live p j places here in
-            let named_so = joined_named Right (confirm m x) old.course m p c j places refl place there
-            (judged clear.sure.firm p c there) here in
+            let named_so = joined_any Right (confirm m x) old.course m p c j places refl place there (known p c there) here in
             all ∙ ap (λ (o : Option ℕ). waiting_for o new.put) (sym named_so),
         parts_taken (deeds x.source).calls ∙ ap parts_of none,
         (
@@ -167,13 +224,13 @@ module _ (local : Local) where
           λ live. left_empty x.source (units_in old.coming) (none_waits h.ahead.bound x.source (units_in old.coming) less h.below),
         ),
       )
-  is_ready deeds at (request x) old new step clear judged places h = tt
-  is_ready deeds at (disconnect n source reason user) old new step clear judged places h = tt
-  is_ready deeds at (disconnected n source) old new step clear judged places h = tt
-  is_ready deeds at (data0 end user) old new step clear judged places h = tt
-  is_ready deeds at (data2 n number end user) old new step clear judged places h = tt
-  is_ready deeds at (acknowledge credit n number) old new step clear judged places h = tt
-  is_ready deeds at (error n cause) old new step clear judged places h = tt
+  is_ready deeds at (request x) old new step places known h = tt
+  is_ready deeds at (disconnect n source reason user) old new step places known h = tt
+  is_ready deeds at (disconnected n source) old new step places known h = tt
+  is_ready deeds at (data0 end user) old new step places known h = tt
+  is_ready deeds at (data2 n number end user) old new step places known h = tt
+  is_ready deeds at (acknowledge credit n number) old new step places known h = tt
+  is_ready deeds at (error n cause) old new step places known h = tt
 
   -- ---- each step of the tap
 
@@ -209,12 +266,12 @@ module _ (local : Local) where
 
   -- the units of a packet of the other side are no CCs, and those of connections are for references of the tap
   pub passes_other_called : AllProper → (deeds : ℕ → Deeds) (at : ℕ) (packet : List ℕ) (units : List Value) (old new : Joint) →
-      Steps Right (passes_other at packet units) old new → HaveSamePlaces old.course.traffic.connections old.course.sessions.live →
-      (h : IsCalled deeds old) → AllByRecursion (IsBelow h.ahead.bound) units → AllByRecursion (IsUpTo Right h.ahead.bound) units →
+      Steps Right (passes_other at packet units) old new →
+      (h : IsCalled deeds old) → AllByRecursion (IsBelow h.ahead.bound) units → AreUpTo Right h.ahead.bound new.course.sessions →
       IsCalled deeds new
-  passes_other_called proper deeds at packet units old new step places h below given =
+  passes_other_called proper deeds at packet units old new step h below up =
       let one : units_in (packet ∷ []) ≡ units = append-nil (units_read (units_of packet)) ∙ ap units_read step.1 in
-      still deeds old new h (passes_other_ahead first proper at packet units old new step places h.ahead given)
+      still deeds old new h (passes_other_ahead first proper at packet units old new step h.ahead up)
       (ap (λ (j : Joint). j.put) step.2)
       (subst (λ (j : Joint). AllByRecursion (IsBelow h.ahead.bound) (units_in j.coming)) (sym step.2)
       (subst (AllByRecursion (IsBelow h.ahead.bound))
@@ -258,7 +315,7 @@ module _ (local : Local) where
       (on : Continues false deeds old.holding turn new.holding)
       (life : (r : ℕ) → 0 < r → Life false r (stage_at r old.holding.end.carrier) on.took on.put (stage_at r new.holding.end.carrier))
       (units : t.units ≡ all_units on.put) (can : AllByRecursion CanBeWritten old.put) (can_new : AllByRecursion CanBeWritten new.put)
-      (places : HaveSamePlaces old.course.traffic.connections old.course.sessions.live) (clear : IsClear old.course.traffic.course)
+      (places : HaveSamePlaces old.course.traffic.connections old.course.sessions.live) (clear : IsOngoing old.course.traffic.course)
       (h : IsCalled deeds old) (turn_two : AllByRecursion AnswersTwo new.put) where
     abbrev carrier : Carrier
     carrier = old.holding.end.carrier
@@ -272,8 +329,8 @@ module _ (local : Local) where
     turn_put : new.put ≡ old.put ++ all_units on.put
     turn_put = t.put ∙ ap (λ (l : List Value). old.put ++ l) units
 
-    new_clear : IsClear new.course.traffic.course
-    new_clear = subst (λ (c : Course). IsClear c.traffic.course) (sym t.course) clear
+    new_clear : IsOngoing new.course.traffic.course
+    new_clear = subst (λ (c : Course). IsOngoing c.traffic.course) (sym t.course) clear
 
     before : HasLines local f.whole
     before = has_lines local old f can h.two clear
@@ -296,16 +353,32 @@ module _ (local : Local) where
     home_low : (i j : ℕ) → HasHome Right i j old.course.traffic old.course.sessions → i ≤ h.ahead.bound
     home_low i j home = (h.ahead.below.live home.place home.joined i home.here home.mine).1
 
+    -- a CC that has come is for a reference of the tap: the end has answered its connection, or closed it
+    no_cc : OpensByNoCc local deeds turn old new t on f
+    no_cc lasts q some shut n x is come = by (stage_at q carrier) refl
+      where
+        low : n ≤ h.ahead.bound
+        low = come (IsBelow h.ahead.bound)
+            (subst (AllByRecursion (IsBelow h.ahead.bound)) (same_units old.coming ∙ sym (f.coming lasts)) h.below)
+
+        by : (s : Stage) → stage_at q carrier ≡ s → AreApart q on.put
+        by early may = let over = early_above deeds old h can clear q some may in absurd (omega (arith, low, is, over))
+        by (amid peer) here = not_amid peer (is_some carrier.ended) (has_given q carrier) (value_at q carrier.live) shut here
+        by past gone =
+            let w : WhenPast q on.took on.put (stage_at q new.holding.end.carrier) =
+            subst (λ (s : Stage). Life false q s on.took on.put (stage_at q new.holding.end.carrier)) gone (life q some) in
+            w.none_put
+
     turn_ordered : AreOrdered new.put
     turn_ordered =
         ordered_alike g.ahead.followed.whole.put new.put alike_new
-        (put_ordered local g.ahead.followed.whole new.course.sessions after.called after.apart after.judged
+        (put_ordered local g.ahead.followed.whole new.course.sessions after.called after.apart after.named
         (subst (λ (s : State). HaveSamePlaces s.connections new.course.sessions.live) (sym g.ahead.followed.tap)
         (subst (λ (c : Course). HaveSamePlaces c.traffic.connections c.sessions.live) (sym t.course) places)))
 
     put_more : (n r : ℕ) → HasCc n r new.put → (on.more r).put ≡ waiting_for (Some n) (all_units on.put)
     put_more n r has =
-        puts_for local deeds turn old new t on f g.ahead.followed before after clear places units alike_old alike_new h.ahead.bound
+        puts_for local deeds turn old new t on f g.ahead.followed before after no_cc places units alike_old alike_new h.ahead.bound
         home_low n r has (above_old n r has)
 
     -- nothing was put there before the CC
@@ -382,7 +455,8 @@ module _ (local : Local) where
       turn_spent : ((then_did (deeds r) (on.more r)).put ≡ []) ⊎ ((n : ℕ) × HasCc n r new.put)
       turn_spent =
           spent_by (h.spent r less)
-          (named local deeds turn old new t on f g.ahead.followed before after clear places units alike_old alike_new r (on.lives r some))
+          (named local deeds turn old new t on f g.ahead.followed before after no_cc places units alike_old alike_new r some
+          (on.lives r some))
 
     -- ---- each unit of the turn has a home
 
@@ -409,7 +483,7 @@ module _ (local : Local) where
         by : (o : Option EndReason) → carrier.ended ≡ o → AllByRecursion (IsMarked Right old.course.traffic old.course.sessions) on.put
         by None lasts =
             called_marked local deeds turn old new t on f clear.sure (two_so lasts) places news
-            (called_turn_two local deeds turn old new t on g.ahead.followed after.called)
+            (called_turn_two local deeds turn old new t on g.ahead.followed after.called) no_cc
         by (Some reason) gone =
             let done = over_acts turn old.holding new.holding (subst IsSome (sym gone) refl) t.takes in
             subst (AllByRecursion (IsMarked Right old.course.traffic old.course.sessions)) (sym (none_put on.put (sym on.written ∙ done.1)))

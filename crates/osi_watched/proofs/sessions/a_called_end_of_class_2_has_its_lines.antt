@@ -1,37 +1,35 @@
--- A called end of which no CC that waits selects class 0 has its lines as long as nobody has broken a rule, also when it is over.
+-- A called end of which no CC that waits selects class 0 has its lines as long as both sides are judged, also when it is over.
 -- For the units that a called end puts.
-use Rattle.osi_watched.proofs.Vocabulary.{false, refl, subst, sym, AllByRecursion, Zero, Local, acceptance, Traffic, Rules as Course}
-use Rattle.osi_watched.proofs.Vocabulary.{CanBeWritten, lines, selected, selecting, Called, IsCalled, HoldsOfEach, NamesApart as AreApart}
-use Rattle.osi_watched.proofs.Vocabulary.{IsClear, IsCalm, Whole, Joint}
+use Rattle.osi_watched.proofs.Vocabulary.{false, refl, subst, sym, AllByRecursion, Zero, Local, acceptance, Traffic}
+use Rattle.osi_watched.proofs.Vocabulary.{CanBeWritten, lines, selected, selecting, Called, IsCalled, NamesApart as AreApart}
+use Rattle.osi_watched.proofs.Vocabulary.{IsOngoing, Whole, Joint}
 use Rattle.osi_judge.specs.declared.directions.Direction.TheVariants as side
+use Rattle.osi_rules.specs.declared.directions.Direction.TheVariants as way
 use Rattle.osi_fair.specs.Wholes.{begin}
 use Rattle.osi_fair.proofs.a_called_end_is_fair.{Stage}
-use Rattle.osi_fair.proofs.all_are_judged_unless_one_broke.{IsJudged}
+use Rattle.osi_fair.proofs.names_stay_apart_though_one_is_lost.{AreNamedApart}
 use Rattle.osi_watched.proofs.steps_are_events.{IsFollowed}
 use Rattle.osi_watched.proofs.sessions.a_called_end_has_its_lines.{called_joined}
 use Rattle.osi_watched.proofs.sessions.units_written_alike_have_the_same_ccs.{AnswersTwo, AreAlike, first_not_zero}
-
-pub calm_of : (c : Course) → IsClear c → IsCalm c
-calm_of c h = record { left = h.sure.left; right = h.sure.right }
 
 -- with what keeps references apart at the tap
 pub record HasLines (local : Local) (w : Whole) : Type 0 where
   pub called : Called local w
   pub end : IsCalled local w.end
   pub apart : AreApart w.tap.connections
-  pub judged : HoldsOfEach IsJudged w.tap.connections
+  pub named : AreNamedApart way.Left w.tap.connections
 
 module _ (local : Local) (j : Joint) (f : IsFollowed side.Right (begin false local) j) (can : AllByRecursion CanBeWritten j.put)
-    (two : AllByRecursion AnswersTwo j.put) (clear : IsClear j.course.traffic.course) where
-  abbrev tap_clear : IsClear f.whole.tap.course
-  tap_clear = subst (λ (s : Traffic). IsClear s.course) (sym f.tap) clear
+    (two : AllByRecursion AnswersTwo j.put) (clear : IsOngoing j.course.traffic.course) where
+  abbrev tap_clear : IsOngoing f.whole.tap.course
+  tap_clear = subst (λ (s : Traffic). IsOngoing s.course) (sym f.tap) clear
 
   by_stage : Stage local f.whole → HasLines local f.whole
   by_stage (lines h c named) = record {
     called = h;
     end = c;
     apart = (called_joined local j f).apart;
-    judged = (called_joined local j f).judged tap_clear.sure.firm;
+    named = named;
   }
   by_stage (selecting z) =
       let alike : AreAlike f.whole.put j.put = record { same = f.put; can = f.can; can_too = can } in
@@ -40,4 +38,4 @@ module _ (local : Local) (j : Joint) (f : IsFollowed side.Right (begin false loc
   by_stage (selected z) = absurd (tap_clear.two z.class)
 
   pub has_lines : HasLines local f.whole
-  has_lines = by_stage ((called_joined local j f).stage (calm_of f.whole.tap.course tap_clear))
+  has_lines = by_stage ((called_joined local j f).stage tap_clear.sure)

@@ -37,6 +37,7 @@ use Rattle.osi_watched.proofs.what_a_carrier_puts_can_be_written.{all_more}
 use Rattle.osi_watched.proofs.what_is_put_is_what_is_written.{none_written}
 use Rattle.osi_watched.proofs.sessions.a_called_end_hears_what_comes_until_class_2.{IsAsking, IsNoCc, StandsCalledEarly, known_one}
 use Rattle.osi_watched.proofs.sessions.a_called_end_hears_what_comes_until_class_2.{none_some}
+use Rattle.osi_fair.proofs.what_the_other_side_closes.{going_on}
 use Rattle.osi_watched.proofs.sessions.a_called_end_of_class_2_has_its_lines.{has_lines}
 use Rattle.osi_watched.proofs.sessions.a_called_end_stands_as_units_pass.{StandsCalled}
 use Rattle.osi_watched.proofs.sessions.a_called_end_stands_in_class_0.{WasOpen, answers_now, cc_not_dt, first, open_before, opens_now}
@@ -79,7 +80,8 @@ module _ (deeds : ℕ → Deeds) (known then_known : Known) (put : List Value) (
     apart = a.apart;
     judged = a.judged;
     room = a.room;
-    live = λ i c j there here. stands_unnamed c j (none.live i j here) (a.live i c j there here);
+    live = λ i c j there here judged. stands_unnamed c j (none.live i j here) (a.live i c j there here judged);
+    lost = a.lost;
     done = λ i j here. rests_unnamed j (none.done i j here) (a.done i j here);
   }
 
@@ -305,7 +307,7 @@ module _ (local : Local) (proper : AllProper) (turn : Turn) (old new : Joint) (t
     some : old.begun ≡ true → old.put ≡ [] → ⊥
     some begun =
         let g = h.called.ahead.followed in
-        let lines = has_lines local old g h.can h.called.two clear in
+        let lines = has_lines local old g h.can h.called.two (going_on old.course.traffic.course clear) in
         none_written old.put g.whole.put (sym g.put) (λ none. lines.called.some (g.begun ∙ begun) (sym lines.called.put ∙ none))
 
     pub turns_selecting : StandsAnswering local (λ r. then_did (deeds r) (on.more r)) new

@@ -17,7 +17,7 @@ use Rattle.osi_judge.proofs.honest.a_call_is_explained.{AsSent}
 use Rattle.osi_judge.proofs.honest.an_honest_run_stays_in_the_profile.{AsParts}
 use Rattle.osi_judge.proofs.honest.an_honest_side_is_kept.{CalledLaw, CallerLaw}
 use Rattle.osi_rules.specs.declared.directions.Direction.TheVariants as way
-use Rattle.osi_rules.specs.Traffic.{State, class_of, takes}
+use Rattle.osi_rules.specs.Traffic.{State, class_for, class_of, takes}
 use Rattle.osi_stack.specs.Calls.{has_given}
 use Rattle.osi_stack.specs.State.{End, Holding}
 use Rattle.osi_fair.proofs.a_called_end_selects_class_zero.{Selecting}
@@ -42,6 +42,7 @@ use Rattle.osi_watched.proofs.sessions.a_called_end_answers_with_class_2_or_sele
 use Rattle.osi_watched.proofs.sessions.a_called_end_hears_what_breaks_no_rule.{AreFine}
 use Rattle.osi_watched.proofs.sessions.a_called_end_hears_what_comes_until_class_2.{AreTaken, IsAsking, IsNoCc, StandsCalledEarly}
 use Rattle.osi_watched.proofs.sessions.a_called_end_hears_what_comes_until_class_2.{known_one, none_some, units_early}
+use Rattle.osi_fair.proofs.what_the_other_side_closes.{going_on, IsOngoing}
 use Rattle.osi_watched.proofs.sessions.a_called_end_puts_its_cc_of_class_0.{all_unnamed, asking_plain, turns_selecting}
 use Rattle.osi_watched.proofs.sessions.a_called_end_stands_as_units_pass.{StandsCalled, begins_other_stands, begins_own_stands}
 use Rattle.osi_watched.proofs.sessions.a_called_end_stands_as_units_pass.{passes_other_stands, passes_own_stands, turns_stand}
@@ -64,7 +65,8 @@ use Rattle.osi_watched.proofs.sessions.no_connection_is_opened_before_a_class_is
 use Rattle.osi_watched.proofs.sessions.no_session_of_a_called_end_breaks_first.{called_first}
 use Rattle.osi_watched.proofs.sessions.no_session_of_an_end_breaks_first.{ArePassed, HaveCourses, early}
 use Rattle.osi_watched.proofs.sessions.only_a_cc_selects_a_class.{selects_none}
-use Rattle.osi_watched.proofs.sessions.steps_leave_all_standing.{IsFine}
+use Rattle.osi_watched.proofs.sessions.steps_leave_all_standing.{IsProper}
+use Rattle.osi_watched.proofs.sessions.what_passes_leaves_all_standing.{firm_goes, firm_links, mild_stays}
 use Rattle.osi_watched.proofs.sessions.steps_of_either_class_leave_all_standing.{IsRight, stand_none}
 use Rattle.osi_watched.proofs.sessions.units_written_alike_have_the_same_ccs.{AnswersTwo, HasCc, IsCc, has_back, has_front}
 use Rattle.osi_watched.proofs.sessions.what_a_turn_puts_goes_to_its_peer.{all_back, all_so}
@@ -113,17 +115,20 @@ taken_of at (v ∷ vs) c h =
 
 fine_of : (at : ℕ) (vs : List Value) (c : Passed) → c.traffic.course.class ≡ None → ArePassed Two Right at vs c → AreFine at vs c
 fine_of at [] c none h = tt
-fine_of at (v ∷ vs) c none h = (
-  inl (record {
-    firm = (early Right v c h.0).firm;
-    goes = (early Right v c h.0).goes;
-    two = λ seen. none_some c.traffic.course.class Zero none (h.0.sure.agrees Zero seen);
-    none = (early Right v c h.0).mild;
-  }),
-  record { sure = h.0.firm; two = λ zero_is. none_some c.traffic.course.class Zero none zero_is },
-  fine_of at vs (unit_passes Left at v c)
-      (ap (λ (s : State). s.course.class) (unit_knows Left at v c) ∙ left_class v c.traffic ∙ none) h.1,
-)
+fine_of at (v ∷ vs) c none h =
+    let one = early Right v c h.0 in
+    let two : class_for way.Left c.traffic.course ≡ Some Zero → ⊥ =
+    λ seen. none_some c.traffic.course.class Zero none (h.0.sure.agrees Zero seen) in (
+      record {
+        goes = one.goes;
+        two = two;
+        on = firm_goes Right (λ r later. Unit {0}) (λ r later. Unit {0}) [] c.traffic c.sessions one.firm h.0.sure.judged one.goes two v
+            one.mild;
+        loses = λ far. absurd (mild_stays Left v c.traffic one.mild far);
+      },
+      fine_of at vs (unit_passes Left at v c)
+          (ap (λ (s : State). s.course.class) (unit_knows Left at v c) ∙ left_class v c.traffic ∙ none) h.1,
+    )
 
 module _ (local : Local) (proper : AllProper) where
   -- It has selected no class, or its CC of class 2 waits: each connection that it has open has a CC that waits.
@@ -214,15 +219,16 @@ module _ (local : Local) (proper : AllProper) where
       let mid : Joint = record old { put = new.put; begun = false; course = units_pass Right at (v ∷ []) old.course } in
       let plain : IsNoCc v = not_cc at v old new.put put h.stands.called.two right sure h.class
       (λ two. not (ap (λ (j : Joint). j.course.traffic.course.class) is ∙ two)) in
-      let fine : IsFine Right v old.course = record {
-        firm = right.firm;
+      let fine : IsProper Right v old.course = record {
         goes = right.goes;
         two = λ zero_is. none_some old.course.traffic.course.class Zero h.class zero_is;
         none = right.none;
+        links = firm_links Right v old.course.traffic right.firm sure.judged right.goes right.none;
       } in
       subst (StandsInNone deeds) (sym is) (record {
         stands = passes_own_stands local proper deeds at v old mid (read, octets, put, begun, refl) fine
-            (record { sure = firm; two = λ zero_is. none_some old.course.traffic.course.class Zero h.class zero_is }) h.stands;
+            (going_on old.course.traffic.course
+            (record { sure = firm; two = λ zero_is. none_some old.course.traffic.course.class Zero h.class zero_is })) h.stands;
         class = ap (λ (s : State). s.course.class) (unit_knows Right at v old.course) ∙ selects_none way.Right v old.course.traffic plain
             ∙ h.class;
         asking = h.asking;
@@ -312,7 +318,8 @@ module _ (local : Local) (proper : AllProper) where
 
       none_turns : AllByRecursion AnswersTwo new.put → StandsInNone then_deeds new
       none_turns two = record {
-        stands = turns_stand local proper turn old new t deeds does.of.on does.of.life does.units does.of.on.can two clear h.stands;
+        stands = turns_stand local proper turn old new t deeds does.of.on does.of.life does.units does.of.on.can two
+            (going_on old.course.traffic.course clear) h.stands;
         class = ap (λ (c : Passed). c.traffic.course.class) t.course ∙ h.class;
         asking = all_back IsAsking (units_in t.used) (units_in new.coming)
             (subst (AllByRecursion IsAsking) (turn_leaves turn old new t) h.asking);
@@ -333,7 +340,7 @@ module _ (local : Local) (proper : AllProper) where
       none_or_selects =
           turn_by (answers_or_selects local new (turns_ahead (first local) proper turn old new t h.stands.called.ahead).ahead.followed
           (subst (AllByRecursion CanBeWritten) (sym turn_put) (all_more old.put (all_units put) h.stands.can does.of.on.can))
-          (subst (λ (c : Passed). IsClear c.traffic.course) (sym t.course) clear)
+          (subst (λ (c : Passed). IsOngoing c.traffic.course) (sym t.course) (going_on old.course.traffic.course clear))
           (subst Agree (sym t.course) h.stands.standing.all.places))
 
     turn_phase : Phase deeds old → Phase then_deeds new

@@ -1,88 +1,118 @@
--- A calling end of class 2 hears each unit of the other side that breaks no rule: a DT adds to what is left over at its connection alone,
--- and a CC gives a reference for which nothing waits. And a DT or an AK after a DR of its sender changes nothing. So all its connections
--- stand after a packet of the other side.
+-- A calling end of class 2 hears each unit of the other side: a DT that has its effect adds to what is left over at its connection alone,
+-- and after any other unit what is left over at a connection that is judged stays; a CC gives a reference for which nothing waits. So all
+-- its connections stand after a packet of the other side; and nobody of the end is to blame at those that have lost their judgement.
 -- For all connections of an end and a tap.
-use Rattle.std.proofs.Common.{◌≡◌, ◌∙◌, ◌⊎◌, inl, inr, refl, sym, ap, subst, ℕ, Bool, List, [], ◌∷◌, ◌++◌, map, Some}
-use Rattle.std.proofs.Common.{append_assoc}
+use Rattle.std.proofs.Common.{◌≡◌, ◌∙◌, refl, sym, ap, subst, ℕ, Bool, true, false, List, [], ◌∷◌, ◌++◌, map, Some, None, append_assoc}
+use Rattle.std.specs.Prelude.{slice_get}
 use Rattle.std.specs.List.{AllByRecursion}
 use Rattle.std.proofs.lemmas.List.{append-nil}
-use Rattle.osi_tpdu.specs.Value.{HasFieldsInRange, Value, acknowledge, confirm, data0, data2, disconnect, disconnected, error, request}
+use Rattle.osi_tpdu.specs.Value.{HasFieldsInRange, Value, acknowledge, confirm, data0, data2, destination_of, disconnect, disconnected}
+use Rattle.osi_tpdu.specs.Value.{error}
+use Rattle.osi_tpdu.specs.Value.{Connect, request}
 use Rattle.osi_tpdu.specs.Writing.{written}
+use Rattle.osi_class.specs.declared.terms.Class.TheVariants.{Zero}
 use Rattle.osi_class.specs.declared.terms.Local.{Local}
 use Rattle.osi_judge.specs.declared.directions.Direction.TheVariants.{Left, Right}
 use Rattle.osi_rules.specs.declared.connections.Connection.{Connection}
 use Rattle.osi_rules.specs.declared.directions.Direction.TheVariants as way
-use Rattle.osi_rules.specs.Traffic.{State, class_for, is_stopped, route, routed, takes}
+use Rattle.osi_rules.specs.declared.findings.Reach.TheVariants as reach
+use Rattle.osi_rules.specs.Reaches.{is_applied}
+use Rattle.osi_rules.specs.Sides.{is_refused}
+use Rattle.osi_rules.specs.Traffic.{State, class_for, is_stopped, takes}
 use Rattle.osi_fair.specs.Wholes.{Whole}
 use Rattle.osi_fair.specs.Wholes as wholes
 use Rattle.osi_fair.proofs.a_calling_end_is_fair_in_class_2.{Joined as Follows, next_joined}
 use Rattle.osi_fair.proofs.each_connection_has_its_line.{IsOwned}
-use Rattle.osi_fair.proofs.what_the_other_side_closes.{IsClear, going_on}
+use Rattle.osi_fair.proofs.what_the_other_side_closes.{IsOngoing}
 use Rattle.osi_honest.specs.Courses.{Deeds}
 use Rattle.osi_honest.proofs.reading.what_is_written_is_read_again.{CanBeWritten}
-use Rattle.osi_tap.specs.declared.rooms.Room.TheVariants.{All}
 use Rattle.osi_tap.specs.Connections.{Joined, Sessions}
 use Rattle.osi_tap.specs.Courses.{Course, unit_passes, units_pass}
-use Rattle.osi_watched.proofs.what_a_taker_passes_over.{applied_of}
-use Rattle.osi_watched.proofs.sessions.a_calling_end_is_ready.{IsPlain, cr_broke, goes_on, right_plain, zero_broke}
-use Rattle.osi_watched.proofs.sessions.a_cc_comes_before_what_is_put_for_it.{cc_heard, nothing_waits}
-use Rattle.osi_watched.proofs.sessions.a_dt_that_is_no_break_is_right.{dt_clear}
-use Rattle.osi_watched.proofs.sessions.a_right_dt_has_one_place.{two_placed}
-use Rattle.osi_watched.proofs.sessions.a_unit_after_a_dr_changes_nothing.{IsAfterDr, same_sessions}
-use Rattle.osi_watched.proofs.sessions.a_unit_after_a_dr_leaves_all_standing.{after_shut, after_stand}
-use Rattle.osi_watched.proofs.sessions.a_unit_is_joined_where_it_is_named.{joined_named}
-use Rattle.osi_watched.proofs.sessions.all_connections_stand.{AllStand, there_too}
+use Rattle.osi_watched.specs.ShownPlaces.{HaveSamePlaces}
+use Rattle.osi_watched.proofs.sessions.a_called_end_hears_what_breaks_no_rule.{dt_closed}
+use Rattle.osi_watched.proofs.sessions.a_calling_end_is_ready.{IsPlain}
+use Rattle.osi_watched.proofs.sessions.a_cc_comes_before_what_is_put_for_it.{nothing_waits}
+use Rattle.osi_watched.proofs.sessions.a_right_dt_has_one_place.{AreUsedApart, named_apart}
+use Rattle.osi_watched.proofs.sessions.a_unit_after_a_dr_leaves_all_standing.{after_keeps}
+use Rattle.osi_watched.proofs.sessions.a_unit_is_joined_where_it_is_named.{joined_any}
+use Rattle.osi_watched.proofs.sessions.after_too_many_nobody_is_to_blame.{NoneIsToBlame}
+use Rattle.osi_watched.proofs.sessions.all_connections_stand.{AllStand, Loses, all_room}
 use Rattle.osi_watched.proofs.sessions.connections_have_the_same_places.{at_same, unit_joins, unit_knows}
 use Rattle.osi_watched.proofs.sessions.nothing_is_done_before_a_cr_passes.{known_from}
 use Rattle.osi_watched.proofs.sessions.references_of_an_end_are_distinct.{AreDistinct, GivesNew, stays_so, unit_distinct}
-use Rattle.osi_watched.proofs.sessions.right_units_leave_all_standing.{IsLink, ak, dt}
-use Rattle.osi_watched.proofs.sessions.steps_leave_all_standing.{IsTakeable}
+use Rattle.osi_watched.proofs.sessions.right_units_leave_all_standing.{dt, link_placed}
 use Rattle.osi_watched.proofs.sessions.the_dr_of_the_other_side_is_in_flight.{AreShut, HaveRoom, other_shut}
 use Rattle.osi_watched.proofs.sessions.units_written_alike_are_for_the_same.{none_written_so}
+use Rattle.osi_watched.proofs.sessions.what_a_unit_does_at_its_place.{Does, asks_again, asks_more, nowhere, somewhere, unit_does}
+use Rattle.osi_watched.proofs.sessions.what_holds_of_a_lost_connection.{now_so}
 use Rattle.osi_watched.proofs.sessions.what_is_left_for_an_end.{known_left, left_grows, left_same}
-use Rattle.osi_watched.proofs.sessions.what_passes_leaves_all_standing.{IsHeard, other_stands}
-use Rattle.osi_watched.proofs.sessions.what_stands_of_a_connection.{Known, Stands, lives, past, unnamed}
-use Rattle.osi_rules.specs.Traffic.{has_broken}
+use Rattle.osi_watched.proofs.sessions.what_passes_leaves_all_standing.{AllGoesOn, IsHeard, no_request, no_zero, other_stands}
+use Rattle.osi_watched.proofs.sessions.what_stands_of_a_connection.{waiting_for}
 
--- ---- units that are no break, or a break that is passed over
+-- ---- units of the other side
 
--- each, as it passes, while all is judged
+-- Both sides are judged, in class 2 or before a class is known, and all judging does not end with the unit. If a connection loses its
+-- judgement with it, nobody is to blame there.
+pub record IsHeardOn (v : Value) (c : Course) : Type 0 where
+  pub lasts : IsOngoing c.traffic.course
+  pub on : AllGoesOn v Left c.traffic
+  pub loses : (takes way.Right v c.traffic).told.reach ≡ reach.Connection → NoneIsToBlame Left c.sessions
+
+-- each, as it passes
 abbrev pub AreFine : ℕ → List Value → Course → Type 0
 AreFine at [] c = Unit {0}
-AreFine at (v ∷ vs) c =
-    (IsTakeable Right v c ⊎ IsAfterDr Right v c) × IsClear c.traffic.course × AreFine at vs (unit_passes Right at v c)
+AreFine at (v ∷ vs) c = IsHeardOn v c × AreFine at vs (unit_passes Right at v c)
 
-link_plain : (b : ℕ) (v : Value) (n : ℕ) → IsLink v n → IsPlain b v
-link_plain b v n (dt number end user is) = subst (IsPlain b) (sym is) (tt, tt)
-link_plain b v n (ak credit number is) = subst (IsPlain b) (sym is) (tt, tt)
+goes_so : (v : Value) (c : Course) → IsHeardOn v c → is_stopped way.Right c.traffic.course ≡ false
+goes_so v c p = p.lasts.sure.right
 
-pub one_plain : (b : ℕ) (v : Value) (c : Course) → IsTakeable Right v c ⊎ IsAfterDr Right v c → IsPlain b v
-one_plain b v c (inl fine) = right_plain b v c.traffic fine.goes fine.two fine.none
-one_plain b v c (inr after) = link_plain b v after.n after.link
+two_so : (v : Value) (c : Course) → IsHeardOn v c → class_for way.Right c.traffic.course ≡ Some Zero → ⊥
+two_so v c p = p.lasts.two
+
+pub one_plain : (b : ℕ) (v : Value) (c : Course) → IsHeardOn v c → IsPlain b v
+one_plain b (request x) c p = no_request x c.traffic (goes_so (request x) c p) (two_so (request x) c p) p.on
+one_plain b (data0 end user) c p = no_zero way.Right end user c.traffic (goes_so (data0 end user) c p) (two_so (data0 end user) c p) p.on
+one_plain b (confirm n x) c p = (tt, tt)
+one_plain b (disconnect n source reason user) c p = (tt, tt)
+one_plain b (disconnected n source) c p = (tt, tt)
+one_plain b (data2 n number end user) c p = (tt, tt)
+one_plain b (acknowledge credit n number) c p = (tt, tt)
+one_plain b (error n cause) c p = (tt, tt)
 
 pub fine_plain : (b at : ℕ) (vs : List Value) (c : Course) → AreFine at vs c → AllByRecursion (IsPlain b) vs
 fine_plain b at [] c h = tt
-fine_plain b at (v ∷ vs) c (fine, clear, more) = (one_plain b v c fine, fine_plain b at vs (unit_passes Right at v c) more)
+fine_plain b at (v ∷ vs) c (fine, more) = (one_plain b v c fine, fine_plain b at vs (unit_passes Right at v c) more)
 
 -- the other side gives no reference of this one
-gives_none : (v : Value) (c : Course) → IsTakeable Right v c → GivesNew Left v c.sessions
-gives_none (request x) c fine =
-    cr_broke (class_for way.Right c.traffic.course) (has_broken way.Left c.traffic.course) x c.traffic
-    (goes_on (request x) (is_stopped way.Right c.traffic.course) c.traffic
-    (routed way.Right (request x) c.traffic (route way.Right c.traffic.course (request x))) fine.goes fine.none)
-gives_none (confirm n x) c fine = tt
-gives_none (disconnect n source reason user) c fine = tt
-gives_none (disconnected n source) c fine = tt
-gives_none (data0 end user) c fine = tt
-gives_none (data2 n number end user) c fine = tt
-gives_none (acknowledge credit n number) c fine = tt
-gives_none (error n cause) c fine = tt
+gives_none : (v : Value) (c : Course) → IsHeardOn v c → GivesNew Left v c.sessions
+gives_none (request x) c p = no_request x c.traffic (goes_so (request x) c p) (two_so (request x) c p) p.on
+gives_none (confirm n x) c p = tt
+gives_none (disconnect n source reason user) c p = tt
+gives_none (disconnected n source) c p = tt
+gives_none (data0 end user) c p = tt
+gives_none (data2 n number end user) c p = tt
+gives_none (acknowledge credit n number) c p = tt
+gives_none (error n cause) c p = tt
 
-pub room_of : (deeds : ℕ → Deeds) (known : Known) (put : List Value) (b : Bool) (c : Connection) (j : Joined) →
-    Stands Left deeds known put b c j → j.room ≡ All
-room_of deeds known put b c j (unnamed none mine theirs room) = room
-room_of deeds known put b c j (lives r o is live later sure h) = h.room
-room_of deeds known put b c j (past r closed waiting later sure h) = h.room
+-- ---- its place
+
+-- what the tap knows of the connection that a unit is for
+record IsAt (v : Value) (c : Course) : Type 0 where
+  place : ℕ
+  connection : Connection
+  joined : Joined
+  told : (takes way.Right v c.traffic).told.place ≡ Some place
+  there : slice_get c.traffic.connections place ≡ Some connection
+  here : slice_get c.sessions.live place ≡ Some joined
+
+at_by : (at : ℕ) (v : Value) (n : ℕ) (c : Course) → destination_of v ≡ Some n → ((takes way.Right v c.traffic).told.place ≡ None → ⊥) →
+    Does Right at v c.traffic c.sessions (takes way.Right v c.traffic) → IsAt v c
+at_by at v n c dest some (nowhere place cs ts) = absurd (some place)
+at_by at v n c dest some (somewhere i e j x r place there here one finding is far cs ts) =
+    record { place = i; connection = e; joined = j; told = place; there = there; here = here }
+at_by at v n c dest some (asks_more x is number cs ts) = absurd (let no : None ≡ Some n = sym (ap destination_of is) ∙ dest in cc)
+at_by at v n c dest some (asks_again x is number i j here free cs ts) =
+    absurd (let no : None ≡ Some n = sym (ap destination_of is) ∙ dest in cc)
 
 -- a whole end with this tap, which has put units that are written as these
 pub record IsBehind (local : Local) (put : List Value) (c : Course) : Type 0 where
@@ -97,37 +127,71 @@ module _ (local : Local) (deeds : ℕ → Deeds) (is_live : ℕ → Bool) (put :
   abbrev Stand : List Value → Course → Type 0
   Stand coming c = AllStand Left deeds (known_from is_live coming) put b c.traffic c.sessions
 
-  unit_heard : (coming : List Value) (v : Value) (c : Course) → IsTakeable Right v c → IsClear c.traffic.course → IsBehind local put c →
-      Stand coming c → AreDistinct Left c.sessions →
-      IsHeard Left (known_left is_live coming) (known_left is_live (coming ++ v ∷ [])) v put c.traffic c.sessions
-  unit_heard coming (data2 n number end user) c fine clear w a distinct =
+  -- all connections stand, are distinct, and the DRs of the other side are in flight
+  pub record AreHeard (coming : List Value) (c : Course) : Type 0 where
+    pub stand : Stand coming c
+    pub distinct : AreDistinct Left c.sessions
+    pub shut : AreShut Left is_live coming c.traffic c.sessions
+
+  rooms : (coming : List Value) (c : Course) → AreHeard coming c → HaveRoom c.sessions
+  rooms coming c h i j here = all_room Left deeds (known_from is_live coming) put b c.traffic c.sessions h.stand i j here
+
+  lost_known : (coming : List Value) (c : Course) → AreHeard coming c → (i : ℕ) (e : Connection) →
+      slice_get c.traffic.connections i ≡ Some e → e.is_judged ≡ false → is_refused e.seen_by_left.phase ≡ false
+  lost_known coming c h i e there lost =
+      let (j, here, one) = at_same c.traffic.connections c.sessions.live i e h.stand.places there in
+      (h.stand.lost i e j there here lost).left_knows
+
+  dt_heard : (coming : List Value) (n number : ℕ) (end : Bool) (user : List ℕ) (c : Course) → IsHeardOn (data2 n number end user) c →
+      AreHeard coming c →
+      IsHeard Left (known_left is_live coming) (known_left is_live (coming ++ data2 n number end user ∷ [])) (data2 n number end user) put
+      c.traffic c.sessions
+  dt_heard coming n number end user c p h =
       let v : Value = data2 n number end user in
-      let kept = applied_of v (takes way.Right v c.traffic).told.finding (λ dr. dr)
-      (dt_clear way.Right v end c.traffic refl fine.goes fine.firm a.judged) fine.none in
-      let p = two_placed way.Right n number end user c.traffic kept in
-      let (k, here, one) = at_same c.traffic.connections c.sessions.live p.place p.connection a.places p.there in
-      let named = joined_named Right v c n p.place p.connection k a.places refl p.told p.there p.judged here in (
+      let a = h.stand in
+      let k = at_by at v n c refl
+      (λ none. link_placed way.Right v n c.traffic (dt number end user refl) (goes_so v c p) (two_so v c p) p.on none)
+      (unit_does Right at v c.traffic c.sessions a.places) in
+      let named = joined_any Right v c n k.place k.connection k.joined a.places refl k.told k.there
+      (λ lost. lost_known coming c h k.place k.connection k.there lost) k.here in (
         λ later sure. left_grows is_live coming n number end user later sure,
-        stays_so Left is_live coming n number end user c.traffic c.sessions p.place k distinct here named p.told,
+        stays_so Left is_live coming n number end user c.traffic c.sessions k.place k.joined h.distinct k.here named k.told,
+        λ i e j place there here judged finding none part r later mine sure.
+            after_keeps Left is_live coming at v c
+            (record {
+              n = n;
+              link = dt number end user refl;
+              closed = dt_closed way.Right n number end user c.traffic e judged finding (two_so v c p) none p.on part;
+            }) h.shut a.places r later sure,
       )
-  unit_heard coming (confirm n x) c fine clear w a distinct =
-      let owned = (w.follows.followed (going_on w.whole.tap.course (subst (λ (s : State). IsClear s.course) (sym w.tap) clear))).owned in
-      cc_heard n x c.traffic c.sessions fine.firm a.judged a.places a.apart fine.goes fine.none is_live coming put
-      (none_written_so (Some x.source) w.whole.put put w.same w.can can
-      (nothing_waits n x c.traffic c.sessions fine.firm a.judged a.places a.apart fine.goes fine.none w.whole.put
-      (subst (λ (s : State). AllByRecursion (λ (u : Value). IsOwned s u) w.whole.put) w.tap owned)))
-  unit_heard coming (request x) c fine clear w a distinct = λ r later sure. left_same is_live coming (request x) r later refl sure
-  unit_heard coming (disconnect n source reason user) c fine clear w a distinct =
+
+  -- no unit waits for the reference that a CC gives
+  cc_heard : (n : ℕ) (x : Connect) (c : Course) → IsHeardOn (confirm n x) c → IsBehind local put c →
+      HaveSamePlaces c.traffic.connections c.sessions.live →
+      is_applied (takes way.Right (confirm n x) c.traffic).told.finding ≡ true → waiting_for (Some x.source) put ≡ []
+  cc_heard n x c p w places applied =
+      let lasts = subst (λ (s : State). IsOngoing s.course) (sym w.tap) p.lasts in
+      let apart = subst (λ (s : State). AreUsedApart Left s.connections) w.tap
+      (named_apart Left w.whole.tap.connections w.follows.kept.sane.apart (w.follows.peers lasts)) in
+      none_written_so (Some x.source) w.whole.put put w.same w.can can
+      (nothing_waits n x c.traffic c.sessions places apart applied w.whole.put
+      (subst (λ (s : State). AllByRecursion (λ (u : Value). IsOwned s u) w.whole.put) w.tap (w.follows.followed lasts).owned))
+
+  unit_heard : (coming : List Value) (v : Value) (c : Course) → IsHeardOn v c → IsBehind local put c → AreHeard coming c →
+      IsHeard Left (known_left is_live coming) (known_left is_live (coming ++ v ∷ [])) v put c.traffic c.sessions
+  unit_heard coming (data2 n number end user) c p w h = dt_heard coming n number end user c p h
+  unit_heard coming (confirm n x) c p w h =
+      (cc_heard n x c p w h.stand.places, λ r later sure. left_same is_live coming (confirm n x) r later refl sure)
+  unit_heard coming (request x) c p w h = λ r later sure. left_same is_live coming (request x) r later refl sure
+  unit_heard coming (disconnect n source reason user) c p w h =
       λ r later sure. left_same is_live coming (disconnect n source reason user) r later refl sure
-  unit_heard coming (disconnected n source) c fine clear w a distinct =
+  unit_heard coming (disconnected n source) c p w h =
       λ r later sure. left_same is_live coming (disconnected n source) r later refl sure
-  unit_heard coming (data0 end user) c fine clear w a distinct =
-      zero_broke (class_for way.Right c.traffic.course) (has_broken way.Left c.traffic.course) end user c.traffic fine.two
-      (goes_on (data0 end user) (is_stopped way.Right c.traffic.course) c.traffic
-      (routed way.Right (data0 end user) c.traffic (route way.Right c.traffic.course (data0 end user))) fine.goes fine.none)
-  unit_heard coming (acknowledge credit n number) c fine clear w a distinct =
+  unit_heard coming (data0 end user) c p w h =
+      no_zero way.Right end user c.traffic (goes_so (data0 end user) c p) (two_so (data0 end user) c p) p.on
+  unit_heard coming (acknowledge credit n number) c p w h =
       λ r later sure. left_same is_live coming (acknowledge credit n number) r later refl sure
-  unit_heard coming (error n cause) c fine clear w a distinct =
+  unit_heard coming (error n cause) c p w h =
       λ r later sure. left_same is_live coming (error n cause) r later refl sure
 
   heard_from : (coming : List Value) (v : Value) (s : State) (t : Sessions) →
@@ -139,6 +203,8 @@ module _ (local : Local) (deeds : ℕ → Deeds) (is_live : ℕ → Bool) (put :
       live = λ p i j apart told here r later named sure. (sure.0, h.1.live p i j apart told here r later named sure.1);
       done = λ i j here r later named sure. (sure.0, h.1.done i j here r later named sure.1);
     },
+    λ p e j place there here judged finding none part r later named sure.
+        (sure.0, h.2 p e j place there here judged finding none part r later named sure.1),
   )
   heard_from coming (confirm n x) s t h = (h.0, λ r later sure. (sure.0, h.1 r later sure.1))
   heard_from coming (request x) s t h = λ r later sure. (sure.0, h r later sure.1)
@@ -159,44 +225,30 @@ module _ (local : Local) (deeds : ℕ → Deeds) (is_live : ℕ → Bool) (put :
         can = w.can;
       }
 
-  -- all connections stand, are distinct, and the DRs of the other side are in flight
-  pub record AreHeard (coming : List Value) (c : Course) : Type 0 where
-    pub stand : Stand coming c
-    pub distinct : AreDistinct Left c.sessions
-    pub shut : AreShut Left is_live coming c.traffic c.sessions
+  loses_so : (coming : List Value) (v : Value) (c : Course) → IsHeardOn v c → AreHeard coming c → Loses Left Right v c.traffic c.sessions
+  loses_so coming v c p h i e j place there here one judged far =
+      now_so Left v c.traffic i e j one (h.stand.apart.sound i e there judged) judged there (two_so v c p) place far
+      ((p.loses far).live i j here) (rooms coming c h i j here)
 
-  rooms : (coming : List Value) (c : Course) → AreHeard coming c → HaveRoom c.sessions
-  rooms coming c h i j here =
-      let a = h.stand in
-      let (k, there) = there_too c.traffic.connections c.sessions.live i j a.places here in
-      room_of deeds (known_from is_live coming) put b k j (a.live i k j there here)
-
-  one_heard : (coming : List Value) (v : Value) (c : Course) → IsTakeable Right v c ⊎ IsAfterDr Right v c → IsClear c.traffic.course →
-      IsBehind local put c → AreHeard coming c → AreHeard (coming ++ v ∷ []) (unit_passes Right at v c)
-  one_heard coming v c (inl one) clear w h =
-      let a = h.stand in
-      record {
-        stand = other_stands Left deeds (known_from is_live coming) (known_from is_live (coming ++ v ∷ [])) at v put b c one.firm one.goes
-            one.two one.none (heard_from coming v c.traffic c.sessions (unit_heard coming v c one clear w a h.distinct)) a;
-        distinct = subst (AreDistinct Left) (sym (unit_joins Right at v c))
-            (unit_distinct Left Right at v c.traffic c.sessions a.places h.distinct (gives_none v c one) (rooms coming c h));
-        shut = subst (λ (s : State). AreShut Left is_live (coming ++ v ∷ []) s (unit_passes Right at v c).sessions)
-            (sym (unit_knows Right at v c))
-            (subst (λ (t : Sessions). AreShut Left is_live (coming ++ v ∷ []) (takes way.Right v c.traffic).state t)
-            (sym (unit_joins Right at v c))
-            (other_shut Left at is_live coming c.traffic c.sessions a.places (rooms coming c h) a.judged one.firm h.shut v));
-      }
-  one_heard coming v c (inr after) clear w h = record {
-    stand = after_stand Left is_live coming at v c after clear.sure.firm h.shut deeds put b h.stand;
-    distinct = subst (AreDistinct Left) (sym (same_sessions Right at v c after)) h.distinct;
-    shut = after_shut Left is_live coming at v c after clear.sure.firm h.shut;
+  one_heard : (coming : List Value) (v : Value) (c : Course) → IsHeardOn v c → IsBehind local put c → AreHeard coming c →
+      AreHeard (coming ++ v ∷ []) (unit_passes Right at v c)
+  one_heard coming v c p w h = record {
+    stand = other_stands Left deeds (known_from is_live coming) (known_from is_live (coming ++ v ∷ [])) at v put b c (goes_so v c p)
+        (two_so v c p) p.on (heard_from coming v c.traffic c.sessions (unit_heard coming v c p w h)) (loses_so coming v c p h) h.stand;
+    distinct = subst (AreDistinct Left) (sym (unit_joins Right at v c))
+        (unit_distinct Left Right at v c.traffic c.sessions h.stand.places h.distinct (gives_none v c p) (rooms coming c h));
+    shut = subst (λ (s : State). AreShut Left is_live (coming ++ v ∷ []) s (unit_passes Right at v c).sessions)
+        (sym (unit_knows Right at v c))
+        (subst (λ (t : Sessions). AreShut Left is_live (coming ++ v ∷ []) (takes way.Right v c.traffic).state t)
+        (sym (unit_joins Right at v c))
+        (other_shut Left at is_live coming c.traffic c.sessions h.stand.places (rooms coming c h) h.shut v));
   }
 
   -- so it is after these units
   pub units_heard : (vs coming : List Value) (c : Course) → AreFine at vs c → AllByRecursion HasFieldsInRange vs → IsBehind local put c →
       AreHeard coming c → AreHeard (coming ++ vs) (units_pass Right at vs c)
   units_heard [] coming c fine ranges w h = subst (λ (l : List Value). AreHeard l c) (sym (append-nil coming)) h
-  units_heard (v ∷ vs) coming c (one, clear, more) ranges w h =
+  units_heard (v ∷ vs) coming c (one, more) ranges w h =
       subst (λ (l : List Value). AreHeard l (units_pass Right at (v ∷ vs) c)) (append_assoc coming (v ∷ []) vs)
       (units_heard vs (coming ++ v ∷ []) (unit_passes Right at v c) more ranges.1 (next_behind v c ranges.0 w)
-      (one_heard coming v c one clear w h))
+      (one_heard coming v c one w h))

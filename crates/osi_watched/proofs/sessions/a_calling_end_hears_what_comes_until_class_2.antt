@@ -38,8 +38,7 @@ use Rattle.osi_fair.proofs.no_request_is_blamed.{Holds, holds_next}
 use Rattle.osi_fair.proofs.what_lasts_at_the_tap.{lasts_passing}
 use Rattle.osi_honest.specs.Courses.{Deeds}
 use Rattle.osi_honest.proofs.courses.how_long_a_connection_is_open.{amid, past, stage_at, stage_over}
-use Rattle.osi_tap.specs.declared.rooms.Room.TheVariants.{All}
-use Rattle.osi_tap.specs.Connections.{Joined, Sessions, taken}
+use Rattle.osi_tap.specs.Connections.{Sessions, taken}
 use Rattle.osi_tap.specs.Courses.{Course, unit_passes, units_pass, way_of}
 use Rattle.osi_watched.proofs.a_carrier_does_events.{IsLike, none_of}
 use Rattle.osi_watched.proofs.a_break_ends_no_judging_or_all.{reach_so}
@@ -48,7 +47,7 @@ use Rattle.osi_watched.proofs.sessions.a_cc_of_class_0_opens_one_connection.{awa
 use Rattle.osi_watched.proofs.sessions.a_dt_of_class_0_leaves_all_standing as in_zero
 use Rattle.osi_watched.proofs.sessions.a_dt_of_class_0_leaves_all_standing.{GrowsThere, IsHeardZero, IsZero, told_there}
 use Rattle.osi_watched.proofs.sessions.a_calling_end_is_ready.{cr_broke, goes_on}
-use Rattle.osi_watched.proofs.sessions.all_connections_stand.{AllStand, there_too}
+use Rattle.osi_watched.proofs.sessions.all_connections_stand.{AllStand, all_room}
 use Rattle.osi_watched.proofs.sessions.class_0_has_one_connection.{none_same}
 use Rattle.osi_watched.proofs.sessions.class_0_keeps_its_one_place.{HasOne, IsStill, one_passes, zero_still}
 use Rattle.osi_watched.proofs.sessions.connections_have_the_same_places.{unit_joins, unit_knows}
@@ -62,9 +61,8 @@ use Rattle.osi_watched.proofs.sessions.units_of_class_0_come_after_its_cc.{InOrd
 use Rattle.osi_watched.proofs.sessions.what_a_turn_puts_goes_to_its_peer.{all_of_both}
 use Rattle.osi_watched.proofs.sessions.what_is_in_flight_to_an_end.{flight_same, known_of}
 use Rattle.osi_watched.proofs.sessions.what_passes_leaves_all_standing as in_two
-use Rattle.osi_watched.proofs.sessions.what_passes_leaves_all_standing.{IsHeard}
-use Rattle.osi_watched.proofs.sessions.what_stands_of_a_connection.{Known, Stands, lives, unnamed as unanswered, waiting_for}
-use Rattle.osi_watched.proofs.sessions.what_stands_of_a_connection as standing
+use Rattle.osi_watched.proofs.sessions.what_passes_leaves_all_standing.{IsHeardFirm}
+use Rattle.osi_watched.proofs.sessions.what_stands_of_a_connection.{Known, waiting_for}
 use Rattle.osi_watched.proofs.sessions.what_the_stage_of_a_calling_end_says.{AwaitsAnswer, awaits, cc_comes, gone, one_early}
 use Rattle.osi_rules.specs.Traffic.{has_broken}
 
@@ -129,12 +127,6 @@ no_written (v ∷ put) e = absurd (cc)
 
 same_number : (m n : ℕ) (x y : Connect) → confirm m x ≡ confirm n y → n ≡ m
 same_number m n x y e = cc
-
-pub room_of : (deeds : ℕ → Deeds) (known : Known) (put : List Value) (b : Bool) (c : Connection) (j : Joined) →
-    Stands Left deeds known put b c j → j.room ≡ All
-room_of deeds known put b c j (unanswered none mine theirs room) = room
-room_of deeds known put b c j (lives r o is live later sure h) = h.room
-room_of deeds known put b c j (standing.past r closed waiting later sure h) = h.room
 
 given_so : (r : ℕ) (c : Carrier) → 0 < r → r ≤ c.given → has_given r c ≡ true
 given_so r c some up = ap (λ (b : Bool). b && nat_le r c.given) (lt-ltb 0 r some) ∙ le-leb r c.given up
@@ -298,8 +290,7 @@ module _ (local : Local) (deeds : ℕ → Deeds) (b : ℕ) (end : Carrier) (put 
   distinct_after coming v c h new =
       subst (AreDistinct Left) (sym (unit_joins Right at v c))
       (unit_distinct Left Right at v c.traffic c.sessions h.all.places h.distinct new
-      (λ i j here. let (k, there) = there_too c.traffic.connections c.sessions.live i j h.all.places here in
-      room_of deeds (known_below b end coming) put begun k j (h.all.live i k j there here)))
+      (λ i j here. all_room Left deeds (known_below b end coming) put begun c.traffic c.sessions h.all i j here))
 
   same_known : (coming : List Value) (v : Value) → unit_parts v ≡ [] → (r : ℕ) (later : List Part) → known_below b end coming r later →
       known_below b end (coming ++ v ∷ []) r later
@@ -398,7 +389,7 @@ module _ (local : Local) (deeds : ℕ → Deeds) (b : ℕ) (end : Carrier) (put 
   module _ (coming : List Value) (v : Value) (c : Course) (h : Early coming c) (right : IsTolerable Right v c)
       (class : c.traffic.course.class ≡ None) where
     quiet_heard : (u : Value) → IsQuiet u →
-        IsHeard Left (known_below b end coming) (known_below b end (coming ++ u ∷ [])) u put c.traffic c.sessions
+        IsHeardFirm Left (known_below b end coming) (known_below b end (coming ++ u ∷ [])) u put c.traffic c.sessions
     quiet_heard (disconnect n source reason user) q = same_known coming (disconnect n source reason user) refl
     quiet_heard (disconnected n source) q = same_known coming (disconnected n source) refl
     quiet_heard (error n cause) q = same_known coming (error n cause) refl
@@ -418,10 +409,10 @@ module _ (local : Local) (deeds : ℕ → Deeds) (b : ℕ) (end : Carrier) (put 
     quiet_new (data2 n number last user) q = absurd q
     quiet_new (acknowledge credit n number) q = absurd q
 
-    all_heard : IsHeard Left (known_below b end coming) (known_below b end (coming ++ v ∷ [])) v put c.traffic c.sessions →
+    all_heard : IsHeardFirm Left (known_below b end coming) (known_below b end (coming ++ v ∷ [])) v put c.traffic c.sessions →
         AllStand Left deeds (known_below b end (coming ++ v ∷ [])) put begun (after v c).traffic (after v c).sessions
     all_heard heard =
-        in_two.other_stands Left deeds (known_below b end coming) (known_below b end (coming ++ v ∷ [])) at v put begun c right.firm
+        in_two.other_stands_firm Left deeds (known_below b end coming) (known_below b end (coming ++ v ∷ [])) at v put begun c right.firm
         right.goes (λ e. none_zero c.traffic.course.class class e) right.mild heard h.all
 
     quiet_early : IsQuiet v → Early (coming ++ v ∷ []) (after v c)

@@ -1,5 +1,5 @@
 -- A calling end of class 2 is ready for each CR that passes: nothing is done at its connection, nothing in flight is for it, and its
--- reference is new. Each step keeps it so, as long as nobody breaks a rule.
+-- reference is new. Each step keeps it so, as long as both sides are judged.
 -- For all connections of an end and a tap.
 use Rattle.std.proofs.Common.{◌≡◌, ◌∙◌, refl, sym, ap, subst, ℕ, ◌<◌, ◌≤◌, Bool, true, false, if◌then◌else◌, List, [], ◌∷◌, ◌++◌, Some}
 use Rattle.std.proofs.Common.{None, Option, arith}
@@ -14,7 +14,7 @@ use Rattle.osi_carrier.specs.State.{State as Carrier}
 use Rattle.osi_judge.specs.declared.directions.Direction.TheVariants.{Left}
 use Rattle.osi_rules.specs.declared.directions.Direction.TheVariants as way
 use Rattle.osi_rules.specs.declared.findings.Finding.TheVariants.{NotJudged}
-use Rattle.osi_rules.specs.Traffic.{Outcome, State, class_for, is_stopped, none_told, route, route_in, routed, takes}
+use Rattle.osi_rules.specs.Traffic.{Outcome, State, none_told, route_in, routed}
 use Rattle.osi_carrier.specs.Rows.{value_at}
 use Rattle.osi_stack.specs.Calls.{has_given}
 use Rattle.osi_stack.specs.State.{End, Holding}
@@ -22,28 +22,25 @@ use Rattle.osi_fair.specs.Wholes.{Event, HappenAlong, Whole}
 use Rattle.osi_fair.specs.Wholes as wholes
 use Rattle.osi_fair.proofs.a_calling_end_is_fair_in_class_2.{Joined, first_joined, next_joined}
 use Rattle.osi_fair.proofs.each_connection_has_its_line.{Followed}
-use Rattle.osi_fair.proofs.what_the_other_side_closes.{IsClear, going_on}
+use Rattle.osi_fair.proofs.what_the_other_side_closes.{IsOngoing}
 use Rattle.osi_honest.specs.Courses.{Continues, Deeds, no_deeds, then_did, units_in, units_read}
 use Rattle.osi_honest.specs.Seeing.{IsFresh}
 use Rattle.osi_honest.specs.Turns.{Turn}
 use Rattle.osi_honest.proofs.class_0.what_a_packet_does_in_class_0.{AllProper}
 use Rattle.osi_honest.proofs.courses.how_long_a_connection_is_open.{Life, amid, stage_at, stage_is, stage_there}
-use Rattle.osi_tap.specs.Courses.{Course}
 use Rattle.osi_watched.specs.Joint.{Joint, Steps, TakesTurn, begin, begins_other, begins_own, passes_other, passes_own}
 use Rattle.osi_watched.specs.ShownPlaces.{HaveSamePlaces}
 use Rattle.osi_watched.proofs.steps_are_events.{IsFollowed, begin_followed, own_first}
 use Rattle.osi_watched.proofs.what_a_taker_passes_over.{IsMild}
+use Rattle.osi_watched.proofs.sessions.a_right_dt_has_one_place.{AreUsedApart, named_apart}
 use Rattle.osi_watched.proofs.sessions.a_turn_does_what_its_deeds_say.{turn_leaves, units_join}
 use Rattle.osi_watched.proofs.sessions.crs_that_wait_are_above_those_that_passed.{AreAbove, above_along, passes_asked}
 use Rattle.osi_watched.proofs.sessions.each_cr_that_passes_gives_a_new_reference.{AreAhead, GoesOn, IsUpTo, begins_other_ahead}
 use Rattle.osi_watched.proofs.sessions.each_cr_that_passes_gives_a_new_reference.{begins_own_ahead, passes_other_ahead}
 use Rattle.osi_watched.proofs.sessions.each_cr_that_passes_gives_a_new_reference.{passes_own_ahead, turns_ahead}
-use Rattle.osi_watched.proofs.sessions.nothing_is_done_before_a_cr_passes.{AreUndone, IsNoZero, cr_calm, cr_ready, few_come, known_from}
+use Rattle.osi_watched.proofs.sessions.nothing_is_done_before_a_cr_passes.{AreUndone, IsNoZero, cr_calm, cr_ready, known_from, none_come}
 use Rattle.osi_watched.proofs.sessions.nothing_is_done_before_a_cr_passes.{may_take, turn_undone}
-use Rattle.osi_watched.proofs.sessions.steps_leave_all_standing.{Heard, all_heard, one_heard}
 use Rattle.osi_watched.proofs.sessions.what_passes_leaves_all_standing.{IsReady}
-use Rattle.osi_watched.proofs.sessions.what_stands_of_a_connection.{Known}
-use Rattle.osi_rules.specs.Traffic.{has_broken}
 
 -- ---- what comes in class 2
 
@@ -51,12 +48,6 @@ pub goes_on : (v : Value) (b : Bool) (s : State) (o : Outcome) → b ≡ false �
     IsMild v (if b then none_told way.Right NotJudged s else o).told.finding → IsMild v o.told.finding
 goes_on v true s o h none = absurd (cc)
 goes_on v false s o h none = none
-
-pub zero_broke : {A : Type 0} (k : Option Class) (b : Bool) (end : Bool) (user : List ℕ) (s : State) → (k ≡ Some Zero → ⊥) →
-    IsMild (data0 end user) (routed way.Right (data0 end user) s (route_in k way.Right b (data0 end user))).told.finding → A
-zero_broke None b end user s two none = absurd none
-zero_broke (Some Zero) b end user s two none = absurd (two refl)
-zero_broke (Some Two) b end user s two none = absurd none
 
 pub cr_broke : {A : Type 0} (k : Option Class) (b : Bool) (x : Connect) (s : State) →
     IsMild (request x) (routed way.Right (request x) s (route_in k way.Right b (request x))).told.finding → A
@@ -67,29 +58,6 @@ cr_broke (Some Two) b x s none = absurd none
 -- neither a CR nor a DT of class 0
 abbrev pub IsPlain : ℕ → Value → Type 0
 IsPlain b v = IsNoZero v × IsUpTo Left b v
-
-pub right_plain : (b : ℕ) (v : Value) (s : State) → is_stopped way.Right s.course ≡ false → (class_for way.Right s.course ≡ Some Zero → ⊥) →
-    IsMild v (takes way.Right v s).told.finding → IsPlain b v
-right_plain b (request x) s goes two none =
-    cr_broke (class_for way.Right s.course) (has_broken way.Left s.course) x s
-    (goes_on (request x) (is_stopped way.Right s.course) s
-    (routed way.Right (request x) s (route way.Right s.course (request x))) goes none)
-right_plain b (data0 end user) s goes two none =
-    zero_broke (class_for way.Right s.course) (has_broken way.Left s.course) end user s two
-    (goes_on (data0 end user) (is_stopped way.Right s.course) s
-    (routed way.Right (data0 end user) s (route way.Right s.course (data0 end user))) goes none)
-right_plain b (confirm n x) s goes two none = (tt, tt)
-right_plain b (disconnect n source reason user) s goes two none = (tt, tt)
-right_plain b (disconnected n source) s goes two none = (tt, tt)
-right_plain b (data2 n number end user) s goes two none = (tt, tt)
-right_plain b (acknowledge credit n number) s goes two none = (tt, tt)
-right_plain b (error n cause) s goes two none = (tt, tt)
-
-pub heard_plain : (b : ℕ) (put : List Value) (at : ℕ) (known then_known : Known) (vs : List Value) (c : Course) →
-    Heard Left put at known then_known vs c → AllByRecursion (IsPlain b) vs
-heard_plain b put at _ _ _ _ (all_heard known c) = tt
-heard_plain b put at _ _ _ _ (one_heard known mid then_known v vs c fine heard more) =
-    (right_plain b v c.traffic fine.goes fine.two fine.none, heard_plain b put at mid then_known vs _ more)
 
 zeros : (b : ℕ) (vs : List Value) → AllByRecursion (IsPlain b) vs → AllByRecursion IsNoZero vs
 zeros b [] h = tt
@@ -121,10 +89,18 @@ module _ (local : Local) (two : local.class2 ≡ true) where
   pub whole_joined : (j : Joint) (f : IsFollowed Left first j) → Joined local f.whole
   whole_joined j f = joined_along f.events first f.whole f.along (first_joined local two)
 
-  -- as long as nobody breaks a rule, the whole end that follows the joint is as osi_fair says
-  pub whole_followed : (j : Joint) (f : IsFollowed Left first j) → IsClear j.course.traffic.course → Followed local f.whole
-  whole_followed j f clear =
-      (whole_joined j f).followed (going_on f.whole.tap.course (subst (λ (s : State). IsClear s.course) (sym f.tap) clear))
+  -- as long as both sides are judged, the whole end that follows the joint is as osi_fair says
+  pub whole_followed : (j : Joint) (f : IsFollowed Left first j) → IsOngoing j.course.traffic.course → Followed local f.whole
+  whole_followed j f clear = (whole_joined j f).followed (subst (λ (s : State). IsOngoing s.course) (sym f.tap) clear)
+
+  -- and references are apart at the tap
+  pub peers_apart : (j : Joint) (f : IsFollowed Left first j) → IsOngoing j.course.traffic.course →
+      AreUsedApart Left j.course.traffic.connections
+  peers_apart j f clear =
+      let w = whole_joined j f in
+      subst (λ (s : State). AreUsedApart Left s.connections) f.tap
+      (named_apart Left f.whole.tap.connections w.kept.sane.apart
+      (w.peers (subst (λ (s : State). IsOngoing s.course) (sym f.tap) clear)))
 
   pub record IsCalling (deeds : ℕ → Deeds) (j : Joint) : Type 0 where
     pub ahead : AreAhead first j
@@ -161,7 +137,7 @@ module _ (local : Local) (two : local.class2 ≡ true) where
   -- ---- a unit that passes
 
   pub is_ready : (deeds : ℕ → Deeds) (at : ℕ) (unit : Value) (old new : Joint) → Steps Left (passes_own at unit) old new →
-      IsClear old.course.traffic.course → IsCalling deeds old →
+      IsOngoing old.course.traffic.course → IsCalling deeds old →
       IsReady Left deeds (known_from (may_take old.holding.end.carrier) (units_in old.coming)) unit new.put old.course.traffic
       old.course.sessions
   is_ready deeds at (request x) old new (read, octets, put, begun, is) clear h =
@@ -225,19 +201,11 @@ module _ (local : Local) (two : local.class2 ≡ true) where
       (subst (AllByRecursion IsNoZero) (sym (units_join old.coming (packet ∷ []) ∙ ap (λ (l : List Value). units_in old.coming ++ l) one))
       (all_join IsNoZero (units_in old.coming) units h.zero (zeros h.ahead.bound units plain))))
 
-  pub passes_other_calling : AllProper → (deeds : ℕ → Deeds) (at : ℕ) (packet : List ℕ) (units put : List Value) (known then_known : Known)
-      (old new : Joint) → Steps Left (passes_other at packet units) old new →
-      HaveSamePlaces old.course.traffic.connections old.course.sessions.live → Heard Left put at known then_known units old.course →
-      IsCalling deeds old → IsCalling deeds new
-  passes_other_calling proper deeds at packet units put known then_known old new step places heard h =
-      passes_other_plain proper deeds at packet units old new step places h
-      (heard_plain h.ahead.bound put at known then_known units old.course heard)
-
   -- a turn, with what was done at each connection
   pub turns_calling : AllProper → (turn : Turn) (old new : Joint) (t : TakesTurn turn old new) (deeds : ℕ → Deeds)
       (on : Continues true deeds old.holding turn new.holding) →
       ((r : ℕ) → 0 < r → Life true r (stage_at r old.holding.end.carrier) on.took on.put (stage_at r new.holding.end.carrier)) →
-      HaveSamePlaces old.course.traffic.connections old.course.sessions.live → IsClear old.course.traffic.course →
+      HaveSamePlaces old.course.traffic.connections old.course.sessions.live → IsOngoing old.course.traffic.course →
       IsCalling deeds old → IsCalling (λ r. then_did (deeds r) (on.more r)) new
   turns_calling proper turn old new t deeds on life places clear h =
       let g = turns_ahead first proper turn old new t h.ahead in
@@ -245,8 +213,7 @@ module _ (local : Local) (two : local.class2 ≡ true) where
         ahead = g.ahead;
         undone = higher h.ahead.bound g.ahead.bound (λ r. then_did (deeds r) (on.more r)) new.holding.end.carrier g.rises
             (turn_undone h.ahead.bound turn old new t deeds on life
-            (few_come h.ahead.bound local first old h.ahead.followed (whole_followed old h.ahead.followed clear) clear.sure.firm places
-            h.ahead.below)
+            (none_come h.ahead.bound local first old h.ahead.followed (whole_followed old h.ahead.followed clear) places h.ahead.below)
             h.undone);
         zero = all_right IsNoZero (units_in t.used) (units_in new.coming)
             (subst (AllByRecursion IsNoZero) (turn_leaves turn old new t) h.zero);

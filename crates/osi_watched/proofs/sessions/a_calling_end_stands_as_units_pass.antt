@@ -1,9 +1,11 @@
--- A calling end of class 2 and a tap: what passes and breaks no rule leaves all connections of the end standing, and so does a turn.
+-- A calling end of class 2 and a tap: what passes leaves all connections of the end standing, and so does a turn; and nobody of the end is
+-- to blame at those that have lost their judgement.
 -- For the session of each connection of an end.
-use Rattle.osi_watched.proofs.Vocabulary.{[], ap, false, length, List, refl, Some, subst, sym, true, ℕ, ◌++◌, ◌<◌, ◌^◌, ◌∙◌, ◌∷◌, ◌≡◌, ◌⊎◌}
+use Rattle.osi_watched.proofs.Vocabulary.{[], ap, false, inl, inr, length, List, refl, Some, subst, sym, true, ℕ, ◌++◌, ◌<◌, ◌^◌, ◌∙◌, ◌∷◌}
+use Rattle.osi_watched.proofs.Vocabulary.{◌≡◌, ◌⊎◌}
 use Rattle.osi_watched.proofs.Vocabulary.{append-nil, AllByRecursion, slice_get, units_fit, units_found, units_of, Value, Part, Local, Left}
 use Rattle.osi_watched.proofs.Vocabulary.{Right, AllProper, early, Life, stage_at, CanBeWritten, Continues, Deeds, then_did, units_in}
-use Rattle.osi_watched.proofs.Vocabulary.{units_read, all_units, Turn, Joined, reference_of, spoken, units_pass, heard, Tracked, IsClear}
+use Rattle.osi_watched.proofs.Vocabulary.{units_read, all_units, Turn, Joined, reference_of, spoken, units_pass, heard, Tracked, IsOngoing}
 use Rattle.osi_watched.proofs.Vocabulary.{begins_other, begins_own, Joint, passes_other, passes_own, Steps, TakesTurn, Direction, Sessions}
 use Rattle.osi_watched.proofs.Vocabulary.{Traffic as State, takes, way_of, unit_passes, Connection, is_closing, HaveSamePlaces}
 use Rattle.osi_fair.proofs.small_facts_that_many_lemmas_use.{number_is}
@@ -11,20 +13,21 @@ use Rattle.osi_honest.specs.Courses.{Course}
 use Rattle.osi_tap.specs.Courses.{Course as Passed, packet_begins}
 use Rattle.osi_watched.proofs.small_facts_that_many_lemmas_use.{can_more as all_more, ranges_of}
 use Rattle.osi_watched.proofs.what_is_put_is_what_is_written.{none_written}
-use Rattle.osi_watched.proofs.sessions.a_calling_end_hears_what_breaks_no_rule.{AreFine, IsBehind, fine_plain, room_of, units_heard}
+use Rattle.osi_watched.proofs.sessions.a_calling_end_hears_what_breaks_no_rule.{AreFine, IsBehind, fine_plain, units_heard}
 use Rattle.osi_watched.proofs.sessions.a_calling_end_is_ready.{IsCalling, begins_other_calling, begins_own_calling, is_ready}
 use Rattle.osi_watched.proofs.sessions.a_calling_end_is_ready.{passes_other_plain, passes_own_calling, turns_calling, whole_followed}
-use Rattle.osi_watched.proofs.sessions.a_calling_end_is_ready.{whole_joined}
+use Rattle.osi_watched.proofs.sessions.a_calling_end_is_ready.{peers_apart, whole_joined}
+use Rattle.osi_watched.proofs.sessions.a_calling_end_takes_nothing_before_its_cc.{TrackedJudged}
 use Rattle.osi_watched.proofs.sessions.a_calling_end_takes_what_is_in_flight.{calling_dr, calling_takes}
-use Rattle.osi_watched.proofs.sessions.a_turn_leaves_all_standing.{Turns}
+use Rattle.osi_watched.proofs.sessions.a_turn_leaves_all_standing.{IsOfOne, Turns, of_done, of_live}
 use Rattle.osi_watched.proofs.sessions.a_turn_does_what_its_deeds_say.{units_join}
-use Rattle.osi_watched.proofs.sessions.all_connections_stand.{AllStand, one_at, there_too}
-use Rattle.osi_watched.proofs.sessions.connections_have_the_same_places.{unit_joins, unit_knows}
+use Rattle.osi_watched.proofs.sessions.all_connections_stand.{AllStand, all_room, one_at}
+use Rattle.osi_watched.proofs.sessions.connections_have_the_same_places.{at_same, unit_joins, unit_knows}
 use Rattle.osi_watched.proofs.sessions.each_unit_of_a_turn_has_one_connection.{IsMarked, puts_wait}
 use Rattle.osi_watched.proofs.sessions.each_cr_that_passes_gives_a_new_reference.{gives_new}
 use Rattle.osi_watched.proofs.sessions.nothing_is_done_before_a_cr_passes.{known_from, may_take}
 use Rattle.osi_watched.proofs.sessions.references_of_an_end_are_distinct.{AreDistinct, begins_distinct, unit_distinct}
-use Rattle.osi_watched.proofs.sessions.steps_leave_all_standing.{IsFine, Standing, step_begins_other, step_begins_own, step_passes_own}
+use Rattle.osi_watched.proofs.sessions.steps_leave_all_standing.{IsProper, Standing, step_begins_other, step_begins_own, step_passes_own}
 use Rattle.osi_watched.proofs.sessions.steps_leave_all_standing.{step_turns}
 use Rattle.osi_watched.proofs.sessions.the_dr_of_the_other_side_is_in_flight.{AreShut, HaveRoom, begins_shut, own_shut, turn_shut}
 use Rattle.osi_watched.proofs.sessions.what_is_left_for_an_end.{known_left}
@@ -88,12 +91,10 @@ module _ (local : Local) (two : local.class2 ≡ true) (proper : AllProper) wher
 
   rooms : (deeds : ℕ → Deeds) (j : Joint) → StandsCalling deeds j → HaveRoom j.course.sessions
   rooms deeds j h i k here =
-      let a = h.standing.all in
-      let (c, there) = there_too j.course.traffic.connections j.course.sessions.live i k a.places here in
-      room_of deeds (known_at j) j.put j.begun c k (a.live i c k there here)
+      all_room Left deeds (known_at j) j.put j.begun j.course.traffic j.course.sessions h.standing.all i k here
 
   pub passes_own_stands : (deeds : ℕ → Deeds) (at : ℕ) (unit : Value) (old new : Joint) → Steps Left (passes_own at unit) old new →
-      IsFine Left unit old.course → IsClear old.course.traffic.course → StandsCalling deeds old → StandsCalling deeds new
+      IsProper Left unit old.course → IsOngoing old.course.traffic.course → StandsCalling deeds old → StandsCalling deeds new
   passes_own_stands deeds at unit old new (read, octets, put, begun, is) fine clear h =
       let mid : Joint = record old { put = new.put; begun = false; course = units_pass Left at (unit ∷ []) old.course } in
       let step : Steps Left (passes_own at unit) old mid = (read, octets, put, begun, refl) in
@@ -101,7 +102,8 @@ module _ (local : Local) (two : local.class2 ≡ true) (proper : AllProper) wher
       subst (StandsCalling deeds) (sym is) (record {
         calling = passes_own_calling local two proper deeds at unit old mid step a.places h.calling;
         standing = step_passes_own Left deeds (known_at old) at unit old mid step fine
-            (is_ready local two deeds at unit old mid step clear h.calling) h.standing;
+            (peers_apart local two old h.calling.ahead.followed clear) (is_ready local two deeds at unit old mid step clear h.calling)
+            h.standing;
         distinct = subst (AreDistinct Left) (sym (unit_joins Left at unit old.course))
             (unit_distinct Left Left at unit old.course.traffic old.course.sessions a.places h.distinct
             (gives_new _ at unit old mid step h.calling.ahead) (rooms deeds old h));
@@ -140,27 +142,53 @@ module _ (local : Local) (two : local.class2 ≡ true) (proper : AllProper) wher
         can = h.can;
       })
 
+  some_same : (c e : Connection) → Some c ≡ Some e → c ≡ e
+  some_same c e h = cc
+
+  -- no two connections have one reference
+  judged_tracked : (deeds : ℕ → Deeds) (j : Joint) → StandsCalling deeds j → (r i : ℕ) (c : Connection) (k : Joined) →
+      slice_get j.course.traffic.connections i ≡ Some c → slice_get j.course.sessions.live i ≡ Some k → c.is_judged ≡ true →
+      reference_of Left k ≡ Some r → Tracked j.course.traffic.connections r → TrackedJudged j.course.traffic.connections r
+  judged_tracked deeds j h r i c k there here judged named (p, e, at, tracked, same) =
+      let cs = j.course.traffic.connections in
+      let (l, here_too, one) = at_same cs j.course.sessions.live p e h.standing.all.places at in
+      let place : i ≡ p = h.distinct.live i p k l r here here_too named (ap (λ (m : ℕ). Some m) (one.calling ∙ same)) in
+      let is : c ≡ e = some_same c e (sym there ∙ ap (slice_get cs) place ∙ at) in
+      (p, e, at, tracked, same, subst (λ (x : Connection). x.is_judged ≡ true) is judged)
+
+  judged_or : (deeds : ℕ → Deeds) (j : Joint) → StandsCalling deeds j → (r : ℕ) → IsOfOne Left r j.course.traffic j.course.sessions →
+      Tracked j.course.traffic.connections r ⊎ (waiting_for (Some r) (units_in j.coming) ≡ []) →
+      TrackedJudged j.course.traffic.connections r ⊎ (waiting_for (Some r) (units_in j.coming) ≡ [])
+  judged_or deeds j h r one (inr none) = inr none
+  judged_or deeds j h r (of_live i c k there here judged named) (inl tracked) =
+      inl (judged_tracked deeds j h r i c k there here judged named tracked)
+  judged_or deeds j h r (of_done i k here named) (inl (p, e, at, tracked, same)) =
+      let (l, here_too, one) = at_same j.course.traffic.connections j.course.sessions.live p e h.standing.all.places at in
+      absurd (h.distinct.done p i l k r here_too here (ap (λ (m : ℕ). Some m) (one.calling ∙ same)) named)
+
   -- A turn that puts the units of its deeds, each with its mark, and takes the first of what is in flight to each connection.
   pub turns_stand : (turn : Turn) (old new : Joint) (t : TakesTurn turn old new) (deeds : ℕ → Deeds)
       (on : Continues true deeds old.holding turn new.holding) →
       ((r : ℕ) → 0 < r → Life true r (stage_at r old.holding.end.carrier) on.took on.put (stage_at r new.holding.end.carrier)) →
       t.units ≡ all_units on.put → AllByRecursion CanBeWritten (all_units on.put) →
       AllByRecursion (IsMarked Left old.course.traffic old.course.sessions) on.put →
-      ((r : ℕ) → 0 < r → (later : List Part) → known_left (may_take old.holding.end.carrier) (units_in old.coming) r later →
+      ((r : ℕ) → 0 < r → IsOfOne Left r old.course.traffic old.course.sessions → (later : List Part) →
+      known_left (may_take old.holding.end.carrier) (units_in old.coming) r later →
       Takes (on.more r) later (known_left (may_take new.holding.end.carrier) (units_in new.coming) r)) →
       AreShut Left (may_take new.holding.end.carrier) (units_in new.coming) old.course.traffic old.course.sessions →
-      IsClear old.course.traffic.course → StandsCalling deeds old → StandsCalling (λ r. then_did (deeds r) (on.more r)) new
+      IsOngoing old.course.traffic.course → StandsCalling deeds old → StandsCalling (λ r. then_did (deeds r) (on.more r)) new
   turns_stand turn old new t deeds on life units can marked takes shut clear h =
       let a = h.standing.all in
       let f = h.calling.ahead.followed in
       let turns : Turns Left on.more (known_at old) (known_at new) t.units old.course.traffic old.course.sessions = record {
         puts = λ i c j r there here mine live.
-            puts_wait Left deeds (known_at old) old.put old.begun old.course.traffic old.course.sessions a clear.sure.firm h.distinct i c j
-            r there here mine live (h.calling.ahead.below.live i j r here mine).0 on.put marked (on.more r).put
+            puts_wait Left deeds (known_at old) old.put old.begun old.course.traffic old.course.sessions a
+            (peers_apart local two old f clear) h.distinct i c j r there here mine live
+            (h.calling.ahead.below.live i j r here mine).0 on.put marked (on.more r).put
             (on.own r (h.calling.ahead.below.live i j r here mine).0)
             ∙ ap (waiting_for (reference_of Right j)) (sym units);
-        takes = λ r later sure.
-            let x = takes r sure.0 later sure.1 in record { rest = x.rest; first = x.first; sure = (sure.0, x.sure) };
+        takes = λ r one later sure.
+            let x = takes r sure.0 one later sure.1 in record { rest = x.rest; first = x.first; sure = (sure.0, x.sure) };
       } in
       record {
         calling = turns_calling local two proper turn old new t deeds on life a.places clear h.calling;
@@ -185,20 +213,21 @@ module _ (local : Local) (two : local.class2 ≡ true) (proper : AllProper) wher
       Tracked old.course.traffic.connections r ⊎ (waiting_for (Some r) (units_in old.coming) ≡ [])) →
       ((i : ℕ) (c : Connection) → slice_get old.course.traffic.connections i ≡ Some c → is_closing c.right.phase ≡ true →
       0 < c.left.reference → stage_at c.left.reference old.holding.end.carrier ≡ early →
-      Tracked old.course.traffic.connections c.left.reference) → IsClear old.course.traffic.course → StandsCalling deeds old →
+      Tracked old.course.traffic.connections c.left.reference) → IsOngoing old.course.traffic.course → StandsCalling deeds old →
       StandsCalling (λ r. then_did (deeds r) (on.more r)) new
   turns_stand_early turn old new t deeds on life units can marked quiet tracked clear h =
       let places = h.standing.all.places in
       let then_calling = turns_calling local two proper turn old new t deeds on life places clear h.calling in
       turns_stand turn old new t deeds on life units can marked
-      (λ r some later sure. calling_takes local two turn old new t deeds on h.calling then_calling clear places r some
-      (life r some) (quiet r some) later sure)
+      (λ r some one later sure. calling_takes local two turn old new t deeds on h.calling then_calling clear places r some
+      (life r some) (λ may. judged_or deeds old h r one (quiet r some may)) later sure)
       (turn_shut Left (may_take old.holding.end.carrier) (may_take new.holding.end.carrier) (units_in old.coming)
       (units_in new.coming) old.course.traffic old.course.sessions
-      (λ i c j r there here closing named live.
+      (λ i c j r there here judged closing named live.
       let some = (h.calling.ahead.below.live i j r here named).0 in
       let one = one_at old.course.traffic.connections old.course.sessions.live i c j places there here in
       let same : c.left.reference ≡ r = number_is c.left.reference r (ap (λ (n : ℕ). Some n) (sym one.calling) ∙ named) in
       calling_dr local two turn old new t deeds on h.calling then_calling clear places r some (life r some)
+      (λ may. judged_tracked deeds old h r i c j there here judged named
       (subst (λ (n : ℕ). 0 < n → stage_at n old.holding.end.carrier ≡ early → Tracked old.course.traffic.connections n) same
-      (tracked i c there closing) some) live) h.shut) clear h
+      (tracked i c there closing) some may)) live) h.shut) clear h

@@ -39,10 +39,10 @@ use Rattle.osi_watched.specs.Joint.{Joint, Steps, begin, begins_other, begins_ow
 use Rattle.osi_watched.proofs.a_carrier_does_events.{happen_join, none_of}
 use Rattle.osi_watched.proofs.steps_are_events.{IsFollowed, begin_followed, own_first}
 use Rattle.osi_watched.proofs.sessions.a_calling_end_hears_what_comes_until_class_2.{AreTaken, IsGone, IsNotTwo, IsWith, IsZeroAt}
-use Rattle.osi_watched.proofs.sessions.a_calling_end_hears_what_comes_until_class_2.{StandsEarly, known_below, no_crs, room_of}
+use Rattle.osi_watched.proofs.sessions.a_calling_end_hears_what_comes_until_class_2.{StandsEarly, known_below, no_crs}
 use Rattle.osi_watched.proofs.sessions.a_calling_end_hears_what_comes_until_class_2.{units_early, units_none_before}
 use Rattle.osi_watched.proofs.sessions.a_turn_does_what_its_deeds_say.{units_join}
-use Rattle.osi_watched.proofs.sessions.all_connections_stand.{AllStand, all_begin_other, all_begin_own, like_same, there_too}
+use Rattle.osi_watched.proofs.sessions.all_connections_stand.{AllStand, all_begin_other, all_begin_own, all_room, like_same}
 use Rattle.osi_watched.proofs.sessions.class_0_keeps_its_one_place.{HasOne, IsStill, one_begins, one_passes}
 use Rattle.osi_watched.proofs.sessions.connections_have_the_same_places.{unit_joins, unit_knows}
 use Rattle.osi_watched.proofs.sessions.crs_that_wait_are_above_those_that_passed.{AreAbove, above_along, passes_asked}
@@ -68,9 +68,10 @@ all_known deeds some more put b s t f a = record {
   apart = a.apart;
   judged = a.judged;
   room = a.room;
-  live = λ i c j there here.
+  live = λ i c j there here judged.
       stands_other_none Left deeds some more put b c c j j (like_same Left j) refl refl (λ r later named sure. f r later sure)
-      (a.live i c j there here);
+      (a.live i c j there here judged);
+  lost = a.lost;
   done = λ i j here. rests_on Left deeds some more j (λ r later named sure. f r later sure) (a.done i j here);
 }
 
@@ -169,7 +170,8 @@ module _ (local : Local) where
         apart = fresh_apart;
         judged = λ firm i c there. no_item i c there;
         room = refl;
-        live = λ i c j there here. no_item i c there;
+        live = λ i c j there here judged. no_item i c there;
+        lost = λ i c j there here lost. no_item i c there;
         done = λ i j here. absurd (cc here);
       };
       distinct = record {
@@ -380,8 +382,7 @@ module _ (local : Local) where
             (unit_distinct Left Left at unit old.course.traffic old.course.sessions h.early.all.places h.early.distinct
             (gives_new first at unit old mid step h.ahead)
             (λ i j here.
-            let (k, there) = there_too old.course.traffic.connections old.course.sessions.live i j h.early.all.places here in
-            room_of deeds (known_below b end coming) old.put old.begun k j (h.early.all.live i k j there here)))
+            all_room Left deeds (known_below b end coming) old.put old.begun old.course.traffic old.course.sessions h.early.all i j here))
 
         -- at references up to this one, if it is ready
         own_early : (n : ℕ) → AllStand Left deeds (known_below n end coming) old.put old.begun old.course.traffic old.course.sessions →

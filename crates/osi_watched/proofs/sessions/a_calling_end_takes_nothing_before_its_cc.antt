@@ -1,15 +1,15 @@
 -- A calling end takes no unit of a connection before its CC: of what comes for the connection, only DCs come before the CC, and after it no
--- other CC. So the end is calm in a turn before the connection opens.
+-- other CC if the connection is judged. So the end is calm in a turn before the connection opens.
 -- For all connections of an end and a tap.
 use Rattle.osi_watched.proofs.Vocabulary.{[], ap, append_assoc, Bool, inl, inr, List, None, Option, refl, Some, subst, sym, true, ℕ, ◌++◌}
 use Rattle.osi_watched.proofs.Vocabulary.{◌∙◌, ◌∷◌, ◌≡◌, ◌⊎◌, eq-eqb, append-nil, AllByRecursion, confirm, Connect, request, Value, Local}
 use Rattle.osi_watched.proofs.Vocabulary.{value_at, closing, Live, linked, Carrier, has_given, early, Time as Stage, stage_at, stage_is}
-use Rattle.osi_watched.proofs.Vocabulary.{all_units_more, Opens, all_units, Marked, Follows, IsClear, IsNoCc, Row, Tracked, first_kept}
+use Rattle.osi_watched.proofs.Vocabulary.{all_units_more, Opens, all_units, Marked, Follows, IsNoCc, Row, Tracked, first_kept}
 use Rattle.osi_watched.proofs.Vocabulary.{IsDc, first_left, names, picked_join, those, those_join, Line, Whole, acknowledge, data0, data2}
-use Rattle.osi_watched.proofs.Vocabulary.{disconnect, disconnected, error, false, ◌||◌}
+use Rattle.osi_watched.proofs.Vocabulary.{disconnect, disconnected, error, false, ◌||◌, slice_get, Connection, is_tracked}
 use Rattle.osi_honest.proofs.courses.how_long_a_connection_is_open.{is_dr}
 use Rattle.osi_fair.proofs.each_connection_has_its_line.{asks, closes, over, talks}
-use Rattle.osi_fair.proofs.what_the_other_side_closes.{going_on}
+use Rattle.osi_fair.proofs.what_the_other_side_closes.{IsOngoing}
 use Rattle.osi_watched.proofs.small_facts_that_many_lemmas_use.{amid_not, over_not, past_not}
 use Rattle.osi_watched.proofs.sessions.nothing_is_done_before_a_cr_passes.{IsNoZero, dcs_none}
 use Rattle.osi_watched.proofs.sessions.what_an_end_takes_at_each_stage.{AreCalm, AreReady, EndsEarly, dcs_before, dcs_first, opens_next}
@@ -19,7 +19,15 @@ use Rattle.osi_watched.proofs.sessions.what_stands_of_a_connection.{is_for, wait
 
 -- ---- what comes for a connection
 
--- DCs, then the CC, and no other CC
+-- DCs, then the CC
+pub record HasCc (r : ℕ) (coming : List Value) : Type 0 where
+  pub confirmed : Connect
+  pub before : List Value
+  pub after : List Value
+  pub is : those r coming ≡ before ++ confirm r confirmed ∷ after
+  pub only : AllByRecursion IsDc before
+
+-- and no other CC
 pub record AwaitsCc (r : ℕ) (coming : List Value) : Type 0 where
   pub confirmed : Connect
   pub before : List Value
@@ -50,14 +58,35 @@ module _ (local : Local) (c : Carrier) (r : ℕ) (given : has_given r c ≡ true
   row_awaits coming peer line calm (closes o there q e is those_are) = row_gone o q there e
   row_awaits coming peer line calm (over h) = over_not c.ended h lasts
 
--- of a whole end, as long as no connection has lost its judgement
-pub awaits_cc : (local : Local) (w : Whole) (r : ℕ) → Follows local w → IsClear w.tap.course → Tracked w.tap.connections r →
+  row_has : (coming : List Value) (peer : ℕ) (line : Line) → Row local c coming r peer line → HasCc r coming
+  row_has coming peer line (asks there x source two dcs only those_are link) =
+      record { confirmed = x; before = dcs; after = line.coming; is = those_are; only = only }
+  row_has coming peer line (talks link there is those_are) =
+      amid_not (stage_at r c) peer may (stage_is r c (Some (linked peer link)) true lasts given there)
+  row_has coming peer line (closes o there q e is those_are) = row_gone o q there e
+  row_has coming peer line (over h) = over_not c.ended h lasts
+
+-- the connection with this reference is open at the tap, and judged
+abbrev pub TrackedJudged : List Connection → ℕ → Type 0
+TrackedJudged cs r = (p : ℕ) × (c : Connection) × (slice_get cs p ≡ Some c) × (is_tracked c ≡ true) × (c.left.reference ≡ r)
+    × (c.is_judged ≡ true)
+
+-- of a whole end
+pub awaits_cc : (local : Local) (w : Whole) (r : ℕ) → Follows local w → IsOngoing w.tap.course → TrackedJudged w.tap.connections r →
     has_given r w.end ≡ true → stage_at r w.end ≡ early → w.end.ended ≡ None → AwaitsCc r w.coming
-awaits_cc local w r j clear (p, c, at, tracked, same) given may lasts =
-    let f = (j.followed (going_on w.tap.course clear)).lines p c at tracked in
+awaits_cc local w r j clear (p, c, at, tracked, same, judged) given may lasts =
+    let f = (j.followed clear).lines p c at tracked in
     let is : f.r ≡ r = sym f.left ∙ same in
-    row_awaits local w.end r given may lasts w.coming f.peer f.line
-    (f.calm (j.kept.sane.judged clear.sure.firm p c at))
+    row_awaits local w.end r given may lasts w.coming f.peer f.line (f.calm judged)
+    (subst (λ (q : ℕ). Row local w.end w.coming q f.peer f.line) is f.row)
+
+-- also of a connection that has lost its judgement
+pub has_cc : (local : Local) (w : Whole) (r : ℕ) → Follows local w → IsOngoing w.tap.course → Tracked w.tap.connections r →
+    has_given r w.end ≡ true → stage_at r w.end ≡ early → w.end.ended ≡ None → HasCc r w.coming
+has_cc local w r j clear (p, c, at, tracked, same) given may lasts =
+    let f = (j.followed clear).lines p c at tracked in
+    let is : f.r ≡ r = sym f.left ∙ same in
+    row_has local w.end r given may lasts w.coming f.peer f.line
     (subst (λ (q : ℕ). Row local w.end w.coming q f.peer f.line) is f.row)
 
 -- ---- a turn

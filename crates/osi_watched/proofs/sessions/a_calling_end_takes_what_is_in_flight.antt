@@ -1,20 +1,16 @@
 -- What a calling end takes in a turn at a connection is the first of what is left over for it, if its CC has passed the tap, or nothing of
 -- what has come is for it, or it can open no more. And a DR in flight to it stays there as long as the end has it open.
 -- For all connections of an end and a tap.
-use Rattle.std.proofs.Common.{◌≡◌, ◌∙◌, ◌⊎◌, inl, inr, refl, sym, ap, subst, ℕ, ◌<◌, ◌≤◌, Bool, true, List, [], ◌++◌}
+use Rattle.std.proofs.Common.{◌≡◌, ◌∙◌, ◌⊎◌, inl, inr, refl, sym, ap, subst, ℕ, ◌<◌, ◌≤◌, true, List, [], ◌++◌}
 use Rattle.std.proofs.Common.{Option, Some, None, arith, is_some}
-use Rattle.std.specs.Prelude.{◌&&◌, nat_le}
 use Rattle.std.specs.List.{AllByRecursion}
-use Rattle.std.proofs.lemmas.Bool.{le-leb, lt-ltb}
 use Rattle.osi_tpdu.specs.Value.{Value}
 use Rattle.osi_class.specs.Tsdus.{Part}
 use Rattle.osi_class.specs.declared.terms.Local.{Local}
 use Rattle.osi_carrier.specs.State.{State as Carrier}
 use Rattle.osi_carrier.specs.declared.ends.EndReason.{EndReason}
 use Rattle.osi_rules.specs.Traffic.{State}
-use Rattle.osi_stack.specs.Calls.{has_given}
-use Rattle.osi_fair.proofs.each_connection_has_its_line.{Tracked}
-use Rattle.osi_fair.proofs.what_the_other_side_closes.{IsClear}
+use Rattle.osi_fair.proofs.what_the_other_side_closes.{IsOngoing}
 use Rattle.osi_honest.specs.Courses.{Continues, Deeds, then_did, units_in}
 use Rattle.osi_honest.specs.Turns.{Turn}
 use Rattle.osi_honest.proofs.courses.how_long_a_connection_is_open.{Life, Stage, amid, early, past, stage_at, stage_over}
@@ -24,11 +20,11 @@ use Rattle.osi_watched.specs.ShownPlaces.{HaveSamePlaces}
 use Rattle.osi_watched.proofs.a_carrier_does_events.{none_of}
 use Rattle.osi_watched.proofs.small_facts_that_many_lemmas_use.{amid_not, past_not}
 use Rattle.osi_watched.proofs.sessions.a_calling_end_is_ready.{IsCalling, whole_joined}
-use Rattle.osi_watched.proofs.sessions.a_calling_end_takes_nothing_before_its_cc.{AwaitsCc, awaits_cc, calm_turn}
+use Rattle.osi_watched.proofs.sessions.a_calling_end_takes_nothing_before_its_cc.{AwaitsCc, TrackedJudged, awaits_cc, calm_turn}
 use Rattle.osi_watched.proofs.sessions.a_turn_does_what_its_deeds_say.{turn_uses}
 use Rattle.osi_watched.proofs.sessions.an_end_takes_what_is_left_for_it.{IsClean, dr_stays, left_takes, none_takes, was_live}
 use Rattle.osi_watched.proofs.sessions.connections_have_the_same_places.{at_same}
-use Rattle.osi_watched.proofs.sessions.nothing_is_done_before_a_cr_passes.{IsNoZero, may_take, same_units}
+use Rattle.osi_watched.proofs.sessions.nothing_is_done_before_a_cr_passes.{IsNoZero, given_so, may_take, same_units}
 use Rattle.osi_watched.proofs.sessions.what_an_end_takes_at_each_stage.{AreReady}
 use Rattle.osi_watched.proofs.sessions.what_is_left_for_an_end.{has_dr, known_left}
 use Rattle.osi_watched.proofs.sessions.what_stands_of_a_connection.{Takes, waiting_for}
@@ -44,38 +40,35 @@ early_lasts r c may = by c.ended refl
     by None e = e
     by (Some reason) e = early_not (stage_at r c) may (stage_over r c (ap is_some e))
 
-pub given_so : (r : ℕ) (c : Carrier) → 0 < r → r ≤ c.given → has_given r c ≡ true
-given_so r c some up = ap (λ (b : Bool). b && nat_le r c.given) (lt-ltb 0 r some) ∙ le-leb r c.given up
-
 module _ (local : Local) (two : local.class2 ≡ true) where
   -- at a connection whose CC has passed and that has not opened, what has come awaits the CC
-  pub joint_awaits : (deeds : ℕ → Deeds) (j : Joint) → IsCalling local two deeds j → IsClear j.course.traffic.course →
-      HaveSamePlaces j.course.traffic.connections j.course.sessions.live → (r : ℕ) → 0 < r → Tracked j.course.traffic.connections r →
-      stage_at r j.holding.end.carrier ≡ early → AwaitsCc r (units_in j.coming)
+  pub joint_awaits : (deeds : ℕ → Deeds) (j : Joint) → IsCalling local two deeds j → IsOngoing j.course.traffic.course →
+      HaveSamePlaces j.course.traffic.connections j.course.sessions.live → (r : ℕ) → 0 < r →
+      TrackedJudged j.course.traffic.connections r → stage_at r j.holding.end.carrier ≡ early → AwaitsCc r (units_in j.coming)
   joint_awaits deeds j h clear places r some tracked may =
       let f = h.ahead.followed in
       let lasts = early_lasts r j.holding.end.carrier may in
       let whole_lasts = none_of f.whole.end.ended (sym f.like.over ∙ ap is_some lasts) in
       let alike : stage_at r f.whole.end ≡ stage_at r j.holding.end.carrier = ap (stage_at r) (f.like.lasts whole_lasts) in
-      let (p, c, at, is, same) = tracked in
+      let (p, c, at, is, same, judged) = tracked in
       let (k, here, one) = at_same j.course.traffic.connections j.course.sessions.live p c places at in
       let low : r ≤ h.ahead.bound = (h.ahead.below.live p k r here (ap (λ (m : ℕ). Some m) (one.calling ∙ same))).1 in
       let most : h.ahead.bound ≤ f.whole.end.given = h.ahead.above.given in
       subst (AwaitsCc r) (f.coming lasts ∙ same_units j.coming)
-      (awaits_cc local f.whole r (whole_joined local two j f) (subst (λ (s : State). IsClear s.course) (sym f.tap) clear)
-      (subst (λ (s : State). Tracked s.connections r) (sym f.tap) tracked)
+      (awaits_cc local f.whole r (whole_joined local two j f) (subst (λ (s : State). IsOngoing s.course) (sym f.tap) clear)
+      (subst (λ (s : State). TrackedJudged s.connections r) (sym f.tap) tracked)
       (given_so r f.whole.end some (omega (arith, low, most))) (alike ∙ may) whole_lasts)
 
   module _ (turn : Turn) (old new : Joint) (t : TakesTurn turn old new) (deeds : ℕ → Deeds)
       (on : Continues true deeds old.holding turn new.holding) (h : IsCalling local two deeds old)
-      (then_h : IsCalling local two (λ r. then_did (deeds r) (on.more r)) new) (clear : IsClear old.course.traffic.course)
+      (then_h : IsCalling local two (λ r. then_did (deeds r) (on.more r)) new) (clear : IsOngoing old.course.traffic.course)
       (places : HaveSamePlaces old.course.traffic.connections old.course.sessions.live) (r : ℕ) (some : 0 < r)
       (life : Life true r (stage_at r old.holding.end.carrier) on.took on.put (stage_at r new.holding.end.carrier)) where
     abbrev stage : Stage
     stage = stage_at r old.holding.end.carrier
 
     -- a connection whose CC has passed
-    tracked_ready : Tracked old.course.traffic.connections r → stage ≡ early →
+    tracked_ready : TrackedJudged old.course.traffic.connections r → stage ≡ early →
         AreReady true r (IsClean r) (stage_at r new.holding.end.carrier) on.took
     tracked_ready tracked may =
         let s = turn_uses turn old new t true deeds on (early_lasts r old.holding.end.carrier may) in
@@ -84,17 +77,18 @@ module _ (local : Local) (two : local.class2 ≡ true) where
         (λ still. subst (λ (l : List Value). AwaitsCc r (l ++ units_in new.coming))
         (sym (s.all (early_lasts r new.holding.end.carrier still)))
         (joint_awaits (λ q. then_did (deeds q) (on.more q)) new then_h
-        (subst (λ (c : Course). IsClear c.traffic.course) (sym t.course) clear)
+        (subst (λ (c : Course). IsOngoing c.traffic.course) (sym t.course) clear)
         (subst (λ (c : Course). HaveSamePlaces c.traffic.connections c.sessions.live) (sym t.course) places) r some
-        (subst (λ (c : Course). Tracked c.traffic.connections r) (sym t.course) tracked) still))
+        (subst (λ (c : Course). TrackedJudged c.traffic.connections r) (sym t.course) tracked) still))
         (subst (AllByRecursion IsNoZero) s.coming h.zero)
 
-    pub calling_takes : (stage ≡ early → Tracked old.course.traffic.connections r ⊎ (waiting_for (Some r) (units_in old.coming) ≡ [])) →
+    pub calling_takes :
+        (stage ≡ early → TrackedJudged old.course.traffic.connections r ⊎ (waiting_for (Some r) (units_in old.coming) ≡ [])) →
         (later : List Part) → known_left (may_take old.holding.end.carrier) (units_in old.coming) r later →
         Takes (on.more r) later (known_left (may_take new.holding.end.carrier) (units_in new.coming) r)
     calling_takes known later sure = by stage refl
       where
-        early_by : Tracked old.course.traffic.connections r ⊎ (waiting_for (Some r) (units_in old.coming) ≡ []) →
+        early_by : TrackedJudged old.course.traffic.connections r ⊎ (waiting_for (Some r) (units_in old.coming) ≡ []) →
             Takes (on.more r) later (known_left (may_take new.holding.end.carrier) (units_in new.coming) r)
         early_by (inr none) =
             none_takes true turn old new t deeds on r some life none (λ still. early_lasts r old.holding.end.carrier still) later sure
@@ -106,7 +100,7 @@ module _ (local : Local) (two : local.class2 ≡ true) where
         by past is = left_takes true turn old new t deeds on r some life (λ may. past_not stage may is) later sure
 
     -- a DR in flight to a connection whose CC has passed stays there as long as the connection is open
-    pub calling_dr : (stage ≡ early → Tracked old.course.traffic.connections r) → may_take new.holding.end.carrier r ≡ true →
+    pub calling_dr : (stage ≡ early → TrackedJudged old.course.traffic.connections r) → may_take new.holding.end.carrier r ≡ true →
         (may_take old.holding.end.carrier r ≡ true) × (has_dr r (units_in old.coming) ≡ true → has_dr r (units_in new.coming) ≡ true)
     calling_dr tracked live = (
       was_live true turn old new t deeds on r some life live,

@@ -1,4 +1,4 @@
--- As long as nobody breaks a rule, a calling end that doesn't offer class 2 puts no DT unless class 0 is selected.
+-- As long as both sides are judged, a calling end that doesn't offer class 2 puts no DT unless class 0 is selected.
 -- For the law that no session of an end is blamed first.
 use Rattle.osi_watched.proofs.Vocabulary.{[], ap, false, List, Some, subst, sym, true, ◌∙◌, ◌∷◌, ◌≡◌, request, Value, Zero, Local}
 use Rattle.osi_watched.proofs.Vocabulary.{Traffic as State, Left, known, Holds, holds_first, holds_next, Event, HappenAlong, Whole}

@@ -1,7 +1,7 @@
--- A CC that is no break gives a reference that no connection has which the calling end has not closed. So none of the units that wait to
--- pass are for this reference: each of them is for a connection whose CC has passed.
+-- A CC that has its effect gives a reference that no connection has which the calling end has not closed. So none of the units that wait
+-- to pass are for this reference: each of them is for a connection whose CC has passed.
 -- For all connections of an end and a tap.
-use Rattle.std.proofs.Common.{◌≡◌, ◌∙◌, refl, sym, ap, ℕ, Bool, true, false, if◌then◌else◌, List, [], ◌∷◌, ◌++◌, Option, Some, None}
+use Rattle.std.proofs.Common.{◌≡◌, ◌∙◌, refl, sym, ap, ℕ, Bool, true, false, if◌then◌else◌, List, [], ◌∷◌, Option, Some, None}
 use Rattle.std.specs.Prelude.{◌==◌, ◌||◌, ◌&&◌, not, position, slice_get}
 use Rattle.std.specs.List.{AllByRecursion}
 use Rattle.std.proofs.lemmas.Bool.{eqb-true}
@@ -16,90 +16,83 @@ use Rattle.osi_rules.specs.declared.findings.Finding.TheVariants.{Broke, NotJudg
 use Rattle.osi_rules.specs.declared.findings.Rule.TheVariants as rule
 use Rattle.osi_rules.specs.declared.halves.Phase.{Phase}
 use Rattle.osi_rules.specs.declared.halves.Phase.TheVariants as phase
+use Rattle.osi_rules.specs.Reaches.{is_applied}
 use Rattle.osi_rules.specs.Rows.{first_failed, given_again, is_inside, is_offered}
 use Rattle.osi_rules.specs.Sides.{is_closing, is_named, is_open, is_silent, uses}
 use Rattle.osi_rules.specs.Traffic.{Outcome, State, at_found, at_place, class_for, found, found_on, is_stopped, none_told, route, route_in}
 use Rattle.osi_rules.specs.Traffic.{in_doubt, routed, takes, unnamed_by, uses_source}
-use Rattle.osi_fair.proofs.all_are_judged_unless_one_broke.{AreJudged}
 use Rattle.osi_fair.proofs.each_connection_has_its_line.{IsOwned, asking, is_tracked, of, stray}
 use Rattle.osi_fair.proofs.what_holds_of_one_item.{none_true}
-use Rattle.osi_fair.proofs.what_keeps_names_apart.{AreApart}
 use Rattle.osi_fair.proofs.which_units_are_for_a_connection.{picked_rest}
 use Rattle.osi_tap.specs.Connections.{Sessions}
 use Rattle.osi_watched.specs.ShownPlaces.{HaveSamePlaces, named_by}
-use Rattle.osi_watched.proofs.what_a_taker_passes_over.{IsMild}
-use Rattle.osi_watched.proofs.sessions.a_right_dt_has_one_place.{still_used}
+use Rattle.osi_watched.proofs.sessions.a_right_dt_has_one_place.{AreUsedApart, still_used}
 use Rattle.osi_watched.proofs.sessions.connections_have_the_same_places.{at_same}
-use Rattle.osi_watched.proofs.sessions.what_is_left_for_an_end.{known_left, left_same}
-use Rattle.osi_watched.proofs.sessions.what_passes_leaves_all_standing.{IsHeard}
 use Rattle.osi_watched.proofs.sessions.what_stands_of_a_connection.{is_for, waiting_for}
 use Rattle.osi_rules.specs.Traffic.{has_broken}
 
--- ---- a CC that is no break, or has too large a size
+-- ---- a CC that has its effect
 
-first_new : (v : Value) (a b i u loose z : Bool) → loose ≡ false →
-    IsMild v (first_failed ((a, Broke rule.WrongForm) ∷ (b, Broke rule.BadAnswer) ∷ (i, Outside)
-    ∷ (u, given_again loose) ∷ (z, Broke rule.LargerSize) ∷ [])) → u ≡ true
-first_new v false b i u loose z firm h = absurd h
-first_new v true false i u loose z firm h = absurd h
-first_new v true true false u loose z firm h = absurd h
-first_new v true true true false false z firm h = absurd h
-first_new v true true true false true z firm h = absurd (cc)
-first_new v true true true true loose z firm h = refl
+first_new : (a b i u loose z : Bool) → is_applied (first_failed ((a, Broke rule.WrongForm) ∷ (b, Broke rule.BadAnswer) ∷ (i, Outside)
+    ∷ (u, given_again loose) ∷ (z, Broke rule.LargerSize) ∷ [])) ≡ true → u ≡ true
+first_new false b i u loose z h = absurd (cc h)
+first_new true false i u loose z h = absurd (cc h)
+first_new true true false u loose z h = absurd (cc h)
+first_new true true true false false z h = absurd (cc h)
+first_new true true true false true z h = absurd (cc h)
+first_new true true true true loose z h = refl
 
 not_so : (b : Bool) → not b ≡ true → b ≡ false
 not_so true h = absurd (cc)
 not_so false h = refl
 
-module _ (n : ℕ) (x : Connect) (s : State) (firm : s.course.loose ≡ false) (judged : AreJudged s) where
+module _ (n : ℕ) (x : Connect) (s : State) where
   abbrev IsNew : Type 0
   IsNew = uses_source way.Right s.connections (confirm n x) ≡ false
 
-  cc_on : (c : Connection) → c.is_judged ≡ true → IsMild (confirm n x) (found_on way.Right s c (confirm n x)) → IsNew
-  cc_on c is none = by c.is_judged is none
+  cc_on : (c : Connection) → is_applied (found_on way.Right s c (confirm n x)) ≡ true → IsNew
+  cc_on c applied = by c.is_judged applied
     where
-      by : (b : Bool) → b ≡ true →
-          IsMild (confirm n x) (if b then found way.Right s.course (uses_source way.Right s.connections (confirm n x)) c
-          (confirm n x) else NotJudged) →
-          IsNew
-      by true h k =
+      by : (b : Bool) → is_applied (if b then found way.Right s.course (uses_source way.Right s.connections (confirm n x)) c
+          (confirm n x) else NotJudged) ≡ true → IsNew
+      by true k =
           not_so (uses_source way.Right s.connections (confirm n x))
-          (first_new (confirm n x) (is_silent c.right.phase) (is_offered c.offer s.course.class x) (is_inside x)
-          (not (uses_source way.Right s.connections (confirm n x))) s.course.loose _ firm k)
-      by false h k = absurd (cc)
+          (first_new (is_silent c.right.phase) (is_offered c.offer s.course.class x) (is_inside x)
+          (not (uses_source way.Right s.connections (confirm n x))) s.course.loose _ k)
+      by false k = absurd (cc k)
 
-  cc_nowhere : {A : Type 0} (loose strays : Bool) → loose ≡ false →
-      IsMild (confirm n x) (if loose then in_doubt (unnamed_by strays (confirm n x)) else unnamed_by strays (confirm n x)) → A
-  cc_nowhere true strays h none = absurd (cc)
-  cc_nowhere false true h none = absurd none
-  cc_nowhere false false h none = absurd none
+  cc_nowhere : {A : Type 0} (loose strays : Bool) →
+      is_applied (if loose then in_doubt (unnamed_by strays (confirm n x)) else unnamed_by strays (confirm n x)) ≡ true → A
+  cc_nowhere true true h = absurd (cc h)
+  cc_nowhere true false h = absurd (cc h)
+  cc_nowhere false true h = absurd (cc h)
+  cc_nowhere false false h = absurd (cc h)
 
-  cc_here : (i : ℕ) (o : Option Connection) → slice_get s.connections i ≡ o →
-      IsMild (confirm n x) (at_found way.Right (confirm n x) s i o).told.finding → IsNew
-  cc_here i None e none = cc_nowhere s.course.loose s.course.strays firm none
-  cc_here i (Some c) e none = cc_on c (judged firm i c e) none
+  cc_here : (i : ℕ) (o : Option Connection) → is_applied (at_found way.Right (confirm n x) s i o).told.finding ≡ true → IsNew
+  cc_here i None applied = cc_nowhere s.course.loose s.course.strays applied
+  cc_here i (Some c) applied = cc_on c applied
 
-  cc_any : (o : Option ℕ) → IsMild (confirm n x) (at_place way.Right (confirm n x) s o).told.finding → IsNew
-  cc_any None none = cc_nowhere s.course.loose s.course.strays firm none
-  cc_any (Some i) none = cc_here i (slice_get s.connections i) refl none
+  cc_any : (o : Option ℕ) → is_applied (at_place way.Right (confirm n x) s o).told.finding ≡ true → IsNew
+  cc_any None applied = cc_nowhere s.course.loose s.course.strays applied
+  cc_any (Some i) applied = cc_here i (slice_get s.connections i) applied
 
   cc_routed : (k : Option Class) (b : Bool) →
-      IsMild (confirm n x) (routed way.Right (confirm n x) s (route_in k way.Right b (confirm n x))).told.finding → IsNew
-  cc_routed None b none = cc_any (position (is_named way.Right n) s.connections) none
-  cc_routed (Some Zero) true none = absurd none
-  cc_routed (Some Zero) false none = absurd none
-  cc_routed (Some Two) b none = cc_any (position (is_named way.Right n) s.connections) none
+      is_applied (routed way.Right (confirm n x) s (route_in k way.Right b (confirm n x))).told.finding ≡ true → IsNew
+  cc_routed None b applied = cc_any (position (is_named way.Right n) s.connections) applied
+  cc_routed (Some Zero) true applied = absurd (cc applied)
+  cc_routed (Some Zero) false applied = absurd (cc applied)
+  cc_routed (Some Two) b applied = cc_any (position (is_named way.Right n) s.connections) applied
 
-  goes_on : (b : Bool) (o : Outcome) → b ≡ false → IsMild (confirm n x) (if b then none_told way.Right NotJudged s else o).told.finding →
-      IsMild (confirm n x) o.told.finding
-  goes_on true o h none = absurd (cc)
-  goes_on false o h none = none
+  cc_goes : (b : Bool) (o : Outcome) → is_applied (if b then none_told way.Right NotJudged s else o).told.finding ≡ true →
+      is_applied o.told.finding ≡ true
+  cc_goes true o applied = absurd (cc applied)
+  cc_goes false o applied = applied
 
-  pub cc_new : is_stopped way.Right s.course ≡ false → IsMild (confirm n x) (takes way.Right (confirm n x) s).told.finding →
+  pub cc_new : is_applied (takes way.Right (confirm n x) s).told.finding ≡ true →
       uses_source way.Right s.connections (confirm n x) ≡ false
-  cc_new goes none =
+  cc_new applied =
       cc_routed (class_for way.Right s.course) (has_broken way.Left s.course)
-      (goes_on (is_stopped way.Right s.course) (routed way.Right (confirm n x) s (route way.Right s.course (confirm n x))) goes none)
+      (cc_goes (is_stopped way.Right s.course) (routed way.Right (confirm n x) s (route way.Right s.course (confirm n x))) applied)
 
 -- ---- so no connection that is open has its reference
 
@@ -135,9 +128,8 @@ for_another n m (data2 k number end user) e other = unlike k n (k == n) refl (λ
 for_another n m (acknowledge credit k number) e other = unlike k n (k == n) refl (λ same. other (sym (some_same k m e) ∙ same))
 for_another n m (error k cause) e other = refl
 
-module _ (n : ℕ) (x : Connect) (s : State) (t : Sessions) (firm : s.course.loose ≡ false) (judged : AreJudged s)
-    (places : HaveSamePlaces s.connections t.live) (apart : AreApart s.connections) (goes : is_stopped way.Right s.course ≡ false)
-    (none : IsMild (confirm n x) (takes way.Right (confirm n x) s).told.finding) where
+module _ (n : ℕ) (x : Connect) (s : State) (t : Sessions) (places : HaveSamePlaces s.connections t.live)
+    (apart : AreUsedApart Left s.connections) (applied : is_applied (takes way.Right (confirm n x) s).told.finding ≡ true) where
   pub none_open : (i : ℕ) (c : Connection) → slice_get s.connections i ≡ Some c → is_tracked c ≡ true →
       c.right.reference ≡ x.source → ⊥
   none_open i c there tracked same =
@@ -146,8 +138,8 @@ module _ (n : ℕ) (x : Connect) (s : State) (t : Sessions) (firm : s.course.loo
       let named : j.called ≡ Some x.source =
       one.called ∙ named_tracked c.right.phase c.right.reference answered ∙ ap (λ (m : ℕ). Some m) same in
       differ (uses way.Right x.source c)
-      (still_used Left x.source c j one (apart.sound i c there (judged firm i c there)) live named)
-      (none_true (λ (k : Connection). uses way.Right x.source k) s.connections i c (cc_new n x s firm judged goes none) there)
+      (still_used Left x.source c j one (apart.sound i c there) live named)
+      (none_true (λ (k : Connection). uses way.Right x.source k) s.connections i c (cc_new n x s applied) there)
 
   owned_not : (v : Value) → IsOwned s v → is_for (Some x.source) v ≡ false
   owned_not v (asking y is) = ap (is_for (Some x.source)) is
@@ -158,8 +150,3 @@ module _ (n : ℕ) (x : Connect) (s : State) (t : Sessions) (firm : s.course.loo
   pub nothing_waits : (put : List Value) → AllByRecursion (λ (v : Value). IsOwned s v) put → waiting_for (Some x.source) put ≡ []
   nothing_waits [] h = refl
   nothing_waits (v ∷ put) h = picked_rest (is_for (Some x.source)) v put (owned_not v h.0) ∙ nothing_waits put h.1
-
-  -- what waits are the units of a whole end, or units that are for the same connections
-  pub cc_heard : (is_live : ℕ → Bool) (coming put : List Value) → waiting_for (Some x.source) put ≡ [] →
-      IsHeard Left (known_left is_live coming) (known_left is_live (coming ++ confirm n x ∷ [])) (confirm n x) put s t
-  cc_heard is_live coming put unheard = (unheard, λ r later sure. left_same is_live coming (confirm n x) r later refl sure)

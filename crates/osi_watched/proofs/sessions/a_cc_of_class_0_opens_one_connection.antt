@@ -213,9 +213,9 @@ module _ (n : ℕ) (x : Connect) (at : ℕ) (c : Course) (places : HaveSamePlace
     opened_by : Does side.Right at unit s t (takes Right unit s) → HasOne side.Left n gone (takes Right unit s).state
         (taken side.Right at unit (takes Right unit s).told.meaning (takes Right unit s).told.place t)
     opened_by (nowhere place cs ts) = no_place (takes Right unit s).told.place effect.place place effect.told
-    opened_by (somewhere p k j false y place there here one finding is cs ts) =
+    opened_by (somewhere p k j false y place there here one finding is far cs ts) =
         differ (is_applied (takes Right unit s).told.finding) effect.applied (ap is_applied finding ∙ is)
-    opened_by (somewhere p k j true y place there here one finding is cs ts) =
+    opened_by (somewhere p k j true y place there here one finding is far cs ts) =
         let mine : reference_of side.Left j ≡ Some n =
         joined_named side.Right unit c n p k j places refl place there (judged firm p k there) here in
         let new : Connection = connection_after Right unit true y k in
@@ -233,7 +233,7 @@ module _ (n : ℕ) (x : Connect) (at : ℕ) (c : Course) (places : HaveSamePlace
               rest q within (λ e. distinct.done p i j z n here at_z mine (named ∙ ap (λ (m : ℕ). Some m) e));
         })
     opened_by (asks_more y is number cs ts) = absurd (cc is)
-    opened_by (asks_again y is number p k here cs ts) = absurd (cc is)
+    opened_by (asks_again y is number p k here free cs ts) = absurd (cc is)
 
     pub cc_opens : HasOne side.Left n gone (takes Right unit s).state
         (taken side.Right at unit (takes Right unit s).told.meaning (takes Right unit s).told.place t)
@@ -259,9 +259,9 @@ module _ (n : ℕ) (x : Connect) (at : ℕ) (c : Course) (places : HaveSamePlace
     answered_by : Does side.Right at unit s t (takes Right unit s) → HasOne side.Right x.source gone (takes Right unit s).state
         (taken side.Right at unit (takes Right unit s).told.meaning (takes Right unit s).told.place t)
     answered_by (nowhere place cs ts) = no_place (takes Right unit s).told.place effect.place place effect.told
-    answered_by (somewhere p k j false y place there here one finding is cs ts) =
+    answered_by (somewhere p k j false y place there here one finding is far cs ts) =
         differ (is_applied (takes Right unit s).told.finding) effect.applied (ap is_applied finding ∙ is)
-    answered_by (somewhere p k j true y place there here one finding is cs ts) =
+    answered_by (somewhere p k j true y place there here one finding is far cs ts) =
         let new : Connection = connection_after Right unit true y k in
         let next : Joined = joined.opened x.source (joined.class_of unit) j in
         subst (HasOne side.Right x.source gone (takes Right unit s).state) (sym ts) (record {
@@ -274,7 +274,7 @@ module _ (n : ℕ) (x : Connect) (at : ℕ) (c : Course) (places : HaveSamePlace
           done = λ i z q at_z named. no_name (reference_of side.Right z) q (none_done i z at_z) named;
         })
     answered_by (asks_more y is number cs ts) = absurd (cc is)
-    answered_by (asks_again y is number p k here cs ts) = absurd (cc is)
+    answered_by (asks_again y is number p k here free cs ts) = absurd (cc is)
 
     pub cc_answers : HasOne side.Right x.source gone (takes Right unit s).state
         (taken side.Right at unit (takes Right unit s).told.meaning (takes Right unit s).told.place t)

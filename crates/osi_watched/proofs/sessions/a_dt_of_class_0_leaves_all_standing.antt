@@ -1,9 +1,11 @@
 -- What passes of class 0 leaves all connections of an end standing at a tap: a unit of the end that is no break, and one of the other
 -- side that is none or is passed over. For the session of the connection of an end in class 0.
-use Rattle.std.proofs.Common.{◌≡◌, ◌∙◌, inl, inr, refl, sym, ap, subst, ℕ, Bool, true, false, List, [], ◌∷◌, ◌++◌, Some, None}
+use Rattle.std.proofs.Common.{◌≡◌, ◌∙◌, arith, Option, inl, inr, refl, sym, ap, subst, ℕ, Bool, true, false, List, [], ◌∷◌, ◌++◌, Some}
+use Rattle.std.proofs.Common.{None}
 use Rattle.std.specs.Prelude.{is_some, slice_get}
 use Rattle.osi_tpdu.specs.Value.{Value, acknowledge, confirm, data0, data2, disconnect, disconnected, error, request}
 use Rattle.osi_class.specs.Tsdus.{Part}
+use Rattle.osi_class.specs.declared.terms.Class.{Class}
 use Rattle.osi_class.specs.declared.terms.Class.TheVariants.{Zero}
 use Rattle.osi_judge.specs.Captures.{other}
 use Rattle.osi_judge.specs.declared.directions.Direction.{Direction}
@@ -13,8 +15,9 @@ use Rattle.osi_rules.specs.declared.directions.Direction.TheVariants as way
 use Rattle.osi_rules.specs.declared.findings.Finding.{Finding}
 use Rattle.osi_rules.specs.declared.findings.Finding.TheVariants.{Kept}
 use Rattle.osi_rules.specs.declared.findings.Reach.{Reach}
+use Rattle.osi_rules.specs.declared.findings.Reach.TheVariants as reach
 use Rattle.osi_rules.specs.declared.halves.Half.{Half}
-use Rattle.osi_rules.specs.Reaches.{is_applied}
+use Rattle.osi_rules.specs.Reaches.{is_applied, reach_of}
 use Rattle.osi_rules.specs.Sides.{is_open, own}
 use Rattle.osi_rules.specs.Sides as sides
 use Rattle.osi_rules.specs.Traffic.{Outcome, State, class_for, connection_after, is_stopped, meaning_if, meant, route_zero, routed, takes}
@@ -24,12 +27,13 @@ use Rattle.osi_tap.specs.Connections.{Joined, Sessions, reference_of}
 use Rattle.osi_tap.specs.Connections as joined
 use Rattle.osi_tap.specs.Courses.{Course, unit_passes, way_of}
 use Rattle.osi_watched.specs.ShownPlaces.{IsOneOf}
+use Rattle.osi_watched.proofs.a_break_ends_no_judging_or_all.{takes_reach}
 use Rattle.osi_watched.proofs.the_first_break_is_not_of_an_end.{IsNoBreak}
 use Rattle.osi_watched.proofs.what_a_taker_passes_over.{IsMild, applied_of, mild_of}
 use Rattle.osi_watched.proofs.sessions.a_dt_of_class_0_has_one_place.{IsOnly, both_named, dt_takes, open_there, other_none, zero_takes}
 use Rattle.osi_watched.proofs.sessions.a_dt_that_is_no_break_is_right.{IsClear, dt_clear}
 use Rattle.osi_watched.proofs.sessions.a_right_dt_has_one_place.{zero_placed}
-use Rattle.osi_watched.proofs.sessions.all_connections_stand.{AllStand, Leaves, all_after, like_same, other_after, own_after}
+use Rattle.osi_watched.proofs.sessions.all_connections_stand.{AllStand, Leaves, Loses, all_after, like_same, other_after, own_after}
 use Rattle.osi_watched.proofs.sessions.connections_have_the_same_places.{unit_joins, unit_knows}
 use Rattle.osi_watched.proofs.sessions.right_units_leave_all_standing.{StaysElsewhere, other_close, own_close, rests_on}
 use Rattle.osi_watched.proofs.sessions.what_a_tap_shows_goes_on.{named_added}
@@ -95,10 +99,10 @@ own_dt : (d : Direction) (deeds : ℕ → Deeds) (known : Known) (at : ℕ) (end
     Leaves d deeds known known (data0 end user ∷ rest) rest true false d at (data0 end user) s t
 own_dt d deeds known at end user rest s t a z kept = record {
   all = λ e c j h. no_place _ (sym (zero_placed (way_of d) end user s kept).told ∙ e);
-  elsewhere = λ p i first c k j apart place there one at_k finding at_c at_j another h.
+  elsewhere = λ p i first c k j apart place there one at_k finding at_c at_j another judged h.
       stands_elsewhere d deeds known (data0 end user) rest true c j
       (elsewhere_none d d deeds known (data0 end user ∷ rest) true end user s t a z p i c j apart place at_c another) h;
-  here = λ p c j x r place there at_j one finding is h.
+  here = λ p c j x r place there at_j one finding is far on judged h.
       by x (sym (ap is_applied (sym finding ∙ kept)) ∙ is) p c j r one
       (here_open d d deeds known (data0 end user ∷ rest) true end user s t a z p c place there) h;
   asked_so = λ x number is. absurd (cc);
@@ -136,9 +140,9 @@ other_dt : (d : Direction) (deeds : ℕ → Deeds) (known then_known : Known) (a
     Leaves d deeds known then_known put put b b (other d) at (data0 end user) s t
 other_dt d deeds known then_known at end user put b s t a z applied g = record {
   all = λ e c j h. no_place _ (sym (told_there d (other d) deeds known put b end user s t a z) ∙ e);
-  elsewhere = λ p i first c k j apart place there one at_k finding at_c at_j another h.
+  elsewhere = λ p i first c k j apart place there one at_k finding at_c at_j another judged h.
       stands_other_none d deeds known then_known put b c c j j (like_same d j) refl refl (g.stays.live p i j apart place at_j) h;
-  here = λ p c j x r place there at_j one finding is h.
+  here = λ p c j x r place there at_j one finding is far on judged h.
       by x (sym applied ∙ ap is_applied finding ∙ is) p c j r place at_j one
       (here_open d (other d) deeds known put b end user s t a z p c place there) h;
   asked_so = λ x number is. absurd (cc);
@@ -198,6 +202,15 @@ is_break e v s z h mild =
 own_break : {A : Type 0} (e : Direction) (v : Value) (s : State) → IsZero e s → Breaks v → IsNoBreak (takes (way_of e) v s).told.finding → A
 own_break e v s z h none = is_break e v s z h (mild_of v (takes (way_of e) v s).told.finding none)
 
+-- none loses its judgement
+zero_part : (k : Option Class) (f : Finding) → k ≡ Some Zero → reach_of k f ≡ reach.Connection → ⊥
+zero_part k f zero h = grind arith
+
+zero_loses : (d e : Direction) (v : Value) (s : State) (t : Sessions) → IsZero e s → Loses d e v s t
+zero_loses d e v s t z p c j place there here one judged far =
+    absurd (zero_part (class_for (way_of e) s.course) (takes (way_of e) v s).told.finding z.zero
+    (sym (takes_reach (way_of e) v s).far ∙ far))
+
 -- ---- a unit of the end
 
 own_goes : (d : Direction) (deeds : ℕ → Deeds) (known : Known) (at : ℕ) (v : Value) (rest : List Value) (s : State) (t : Sessions) →
@@ -224,7 +237,7 @@ own_stands d deeds known at v rest c z none a =
     subst (λ (s : State). AllStand d deeds known rest false s (unit_passes d at v c).sessions) (sym (unit_knows d at v c))
     (subst (λ (t : Sessions). AllStand d deeds known rest false (takes (way_of d) v c.traffic).state t) (sym (unit_joins d at v c))
     (all_after d deeds known known (v ∷ rest) rest true false d at v c.traffic c.sessions a
-    (own_goes d deeds known at v rest c.traffic c.sessions z none a)))
+    (own_goes d deeds known at v rest c.traffic c.sessions z none a) (zero_loses d d v c.traffic c.sessions z)))
 
 -- ---- a unit of the other side
 
@@ -262,4 +275,5 @@ other_stands d deeds known then_known at v put b c z mild heard a =
     (subst (λ (t : Sessions). AllStand d deeds then_known put b (takes (way_of (other d)) v c.traffic).state t)
     (sym (unit_joins (other d) at v c))
     (all_after d deeds known then_known put put b b (other d) at v c.traffic c.sessions a
-    (other_goes d deeds known then_known at v put b c.traffic c.sessions z mild heard a)))
+    (other_goes d deeds known then_known at v put b c.traffic c.sessions z mild heard a)
+    (zero_loses d (other d) v c.traffic c.sessions z)))

@@ -50,7 +50,7 @@ two_clear d c number octets = clear_tests (data2_tests d c number octets) (
 zero_clear : (d : Way) (c : Connection) (octets : ℕ) → IsClear (first_failed (data0_tests d c octets))
 zero_clear d c octets = clear_tests (data0_tests d c octets) ((rule.TsduTooLong, refl), ((rule.SizeExceeded, refl), tt))
 
-found_two : (d : Way) (n number : ℕ) (end : Bool) (user : List ℕ) (course : Rules) (in_use : Bool) (c : Connection) →
+pub found_two : (d : Way) (n number : ℕ) (end : Bool) (user : List ℕ) (course : Rules) (in_use : Bool) (c : Connection) →
     IsClear (found d course in_use c (data2 n number end user))
 found_two way.Left n number end user course in_use c = two_clear way.Left c number (length user)
 found_two way.Right n number end user course in_use c = two_clear way.Right c number (length user)

@@ -25,7 +25,7 @@ use Rattle.osi_rules.specs.Sides as sides
 use Rattle.osi_rules.specs.Sides.{begins, is_open, own}
 use Rattle.osi_rules.specs.Traffic as traffic
 use Rattle.osi_rules.specs.Traffic.{Outcome, State, class_for, connection_after, found_on, is_stopped, none_told, one_told, route, route_in}
-use Rattle.osi_rules.specs.Traffic.{routed, takes}
+use Rattle.osi_rules.specs.Traffic.{has_broken, routed, takes}
 use Rattle.osi_fair.specs.Wholes as wholes
 use Rattle.osi_fair.proofs.a_dt_of_class_zero_passes.{unlike}
 use Rattle.osi_fair.proofs.what_the_other_side_closes.{IsFirm}
@@ -153,7 +153,7 @@ none_kept d (Some Zero) b end user s h = refl
 kept_zero : (d : Direction) (end : Bool) (user : List ℕ) (s : State) → is_stopped (way_of d) s.course ≡ false →
     (takes (way_of d) (data0 end user) s).told.finding ≡ Kept → class_for (way_of d) s.course ≡ Some Zero
 kept_zero d end user s goes kept =
-    none_kept d (class_for (way_of d) s.course) (is_stopped (sides.other (way_of d)) s.course) end user s
+    none_kept d (class_for (way_of d) s.course) (has_broken (sides.other (way_of d)) s.course) end user s
     (ap (λ (b : Bool). (if b then none_told (way_of d) NotJudged s
     else routed (way_of d) (data0 end user) s (route (way_of d) s.course (data0 end user))).told.finding) (sym goes) ∙ kept)
 

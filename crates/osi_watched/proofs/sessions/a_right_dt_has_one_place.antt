@@ -32,6 +32,9 @@ use Rattle.osi_rules.specs.Traffic.{in_doubt, is_report, route, route_in, routed
 use Rattle.osi_rules.specs.Traffic as traffic
 use Rattle.osi_fair.specs.Naming.{packet, rubbish, unit}
 use Rattle.osi_fair.proofs.a_reference_names_one_connection.{fresh_apart, passes_apart}
+use Rattle.osi_fair.proofs.all_are_judged_unless_one_broke.{IsJudged}
+use Rattle.osi_fair.proofs.names_stay_apart_though_one_is_lost.{AreNamedApart, OnlyOne, each_sound}
+use Rattle.osi_fair.proofs.what_holds_of_one_item.{HoldsOfEach}
 use Rattle.osi_fair.proofs.what_keeps_names_apart.{AreApart, Sound}
 use Rattle.osi_tap.specs.declared.marks.Cause.{Cause}
 use Rattle.osi_tap.specs.Connections.{Joined, reference_of, user_of}
@@ -85,7 +88,7 @@ never_known false (acknowledge credit n number) h = absurd (cc)
 never_known true (error n cause) h = absurd (cc)
 never_known false (error n cause) h = absurd (cc)
 
-never_unnamed : {A : Type 0} (reports loose strays : Bool) (v : Value) →
+pub never_unnamed : {A : Type 0} (reports loose strays : Bool) (v : Value) →
     is_applied (if reports then NotJudged else (if loose then in_doubt (unnamed_by strays v) else unnamed_by strays v)) ≡ true → A
 never_unnamed true loose strays v h = absurd (cc)
 never_unnamed false true strays v h = never_known strays v (doubt_applied (unnamed_by strays v) h)
@@ -333,3 +336,54 @@ one_place Left n p q c e j k cs apart there here judged so one another live live
 one_place Right n p q c e j k cs apart there here judged so one another live lives is same =
     apart.used_left n p q c e there here judged so (still_used Right n c j one (apart.sound p c there judged) live is)
     (still_used Right n e k another (apart.sound q e here so) lives same)
+
+-- ---- also of connections that have lost their judgement
+
+-- one connection at most has a reference of the other side that is in use
+pub record AreUsedApart (d : Direction) (cs : List Connection) : Type 0 where
+  pub sound : HoldsOfEach Sound cs
+  pub used : (n : ℕ) → OnlyOne (uses (way_of (other d)) n) cs
+
+pub judged_apart : (d : Direction) (cs : List Connection) → AreApart cs → HoldsOfEach IsJudged cs → AreUsedApart d cs
+judged_apart Left cs apart judged = record {
+  sound = λ i c at. apart.sound i c at (judged i c at);
+  used = λ n i j c e at there fc fe. apart.used_right n i j c e at there (judged i c at) (judged j e there) fc fe;
+}
+judged_apart Right cs apart judged = record {
+  sound = λ i c at. apart.sound i c at (judged i c at);
+  used = λ n i j c e at there fc fe. apart.used_left n i j c e at there (judged i c at) (judged j e there) fc fe;
+}
+
+pub named_apart : (d : Direction) (cs : List Connection) → AreApart cs → AreNamedApart (way_of (other d)) cs → AreUsedApart d cs
+named_apart d cs apart named = record { sound = each_sound (way_of (other d)) cs apart named; used = λ n. named.used n }
+
+lost_uses : (j over silent same : Bool) → j ≡ false → silent ≡ false → same ≡ true → (not (j && over) && (not silent && same)) ≡ true
+lost_uses true over silent same a b c = absurd (cc)
+lost_uses false over silent same a b c = rw (b, c) refl
+
+-- a lost connection leaves the references in use that it has
+lost_used : (d : Direction) (n : ℕ) (c : Connection) (j : Joined) → IsOneOf c j → c.is_judged ≡ false →
+    reference_of (other d) j ≡ Some n → uses (way_of (other d)) n c ≡ true
+lost_used Left n c j h lost is =
+    let (same, silent, refused) = given_of c.right.phase c.right.reference n (sym h.called ∙ is) in
+    lost_uses c.is_judged (is_over_by c.right c.seen_by_right) (is_silent c.right.phase) (c.right.reference == n) lost silent
+    (eq-eqb c.right.reference n same)
+lost_used Right n c j h lost is =
+    let (silent, refused) = asked_of c.left.phase h.asks in
+    lost_uses c.is_judged (is_over_by c.left c.seen_by_left) (is_silent c.left.phase) (c.left.reference == n) lost silent
+    (eq-eqb c.left.reference n (sym h.calling ∙ same_number j.calling n is))
+
+module _ (d : Direction) (n p q : ℕ) (c e : Connection) (j k : Joined) (cs : List Connection) (apart : AreUsedApart d cs)
+    (there : slice_get cs p ≡ Some c) (here : slice_get cs q ≡ Some e) (one : IsOneOf c j) (another : IsOneOf e k)
+    (is : reference_of (other d) j ≡ Some n) (same : reference_of (other d) k ≡ Some n)
+    (lives : is_open (own (way_of d) e).phase ≡ true) where
+  -- two places that a side has open
+  pub one_use : is_open (own (way_of d) c).phase ≡ true → p ≡ q
+  one_use live =
+      apart.used n p q c e there here (still_used d n c j one (apart.sound p c there) live is)
+      (still_used d n e k another (apart.sound q e here) lives same)
+
+  -- or one of which the connection is lost
+  pub lost_use : c.is_judged ≡ false → p ≡ q
+  lost_use lost =
+      apart.used n p q c e there here (lost_used d n c j one lost is) (still_used d n e k another (apart.sound q e here) lives same)

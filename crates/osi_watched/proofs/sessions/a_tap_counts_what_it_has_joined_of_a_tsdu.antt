@@ -301,7 +301,7 @@ module _ (d : Direction) (at : ℕ) (v : Value) (s : State) (t : Sessions) (a : 
         (ap (λ (x : Sessions). slice_get x.live i) (sym left) ∙ here);
     room = ap (λ (x : Sessions). x.room) left ∙ a.room;
   }
-  unit_counts (somewhere p c j b r place there here one finding is same left) = record {
+  unit_counts (somewhere p c j b r place there here one finding is far same left) = record {
     places = then_places;
     each = λ i x y at_there at_here.
         at_change p (connection_after (way_of d) v b r c) (joined.meant d at v (meaning_if b (meant v)) j)
@@ -318,7 +318,7 @@ module _ (d : Direction) (at : ℕ) (v : Value) (s : State) (t : Sessions) (a : 
         (ap (λ (w : Sessions). slice_get w.live i) (sym left) ∙ here);
     room = ap (λ (x : Sessions). x.room) left ∙ a.room;
   }
-  unit_counts (asks_again x request_is number p j was same left) = record {
+  unit_counts (asks_again x request_is number p j was free same left) = record {
     places = then_places;
     each = λ i y z there here.
         at_change p (asked_by x) (asked number x.source t.room) (asked_counted x number) i y z

@@ -106,7 +106,10 @@ module _ (local : Local) (j : Joint) (f : IsFollowed Right (first local) j) (n :
       StandsCalledEarly deeds r end units begun coming j.course → (x.class ≡ 2 → ⊥) → Selecting local f.whole
   selects can sure class deeds r end units begun coming e not =
       by (answers_or_selects local j f can
-      (record { sure = sure; two = λ zero_is. none_some j.course.traffic.course.class Zero class zero_is }) e.all.places)
+      (record {
+        sure = record { left = sure.left; right = sure.right };
+        two = λ zero_is. none_some j.course.traffic.course.class Zero class zero_is;
+      }) e.all.places)
     where
       by : AllByRecursion AnswersTwo j.put ⊎ Selecting local f.whole → Selecting local f.whole
       by (inl two) = absurd (not (subst (AllByRecursion AnswersTwo) put two).0)
@@ -229,7 +232,7 @@ module _ (local : Local) (proper : AllProper) (turn : Turn) (old new : Joint) (t
     turns_so : Turns Right on.more (known_one x.source end coming) (known_one x.source then_end then_coming) t.units s old.course.sessions
     turns_so = record {
       puts = λ i c j q there here mine live. none_named (reference_of Right j) q mine ((e.uncalled class).live i j here);
-      takes = λ q later known.
+      takes = λ q one later known.
           let k = turn_takes false turn old new t deeds on q known.1 (life q known.1) (calm q) later known.2 in
           record { rest = k.rest; first = k.first; sure = (known.0, known.1, k.sure) };
     }

@@ -190,7 +190,7 @@ module _ (local : Local) (proper : AllProper) (turn : Turn) (old new : Joint) (t
   turns_so : Turns Right on.more (known_one h.r end coming) (known_one h.r then_end then_coming) t.units s old.course.sessions
   turns_so = record {
     puts = λ i c j r there here mine live. puts_zero i c j r there here mine;
-    takes = λ r later known.
+    takes = λ r one later known.
         let x = turn_takes false turn old new t deeds on r known.1 (life r known.1)
         (λ may. absurd (h.opened (ap (λ (q : ℕ). stage_at q end) (sym known.0) ∙ may))) later known.2 in
         record { rest = x.rest; first = x.first; sure = (known.0, known.1, x.sure) };

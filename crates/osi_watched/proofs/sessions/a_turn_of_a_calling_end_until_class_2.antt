@@ -46,7 +46,7 @@ use Rattle.osi_watched.proofs.sessions.class_0_keeps_its_one_place.{HasOne, stil
 use Rattle.osi_watched.proofs.sessions.each_cr_that_passes_gives_a_new_reference.{AreUpTo, GoesOn, IsWithin, turns_ahead}
 use Rattle.osi_watched.proofs.sessions.each_step_leaves_class_0_one_connection.{Sure, is_zero}
 use Rattle.osi_watched.proofs.sessions.each_unit_of_a_calling_end_has_a_home.{IsWrittenAs, first as first_octet, not_two, written_as}
-use Rattle.osi_watched.proofs.sessions.nothing_is_done_before_a_cr_passes.{IsFew, same_units, turn_undone}
+use Rattle.osi_watched.proofs.sessions.nothing_is_done_before_a_cr_passes.{IsNotCc, same_units, turn_undone}
 use Rattle.osi_watched.proofs.sessions.references_of_an_end_are_distinct.{AreDistinct}
 use Rattle.osi_watched.proofs.sessions.steps_leave_all_standing.{step_turns}
 use Rattle.osi_watched.proofs.sessions.units_of_class_0_come_after_its_cc.{HasCc, InOrder, IsCcFor, IsQuiet, order_back, order_calm}
@@ -149,9 +149,9 @@ past_apart q past t took put e w = w.none_put
 
 -- ---- units
 
-quiet_few : (b : ℕ) (vs : List Value) → AllByRecursion IsQuiet vs → AllByRecursion (IsFew b) vs
-quiet_few b [] h = tt
-quiet_few b (v ∷ vs) h = ((λ n x is. absurd (subst IsQuiet is h.0)), quiet_few b vs h.1)
+quiet_no_cc : (r : ℕ) (vs : List Value) → AllByRecursion IsQuiet vs → AllByRecursion (IsNotCc r) vs
+quiet_no_cc r [] h = tt
+quiet_no_cc r (v ∷ vs) h = ((λ x is. absurd (subst IsQuiet is h.0)), quiet_no_cc r vs h.1)
 
 -- a unit of a link that is written as a DT of class 0 is one
 written_dt : (end : Bool) (user : List ℕ) (v : Value) (o : Option ℕ) → is_of_link v ≡ true → written (data0 end user) ≡ written v →
@@ -431,7 +431,7 @@ module _ (local : Local) (proper : AllProper) (turn : Turn) (old new : Joint) (t
   turns : Turns Left on.more (known_below b end coming) (known_below b then_end then_coming) t.units s old.course.sessions
   turns = record {
     puts = λ i c j r there here mine live. puts_by s.course.class refl i c j r there here mine live;
-    takes = λ r later known.
+    takes = λ r one later known.
         let x = turn_takes true turn old new t deeds on r known.0.0 (life r known.0.0) (calm_by s.course.class refl r known.0) later
         known.1 in
         record { rest = x.rest; first = x.first; sure = (known.0, x.sure) };
@@ -458,7 +458,7 @@ module _ (local : Local) (proper : AllProper) (turn : Turn) (old new : Joint) (t
     early = early_higher then_deeds b g.ahead.bound then_end new.put new.begun then_coming new.course g.rises g.ahead.below now;
     undone = λ class.
         undone_higher b g.ahead.bound then_deeds then_end g.rises
-        (turn_undone b turn old new t deeds on life (λ lasts. quiet_few b coming (h.early.quiet (sym class_same ∙ class)))
+        (turn_undone b turn old new t deeds on life (λ lasts r less may. quiet_no_cc r coming (h.early.quiet (sym class_same ∙ class)))
         (h.undone (sym class_same ∙ class)));
     shut = λ class q peer some is. never_open (sym class_same ∙ class) q some (then_open q peer some is);
     some = λ begun none. h.some (sym t.begun ∙ begun) (none_first old.put t.units (sym t.put ∙ none));

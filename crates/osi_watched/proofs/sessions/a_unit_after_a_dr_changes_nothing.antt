@@ -12,7 +12,7 @@ use Rattle.osi_watched.proofs.Vocabulary.{found_on, is_stopped, none_told, Outco
 use Rattle.osi_watched.proofs.Vocabulary.{uses_source}
 use Rattle.osi_watched.proofs.Vocabulary.{unnamed_by, Traffic as State, Connection, Rules, Way, Finding, Broke, Kept, NotJudged}
 use Rattle.osi_watched.proofs.Vocabulary.{Phase, Closed, Closing, Open, Refused, Silent, Route, Asks, Named, Only, Unnamed, other}
-use Rattle.osi_watched.proofs.Vocabulary.{Direction, AreJudged, Joined, reference_of, unit_passes, way_of, HaveSamePlaces}
+use Rattle.osi_watched.proofs.Vocabulary.{Direction, Joined, reference_of, unit_passes, way_of, HaveSamePlaces}
 use Rattle.osi_watched.proofs.Vocabulary.{IsOneOf}
 use Rattle.osi_watched.proofs.Vocabulary.{has_broken}
 use Rattle.osi_watched.proofs.Vocabulary.{is_report}
@@ -297,7 +297,7 @@ first_third false true c rest h = absurd (cc)
 first_third false false true rest h = absurd (cc)
 first_third false false false rest h = (refl, refl)
 
-not_over : (d : Way) (n : ℕ) (c : Connection) → c.is_judged ≡ true → is_named d n c ≡ true →
+pub not_over : (d : Way) (n : ℕ) (c : Connection) → c.is_judged ≡ true → is_named d n c ≡ true →
     (is_refused (own d c).phase ≡ false) × (is_closed (own d c).phase ≡ false)
 not_over way.Left n c judged named =
     first_third (is_refused c.left.phase) (is_refused c.seen_by_left.phase) (is_closed c.left.phase) _
@@ -337,6 +337,7 @@ pub record IsThere (e : Direction) (n : ℕ) (s : State) (t : Sessions) : Type 0
   pub there : slice_get s.connections place ≡ Some connection
   pub here : slice_get t.live place ≡ Some joined
   pub one : IsOneOf connection joined
+  pub judged : connection.is_judged ≡ true
   pub closing : is_closing (own (way_of e) connection).phase ≡ true
   pub named : reference_of (other e) joined ≡ Some n
 
@@ -344,12 +345,15 @@ no_cr : {A : Type 0} (v : Value) (n : ℕ) (x : Connect) → IsLink v n → v �
 no_cr v n x (dt number end user is) e = absurd (let both = sym is ∙ e in cc)
 no_cr v n x (ak credit number is) e = absurd (let both = sym is ∙ e in cc)
 
-module _ (e : Direction) (at : ℕ) (v : Value) (c : Course) (a : IsAfterDr e v c) (judged : AreJudged c.traffic)
-    (firm : c.traffic.course.loose ≡ false) where
+closed_judged : (j : Bool) (f : Finding) → IsFound (if j then f else NotJudged) → j ≡ true
+closed_judged true f h = refl
+closed_judged false f h = absurd (cc)
+
+module _ (e : Direction) (at : ℕ) (v : Value) (c : Course) (a : IsAfterDr e v c) where
   there_by : Does e at v c.traffic c.sessions (takes (way_of e) v c.traffic) → IsThere e a.n c.traffic c.sessions
   there_by (nowhere place cs ts) = absurd ((goes (way_of e) v c.traffic a.closed).placed place)
-  there_by (somewhere i k j b r place there here one finding is cs ts) =
-      let sure = judged firm i k there in
+  there_by (somewhere i k j b r place there here one finding is far cs ts) =
+      let sure = closed_judged k.is_judged _ (sym finding ∙ a.closed) in
       let named = names_there (way_of e) v c.traffic a.n i k there (link_names v a.n a.link) place in
       let (refused, closed) = not_over (way_of e) a.n k sure named in
       let (silent, opened) = phase_of (way_of e) c.traffic.course (uses_source (way_of e) c.traffic.connections v) k v a.n a.link
@@ -361,11 +365,12 @@ module _ (e : Direction) (at : ℕ) (v : Value) (c : Course) (a : IsAfterDr e v 
         there = there;
         here = here;
         one = one;
+        judged = sure;
         closing = closing_of (own (way_of e) k).phase silent opened refused closed;
         named = named_there e a.n k j one sure named;
       }
   there_by (asks_more x is number cs ts) = no_cr v a.n x a.link is
-  there_by (asks_again x is number i j here cs ts) = no_cr v a.n x a.link is
+  there_by (asks_again x is number i j here free cs ts) = no_cr v a.n x a.link is
 
   pub is_there : HaveSamePlaces c.traffic.connections c.sessions.live → IsThere e a.n c.traffic c.sessions
   is_there places = there_by (unit_does e at v c.traffic c.sessions places)

@@ -1,20 +1,17 @@
--- A DT or an AK that the other side sends on a connection that it has closed leaves all connections of an end standing at a tap, and its DR
--- in flight: the tap joins nothing, and what is left over for the end stays, since the unit comes after the DR.
+-- A DT or an AK that the other side sends on a connection that it has closed leaves what is left over for the end: the unit comes after the
+-- DR of that side, which is in flight.
 -- For the sessions of an end after such a unit of the other side.
 use Rattle.osi_watched.proofs.Vocabulary.{[], ap, Bool, false, List, refl, Some, subst, sym, true, ℕ, ◌++◌, ◌==◌, ◌∙◌, ◌∷◌, ◌≡◌, eqb-true}
-use Rattle.osi_watched.proofs.Vocabulary.{acknowledge, data2, Value, Part, other, Direction, Deeds, unit_passes, AreJudged, HaveSamePlaces}
-use Rattle.osi_watched.proofs.Vocabulary.{parts_of, picked_rest, Sessions, Traffic as State}
-use Rattle.osi_watched.proofs.Vocabulary.{way_of}
+use Rattle.osi_watched.proofs.Vocabulary.{acknowledge, data2, Value, Part, other, Direction, HaveSamePlaces}
+use Rattle.osi_watched.proofs.Vocabulary.{parts_of, picked_rest}
 use Rattle.osi_tap.specs.Courses.{Course}
 use Rattle.osi_fair.proofs.small_facts_that_many_lemmas_use.{number_is}
-use Rattle.osi_watched.proofs.sessions.a_unit_after_a_dr_changes_nothing.{IsAfterDr, is_there, noted_closed, same_sessions, same_traffic}
-use Rattle.osi_watched.proofs.sessions.all_connections_stand.{AllStand, like_same}
-use Rattle.osi_watched.proofs.sessions.nothing_is_done_before_a_cr_passes.{known_from}
-use Rattle.osi_watched.proofs.sessions.right_units_leave_all_standing.{IsLink, ak, dt, other_twice, rests_on}
-use Rattle.osi_watched.proofs.sessions.the_dr_of_the_other_side_is_in_flight.{AreShut, same_shut}
+use Rattle.osi_watched.proofs.sessions.a_unit_after_a_dr_changes_nothing.{IsAfterDr, is_there}
+use Rattle.osi_watched.proofs.sessions.right_units_leave_all_standing.{IsLink, ak, dt, other_twice}
+use Rattle.osi_watched.proofs.sessions.the_dr_of_the_other_side_is_in_flight.{AreShut}
 use Rattle.osi_watched.proofs.sessions.what_is_in_flight_to_an_end.{in_flight}
 use Rattle.osi_watched.proofs.sessions.what_is_left_for_an_end.{has_dr, known_left, left_after, left_still}
-use Rattle.osi_watched.proofs.sessions.what_stands_of_a_connection.{Known, is_for, stands_other_none}
+use Rattle.osi_watched.proofs.sessions.what_stands_of_a_connection.{is_for}
 
 -- ---- what is left over
 
@@ -34,52 +31,18 @@ link_keeps is_live coming v n link some r later = by (n == r) refl
         left_after is_live coming v r later (subst (λ (m : ℕ). is_live m ≡ true → has_dr m coming ≡ true) (eqb-true n r e) some)
     by false e = left_still is_live coming v r later (link_none r n v link e)
 
--- ---- all connections
-
-all_keep : (d e : Direction) (deeds : ℕ → Deeds) (known then_known : Known) (put : List Value) (b : Bool) (s : State) (t : Sessions) →
-    ((r : ℕ) (later : List Part) → known r later → then_known r later) → AllStand d deeds known put b s t →
-    AllStand d deeds then_known put b (noted_closed (way_of e) s) t
-all_keep d e deeds known then_known put b s t keeps a = record {
-  places = a.places;
-  apart = a.apart;
-  judged = a.judged;
-  room = a.room;
-  live = λ i c j there here.
-      stands_other_none d deeds known then_known put b c c j j (like_same d j) refl refl (λ r later named. keeps r later)
-      (a.live i c j there here);
-  done = λ i j here. rests_on d deeds known then_known j (λ r later named. keeps r later) (a.done i j here);
-}
+-- ---- all connections, while the DR is in flight
 
 module _ (d : Direction) (is_live : ℕ → Bool) (coming : List Value) (at : ℕ) (v : Value) (c : Course) (a : IsAfterDr (other d) v c)
-    (firm : c.traffic.course.loose ≡ false) (h : AreShut d is_live coming c.traffic c.sessions) where
-  came_after : HaveSamePlaces c.traffic.connections c.sessions.live → AreJudged c.traffic → is_live a.n ≡ true → has_dr a.n coming ≡ true
-  came_after places judged =
-      let p = is_there (other d) at v c a judged firm places in
-      let k = h.each p.place p.connection p.joined p.there p.here p.closing in
+    (h : AreShut d is_live coming c.traffic c.sessions) where
+  came_after : HaveSamePlaces c.traffic.connections c.sessions.live → is_live a.n ≡ true → has_dr a.n coming ≡ true
+  came_after places =
+      let p = is_there (other d) at v c a places in
+      let k = h.each p.place p.connection p.joined p.there p.here p.judged p.closing in
       subst (λ (m : ℕ). is_live m ≡ true → has_dr m coming ≡ true)
       (number_is k.r a.n (sym k.named ∙ sym (other_twice d p.joined) ∙ p.named)) k.dr
 
-  pub after_stand : (deeds : ℕ → Deeds) (put : List Value) (b : Bool) →
-      AllStand d deeds (known_from is_live coming) put b c.traffic c.sessions →
-      AllStand d deeds (known_from is_live (coming ++ v ∷ [])) put b (unit_passes (other d) at v c).traffic
-      (unit_passes (other d) at v c).sessions
-  after_stand deeds put b all =
-      let then_known : Known = known_from is_live (coming ++ v ∷ []) in
-      subst (λ (s : State). AllStand d deeds then_known put b s (unit_passes (other d) at v c).sessions)
-      (sym (same_traffic (other d) at v c a))
-      (subst (λ (t : Sessions). AllStand d deeds then_known put b (noted_closed (way_of (other d)) c.traffic) t)
-      (sym (same_sessions (other d) at v c a))
-      (all_keep d (other d) deeds (known_from is_live coming) then_known put b c.traffic c.sessions
-      (λ r later sure. (sure.0, link_keeps is_live coming v a.n a.link (came_after all.places all.judged) r later sure.1)) all))
-
-  noted_shut : AreShut d is_live (coming ++ v ∷ []) c.traffic c.sessions →
-      AreShut d is_live (coming ++ v ∷ []) (noted_closed (way_of (other d)) c.traffic) c.sessions
-  noted_shut g = record { each = g.each }
-
-  pub after_shut : AreShut d is_live (coming ++ v ∷ []) (unit_passes (other d) at v c).traffic (unit_passes (other d) at v c).sessions
-  after_shut =
-      subst (λ (s : State). AreShut d is_live (coming ++ v ∷ []) s (unit_passes (other d) at v c).sessions)
-      (sym (same_traffic (other d) at v c a))
-      (subst (λ (t : Sessions). AreShut d is_live (coming ++ v ∷ []) (noted_closed (way_of (other d)) c.traffic) t)
-      (sym (same_sessions (other d) at v c a))
-      (noted_shut (same_shut d is_live coming (v ∷ []) c.traffic c.sessions h)))
+  -- so what is known of the parts that are left over stays
+  pub after_keeps : HaveSamePlaces c.traffic.connections c.sessions.live → (r : ℕ) (later : List Part) →
+      known_left is_live coming r later → known_left is_live (coming ++ v ∷ []) r later
+  after_keeps places r later sure = link_keeps is_live coming v a.n a.link (came_after places) r later sure

@@ -124,6 +124,32 @@ named_there Right n c j h judged is_so =
     (known.reference == n) judged is_so in
     ap (λ (i : ℕ). Some i) (h.right_knows silent ∙ eqb-true known.reference n same)
 
+-- also of a connection that has lost its judgement, unless right has refused it
+lost_so : (j over silent same : Bool) → j ≡ false → (not (j && over) && (not silent && same)) ≡ true → (silent ≡ false) × (same ≡ true)
+lost_so true over silent same e h = absurd (cc)
+lost_so false over true same e h = absurd (cc)
+lost_so false over false true e h = (refl, refl)
+lost_so false over false false e h = absurd (cc)
+
+lost_there : (d : Direction) (n : ℕ) (c : Connection) (j : Joined) → IsOneOf c j → c.is_judged ≡ false →
+    is_refused c.seen_by_left.phase ≡ false → is_named (way_of d) n c ≡ true → reference_of (other d) j ≡ Some n
+lost_there Left n c j h lost there is_so =
+    let known = c.seen_by_left in
+    let (silent, same) = lost_so c.is_judged (is_over_by c.left known) (is_silent known.phase) (known.reference == n) lost is_so in
+    h.left_knows n (given_so known.phase known.reference n silent there (eqb-true known.reference n same))
+lost_there Right n c j h lost there is_so =
+    let known = c.seen_by_right in
+    let (silent, same) = lost_so c.is_judged (is_over_by c.right known) (is_silent known.phase) (known.reference == n) lost is_so in
+    ap (λ (i : ℕ). Some i) (h.right_knows silent ∙ eqb-true known.reference n same)
+
+pub named_any : (d : Direction) (n : ℕ) (c : Connection) (j : Joined) → IsOneOf c j →
+    (c.is_judged ≡ false → is_refused c.seen_by_left.phase ≡ false) → is_named (way_of d) n c ≡ true → reference_of (other d) j ≡ Some n
+named_any d n c j one there is_so = by c.is_judged refl
+  where
+    by : (b : Bool) → c.is_judged ≡ b → reference_of (other d) j ≡ Some n
+    by true judged = named_there d n c j one judged is_so
+    by false lost = lost_there d n c j one lost (there lost) is_so
+
 -- ---- a unit, and what is joined
 
 same_joined : (j k : Joined) → Some j ≡ Some k → j ≡ k
@@ -137,3 +163,13 @@ joined_named d v c n i connection j h e place there judged here =
     let (k, at, one) = at_same c.traffic.connections c.sessions.live i connection h there in
     subst (λ (x : Joined). reference_of (other d) x ≡ Some n) (same_joined k j (sym at ∙ here))
     (named_there d n connection k one judged (names_there (way_of d) v c.traffic n i connection there e place))
+
+pub joined_any : (d : Direction) (v : Value) (c : Course) (n i : ℕ) (connection : Connection) (j : Joined) →
+    HaveSamePlaces c.traffic.connections c.sessions.live → destination_of v ≡ Some n →
+    (takes (way_of d) v c.traffic).told.place ≡ Some i → slice_get c.traffic.connections i ≡ Some connection →
+    (connection.is_judged ≡ false → is_refused connection.seen_by_left.phase ≡ false) → slice_get c.sessions.live i ≡ Some j →
+    reference_of (other d) j ≡ Some n
+joined_any d v c n i connection j h e place there known here =
+    let (k, at, one) = at_same c.traffic.connections c.sessions.live i connection h there in
+    subst (λ (x : Joined). reference_of (other d) x ≡ Some n) (same_joined k j (sym at ∙ here))
+    (named_any d n connection k one known (names_there (way_of d) v c.traffic n i connection there e place))

@@ -21,6 +21,7 @@ use Rattle.osi_watched.specs.Joint.{Joint, Step, Steps, StepsAlong, begins_other
 use Rattle.osi_watched.proofs.what_a_unit_leaves_at_a_tap.{IsCalm, IsJudged, IsOver, Leaves, begins_over, unit_leaves, unit_over}
 use Rattle.osi_watched.proofs.sessions.all_connections_stand.{map_of}
 use Rattle.osi_watched.proofs.sessions.connections_have_the_same_places.{unit_knows}
+use Rattle.osi_watched.proofs.sessions.what_holds_of_a_lost_connection.{begun_blame}
 use Rattle.osi_watched.proofs.sessions.what_has_no_effect_joins_nothing.{joins_none, too_many_ends}
 
 -- ---- nobody of a side is to blame
@@ -28,13 +29,6 @@ use Rattle.osi_watched.proofs.sessions.what_has_no_effect_joins_nothing.{joins_n
 pub record NoneIsToBlame (d : Direction) (t : Sessions) : Type 0 where
   pub live : (i : ℕ) (j : Joined) → slice_get t.live i ≡ Some j → IsToBlame d j → ⊥
   pub done : (i : ℕ) (j : Joined) → slice_get t.done i ≡ Some j → IsToBlame d j → ⊥
-
--- when a packet begins, nothing is said
-begun_blame : (d e : Direction) (j : Joined) → IsToBlame d (packet_begins e j) → IsToBlame d j
-begun_blame Left Left j b = record { finding = b.finding; found = record { found = b.found.found; room = b.found.room }; broke = b.broke }
-begun_blame Left Right j b = record { finding = b.finding; found = record { found = b.found.found; room = b.found.room }; broke = b.broke }
-begun_blame Right Left j b = record { finding = b.finding; found = record { found = b.found.found; room = b.found.room }; broke = b.broke }
-begun_blame Right Right j b = record { finding = b.finding; found = record { found = b.found.found; room = b.found.room }; broke = b.broke }
 
 pub none_begins : (d e : Direction) (t : Sessions) → NoneIsToBlame d t → NoneIsToBlame d (all_begin e t)
 none_begins d e t h = record {

@@ -4,7 +4,8 @@ use Rattle.osi_watched.proofs.Vocabulary.{[], ap, arith, Bool, false, inl, inr, 
 use Rattle.osi_watched.proofs.Vocabulary.{suc, sym, true, zero, ℕ, ◌++◌, ◌<◌, ◌^◌, ◌∙◌, ◌∷◌, ◌≡◌, ◌≤◌, ◌⊎◌, eq-eqb, slice_get_within}
 use Rattle.osi_watched.proofs.Vocabulary.{slice_get, acknowledge, confirm, Connect, data0, data2, disconnect, disconnected, error, request}
 use Rattle.osi_watched.proofs.Vocabulary.{Value, unit_parts, Part, End, is_applied, begins, is_open, is_silent, own, asked_by}
-use Rattle.osi_watched.proofs.Vocabulary.{closing_phase, connection_after, found_on, half_after, judged_on, meaning_if, meant, sent_on}
+use Rattle.osi_watched.proofs.Vocabulary.{class_for, closing_phase, connection_after, found_on, half_after, judged_on, meaning_if, meant}
+use Rattle.osi_watched.proofs.Vocabulary.{sent_on}
 use Rattle.osi_watched.proofs.Vocabulary.{Traffic as State, takes, Connection, Reach, Half, other, Direction, Left, Right, Deeds}
 use Rattle.osi_watched.proofs.Vocabulary.{adds, all_begin, asked, Joined, reference_of, Sessions, shut, spoken, taken, way_of, heard, Room}
 use Rattle.osi_watched.proofs.Vocabulary.{All, passes_apart, AreJudged, still_judged, after_add, after_map, NamesApart as AreApart}
@@ -15,10 +16,13 @@ use Rattle.osi_rules.specs.Traffic as traffic
 use Rattle.osi_honest.specs.Courses.{Course}
 use Rattle.osi_tap.specs.Connections.{packet_begins}
 use Rattle.osi_tap.specs.Connections as joined
-use Rattle.osi_fair.proofs.small_facts_that_many_lemmas_use.{some_same}
+use Rattle.osi_fair.proofs.small_facts_that_many_lemmas_use.{begins_judged, some_same}
+use Rattle.osi_watched.proofs.a_break_ends_no_judging_or_all.{takes_reach}
 use Rattle.osi_watched.proofs.sessions.connections_have_the_same_places.{as_long, at_same, begun_same, unit_places}
 use Rattle.osi_watched.proofs.sessions.what_a_tap_shows_goes_on.{named_added}
 use Rattle.osi_watched.proofs.sessions.what_a_unit_does_at_its_place.{Does, asks_again, asks_more, nowhere, somewhere, unit_does}
+use Rattle.osi_watched.proofs.sessions.what_holds_of_a_lost_connection.{IsLost, goes_judged, lost_applied, lost_begins, lost_still}
+use Rattle.osi_watched.proofs.sessions.what_holds_of_a_lost_connection.{now_lost, part_applied, was_judged}
 use Rattle.osi_watched.proofs.sessions.what_stands_of_a_connection.{IsLike, IsUnsaid, Known, Stands, is_next, lives, names_it, no_next}
 use Rattle.osi_watched.proofs.sessions.what_stands_of_a_connection.{past, stands_begins, stands_none, stands_other_begins}
 use Rattle.osi_watched.proofs.sessions.what_stands_of_a_connection.{stands_other_none, stands_other_part, stands_part, unnamed, waiting_for}
@@ -204,6 +208,7 @@ pub data Rests (d : Direction) (deeds : ℕ → Deeds) (known : Known) (j : Join
   rests : (r : ℕ) (waiting : List Value) (later : List Part) → known r later → IsShownNow d r (deeds r) waiting later false j →
       Rests d deeds known j
 
+-- each that is judged stands, and of the others nobody is to blame
 pub record AllStand (d : Direction) (deeds : ℕ → Deeds) (known : Known) (put : List Value) (begun : Bool) (s : State) (t : Sessions) :
     Type 0 where
   pub places : HaveSamePlaces s.connections t.live
@@ -211,10 +216,45 @@ pub record AllStand (d : Direction) (deeds : ℕ → Deeds) (known : Known) (put
   pub judged : AreJudged s
   pub room : t.room ≡ All
   pub live : (i : ℕ) (c : Connection) (j : Joined) → slice_get s.connections i ≡ Some c → slice_get t.live i ≡ Some j →
-      Stands d deeds known put begun c j
+      c.is_judged ≡ true → Stands d deeds known put begun c j
+  pub lost : (i : ℕ) (c : Connection) (j : Joined) → slice_get s.connections i ≡ Some c → slice_get t.live i ≡ Some j →
+      c.is_judged ≡ false → IsLost d c j
   pub done : (i : ℕ) (j : Joined) → slice_get t.done i ≡ Some j → Rests d deeds known j
 
+-- each that is joined has its connection
+pub there_too : (cs : List Connection) (js : List Joined) (i : ℕ) (j : Joined) → HaveSamePlaces cs js → slice_get js i ≡ Some j →
+    (c : Connection) × (slice_get cs i ≡ Some c)
+there_too [] [] i j h e = absurd (cc)
+there_too [] (y ∷ js) i j h e = absurd h
+there_too (x ∷ cs) [] i j h e = absurd h
+there_too (x ∷ cs) (y ∷ js) zero j h e = (x, refl)
+there_too (x ∷ cs) (y ∷ js) (suc i) j h e = there_too cs js i j h.1 e
+
+-- each has room
+pub all_room : (d : Direction) (deeds : ℕ → Deeds) (known : Known) (put : List Value) (b : Bool) (s : State) (t : Sessions) →
+    AllStand d deeds known put b s t → (i : ℕ) (j : Joined) → slice_get t.live i ≡ Some j → j.room ≡ All
+all_room d deeds known put b s t a i j here =
+    let (c, there) = there_too s.connections t.live i j a.places here in by c there c.is_judged refl
+  where
+    by : (c : Connection) → slice_get s.connections i ≡ Some c → (x : Bool) → c.is_judged ≡ x → j.room ≡ All
+    by c there true judged = stands_room d deeds known put b c j (a.live i c j there here judged)
+    by c there false lost = (a.lost i c j there here lost).room
+
 -- ---- a packet begins
+
+pub begun_judged : (e : Direction) (x c : Connection) (b : Bool) → c ≡ begins (way_of e) x → c.is_judged ≡ b → x.is_judged ≡ b
+begun_judged e x c b is h = sym (begins_judged (way_of e) x) ∙ ap (λ (z : Connection). z.is_judged) (sym is) ∙ h
+
+all_begin_lost : (d e : Direction) (deeds : ℕ → Deeds) (known : Known) (put : List Value) (b : Bool) (s : State) (t : Sessions) →
+    AllStand d deeds known put b s t → (i : ℕ) (c : Connection) (j : Joined) →
+    slice_get (map (begins (way_of e)) s.connections) i ≡ Some c → slice_get (map (packet_begins e) t.live) i ≡ Some j →
+    c.is_judged ≡ false → IsLost d c j
+all_begin_lost d e deeds known put b s t a i c j there here lost =
+    let (x, at, is) = after_map (begins (way_of e)) s.connections i c there in
+    let (y, so, same) = map_of (packet_begins e) t.live i j here in
+    subst (λ (z : Connection). IsLost d z j) (sym is)
+    (subst (λ (z : Joined). IsLost d (begins (way_of e) x) z) (sym same)
+    (lost_begins d e x y (a.lost i x y at so (begun_judged e x c false is lost))))
 
 pub all_begin_own : (d : Direction) (deeds : ℕ → Deeds) (known : Known) (put : List Value) (e : End) (s : State) (t : Sessions) →
     ((r : ℕ) → Course (calls_from d) r (deeds r) e) →
@@ -225,12 +265,14 @@ all_begin_own d deeds known put e s t courses few a = record {
   apart = passes_apart (packet (way_of d)) s a.apart;
   judged = still_judged (packet (way_of d)) s a.judged;
   room = a.room;
-  live = λ i c j there here.
+  live = λ i c j there here judged.
       let (x, at, is) = after_map (begins (way_of d)) s.connections i c there in
       let (y, so, same) = map_of (packet_begins d) t.live i j here in
       subst (λ (z : Connection). Stands d deeds known put true z j) (sym is)
       (subst (λ (z : Joined). Stands d deeds known put true (begins (way_of d) x) z) (sym same)
-      (stands_begins d deeds known put e x y courses (few i y so) (a.live i x y at so)));
+      (stands_begins d deeds known put e x y courses (few i y so)
+      (a.live i x y at so (begun_judged d x c true is judged))));
+  lost = λ i c j there here lost. all_begin_lost d d deeds known put false s t a i c j there here lost;
   done = a.done;
 }
 
@@ -242,18 +284,19 @@ all_begin_other d deeds known put b s t a = record {
   apart = passes_apart (packet (way_of (other d))) s a.apart;
   judged = still_judged (packet (way_of (other d))) s a.judged;
   room = a.room;
-  live = λ i c j there here.
+  live = λ i c j there here judged.
       let (x, at, is) = after_map (begins (way_of (other d))) s.connections i c there in
       let (y, so, same) = map_of (packet_begins (other d)) t.live i j here in
       subst (λ (z : Connection). Stands d deeds known put b z j) (sym is)
       (subst (λ (z : Joined). Stands d deeds known put b (begins (way_of (other d)) x) z) (sym same)
-      (stands_other_begins d deeds known put b x y (a.live i x y at so)));
+      (stands_other_begins d deeds known put b x y (a.live i x y at so (begun_judged (other d) x c true is judged))));
+  lost = λ i c j there here lost. all_begin_lost d (other d) deeds known put b s t a i c j there here lost;
   done = a.done;
 }
 
 -- ---- a unit passes
 
--- what it leaves of the connection at its place, of the others, and of a new one
+-- what it leaves of the connection at its place, of the others, and of a new one, if they are judged
 pub record Leaves (d : Direction) (deeds : ℕ → Deeds) (known then_known : Known) (put later : List Value) (b then_begun : Bool)
     (e : Direction) (at : ℕ) (v : Value) (s : State) (t : Sessions) : Type 0 where
   pub all : (takes (way_of e) v s).told.place ≡ None → (c : Connection) (j : Joined) → Stands d deeds known put b c j →
@@ -261,11 +304,13 @@ pub record Leaves (d : Direction) (deeds : ℕ → Deeds) (known then_known : Kn
   pub elsewhere : (p i : ℕ) (first c : Connection) (k j : Joined) → (i ≡ p → ⊥) → (takes (way_of e) v s).told.place ≡ Some p →
       slice_get s.connections p ≡ Some first → IsOneOf first k → slice_get t.live p ≡ Some k →
       (takes (way_of e) v s).told.finding ≡ found_on (way_of e) s first v → slice_get s.connections i ≡ Some c →
-      slice_get t.live i ≡ Some j → IsOneOf c j → Stands d deeds known put b c j → Stands d deeds then_known later then_begun c j
+      slice_get t.live i ≡ Some j → IsOneOf c j → c.is_judged ≡ true → Stands d deeds known put b c j →
+      Stands d deeds then_known later then_begun c j
   pub here : (p : ℕ) (c : Connection) (j : Joined) (x : Bool) (r : Reach) → (takes (way_of e) v s).told.place ≡ Some p →
       slice_get s.connections p ≡ Some c → slice_get t.live p ≡ Some j → IsOneOf c j →
       (takes (way_of e) v s).told.finding ≡ found_on (way_of e) s c v → is_applied (found_on (way_of e) s c v) ≡ x →
-      Stands d deeds known put b c j → Stands d deeds then_known later then_begun (connection_after (way_of e) v x r c)
+      (takes (way_of e) v s).told.reach ≡ r → (r ≡ reach.Connection → ⊥) → c.is_judged ≡ true → Stands d deeds known put b c j →
+      Stands d deeds then_known later then_begun (connection_after (way_of e) v x r c)
       (joined.meant e at v (meaning_if x (meant v)) j)
   pub asked_so : (x : Connect) (number : ℕ) → v ≡ request x →
       Stands d deeds then_known later then_begun (asked_by x) (asked number x.source All)
@@ -274,21 +319,17 @@ pub record Leaves (d : Direction) (deeds : ℕ → Deeds) (known then_known : Kn
   pub moves : (x : Connect) → v ≡ request x → (j : Joined) → Rests d deeds known j → Rests d deeds then_known j
   pub keeps : (i : ℕ) (j : Joined) → slice_get t.done i ≡ Some j → Rests d deeds known j → Rests d deeds then_known j
 
+-- if a connection loses its judgement with it, nobody of this side is to blame there
+abbrev pub Loses : Direction → Direction → Value → State → Sessions → Type 0
+Loses d e v s t = (p : ℕ) (c : Connection) (j : Joined) → (takes (way_of e) v s).told.place ≡ Some p → slice_get s.connections p ≡ Some c →
+    slice_get t.live p ≡ Some j → IsOneOf c j → c.is_judged ≡ true → (takes (way_of e) v s).told.reach ≡ reach.Connection → IsLost d c j
+
 stands_rest : (d : Direction) (deeds : ℕ → Deeds) (known : Known) (put : List Value) (b : Bool) (c : Connection) (j : Joined) →
     Stands d deeds known put b c j → Rests d deeds known j
 stands_rest d deeds known put b c j (unnamed none mine theirs room) = quiet none mine theirs
 stands_rest d deeds known put b c j (lives r o is live later sure h) =
     rests r (waiting_for o put) later sure (no_next d r (deeds r) (waiting_for o put) later (is_next o b put) j h)
 stands_rest d deeds known put b c j (past r closed waiting later sure h) = rests r waiting later sure h
-
--- each that is joined has its connection
-pub there_too : (cs : List Connection) (js : List Joined) (i : ℕ) (j : Joined) → HaveSamePlaces cs js → slice_get js i ≡ Some j →
-    (c : Connection) × (slice_get cs i ≡ Some c)
-there_too [] [] i j h e = absurd (cc)
-there_too [] (y ∷ js) i j h e = absurd h
-there_too (x ∷ cs) [] i j h e = absurd h
-there_too (x ∷ cs) (y ∷ js) zero j h e = (x, refl)
-there_too (x ∷ cs) (y ∷ js) (suc i) j h e = there_too cs js i j h.1 e
 
 pub one_at : (cs : List Connection) (js : List Joined) (i : ℕ) (c : Connection) (j : Joined) → HaveSamePlaces cs js →
     slice_get cs i ≡ Some c → slice_get js i ≡ Some j → IsOneOf c j
@@ -304,7 +345,7 @@ not_in cs i c far e = let near = slice_get_within cs i c e in absurd (omega (ari
 
 module _ (d : Direction) (deeds : ℕ → Deeds) (known then_known : Known) (put later : List Value) (b then_begun : Bool) (e : Direction)
     (at : ℕ) (v : Value) (s : State) (t : Sessions) (a : AllStand d deeds known put b s t)
-    (l : Leaves d deeds known then_known put later b then_begun e at v s t) where
+    (l : Leaves d deeds known then_known put later b then_begun e at v s t) (loses : Loses d e v s t) where
   abbrev told_state : State
   told_state = (takes (way_of e) v s).state
 
@@ -315,21 +356,60 @@ module _ (d : Direction) (deeds : ℕ → Deeds) (known then_known : Known) (put
   Goes c j = Stands d deeds then_known later then_begun c j
 
   -- the connection that the unit is for, or another
-  place_by : (p : ℕ) (first : Connection) (k : Joined) (x : Bool) (r : Reach) → (takes (way_of e) v s).told.place ≡ Some p →
-      slice_get s.connections p ≡ Some first → slice_get t.live p ≡ Some k → IsOneOf first k →
-      (takes (way_of e) v s).told.finding ≡ found_on (way_of e) s first v → is_applied (found_on (way_of e) s first v) ≡ x →
-      (i : ℕ) (c : Connection) (j : Joined) →
-      ((i ≡ p) × (c ≡ connection_after (way_of e) v x r first)) ⊎ ((i ≡ p → ⊥) × (slice_get s.connections i ≡ Some c)) →
-      ((i ≡ p) × (j ≡ joined.meant e at v (meaning_if x (meant v)) k)) ⊎ ((i ≡ p → ⊥) × (slice_get t.live i ≡ Some j)) → Goes c j
-  place_by p first k x r told there here one finding is i c j (inl (m, so)) (inl (n, same)) =
-      subst (λ (z : Connection). Goes z j) (sym so)
-      (subst (λ (z : Joined). Goes (connection_after (way_of e) v x r first) z) (sym same)
-      (l.here p first k x r told there here one finding is (a.live p first k there here)))
-  place_by p first k x r told there here one finding is i c j (inl (m, so)) (inr (n, same)) = absurd (n m)
-  place_by p first k x r told there here one finding is i c j (inr (m, so)) (inl (n, same)) = absurd (m n)
-  place_by p first k x r told there here one finding is i c j (inr (m, so)) (inr (n, same)) =
-      l.elsewhere p i first c k j m told there one here finding so same (one_at s.connections t.live i c j a.places so same)
-      (a.live i c j so same)
+  abbrev AfterAt : (p : ℕ) → Connection → (x : Bool) → Reach → ℕ → Connection → Type 0
+  AfterAt p first x r i c =
+      ((i ≡ p) × (c ≡ connection_after (way_of e) v x r first)) ⊎ ((i ≡ p → ⊥) × (slice_get s.connections i ≡ Some c))
+
+  abbrev JoinedAt : (p : ℕ) → Joined → (x : Bool) → ℕ → Joined → Type 0
+  JoinedAt p k x i j = ((i ≡ p) × (j ≡ joined.meant e at v (meaning_if x (meant v)) k)) ⊎ ((i ≡ p → ⊥) × (slice_get t.live i ≡ Some j))
+
+  module _ (p : ℕ) (first : Connection) (k : Joined) (x : Bool) (r : Reach) (told : (takes (way_of e) v s).told.place ≡ Some p)
+      (there : slice_get s.connections p ≡ Some first) (here : slice_get t.live p ≡ Some k) (one : IsOneOf first k)
+      (finding : (takes (way_of e) v s).told.finding ≡ found_on (way_of e) s first v)
+      (is : is_applied (found_on (way_of e) s first v) ≡ x) (far : (takes (way_of e) v s).told.reach ≡ r) where
+    place_by : (i : ℕ) (c : Connection) (j : Joined) → AfterAt p first x r i c → JoinedAt p k x i j → c.is_judged ≡ true → Goes c j
+    place_by i c j (inl (m, so)) (inl (n, same)) judged =
+        let now = ap (λ (z : Connection). z.is_judged) (sym so) ∙ judged in
+        let was = was_judged (way_of e) v x r first now in
+        subst (λ (z : Connection). Goes z j) (sym so)
+        (subst (λ (z : Joined). Goes (connection_after (way_of e) v x r first) z) (sym same)
+        (l.here p first k x r told there here one finding is far (goes_judged (way_of e) v x r first now) was
+        (a.live p first k there here was)))
+    place_by i c j (inl (m, so)) (inr (n, same)) judged = absurd (n m)
+    place_by i c j (inr (m, so)) (inl (n, same)) judged = absurd (m n)
+    place_by i c j (inr (m, so)) (inr (n, same)) judged =
+        l.elsewhere p i first c k j m told there one here finding so same (one_at s.connections t.live i c j a.places so same) judged
+        (a.live i c j so same judged)
+
+    -- it was lost, or is now
+    lost_from : (y : Bool) → first.is_judged ≡ y → (connection_after (way_of e) v x r first).is_judged ≡ false → IsLost d first k
+    lost_from false was now = a.lost p first k there here was
+    lost_from true was now = loses p first k told there here one was (far ∙ now_lost (way_of e) v x r first now was)
+
+    none_applied : (y : Bool) → first.is_judged ≡ y → (connection_after (way_of e) v x r first).is_judged ≡ false → x ≡ false
+    none_applied false was now = sym is ∙ lost_applied (way_of e) v s first was
+    none_applied true was now =
+        let reached = far ∙ now_lost (way_of e) v x r first now was in
+        sym is ∙ ap is_applied (sym finding)
+        ∙ part_applied (class_for (way_of e) s.course) (takes (way_of e) v s).told.finding
+        (sym (takes_reach (way_of e) v s).far ∙ reached)
+
+    lost_there : (y : Bool) → x ≡ y → y ≡ false → IsLost d first k →
+        IsLost d (connection_after (way_of e) v x r first) (joined.meant e at v (meaning_if x (meant v)) k)
+    lost_there true so none h = absurd (cc)
+    lost_there false so none h =
+        subst (λ (z : Bool). IsLost d (connection_after (way_of e) v z r first) (joined.meant e at v (meaning_if z (meant v)) k)) (sym so)
+        (lost_still d r first k h)
+
+    lost_by : (i : ℕ) (c : Connection) (j : Joined) → AfterAt p first x r i c → JoinedAt p k x i j → c.is_judged ≡ false → IsLost d c j
+    lost_by i c j (inl (m, so)) (inl (n, same)) lost =
+        let now = ap (λ (z : Connection). z.is_judged) (sym so) ∙ lost in
+        subst (λ (z : Connection). IsLost d z j) (sym so)
+        (subst (λ (z : Joined). IsLost d (connection_after (way_of e) v x r first) z) (sym same)
+        (lost_there x refl (none_applied first.is_judged refl now) (lost_from first.is_judged refl now)))
+    lost_by i c j (inl (m, so)) (inr (n, same)) lost = absurd (n m)
+    lost_by i c j (inr (m, so)) (inl (n, same)) lost = absurd (m n)
+    lost_by i c j (inr (m, so)) (inr (n, same)) lost = a.lost i c j so same lost
 
   asked_here : (x : Connect) (number : ℕ) → v ≡ request x → (c : Connection) (j : Joined) → c ≡ asked_by x →
       j ≡ asked number x.source t.room → Goes c j
@@ -338,68 +418,106 @@ module _ (d : Direction) (deeds : ℕ → Deeds) (known then_known : Known) (put
       (subst (λ (z : Joined). Goes (asked_by x) z) (sym (same ∙ ap (λ (z : Room). asked number x.source z) a.room))
       (l.asked_so x number is))
 
+  asked_judged : {A : Type 0} (x : Connect) (c : Connection) → c ≡ asked_by x → c.is_judged ≡ false → A
+  asked_judged x c so lost = let no : true ≡ false = sym (ap (λ (z : Connection). z.is_judged) so) ∙ lost in absurd (cc)
+
   add_by : (x : Connect) (number : ℕ) → v ≡ request x → (i : ℕ) (c : Connection) (j : Joined) →
       ((i ≡ length s.connections) × (c ≡ asked_by x)) ⊎ (slice_get s.connections i ≡ Some c) →
-      ((i ≡ length t.live) × (j ≡ asked number x.source t.room)) ⊎ (slice_get t.live i ≡ Some j) → Goes c j
-  add_by x number is i c j (inl (m, so)) (inl (n, same)) = asked_here x number is c j so same
-  add_by x number is i c j (inl (m, so)) (inr same) =
+      ((i ≡ length t.live) × (j ≡ asked number x.source t.room)) ⊎ (slice_get t.live i ≡ Some j) → c.is_judged ≡ true → Goes c j
+  add_by x number is i c j (inl (m, so)) (inl (n, same)) judged = asked_here x number is c j so same
+  add_by x number is i c j (inl (m, so)) (inr same) judged =
       not_there t.live i j (let n = as_long s.connections t.live a.places in omega (arith, n, m)) same
-  add_by x number is i c j (inr so) (inl (n, same)) =
+  add_by x number is i c j (inr so) (inl (n, same)) judged =
       not_in s.connections i c (let m = as_long s.connections t.live a.places in omega (arith, n, m)) so
-  add_by x number is i c j (inr so) (inr same) = l.others x is c j (a.live i c j so same)
+  add_by x number is i c j (inr so) (inr same) judged = l.others x is c j (a.live i c j so same judged)
+
+  add_lost : (x : Connect) (number : ℕ) (i : ℕ) (c : Connection) (j : Joined) →
+      ((i ≡ length s.connections) × (c ≡ asked_by x)) ⊎ (slice_get s.connections i ≡ Some c) →
+      ((i ≡ length t.live) × (j ≡ asked number x.source t.room)) ⊎ (slice_get t.live i ≡ Some j) → c.is_judged ≡ false → IsLost d c j
+  add_lost x number i c j (inl (m, so)) here lost = asked_judged x c so lost
+  add_lost x number i c j (inr so) (inl (n, same)) lost =
+      not_in s.connections i c (let m = as_long s.connections t.live a.places in omega (arith, n, m)) so
+  add_lost x number i c j (inr so) (inr same) lost = a.lost i c j so same lost
 
   again_by : (x : Connect) (number p : ℕ) → v ≡ request x → (i : ℕ) (c : Connection) (j : Joined) →
       ((i ≡ p) × (c ≡ asked_by x)) ⊎ ((i ≡ p → ⊥) × (slice_get s.connections i ≡ Some c)) →
-      ((i ≡ p) × (j ≡ asked number x.source t.room)) ⊎ ((i ≡ p → ⊥) × (slice_get t.live i ≡ Some j)) → Goes c j
-  again_by x number p is i c j (inl (m, so)) (inl (n, same)) = asked_here x number is c j so same
-  again_by x number p is i c j (inl (m, so)) (inr (n, same)) = absurd (n m)
-  again_by x number p is i c j (inr (m, so)) (inl (n, same)) = absurd (m n)
-  again_by x number p is i c j (inr (m, so)) (inr (n, same)) = l.others x is c j (a.live i c j so same)
+      ((i ≡ p) × (j ≡ asked number x.source t.room)) ⊎ ((i ≡ p → ⊥) × (slice_get t.live i ≡ Some j)) → c.is_judged ≡ true → Goes c j
+  again_by x number p is i c j (inl (m, so)) (inl (n, same)) judged = asked_here x number is c j so same
+  again_by x number p is i c j (inl (m, so)) (inr (n, same)) judged = absurd (n m)
+  again_by x number p is i c j (inr (m, so)) (inl (n, same)) judged = absurd (m n)
+  again_by x number p is i c j (inr (m, so)) (inr (n, same)) judged = l.others x is c j (a.live i c j so same judged)
+
+  again_lost : (x : Connect) (number p : ℕ) (i : ℕ) (c : Connection) (j : Joined) →
+      ((i ≡ p) × (c ≡ asked_by x)) ⊎ ((i ≡ p → ⊥) × (slice_get s.connections i ≡ Some c)) →
+      ((i ≡ p) × (j ≡ asked number x.source t.room)) ⊎ ((i ≡ p → ⊥) × (slice_get t.live i ≡ Some j)) → c.is_judged ≡ false → IsLost d c j
+  again_lost x number p i c j (inl (m, so)) here lost = asked_judged x c so lost
+  again_lost x number p i c j (inr (m, so)) (inl (n, same)) lost = absurd (m n)
+  again_lost x number p i c j (inr (m, so)) (inr (n, same)) lost = a.lost i c j so same lost
 
   live_by : Does e at v s t (takes (way_of e) v s) → (i : ℕ) (c : Connection) (j : Joined) →
-      slice_get told_state.connections i ≡ Some c → slice_get after.live i ≡ Some j → Goes c j
-  live_by (nowhere place cs ts) i c j there here =
+      slice_get told_state.connections i ≡ Some c → slice_get after.live i ≡ Some j → c.is_judged ≡ true → Goes c j
+  live_by (nowhere place cs ts) i c j there here judged =
       l.all place c j (a.live i c j (ap (λ (z : List Connection). slice_get z i) (sym cs) ∙ there)
-      (ap (λ (z : Sessions). slice_get z.live i) (sym ts) ∙ here))
-  live_by (somewhere p first k x r place at_first at_joined one finding is cs ts) i c j there here =
-      place_by p first k x r place at_first at_joined one finding is i c j
+      (ap (λ (z : Sessions). slice_get z.live i) (sym ts) ∙ here) judged)
+  live_by (somewhere p first k x r place at_first at_joined one finding is far cs ts) i c j there here judged =
+      place_by p first k x r place at_first at_joined one finding is far i c j
       (after_change s.connections p i (connection_after (way_of e) v x r first) c
       (ap (λ (z : List Connection). slice_get z i) (sym cs) ∙ there))
       (after_change t.live p i (joined.meant e at v (meaning_if x (meant v)) k) j
-      (ap (λ (z : Sessions). slice_get z.live i) (sym ts) ∙ here))
-  live_by (asks_more x is number cs ts) i c j there here =
+      (ap (λ (z : Sessions). slice_get z.live i) (sym ts) ∙ here)) judged
+  live_by (asks_more x is number cs ts) i c j there here judged =
       add_by x number is i c j
       (after_add s.connections i (asked_by x) c (ap (λ (z : List Connection). slice_get z i) (sym cs) ∙ there))
-      (after_add t.live i (asked number x.source t.room) j (ap (λ (z : Sessions). slice_get z.live i) (sym ts) ∙ here))
-  live_by (asks_again x is number p k at_joined cs ts) i c j there here =
+      (after_add t.live i (asked number x.source t.room) j (ap (λ (z : Sessions). slice_get z.live i) (sym ts) ∙ here)) judged
+  live_by (asks_again x is number p k at_joined free cs ts) i c j there here judged =
       again_by x number p is i c j
       (after_change s.connections p i (asked_by x) c (ap (λ (z : List Connection). slice_get z i) (sym cs) ∙ there))
-      (after_change t.live p i (asked number x.source t.room) j (ap (λ (z : Sessions). slice_get z.live i) (sym ts) ∙ here))
+      (after_change t.live p i (asked number x.source t.room) j (ap (λ (z : Sessions). slice_get z.live i) (sym ts) ∙ here)) judged
+
+  all_lost : Does e at v s t (takes (way_of e) v s) → (i : ℕ) (c : Connection) (j : Joined) →
+      slice_get told_state.connections i ≡ Some c → slice_get after.live i ≡ Some j → c.is_judged ≡ false → IsLost d c j
+  all_lost (nowhere place cs ts) i c j there here lost =
+      a.lost i c j (ap (λ (z : List Connection). slice_get z i) (sym cs) ∙ there)
+      (ap (λ (z : Sessions). slice_get z.live i) (sym ts) ∙ here) lost
+  all_lost (somewhere p first k x r place at_first at_joined one finding is far cs ts) i c j there here lost =
+      lost_by p first k x r place at_first at_joined one finding is far i c j
+      (after_change s.connections p i (connection_after (way_of e) v x r first) c
+      (ap (λ (z : List Connection). slice_get z i) (sym cs) ∙ there))
+      (after_change t.live p i (joined.meant e at v (meaning_if x (meant v)) k) j
+      (ap (λ (z : Sessions). slice_get z.live i) (sym ts) ∙ here)) lost
+  all_lost (asks_more x is number cs ts) i c j there here lost =
+      add_lost x number i c j
+      (after_add s.connections i (asked_by x) c (ap (λ (z : List Connection). slice_get z i) (sym cs) ∙ there))
+      (after_add t.live i (asked number x.source t.room) j (ap (λ (z : Sessions). slice_get z.live i) (sym ts) ∙ here)) lost
+  all_lost (asks_again x is number p k at_joined free cs ts) i c j there here lost =
+      again_lost x number p i c j
+      (after_change s.connections p i (asked_by x) c (ap (λ (z : List Connection). slice_get z i) (sym cs) ∙ there))
+      (after_change t.live p i (asked number x.source t.room) j (ap (λ (z : Sessions). slice_get z.live i) (sym ts) ∙ here)) lost
 
   keep : (i : ℕ) (j : Joined) → slice_get t.done i ≡ Some j → Rests d deeds then_known j
   keep i j here = l.keeps i j here (a.done i j here)
 
   over_by : (x : Connect) → v ≡ request x → (p i : ℕ) (k j : Joined) → slice_get t.live p ≡ Some k →
+      ((free : Connection) × (slice_get s.connections p ≡ Some free) × (free.is_judged ≡ true)) →
       ((i ≡ length t.done) × (j ≡ k)) ⊎ (slice_get t.done i ≡ Some j) → Rests d deeds then_known j
-  over_by x is p i k j here (inl (m, same)) =
-      let (c, there) = there_too s.connections t.live p k a.places here in
+  over_by x is p i k j here (c, there, judged) (inl (m, same)) =
       subst (λ (z : Joined). Rests d deeds then_known z) (sym same)
-      (l.moves x is k (stands_rest d deeds known put b c k (a.live p c k there here)))
-  over_by x is p i k j here (inr same) = keep i j same
+      (l.moves x is k (stands_rest d deeds known put b c k (a.live p c k there here judged)))
+  over_by x is p i k j here free (inr same) = keep i j same
 
   done_by : Does e at v s t (takes (way_of e) v s) → (i : ℕ) (j : Joined) → slice_get after.done i ≡ Some j → Rests d deeds then_known j
   done_by (nowhere place cs ts) i j here = keep i j (ap (λ (z : Sessions). slice_get z.done i) (sym ts) ∙ here)
-  done_by (somewhere p first k x r place at_first at_joined one finding is cs ts) i j here =
+  done_by (somewhere p first k x r place at_first at_joined one finding is far cs ts) i j here =
       keep i j (ap (λ (z : Sessions). slice_get z.done i) (sym ts) ∙ here)
   done_by (asks_more x is number cs ts) i j here = keep i j (ap (λ (z : Sessions). slice_get z.done i) (sym ts) ∙ here)
-  done_by (asks_again x is number p k at_joined cs ts) i j here =
-      over_by x is p i k j at_joined (after_add t.done i k j (ap (λ (z : Sessions). slice_get z.done i) (sym ts) ∙ here))
+  done_by (asks_again x is number p k at_joined free cs ts) i j here =
+      over_by x is p i k j at_joined free (after_add t.done i k j (ap (λ (z : Sessions). slice_get z.done i) (sym ts) ∙ here))
 
   room_by : Does e at v s t (takes (way_of e) v s) → after.room ≡ All
   room_by (nowhere place cs ts) = ap (λ (z : Sessions). z.room) ts ∙ a.room
-  room_by (somewhere p first k x r place at_first at_joined one finding is cs ts) = ap (λ (z : Sessions). z.room) ts ∙ a.room
+  room_by (somewhere p first k x r place at_first at_joined one finding is far cs ts) = ap (λ (z : Sessions). z.room) ts ∙ a.room
   room_by (asks_more x is number cs ts) = ap (λ (z : Sessions). z.room) ts ∙ a.room
-  room_by (asks_again x is number p k at_joined cs ts) = ap (λ (z : Sessions). z.room) ts ∙ a.room
+  room_by (asks_again x is number p k at_joined free cs ts) = ap (λ (z : Sessions). z.room) ts ∙ a.room
 
   pub all_after : AllStand d deeds then_known later then_begun told_state after
   all_after = record {
@@ -408,5 +526,6 @@ module _ (d : Direction) (deeds : ℕ → Deeds) (known then_known : Known) (put
     judged = still_judged (unit (way_of e) v) s a.judged;
     room = room_by (unit_does e at v s t a.places);
     live = live_by (unit_does e at v s t a.places);
+    lost = all_lost (unit_does e at v s t a.places);
     done = done_by (unit_does e at v s t a.places);
   }

@@ -249,8 +249,9 @@ module _ (known : Known) (barred : Class) (d : Direction) (local : Local)
         let mid : Joint = record old { put = new.put; begun = false; course = units_pass d at (unit ∷ []) old.course } in
         let step : Steps d (passes_own at unit) v w = (read, octets, s.is, h.begun ∙ begun, refl) in
         let right : IsRight d unit v.course = own_right d local fair at unit v w step h.goes.followed h.goes.judged in
-        let (b, found) = beside_own d at unit old.course v.course right.goes (goes_so (other d) v.course h.goes.judged) right.none
-        h.beside in
+        let dt = own_is_dt local d at unit v w step h.goes.followed (firm_so v.course h.goes.judged)
+        (zero_without old.course v.course h.beside h.alone) in
+        let (b, found) = beside_own d at unit old.course v.course right.goes dt h.beside in
         let kept = own_alone d known.proper (calls_from d) local fair_alone at unit old mid (read, octets, put, begun, refl) h.followed
         h.alone in
         let then_alone = alone_own d at unit old.course kept h.alone in

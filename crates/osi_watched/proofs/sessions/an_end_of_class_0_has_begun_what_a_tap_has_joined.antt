@@ -95,7 +95,7 @@ calling_begun local deeds j h courses sane firm class not all r peer link at o x
     let same : r ≡ z.r = z.amid_is r peer (is_some r peer link end at sane.between.sound.orderly.rise) (is_amid r peer link end at) in
     joined_is_begun Left deeds (known_below h.ahead.bound end (honest.units_in j.coming)) j.put j.begun j.course.traffic j.course.sessions
     j.holding.end h.early.all courses r peer link at o.place o.connection x o.there here
-    (open_there Left j.course.traffic o)
+    (h.early.all.judged firm.firm o.place o.connection o.there) (open_there Left j.course.traffic o)
     (z.one.mine x (ap (slice_get j.course.sessions.live) (sym (one_place Left z.r (IsGone end) j z.one o)) ∙ here)
     ∙ ap (λ (n : ℕ). Some n) (sym same))
     (λ q later is sure. none_later r peer link end at j.coming all q later is sure.1)
@@ -103,16 +103,17 @@ calling_begun local deeds j h courses sane firm class not all r peer link at o x
 -- ---- a called end
 
 zero_called : (local : Local) (deeds : ℕ → Deeds) (j : Joint) → StandsInZero local deeds j → HaveCourses Right deeds j → IsSane j.holding →
+    IsFirm j.course.traffic.course →
     AllByRecursion MayBeFollowed (units_in j.coming) → (r peer : ℕ) (link : Standing) → IsZeroAt r peer link j.holding.end.carrier →
     (o : IsOnly j.course.traffic) (x : Joined) → slice_get j.course.sessions.live o.place ≡ Some x →
     begun_octets (spoken Left x).begun ≡ link.ends.joining.begun
-zero_called local deeds j h courses sane all r peer link at o x here =
+zero_called local deeds j h courses sane firm all r peer link at o x here =
     let end = j.holding.end.carrier in
     let same : r ≡ h.r = h.amid_is r peer (is_some r peer link end at sane.between.sound.orderly.rise) (is_amid r peer link end at) in
     let one : HasOne Right h.r IsNone j.course.traffic j.course.sessions = h.early_is.zero h.class in
     joined_is_begun Right deeds (known_one h.r end (honest.units_in j.coming)) j.put j.begun j.course.traffic j.course.sessions
     j.holding.end h.early_is.all courses r peer link at o.place o.connection x o.there here
-    (open_there Right j.course.traffic o)
+    (h.early_is.all.judged firm.firm o.place o.connection o.there) (open_there Right j.course.traffic o)
     (one.mine x (ap (slice_get j.course.sessions.live) (sym (one_place Right h.r IsNone j one o)) ∙ here)
     ∙ ap (λ (n : ℕ). Some n) (sym same))
     (λ q later is sure. none_later r peer link end at j.coming all q later is sure.2)
@@ -124,4 +125,4 @@ called_begun local proper deeds j h courses sane firm class not all r peer link 
         begun_octets (spoken Left x).begun ≡ link.ends.joining.begun
     by (inl none) = none_some j.course.traffic.course.class Zero none.class class
     by (inr (inl waits)) = none_some j.course.traffic.course.class Zero waits.class class
-    by (inr (inr z)) = zero_called local deeds j z courses sane all r peer link at o x here
+    by (inr (inr z)) = zero_called local deeds j z courses sane firm all r peer link at o x here

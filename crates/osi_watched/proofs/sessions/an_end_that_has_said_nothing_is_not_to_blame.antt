@@ -4,7 +4,7 @@ use Rattle.osi_watched.proofs.Vocabulary.{[], ap, Bool, false, inl, inr, length,
 use Rattle.osi_watched.proofs.Vocabulary.{◌⊎◌, slice_get, confirm, data0, data2, disconnect, error, Value, Local, meaning_if, meant}
 use Rattle.osi_watched.proofs.Vocabulary.{Traffic as State, takes, other, broke_session, begin_of, Direction, Left, Right, AllProper, Deeds}
 use Rattle.osi_watched.proofs.Vocabulary.{IsToBlame, adds_if, all_begin, asked, Joined, Sessions, spoken, taken, unit_passes, units_pass}
-use Rattle.osi_watched.proofs.Vocabulary.{way_of, heard, told, told_of, fits, spent, Room, after_add, after_set, IsClear, begins_other}
+use Rattle.osi_watched.proofs.Vocabulary.{way_of, heard, told, told_of, fits, spent, Room, after_add, after_set, IsOngoing, begins_other}
 use Rattle.osi_watched.proofs.Vocabulary.{begins_own, Joint, passes_other, passes_own, Step, Steps, calls_from}
 use Rattle.osi_rules.specs.declared.findings.Meaning.TheVariants as meaning
 use Rattle.osi_fair.specs.Wholes as wholes
@@ -17,9 +17,9 @@ use Rattle.osi_watched.proofs.sessions.a_session_that_is_shown_is_not_to_blame.{
 use Rattle.osi_watched.proofs.sessions.after_too_many_nobody_is_to_blame.{NoneIsToBlame}
 use Rattle.osi_watched.proofs.sessions.all_connections_stand.{map_of}
 use Rattle.osi_watched.proofs.sessions.connections_have_the_same_places.{Agree, packet_agrees, unit_agrees, unit_joins, units_agree}
-use Rattle.osi_watched.proofs.sessions.no_session_of_an_end_breaks_first.{KeepsNoneToBlame}
 use Rattle.osi_watched.proofs.sessions.what_a_unit_does_at_its_place.{Does, asks_again, asks_more, nowhere, somewhere, unit_does}
 use Rattle.osi_watched.proofs.sessions.what_stands_of_a_connection.{is_part}
+use Rattle.osi_watched.proofs.sessions.what_stands_after_a_loss_stands_before_one.{KeepsThroughout}
 
 -- ---- sides that have said nothing
 
@@ -107,7 +107,7 @@ module _ (d e : Direction) (at : ℕ) (v : Value) (s : State) (t : Sessions) (no
   mute_by : Does e at v s t (takes (way_of e) v s) →
       IsMute d (taken e at v (takes (way_of e) v s).told.meaning (takes (way_of e) v s).told.place t)
   mute_by (nowhere place cs ts) = subst (IsMute d) (sym ts) h
-  mute_by (somewhere p c k b r place there here one finding is cs ts) =
+  mute_by (somewhere p c k b r place there here one finding is far cs ts) =
       let new : Joined = joined.meant e at v (meaning_if b (meant v)) k in
       let none : IsUnsaid d new = said_meant d e at v b k not ∙ h.live p k here in
       subst (IsMute d) (sym ts) (record {
@@ -120,7 +120,7 @@ module _ (d e : Direction) (at : ℕ) (v : Value) (s : State) (t : Sessions) (no
         live = λ i j here. one_or (length t.live) i new j (said_asked d number x.source t.room) (after_add t.live i new j here);
         done = h.done;
       })
-  mute_by (asks_again x is number p k here cs ts) =
+  mute_by (asks_again x is number p k here free cs ts) =
       let new : Joined = asked number x.source t.room in
       subst (IsMute d) (sym ts) (record {
         live = λ i j here. one_or p i new j (said_asked d number x.source t.room) (after_set t.live p i new j here);
@@ -158,10 +158,10 @@ pub record HasSaidNothing (d : Direction) (local : Local) (deeds : ℕ → Deeds
   pub places : Agree j.course
   pub mute : IsMute d j.course.sessions
 
--- as long as nobody has broken a rule, and class 0 is not selected, no unit that passes of the end is a DT
+-- as long as both sides are judged, and class 0 is not selected, no unit that passes of the end is a DT
 abbrev pub PutsNoDt : Direction → Local → Type 0
 PutsNoDt d local = (at : ℕ) (v : Value) (old new : Joint) → Steps d (passes_own at v) old new →
-    IsFollowed d (wholes.begin (calls_from d) local) old → IsClear old.course.traffic.course → is_part v ≡ false
+    IsFollowed d (wholes.begin (calls_from d) local) old → IsOngoing old.course.traffic.course → is_part v ≡ false
 
 module _ (proper : AllProper) (d : Direction) (local : Local) where
   stays_mute : (deeds then_deeds : ℕ → Deeds) (step : Step) (old new : Joint) → Steps d step old new → Agree new.course →
@@ -172,7 +172,7 @@ module _ (proper : AllProper) (d : Direction) (local : Local) where
     mute = mute;
   }
 
-  pub mute_keeps : PutsNoDt d local → KeepsNoneToBlame d local (HasSaidNothing d local)
+  pub mute_keeps : PutsNoDt d local → KeepsThroughout d local (HasSaidNothing d local)
   mute_keeps none_put = record {
     begins = λ h fresh. record {
       followed = begin_followed d (calls_from d) local h fresh;

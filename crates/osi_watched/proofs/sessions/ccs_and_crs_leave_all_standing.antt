@@ -78,9 +78,9 @@ pub own_cr : (deeds : ℕ → Deeds) (known : Known) (at : ℕ) (x : Connect) (r
     Leaves Left deeds known known (request x ∷ rest) rest true false Left at (request x) s t
 own_cr deeds known at x rest s t put none sure = record {
   all = λ e c j h. stands_elsewhere Left deeds known (request x) rest true c j (λ live. refl) h;
-  elsewhere = λ p i first c k j apart place there one at_k finding at_c at_j another h.
+  elsewhere = λ p i first c k j apart place there one at_k finding at_c at_j another judged h.
       stands_elsewhere Left deeds known (request x) rest true c j (λ live. refl) h;
-  here = λ p c j b r place there at_j one finding is h. own_plain Left deeds known at (request x) rest b true r c j tt h;
+  here = λ p c j b r place there at_j one finding is far on judged h. own_plain Left deeds known at (request x) rest b true r c j tt h;
   asked_so = λ y number is. asked_one y number (request_is x y is);
   others = λ y is c j h. stands_elsewhere Left deeds known (request x) rest true c j (λ live. refl) h;
   moves = λ y is j h. h;
@@ -106,9 +106,9 @@ pub other_cr : (deeds : ℕ → Deeds) (known then_known : Known) (at : ℕ) (x 
 other_cr deeds known then_known at x put b s t stays = record {
   all = λ e c j h. stands_other_none Right deeds known then_known put b c c j j (like_same Right j) refl refl
       (λ r later is. stays r later) h;
-  elsewhere = λ p i first c k j apart place there one at_k finding at_c at_j another h.
+  elsewhere = λ p i first c k j apart place there one at_k finding at_c at_j another judged h.
       stands_other_none Right deeds known then_known put b c c j j (like_same Right j) refl refl (λ r later is. stays r later) h;
-  here = λ p c j y r place there at_j one finding is h.
+  here = λ p c j y r place there at_j one finding is far on judged h.
       other_plain Right deeds known then_known at (request x) put y b r c j tt (λ n later is. stays n later) h;
   asked_so = λ y number is. unnamed refl (record { said = refl; begun = refl; since = refl })
       (record { said = refl; begun = refl; since = refl }) refl;
@@ -137,9 +137,9 @@ pub own_cc : (deeds : ℕ → Deeds) (known : Known) (at n : ℕ) (x : Connect) 
     Leaves Right deeds known known (confirm n x ∷ rest) rest true false Right at (confirm n x) s t
 own_cc deeds known at n x rest s t put none sure a = record {
   all = λ e c j h. stands_elsewhere Right deeds known (confirm n x) rest true c j (λ live. refl) h;
-  elsewhere = λ p i first c k j apart place there one at_k finding at_c at_j another h.
+  elsewhere = λ p i first c k j apart place there one at_k finding at_c at_j another judged h.
       stands_elsewhere Right deeds known (confirm n x) rest true c j (λ live. refl) h;
-  here = λ p c j b r place there at_j one finding is h. by b p c j r is place at_j one h;
+  here = λ p c j b r place there at_j one finding is far on judged h. by b p c j r is place at_j one h;
   asked_so = λ y number is. absurd (cc);
   others = λ y is c j h. absurd (cc);
   moves = λ y is j h. h;
@@ -180,26 +180,29 @@ like_opened called class j = record { own_is = refl; theirs = refl; named = refl
 
 -- that comes to a calling end: no unit of the end is for this reference yet
 pub other_cc : (deeds : ℕ → Deeds) (known then_known : Known) (at n : ℕ) (x : Connect) (put : List Value) (b : Bool) (s : State)
-    (t : Sessions) → waiting_for (Some x.source) put ≡ [] → ((r : ℕ) (later : List Part) → known r later → then_known r later) →
+    (t : Sessions) → (is_applied (takes way.Right (confirm n x) s).told.finding ≡ true → waiting_for (Some x.source) put ≡ []) →
+    ((r : ℕ) (later : List Part) → known r later → then_known r later) →
     Leaves Left deeds known then_known put put b b Right at (confirm n x) s t
 other_cc deeds known then_known at n x put b s t unheard stays = record {
   all = λ e c j h. stands_other_none Left deeds known then_known put b c c j j (like_same Left j) refl refl (λ r later is. stays r later) h;
-  elsewhere = λ p i first c k j apart place there one at_k finding at_c at_j another h.
+  elsewhere = λ p i first c k j apart place there one at_k finding at_c at_j another judged h.
       stands_other_none Left deeds known then_known put b c c j j (like_same Left j) refl refl (λ r later is. stays r later) h;
-  here = λ p c j y r place there at_j one finding is h. by y c j r is one h;
+  here = λ p c j y r place there at_j one finding is far on judged h.
+      by y c j r is one (λ applied. ap is_applied finding ∙ applied) h;
   asked_so = λ y number is. absurd (cc);
   others = λ y is c j h. absurd (cc);
   moves = λ y is j h. absurd (cc);
   keeps = λ i j here h. rests_on Left deeds known then_known j (λ r later is. stays r later) h;
 }
   where
-    opens : (c : Connection) (j : Joined) (r : Reach) → j.called ≡ None → Stands Left deeds known put b c j →
+    opens : (c : Connection) (j : Joined) (r : Reach) → j.called ≡ None → waiting_for (Some x.source) put ≡ [] →
+        Stands Left deeds known put b c j →
         Stands Left deeds then_known put b (connection_after way.Right (confirm n x) true r c) (opened x.source (class_of (confirm n x)) j)
-    opens c j r un (unnamed is mine theirs room) = absurd (cc)
-    opens c j r un (lives q o is live later sure h) =
+    opens c j r un none_waits (unnamed is mine theirs room) = absurd (cc)
+    opens c j r un none_waits (lives q o is live later sure h) =
         let k = opened x.source (class_of (confirm n x)) j in
         let none : waiting_for o put ≡ waiting_for (Some x.source) put =
-        ap (λ (y : Option ℕ). waiting_for y put) (sym is ∙ un) ∙ none_for put ∙ sym unheard in
+        ap (λ (y : Option ℕ). waiting_for y put) (sym is ∙ un) ∙ none_for put ∙ sym none_waits in
         let goes = like_shown Left q (deeds q) (waiting_for (Some x.source) put) later false j k
         (like_opened x.source (class_of (confirm n x)) j)
         (subst (λ (l : List Value). IsShownNow Left q (deeds q) l later false j) none
@@ -207,16 +210,17 @@ other_cc deeds known then_known at n x put b s t unheard stays = record {
         lives q (Some x.source) refl (ap (λ (y : Half). is_open y.phase) (other_after Left (confirm n x) true r c) ∙ live) later
         (stays q later sure)
         (subst (λ (y : Bool). IsShownNow Left q (deeds q) (waiting_for (Some x.source) put) later y k)
-        (sym (next_none (Some x.source) b put unheard)) goes)
-    opens c j r un (past q closed waiting later sure h) =
+        (sym (next_none (Some x.source) b put none_waits)) goes)
+    opens c j r un none_waits (past q closed waiting later sure h) =
         past q (ap (λ (y : Half). is_open y.phase) (other_after Left (confirm n x) true r c) ∙ closed) waiting later (stays q later sure)
         (like_shown Left q (deeds q) waiting later false j (opened x.source (class_of (confirm n x)) j)
         (like_opened x.source (class_of (confirm n x)) j) h)
 
     by : (y : Bool) (c : Connection) (j : Joined) (r : Reach) → is_applied (found_on way.Right s c (confirm n x)) ≡ y → IsOneOf c j →
+        (is_applied (found_on way.Right s c (confirm n x)) ≡ true → is_applied (takes way.Right (confirm n x) s).told.finding ≡ true) →
         Stands Left deeds known put b c j →
         Stands Left deeds then_known put b (connection_after way.Right (confirm n x) y r c)
         (joined.meant Right at (confirm n x) (meaning_if y (meant (confirm n x))) j)
-    by false c j r is one h =
+    by false c j r is one told h =
         other_plain Left deeds known then_known at (confirm n x) put false b r c j refl (λ m later e. stays m later) h
-    by true c j r is one h = opens c j r (unanswered s n x c j one is) h
+    by true c j r is one told h = opens c j r (unanswered s n x c j one is) (unheard (told is)) h

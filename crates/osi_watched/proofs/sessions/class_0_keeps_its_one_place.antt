@@ -270,14 +270,14 @@ module _ (d e : Direction) (r : ℕ) (gone : ℕ → Type 0) (at : ℕ) (v : Val
   one_by : IsStill e v s → Does e at v s t (takes (way_of e) v s) → After (takes (way_of e) v s).state
       (taken e at v (takes (way_of e) v s).told.meaning (takes (way_of e) v s).told.place t)
   one_by still (nowhere place cs ts) = same_conns (takes (way_of e) v s).state _ cs ts
-  one_by still (somewhere p c k b x place there here one finding is cs ts) =
+  one_by still (somewhere p c k b x place there here one finding is far cs ts) =
       subst (After (takes (way_of e) v s).state) (sym ts)
       (as_other (takes (way_of e) v s).state
       (record s { connections = set s.connections p (connection_after (way_of e) v b x c) })
       (record t { live = set t.live p (joined.meant e at v (meaning_if b (meant v)) k) }) cs
       (changed_one p c k b x there here (here_so e v s p still place)))
   one_by still (asks_more x is number cs ts) = no_cr e v s x is still
-  one_by still (asks_again x is number p k here cs ts) = no_cr e v s x is still
+  one_by still (asks_again x is number p k here free cs ts) = no_cr e v s x is still
 
   pub one_passes : HaveSamePlaces s.connections t.live → IsStill e v s → After (takes (way_of e) v s).state
       (taken e at v (takes (way_of e) v s).told.meaning (takes (way_of e) v s).told.place t)

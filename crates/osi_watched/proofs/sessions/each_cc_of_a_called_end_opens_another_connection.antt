@@ -13,6 +13,7 @@ use Rattle.osi_judge.specs.declared.directions.Direction.TheVariants as side
 use Rattle.osi_rules.specs.declared.directions.Direction.TheVariants.{Left, Right}
 use Rattle.osi_fair.specs.Lines.{answers, begins_other, begins_own, closes, passes_other, passes_own}
 use Rattle.osi_fair.proofs.each_connection_of_a_called_end.{past}
+use Rattle.osi_fair.proofs.names_stay_apart_though_one_is_lost.{AreNamedApart, each_sound}
 use Rattle.osi_fair.proofs.units_by_their_place.{units_at}
 use Rattle.osi_watched.proofs.small_facts_that_many_lemmas_use.{all_join as all_of_both}
 use Rattle.osi_fair.proofs.small_facts_that_many_lemmas_use.{differ}
@@ -119,8 +120,7 @@ item c e o h k = cc
 -- ---- the CCs that a called end has put
 
 module _ (local : Local) (w : Whole) (t : Sessions) (f : Called local w) (apart : AreApart w.tap.connections)
-    (judged : (i : ℕ) (c : Connection) → slice_get w.tap.connections i ≡ Some c → c.is_judged ≡ true)
-    (places : HaveSamePlaces w.tap.connections t.live) where
+    (named : AreNamedApart Left w.tap.connections) (places : HaveSamePlaces w.tap.connections t.live) where
   abbrev StandsAt : ℕ → Connection → Type 0
   StandsAt p c = Stand local f.shut w.end w.coming (units_at p f.tagged) (units_at p f.came) (w.begun && first_at p f.tagged) (f.refs p) c
 
@@ -246,8 +246,7 @@ module _ (local : Local) (w : Whole) (t : Sessions) (f : Called local w) (apart 
 
   same_place : (n r q : ℕ) (ts us : List Placed) (k : CcAt n r ts) (l : CcAt n q us) → k.place ≡ l.place
   same_place n r q ts us k l =
-      apart.used_left n k.place l.place k.c l.c k.at l.at (judged k.place k.c k.at) (judged l.place l.c l.at) (used_at n r ts k)
-      (used_at n q us l)
+      named.used n k.place l.place k.c l.c k.at l.at (used_at n r ts k) (used_at n q us l)
 
   pub same_destination : (n r q : ℕ) → HasCc n r w.put → HasCc n q w.put → r ≡ q
   same_destination n r q h i =
@@ -270,10 +269,10 @@ module _ (local : Local) (w : Whole) (t : Sessions) (f : Called local w) (apart 
       is_open e.right.phase ≡ true → e.left.reference ≡ n → A
   open_not n r ts k i e at lives is =
       let (j, here, one) = at_same w.tap.connections t.live i e places at in
-      let used = still_used side.Right n e j one (apart.sound i e at (judged i e at)) lives
+      let used = still_used side.Right n e j one (each_sound Left w.tap.connections apart named i e at) lives
       (ap (λ (m : ℕ). Some m) (one.calling ∙ is)) in
       let same : k.place ≡ i =
-      apart.used_left n k.place i k.c e k.at at (judged k.place k.c k.at) (judged i e at) (used_at n r ts k) used in
+      named.used n k.place i k.c e k.at at (used_at n r ts k) used in
       let both : k.c ≡ e = item k.c e (slice_get w.tap.connections i) (ap (slice_get w.tap.connections) (sym same) ∙ k.at) at in
       differ (is_open e.right.phase) lives
       (ap (λ (c : Connection). is_open c.right.phase) (sym both) ∙ ap (λ (h : Half). is_open h.phase) k.asked.right)
@@ -321,7 +320,7 @@ module _ (local : Local) (w : Whole) (t : Sessions) (f : Called local w) (apart 
           let peer : n ≡ h.x.source = to_peer n h.x.source v mine zero
           (one_of (IsTo h.x.source) zs (units_at p rest) v (subst (AllByRecursion (IsTo h.x.source)) (sym others) later)) in
           let same : p ≡ k.place =
-          apart.used_left n p k.place c k.c at k.at (judged p c at) (judged k.place k.c k.at)
+          named.used n p k.place c k.c at k.at
           (subst (λ (i : ℕ). uses Left i c ≡ true) (sym peer) (used_asked h.x c h.asked)) (used_at n r rest k) in
           ordered_here n r p front rest v is mine k same
   ordered_by n r p c front rest v at is zero mine k (runs h none) =
@@ -376,14 +375,14 @@ module _ (local : Local) (w : Whole) (t : Sessions) (f : Called local w) (apart 
       by_stand c at (answering h none) =
           let name : h.r ≡ q = same_number (f.refs (f.home q)) h.r q h.index index in
           let same : peer ≡ h.x.source =
-          row_peer local w t f apart judged places lasts h.r h.x.source h.link h.come peer link h.row
+          row_peer local w t f apart named places lasts h.r h.x.source h.link h.come peer link h.row
           (ap (λ (n : ℕ). value_at n w.end.live) name ∙ is) in
           inl (subst (HasCc peer q) (sym f.put)
           (has_at peer q (f.home q) f.tagged (subst (HasCc peer q) (sym h.mine_is) (inl (sym same, name)))))
       by_stand c at (runs h none) =
           let name : h.r ≡ q = same_number (f.refs (f.home q)) h.r q h.index index in
           let same : peer ≡ h.peer =
-          row_peer local w t f apart judged places lasts h.r h.peer h.line.link h.line.coming peer link h.row
+          row_peer local w t f apart named places lasts h.r h.peer h.line.link h.line.coming peer link h.row
           (ap (λ (n : ℕ). value_at n w.end.live) name ∙ is) in
           let (j, here, one) = at_same w.tap.connections t.live (f.home q) c places at in
           inr (record {

@@ -18,7 +18,7 @@ use Rattle.osi_watched.proofs.a_carrier_does_events.{happen_join}
 use Rattle.osi_watched.proofs.steps_are_events.{IsFollowed, own_first, step_followed}
 use Rattle.osi_watched.proofs.sessions.ccs_that_wait_are_above_those_that_passed.{AreAboveAt, above_along, passes_confirmed}
 use Rattle.osi_watched.proofs.sessions.connections_have_the_same_places.{unit_knows}
-use Rattle.osi_watched.proofs.sessions.each_cr_that_passes_gives_a_new_reference.{AreUpTo, IsUpTo, begins_up, unit_up, units_up, up_higher}
+use Rattle.osi_watched.proofs.sessions.each_cr_that_passes_gives_a_new_reference.{AreUpTo, IsUpTo, begins_up, unit_up, up_higher}
 use Rattle.osi_watched.proofs.sessions.references_of_an_end_are_distinct.{GivesNew, IsUnused}
 use Rattle.osi_watched.proofs.sessions.units_written_alike_have_the_same_ccs.{AreAlike, HasCc, has_above, has_alike, turned}
 
@@ -149,14 +149,11 @@ module _ (first : Whole) where
       (subst (λ (j : Joint). AreUpTo Right h.bound j.course.sessions) (sym step)
       (begins_up Right Left h.bound old.course.sessions h.below))
 
-  -- no CC is among the units of the other side
+  -- the units of the other side give no reference
   pub passes_other_ahead : AllProper → (at : ℕ) (packet : List ℕ) (units : List Value) (old new : Joint) →
-      Steps Right (passes_other at packet units) old new → HaveSamePlaces old.course.traffic.connections old.course.sessions.live →
-      (h : IsAhead first old) → AllByRecursion (IsUpTo Right h.bound) units → GoesOn first h.bound new
-  passes_other_ahead proper at packet units old new step places h none =
-      goes_on proper (passes_other at packet units) old new step h
-      (subst (λ (j : Joint). AreUpTo Right h.bound j.course.sessions) (sym step.2)
-      (units_up Right Left h.bound at units old.course places none h.below))
+      Steps Right (passes_other at packet units) old new → (h : IsAhead first old) → AreUpTo Right h.bound new.course.sessions →
+      GoesOn first h.bound new
+  passes_other_ahead proper at packet units old new step h up = goes_on proper (passes_other at packet units) old new step h up
 
   passes_another : AllProper → (at : ℕ) (unit : Value) (old new : Joint) → Steps Right (passes_own at unit) old new →
       HaveSamePlaces old.course.traffic.connections old.course.sessions.live → (h : IsAhead first old) → IsUpTo Right h.bound unit →

@@ -114,7 +114,7 @@ module _ (d : Direction) (b : ℕ) (t : Sessions) (h : AreUpTo d b t) where
   up_by : (e : Direction) (at : ℕ) (v : Value) (s : State) → IsUpTo d b v → Does e at v s t (takes (way_of e) v s) →
       AreUpTo d b (taken e at v (takes (way_of e) v s).told.meaning (takes (way_of e) v s).told.place t)
   up_by e at v s up (nowhere place cs ts) = subst (AreUpTo d b) (sym ts) h
-  up_by e at v s up (somewhere p c k x r place there here one finding is cs ts) =
+  up_by e at v s up (somewhere p c k x r place there here one finding is far cs ts) =
       let new : Joined = joined.meant e at v (meaning_if x (meant v)) k in
       let low : IsLow d b new = meant_low d b e at v x k up (λ q named. h.live p k q here named) in
       subst (AreUpTo d b) (sym ts) (record {
@@ -128,7 +128,7 @@ module _ (d : Direction) (b : ℕ) (t : Sessions) (h : AreUpTo d b t) where
         live = λ i j q at_i named. low_of (length t.live) i new j low (after_add t.live i new j at_i) q named;
         done = h.done;
       })
-  up_by e at v s up (asks_again x is number p k here cs ts) =
+  up_by e at v s up (asks_again x is number p k here free cs ts) =
       let new : Joined = asked number x.source t.room in
       let low : IsLow d b new = asked_low d b x number t.room (subst (IsUpTo d b) is up) in
       subst (AreUpTo d b) (sym ts) (record {

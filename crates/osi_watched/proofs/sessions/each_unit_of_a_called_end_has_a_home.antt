@@ -6,25 +6,27 @@ use Rattle.osi_watched.proofs.Vocabulary.{true, ℕ, ◌&&◌, ◌++◌, ◌==�
 use Rattle.osi_watched.proofs.Vocabulary.{disconnect, request, Value, Standing, Zero, Local, value_at, linked, Carrier, is_open, is_over_by}
 use Rattle.osi_watched.proofs.Vocabulary.{is_refused, is_silent, uses, silent_half, Traffic as State, Connection, Half, Phase, Open}
 use Rattle.osi_watched.proofs.Vocabulary.{Refused, Silent, Left, Right, Answers, Begins, is_shut, Opens, opens, Continues, Deeds, all_units}
-use Rattle.osi_watched.proofs.Vocabulary.{Marked, Turn, Joined, reference_of, Sessions, IsNoCc, answering as answers, Asked, Called, comes}
-use Rattle.osi_watched.proofs.Vocabulary.{refuses, runs, Stand, Untagged, at_first, at_join, first_at, Placed, values, NamesApart, IsFirm}
+use Rattle.osi_watched.proofs.Vocabulary.{Marked, Turn, Joined, reference_of, Sessions, answering as answers, Asked, Called, comes}
+use Rattle.osi_watched.proofs.Vocabulary.{refuses, runs, Stand, Untagged, at_first, at_join, first_at, Placed, values, NamesApart, IsCalm}
+use Rattle.osi_watched.proofs.Vocabulary.{open_link, ◌<◌}
 use Rattle.osi_watched.proofs.Vocabulary.{opened_half, Whole, Joint, TakesTurn, HaveSamePlaces, named_by}
 use Rattle.osi_rules.specs.declared.directions.Direction.TheVariants as way
 use Rattle.osi_fair.specs.Wholes.{begin}
 use Rattle.osi_fair.proofs.each_connection_of_a_called_end.{Row, closes, over, past, talks}
+use Rattle.osi_fair.proofs.names_stay_apart_though_one_is_lost.{AreNamedApart, each_sound}
 use Rattle.osi_fair.proofs.units_by_their_place.{units_at}
 use Rattle.osi_honest.specs.Arriving.{AreApart, is_open as opened}
 use Rattle.osi_watched.proofs.small_facts_that_many_lemmas_use.{all_front, over_not}
 use Rattle.osi_fair.proofs.small_facts_that_many_lemmas_use.{differ}
 use Rattle.osi_watched.proofs.steps_are_events.{IsFollowed}
-use Rattle.osi_watched.proofs.sessions.a_called_end_has_its_lines.{called_joined, called_lines, called_no_cc}
+use Rattle.osi_watched.proofs.sessions.a_called_end_has_its_lines.{HasCalled, called_joined, called_lines}
 use Rattle.osi_watched.proofs.sessions.a_right_dt_has_one_place.{still_used}
 use Rattle.osi_watched.proofs.sessions.all_connections_stand.{one_at, there_too}
 use Rattle.osi_watched.proofs.sessions.connections_have_the_same_places.{at_same}
 use Rattle.osi_watched.proofs.sessions.each_unit_of_a_turn_has_one_connection.{IsHomed, IsMarked, known, unknown}
 use Rattle.osi_watched.proofs.sessions.references_of_an_end_are_distinct.{GivesNew, IsUnused}
 use Rattle.osi_watched.proofs.sessions.what_a_turn_puts_goes_to_its_peer.{IsNotZero, IsThere, Lived, by_units, came, linked_so, none_shut}
-use Rattle.osi_watched.proofs.sessions.what_a_turn_puts_goes_to_its_peer.{one_of, turn_marked, whole_lasts}
+use Rattle.osi_watched.proofs.sessions.what_a_turn_puts_goes_to_its_peer.{one_of, put_for, turn_marked, whole_lasts}
 
 -- ---- small facts
 
@@ -82,8 +84,7 @@ not_empty [] ys v e = absurd (cc)
 not_empty (x ∷ xs) ys v e = absurd (cc)
 
 module _ (local : Local) (w : Whole) (t : Sessions) (f : Called local w) (apart : NamesApart w.tap.connections)
-    (judged : (i : ℕ) (c : Connection) → slice_get w.tap.connections i ≡ Some c → c.is_judged ≡ true)
-    (places : HaveSamePlaces w.tap.connections t.live) (lasts : w.end.ended ≡ None) where
+    (named : AreNamedApart way.Left w.tap.connections) (places : HaveSamePlaces w.tap.connections t.live) (lasts : w.end.ended ≡ None) where
   abbrev StandsAt : ℕ → Connection → Type 0
   StandsAt p c = Stand local f.shut w.end w.coming (units_at p f.tagged) (units_at p f.came) (w.begun && first_at p f.tagged) (f.refs p) c
 
@@ -93,9 +94,8 @@ module _ (local : Local) (w : Whole) (t : Sessions) (f : Called local w) (apart 
       is_open e.right.phase ≡ true → reference_of Left j ≡ Some x.source → ⊥
   none_open x p c at a i e j there here lives is =
       let used = still_used Right x.source e j (one_at w.tap.connections t.live i e j places there here)
-      (apart.sound i e there (judged i e there)) lives is in
-      let same : p ≡ i =
-      apart.used_left x.source p i c e at there (judged p c at) (judged i e there) (used_asked x c a) used in
+      (each_sound way.Left w.tap.connections apart named i e there) lives is in
+      let same : p ≡ i = named.used x.source p i c e at there (used_asked x c a) used in
       let one : c ≡ e = item (sym at ∙ ap (λ (n : ℕ). slice_get w.tap.connections n) same ∙ there) in
       differ (is_open e.right.phase) lives
       (ap (λ (k : Connection). is_open k.right.phase) (sym one) ∙ ap (λ (h : Half). is_open h.phase) a.right)
@@ -229,12 +229,19 @@ module _ (local : Local) (w : Whole) (t : Sessions) (f : Called local w) (apart 
 
 -- ---- a turn
 
+-- no connection opens by a CC that has come
+abbrev pub OpensByNoCc : (local : Local) (deeds : ℕ → Deeds) (turn : Turn) (old new : Joint) (step : TakesTurn turn old new)
+    (on : Continues false deeds old.holding turn new.holding) → IsFollowed Right (begin false local) old → Type 1
+OpensByNoCc local deeds turn old new step on f = old.holding.end.carrier.ended ≡ None → (q : ℕ) → 0 < q →
+    open_link q old.holding.end.carrier ≡ None → (n : ℕ) (x : Connect) → n ≡ q → IsThere (confirm n x) f.whole.coming → AreApart q on.put
+
 module _ (local : Local) (deeds : ℕ → Deeds) (turn : Turn) (old new : Joint) (step : TakesTurn turn old new)
     (on : Continues false deeds old.holding turn new.holding) (f : IsFollowed Right (begin false local) old)
-    (calm : IsFirm old.course.traffic.course) (two : old.holding.end.carrier.class ≡ Some Zero → ⊥)
+    (calm : IsCalm old.course.traffic.course) (two : old.holding.end.carrier.class ≡ Some Zero → ⊥)
     (places : HaveSamePlaces old.course.traffic.connections old.course.sessions.live)
     (news : AllByRecursion (λ (v : Value). GivesNew Right v old.course.sessions) (all_units on.put))
-    (class_2 : AllByRecursion IsNotZero (all_units on.put)) where
+    (class_2 : AllByRecursion IsNotZero (all_units on.put))
+    (no_cc : OpensByNoCc local deeds turn old new step on f) where
   abbrev s : State
   s = old.course.traffic
 
@@ -247,20 +254,14 @@ module _ (local : Local) (deeds : ℕ → Deeds) (turn : Turn) (old new : Joint)
   abbrev LivedSo : ℕ → Type 0
   LivedSo q = Lived Right false (begin false local) deeds turn old new step on f q
 
-  lines : carrier.ended ≡ None → Called local f.whole
+  lines : carrier.ended ≡ None → HasCalled local f.whole
   lines lasts = called_lines local old f calm lasts two
 
   apart : NamesApart f.whole.tap.connections
   apart = (called_joined local old f).apart
 
-  judged : (i : ℕ) (c : Connection) → slice_get f.whole.tap.connections i ≡ Some c → c.is_judged ≡ true
-  judged i c at = (called_joined local old f).judged (ap (λ (x : State). x.course.loose) f.tap ∙ calm.firm) i c at
-
   places_so : HaveSamePlaces f.whole.tap.connections t.live
   places_so = subst (λ (x : State). HaveSamePlaces x.connections t.live) (sym f.tap) places
-
-  no_cc : AllByRecursion IsNoCc f.whole.coming
-  no_cc = called_no_cc local old f calm
 
   -- a CC that is put gives a new reference
   new_reference : (q : ℕ) (l : LivedSo q) (others answer : List Marked) → l.left.before ≡ others ++ answer → (cc_is : Connect) →
@@ -273,32 +274,35 @@ module _ (local : Local) (deeds : ℕ → Deeds) (turn : Turn) (old new : Joint)
       (one_of (λ (m : Marked). GivesNew Right m.1 t) others [] (0, confirm l.peer cc_is)
       (subst (AllByRecursion (λ (m : Marked). GivesNew Right m.1 t)) (parts ∙ ap (λ (x : List Marked). others ++ x) is) before))
 
-  home_by : (lasts : carrier.ended ≡ None) (q : ℕ) (l : LivedSo q) →
+  home_by : (lasts : carrier.ended ≡ None) (q : ℕ) → 0 < q → (l : LivedSo q) →
       Begins false q l.peer carrier new.holding.end.carrier l.arrived l.left → (AreApart q on.put → ⊥) →
       IsHomed Right q l.peer f.whole.tap t
-  home_by lasts q l (opened link there none none_left) some =
-      linked_homed local f.whole t (lines lasts) apart judged places_so
+  home_by lasts q positive l (opened link there none none_left) some =
+      linked_homed local f.whole t (lines lasts).called apart (lines lasts).named places_so
       (whole_lasts Right false (begin false local) deeds turn old new step on f lasts) q l.peer link
       (linked_so Right false (begin false local) deeds turn old new step on f lasts q l.peer link there)
-  home_by lasts q l (opens shut unit opening front is others answer gives put) some = by unit opening gives is
+  home_by lasts q positive l (opens shut unit opening front is others answer gives put) some = by unit opening gives is
     where
       by : (u : Value) → Opens false q l.peer u → Answers q l.peer u answer → l.arrived.before ≡ front ++ (0, u) ∷ [] →
           IsHomed Right q l.peer f.whole.tap t
       by (confirm n x) opening gives come =
-          absurd (came Right false (begin false local) deeds turn old new step on f lasts
-          (confirm n x) front q l come IsNoCc no_cc n x refl)
+          absurd (some (no_cc lasts q positive shut n x opening.0
+          (came Right false (begin false local) deeds turn old new step on f lasts (confirm n x) front q l come)))
       by (request x) (called, theirs) (cc_is, source, one) come =
           subst (λ (k : ℕ). IsHomed Right q k f.whole.tap t) theirs
-          (asked_homed local f.whole t (lines lasts) apart judged places_so
+          (asked_homed local f.whole t (lines lasts).called apart (lines lasts).named places_so
           (whole_lasts Right false (begin false local) deeds turn old new step on f lasts) q x
           (came Right false (begin false local) deeds turn old new step on f lasts (request x) front q l come)
           (new_reference q l others answer put cc_is source one))
       by (disconnect n source reason user) h gives come = absurd h
       by _ h gives come = absurd h
-  home_by lasts q l (is_shut shut then_shut none none_left) some =
+  home_by lasts q positive l (is_shut shut then_shut none none_left) some =
       absurd (some (none_shut Right false (begin false local) deeds turn old new step on f q l none_left))
 
   pub called_marked : AllByRecursion (IsMarked Right s t) on.put
   called_marked =
       turn_marked Right false (begin false local) deeds turn old new step on f s t class_2
-      (λ lasts q positive l some. subst (λ (x : State). IsHomed Right q l.peer x t) f.tap (home_by lasts q l l.begins some))
+      (λ lasts q positive some.
+      let l = on.lives q positive in
+      put_for Right false (begin false local) deeds turn old new step on f q l s t
+      (subst (λ (x : State). IsHomed Right q l.peer x t) f.tap (home_by lasts q positive l l.begins some)))

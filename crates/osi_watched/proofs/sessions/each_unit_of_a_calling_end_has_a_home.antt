@@ -1,27 +1,32 @@
 -- Each DT and each AK that a calling end puts in a turn is for a connection that the tap knows by its references and that this end has
 -- not closed there; each other unit is for none.
 -- For all connections of an end and a tap.
-use Rattle.osi_watched.proofs.Vocabulary.{[], ap, arith, Bool, false, inl, inr, List, map, None, Option, refl, Some, subst, suc, sym, true}
-use Rattle.osi_watched.proofs.Vocabulary.{ℕ, ◌++◌, ◌∙◌, ◌∷◌, ◌≡◌, ◌⊎◌, eq-eqb, AllByRecursion, slice_get, ◌||◌, confirm, Connect, data0}
-use Rattle.osi_watched.proofs.Vocabulary.{destination_of, disconnect, request, Value, written, Standing, Local, value_at, closing, Live}
-use Rattle.osi_watched.proofs.Vocabulary.{linked, Carrier, is_closing, is_open, Traffic as State, Connection, Phase, Closing, Open, Left}
-use Rattle.osi_watched.proofs.Vocabulary.{Begins, is_shut, Opens, opens, Continues, Deeds, all_units, Turn, Sessions, asking, Followed}
-use Rattle.osi_watched.proofs.Vocabulary.{Follows, is_tracked, IsAnswer, IsNoCc, IsOwned, Row, stray, IsClear, is_dc, IsDc, names}
-use Rattle.osi_watched.proofs.Vocabulary.{picked_each, those, Line, Whole, Joint, TakesTurn, HaveSamePlaces, named_by}
+use Rattle.osi_watched.proofs.Vocabulary.{[], ap, append_assoc, arith, Bool, false, inl, inr, is_some, List, map, None, Option, refl, Some}
+use Rattle.osi_watched.proofs.Vocabulary.{subst, suc, sym, true, ℕ, ◌++◌, ◌<◌, ◌==◌, ◌∙◌, ◌∷◌, ◌≡◌, ◌≤◌, ◌⊎◌, eq-eqb, AllByRecursion}
+use Rattle.osi_watched.proofs.Vocabulary.{slice_get, ◌||◌, confirm, Connect, data0, destination_of, disconnect, request, Value, written}
+use Rattle.osi_watched.proofs.Vocabulary.{Standing, Local, value_at, closing, Live, linked, Carrier, has_given, is_closing, is_open}
+use Rattle.osi_watched.proofs.Vocabulary.{Traffic as State, Connection, Phase, Closing, Open, Left, amid, early, Life, opens_by, past}
+use Rattle.osi_watched.proofs.Vocabulary.{Time as Stage, stage_at, stays, all_units_more, Opens, Continues, Deeds, units_in, all_units}
+use Rattle.osi_watched.proofs.Vocabulary.{Marked, Turn, Sessions, asking, Followed, is_tracked, IsAnswer, IsOwned, Row, stray, Tracked}
+use Rattle.osi_watched.proofs.Vocabulary.{each_picked, first_kept, is_dc, IsDc, IsOngoing, names, those, those_join, Line, Whole, Joint}
+use Rattle.osi_watched.proofs.Vocabulary.{TakesTurn, HaveSamePlaces, named_by}
 use Rattle.osi_carrier.specs.State.{asked}
 use Rattle.osi_fair.specs.Wholes.{begin}
-use Rattle.osi_fair.proofs.each_connection_has_its_line.{asks, closes, of, over, talks}
-use Rattle.osi_fair.proofs.what_the_other_side_closes.{going_on}
-use Rattle.osi_honest.specs.Arriving.{AreApart, is_open as opened}
+use Rattle.osi_fair.proofs.each_connection_has_its_line.{AreGiven, asks, closes, of, over, talks}
+use Rattle.osi_honest.specs.Arriving.{AreApart}
+use Rattle.osi_honest.proofs.courses.how_long_a_connection_is_open.{BeforeOpen, WhileOpen, stage_by}
+use Rattle.osi_honest.proofs.courses.the_first_cc_opens_a_connection.{Awaiting, FirstOf, HasNoCc, asked_so, awaits, goes, opens_so}
 use Rattle.osi_tap.specs.Courses.{Course as Passed}
-use Rattle.osi_watched.proofs.small_facts_that_many_lemmas_use.{all_join as all_of_both, and_both, over_not}
+use Rattle.osi_watched.proofs.small_facts_that_many_lemmas_use.{and_both, over_not}
 use Rattle.osi_watched.proofs.steps_are_events.{IsFollowed}
 use Rattle.osi_watched.proofs.what_is_put_is_what_is_written.{same_written, written_join}
-use Rattle.osi_watched.proofs.sessions.a_whole_end_runs_along.{calling_followed, calling_joined}
+use Rattle.osi_watched.proofs.sessions.a_turn_does_what_its_deeds_say.{turn_uses}
+use Rattle.osi_watched.proofs.sessions.a_whole_end_runs_along.{calling_followed}
 use Rattle.osi_watched.proofs.sessions.connections_have_the_same_places.{at_same}
-use Rattle.osi_watched.proofs.sessions.each_unit_of_a_turn_has_one_connection.{HasHome, IsMarked, known}
-use Rattle.osi_watched.proofs.sessions.what_a_turn_puts_goes_to_its_peer.{IsNotZero, IsThere, Lived, all_back, all_so, came, linked_so}
-use Rattle.osi_watched.proofs.sessions.what_a_turn_puts_goes_to_its_peer.{none_shut, turn_marked, whole_lasts}
+use Rattle.osi_watched.proofs.sessions.each_unit_of_a_turn_has_one_connection.{HasHome, IsHomed, IsMarked, known}
+use Rattle.osi_watched.proofs.sessions.nothing_is_done_before_a_cr_passes.{IsNotCc, given_so, same_units}
+use Rattle.osi_watched.proofs.sessions.what_a_turn_puts_goes_to_its_peer.{GoesTo, IsNotZero, IsPutFor, all_back, all_of_both, all_so}
+use Rattle.osi_watched.proofs.sessions.what_a_turn_puts_goes_to_its_peer.{goes_to, one_of, turn_marked, whole_lasts}
 use Rattle.osi_watched.proofs.sessions.each_unit_of_a_called_end_has_a_home.{same_peer}
 
 -- ---- a connection that is open at the tap has a home there
@@ -62,7 +67,7 @@ closed_so o q (inr h) = inr h
 -- its line is for the peer of its link
 row_peer : (local : Local) (end : Carrier) (coming : List Value) (r peer : ℕ) (line : Line) (m : ℕ) (link : Standing) →
     Row local end coming r peer line → end.ended ≡ None → value_at r end.live ≡ Some (linked m link) → m ≡ peer
-row_peer local end coming r peer line m link (asks there x source two early dcs first is) lasts e =
+row_peer local end coming r peer line m link (asks there x source two firsts dcs first is) lasts e =
     live_not (value_at r end.live) m link e (inl there)
 row_peer local end coming r peer line m link (talks l there is same) lasts e = same_peer m peer link l (sym e ∙ there)
 row_peer local end coming r peer line m link (closes o there q gone is same) lasts e =
@@ -82,18 +87,14 @@ linked_home local w t f places lasts q peer link is =
 
 -- ---- its CC has come
 
--- a CC is of this reference of the other side
-abbrev pub IsFrom : ℕ → Value → Type 0
-IsFrom peer v = (n : ℕ) (y : Connect) → v ≡ confirm n y → y.source ≡ peer
-
-dc_no_cc : (peer : ℕ) (v : Value) → IsDc v → IsFrom peer v
-dc_no_cc peer v dc n y is = let no : true ≡ false = sym dc ∙ ap is_dc is in absurd (cc)
-
-none_no_cc : (peer : ℕ) (v : Value) → IsNoCc v → IsFrom peer v
-none_no_cc peer v none n y is = absurd (none n y is)
-
-same_source : (m n : ℕ) (x y : Connect) → confirm m x ≡ confirm n y → x.source ≡ y.source
-same_source m n x y e = let same : x ≡ y = cc in ap (λ (k : Connect). k.source) same
+-- DCs, and then a CC of this reference of the other side
+record HasFirst (r peer : ℕ) (coming : List Value) : Type 0 where
+  x : Connect
+  firsts : List Value
+  later : List Value
+  is : those r coming ≡ firsts ++ confirm r x ∷ later
+  dcs : AllByRecursion IsDc firsts
+  source : x.source ≡ peer
 
 asked_not : {A : Type 0} (o : Option Live) → o ≡ Some asked → ((m : ℕ) × (l : Standing) × (o ≡ Some (linked m l))) ⊎
     (((q : ℕ) × (o ≡ Some (closing q))) ⊎ (o ≡ None)) → A
@@ -101,35 +102,66 @@ asked_not o e (inl (m, l, h)) = let no : Some asked ≡ Some (linked m l) = sym 
 asked_not o e (inr (inl (q, h))) = let no : Some asked ≡ Some (closing q) = sym e ∙ h in absurd (cc)
 asked_not o e (inr (inr h)) = let no : Some asked ≡ None = sym e ∙ h in absurd (cc)
 
-row_source : (local : Local) (end : Carrier) (coming : List Value) (r peer : ℕ) (line : Line) → Row local end coming r peer line →
-    AllByRecursion IsNoCc line.coming → end.ended ≡ None → value_at r end.live ≡ Some asked → AllByRecursion (IsFrom peer) (those r coming)
-row_source local end coming r peer line (asks there x source two early dcs first is) calm lasts e =
-    subst (AllByRecursion (IsFrom peer)) (sym first)
-    (all_of_both (IsFrom peer) early (confirm r x ∷ line.coming) (all_so IsDc (IsFrom peer) (dc_no_cc peer) early dcs)
-    (λ n y same. sym (same_source r n x y same) ∙ source, all_so IsNoCc (IsFrom peer) (none_no_cc peer) line.coming calm))
-row_source local end coming r peer line (talks l there is same) calm lasts e =
-    asked_not (value_at r end.live) e (inl (peer, l, there))
-row_source local end coming r peer line (closes o there q gone is same) calm lasts e =
+row_first : (local : Local) (end : Carrier) (coming : List Value) (r peer : ℕ) (line : Line) → Row local end coming r peer line →
+    end.ended ≡ None → value_at r end.live ≡ Some asked → HasFirst r peer coming
+row_first local end coming r peer line (asks there x source two firsts dcs first is) lasts e =
+    record { x = x; firsts = firsts; later = line.coming; is = first; dcs = dcs; source = source }
+row_first local end coming r peer line (talks l there is same) lasts e = asked_not (value_at r end.live) e (inl (peer, l, there))
+row_first local end coming r peer line (closes o there q gone is same) lasts e =
     asked_not o (sym there ∙ e) (inr (closed_so o q gone))
-row_source local end coming r peer line (over h) calm lasts e = over_not end.ended h lasts
+row_first local end coming r peer line (over h) lasts e = over_not end.ended h lasts
 
-asked_home : (local : Local) (w : Whole) (t : Sessions) → Follows local w → IsClear w.tap.course →
-    HaveSamePlaces w.tap.connections t.live → w.end.ended ≡ None → (q : ℕ) (x : Connect) → IsThere (confirm q x) w.coming →
-    HasHome Left q x.source w.tap t
-asked_home local w t j clear places lasts q x come =
-    let f = j.followed (going_on w.tap.course clear) in
-    let (tracked, waits) = come (IsAnswer w.tap.course.loose w.tap.connections w.end) f.answers q x refl lasts (inr clear.sure.firm) in
-    let (p, c, at, so, mine) = tracked in
-    let g = f.lines p c at so in
-    let name : g.r ≡ q = sym g.left ∙ mine in
-    let sources = row_source local w.end w.coming g.r g.peer g.line g.row
-    (g.calm (j.kept.sane.judged clear.sure.firm p c at)) lasts
-    (ap (λ (n : ℕ). value_at n w.end.live) name ∙ waits) in
-    let each = picked_each (IsFrom g.peer) (names g.r) w.coming sources in
-    let same : x.source ≡ g.peer =
-    come (λ (u : Value). names g.r u ≡ true → IsFrom g.peer u) each (eq-eqb q g.r (sym name)) q x refl in
-    subst (λ (n : ℕ). HasHome Left n x.source w.tap t) mine
-    (subst (λ (n : ℕ). HasHome Left c.left.reference n w.tap t) (g.right ∙ sym same) (home_of w.tap t places p c at so))
+-- the first CC of a list is one
+first_cc : (r : ℕ) (x y : Connect) (xs ys us vs : List Value) → xs ++ confirm r x ∷ ys ≡ us ++ confirm r y ∷ vs →
+    AllByRecursion (IsNotCc r) xs → AllByRecursion (IsNotCc r) us → x ≡ y
+first_cc r x y [] ys [] vs e a b = cc
+first_cc r x y [] ys (u ∷ us) vs e a b = absurd (b.0 x (sym (head_is e)))
+  where
+    head_is : confirm r x ∷ ys ≡ u ∷ (us ++ confirm r y ∷ vs) → confirm r x ≡ u
+    head_is h = cc
+first_cc r x y (v ∷ xs) ys [] vs e a b = absurd (a.0 y (head_is e))
+  where
+    head_is : v ∷ (xs ++ confirm r x ∷ ys) ≡ confirm r y ∷ vs → v ≡ confirm r y
+    head_is h = cc
+first_cc r x y (v ∷ xs) ys (u ∷ us) vs e a b =
+    let more : xs ++ confirm r x ∷ ys ≡ us ++ confirm r y ∷ vs = cc in
+    first_cc r x y xs ys us vs more a.1 b.1
+
+dc_not_cc : (r : ℕ) (v : Value) → IsDc v → IsNotCc r v
+dc_not_cc r v dc x is = let no : true ≡ false = sym dc ∙ ap is_dc is in absurd (cc)
+
+-- as the first CC that comes for it says
+module _ (local : Local) (w : Whole) (t : Sessions) (f : Followed local w) (places : HaveSamePlaces w.tap.connections t.live)
+    (lasts : w.end.ended ≡ None) (q : ℕ) (x : Connect) (front rest : List Value) (come : w.coming ≡ front ++ confirm q x ∷ rest)
+    (first : AllByRecursion (IsNotCc q) front) (waits : value_at q w.end.live ≡ Some asked) where
+  tracked_so : Tracked w.tap.connections q
+  tracked_so =
+      (one_of (IsAnswer w.tap.course.loose w.tap.connections w.end) front rest (confirm q x)
+      (subst (AllByRecursion (IsAnswer w.tap.course.loose w.tap.connections w.end)) come f.answers) q x refl lasts (inl waits)).0
+
+  those_first : AllByRecursion (IsNotCc q) (those q front)
+  those_first = each_picked (IsNotCc q) (names q) front
+      (all_so (IsNotCc q) (λ (v : Value). names q v ≡ true → IsNotCc q v) (λ v h named. h) front first)
+
+  those_come : those q w.coming ≡ those q front ++ confirm q x ∷ those q rest
+  those_come =
+      ap (those q) come ∙ those_join q front (confirm q x ∷ rest)
+      ∙ ap (λ (l : List Value). those q front ++ l) (first_kept q (confirm q x) rest (eq-eqb q q refl))
+
+  asked_home : HasHome Left q x.source w.tap t
+  asked_home =
+      let (p, c, at, so, mine) = tracked_so in
+      let g = f.lines p c at so in
+      let name : g.r ≡ q = sym g.left ∙ mine in
+      let h : HasFirst q g.peer w.coming =
+      row_first local w.end w.coming q g.peer g.line (subst (λ (n : ℕ). Row local w.end w.coming n g.peer g.line) name g.row) lasts waits in
+      let both : those q front ++ confirm q x ∷ those q rest ≡ h.firsts ++ confirm q h.x ∷ h.later =
+      ◌∙◌ {c = h.firsts ++ confirm q h.x ∷ h.later} (sym those_come) h.is in
+      let same : x ≡ h.x = first_cc q x h.x (those q front) (those q rest) h.firsts h.later both those_first
+      (all_so IsDc (IsNotCc q) (dc_not_cc q) h.firsts h.dcs) in
+      subst (λ (n : ℕ). HasHome Left n x.source w.tap t) mine
+      (subst (λ (n : ℕ). HasHome Left c.left.reference n w.tap t) (g.right ∙ sym (ap (λ (k : Connect). k.source) same ∙ h.source))
+      (home_of w.tap t places p c at so))
 
 -- ---- no DT of class 0 is put
 
@@ -168,9 +200,25 @@ written_as P (u ∷ us) (v ∷ vs) e h =
 
 -- ---- a turn
 
+linked_by : (over given : Bool) (o : Option Live) (peer : ℕ) → stage_by over given o ≡ amid peer →
+    (link : Standing) × (o ≡ Some (linked peer link))
+linked_by true given o peer is = absurd (cc)
+linked_by false true None peer is = absurd (cc)
+linked_by false false None peer is = absurd (cc)
+linked_by false given (Some asked) peer is = absurd (cc)
+linked_by false given (Some (closing q)) peer is = absurd (cc)
+linked_by false given (Some (linked q link)) peer is =
+    let same : q ≡ peer = amid_same q peer is in (link, ap (λ (n : ℕ). Some (linked n link)) same)
+  where
+    amid_same : (m n : ℕ) → amid m ≡ amid n → m ≡ n
+    amid_same m n e = cc
+
 module _ (local : Local) (two : local.class2 ≡ true) (deeds : ℕ → Deeds) (turn : Turn) (old new : Joint) (step : TakesTurn turn old new)
-    (on : Continues true deeds old.holding turn new.holding) (f : IsFollowed Left (begin true local) old)
-    (g : IsFollowed Left (begin true local) new) (clear : IsClear old.course.traffic.course)
+    (on : Continues true deeds old.holding turn new.holding)
+    (life : (r : ℕ) → 0 < r → Life true r (stage_at r old.holding.end.carrier) on.took on.put (stage_at r new.holding.end.carrier))
+    (opening : (r : ℕ) → 0 < r → FirstOf true r old.holding.end.carrier on.took on.put new.holding.end.carrier)
+    (f : IsFollowed Left (begin true local) old)
+    (g : IsFollowed Left (begin true local) new) (clear : IsOngoing old.course.traffic.course)
     (places : HaveSamePlaces old.course.traffic.connections old.course.sessions.live) where
   abbrev s : State
   s = old.course.traffic
@@ -181,14 +229,11 @@ module _ (local : Local) (two : local.class2 ≡ true) (deeds : ℕ → Deeds) (
   abbrev carrier : Carrier
   carrier = old.holding.end.carrier
 
-  abbrev LivedSo : ℕ → Type 0
-  LivedSo q = Lived Left true (begin true local) deeds turn old new step on f q
+  abbrev IsPut : ℕ → Type 0
+  IsPut q = IsPutFor Left true (begin true local) deeds turn old new step on f q f.whole.tap t
 
   followed : Followed local f.whole
   followed = calling_followed local two old f clear
-
-  clear_so : IsClear f.whole.tap.course
-  clear_so = subst (λ (x : State). IsClear x.course) (sym f.tap) clear
 
   places_so : HaveSamePlaces f.whole.tap.connections t.live
   places_so = subst (λ (x : State). HaveSamePlaces x.connections t.live) (sym f.tap) places
@@ -199,7 +244,7 @@ module _ (local : Local) (two : local.class2 ≡ true) (deeds : ℕ → Deeds) (
 
   owned_units : AllByRecursion IsOwnedSo (all_units on.put)
   owned_units =
-      let all = (calling_followed local two new g (subst (λ (c : Passed). IsClear c.traffic.course) (sym step.course) clear)).owned in
+      let all = (calling_followed local two new g (subst (λ (c : Passed). IsOngoing c.traffic.course) (sym step.course) clear)).owned in
       let same : map written step.units ≡ map written (all_units on.put) =
       same_written step.units (all_units on.put) (sym step.written ∙ on.written) in
       let alike : map written g.whole.put ≡ map written (old.put ++ all_units on.put) =
@@ -213,27 +258,112 @@ module _ (local : Local) (two : local.class2 ≡ true) (deeds : ℕ → Deeds) (
       all_so IsOwnedSo IsNotZero (λ v w end user e. not_data0 end user g.whole.tap w.u w.so (w.same ∙ ap written e)) (all_units on.put)
       owned_units
 
-  home_by : (lasts : carrier.ended ≡ None) (q : ℕ) (l : LivedSo q) →
-      Begins true q l.peer carrier new.holding.end.carrier l.arrived l.left → (AreApart q on.put → ⊥) → HasHome Left q l.peer f.whole.tap t
-  home_by lasts q l (opened link there none none_left) some =
-      linked_home local f.whole t followed places_so (whole_lasts Left true (begin true local) deeds turn old new step on f lasts) q l.peer
-      link (linked_so Left true (begin true local) deeds turn old new step on f lasts q l.peer link there)
-  home_by lasts q l (opens shut unit opening front is others answer answers put) some = by unit opening is
-    where
-      by : (u : Value) → Opens true q l.peer u → l.arrived.before ≡ front ++ (0, u) ∷ [] → HasHome Left q l.peer f.whole.tap t
-      by (confirm n x) (mine, theirs) come =
-          subst (λ (k : ℕ). HasHome Left q k f.whole.tap t) theirs
-          (asked_home local f.whole t (calling_joined local two old f) clear_so places_so
-          (whole_lasts Left true (begin true local) deeds turn old new step on f lasts) q x
-          (subst (λ (k : ℕ). IsThere (confirm k x) f.whole.coming) mine
-          (came Left true (begin true local) deeds turn old new step on f lasts (confirm n x) front q l come)))
-      by (request x) (caller, theirs) come = absurd (cc)
-      by (disconnect n source reason user) h come = absurd h
-      by _ h come = absurd h
-  home_by lasts q l (is_shut shut then_shut none none_left) some =
-      absurd (some (none_shut Left true (begin true local) deeds turn old new step on f q l none_left))
+  -- ---- the connection that a unit is put for
+
+  module _ (lasts : carrier.ended ≡ None) (q : ℕ) (positive : 0 < q) (some : AreApart q on.put → ⊥) where
+    wholes : f.whole.end.ended ≡ None
+    wholes = whole_lasts Left true (begin true local) deeds turn old new step on f lasts
+
+    value_so : value_at q f.whole.end.live ≡ value_at q carrier.live
+    value_so = ap (λ (c : Carrier). value_at q c.live) (f.like.lasts wholes)
+
+    -- what it put while it was open
+    gives_so : (peer : ℕ) (before put_later later : List Marked) (t : Stage) (w : WhileOpen q peer later put_later t) → AreApart q before →
+        on.put ≡ before ++ put_later → AllByRecursion (GoesTo q peer) on.put
+    gives_so peer before put_later later t w apart is =
+        goes_to q on.put peer (record {
+          before = before;
+          during = w.put_during;
+          after = w.put_after;
+          is = is ∙ ap (λ (l : List Marked). before ++ l) w.put_is;
+          none_before = apart;
+          none_after = w.none_put;
+        }) w.gives
+
+    -- all that the end took, and what is left
+    comes_so : (front : List Marked) (unit : Value) (later : List Marked) → on.took ≡ front ++ (0, unit) ∷ later →
+        (rest : List Value) × (f.whole.coming ≡ all_units front ++ unit ∷ rest)
+    comes_so front unit later is =
+        let u = turn_uses turn old new step true deeds on lasts in
+        let rest = all_units later ++ (u.left ++ units_in new.coming) in (
+          rest,
+          f.coming lasts ∙ same_units old.coming ∙ u.coming
+              ∙ ap (λ (l : List Value). l ++ (u.left ++ units_in new.coming))
+              (ap all_units is ∙ all_units_more front ((0, unit) ∷ later))
+              ∙ append_assoc (all_units front) (unit ∷ all_units later) (u.left ++ units_in new.coming),
+        )
+
+    units_not_cc : (front : List Marked) → HasNoCc q front → AllByRecursion (IsNotCc q) (all_units front)
+    units_not_cc [] h = tt
+    units_not_cc (m ∷ front) h = (h.0, units_not_cc front h.1)
+
+    opens_home : (peer : ℕ) (unit : Value) → Opens true q peer unit → (front later : List Marked) → HasNoCc q front →
+        on.took ≡ front ++ (0, unit) ∷ later → value_at q carrier.live ≡ Some asked → HasHome Left q peer f.whole.tap t
+    opens_home peer (confirm n x) (mine, theirs) front later none is waits =
+        let (rest, come) = comes_so front (confirm n x) later is in
+        subst (λ (k : ℕ). HasHome Left q k f.whole.tap t) theirs
+        (asked_home local f.whole t followed places_so wholes q x (all_units front) rest
+        (subst (λ (k : ℕ). f.whole.coming ≡ all_units front ++ confirm k x ∷ rest) mine come) (units_not_cc front none)
+        (value_so ∙ waits))
+    opens_home peer (request x) (caller, theirs) front later none is waits = absurd (cc)
+    opens_home peer (disconnect n source reason user) o front later none is waits = absurd o
+    opens_home peer _ o front later none is waits = absurd o
+
+    by_opening : (given : Bool) (u : Stage) → value_at q carrier.live ≡ Some asked → Awaiting true q on.took on.put given u → IsPut q
+    by_opening given u waits (awaits a b none has is) = absurd (some b)
+    by_opening given u waits (goes a b is) = absurd (some b)
+    by_opening given u waits (opens_so peer unit o front later apart none is others answer put_later apart_too no_answer ans so w) =
+        record {
+          peer = peer;
+          goes = gives_so peer (others ++ answer) put_later later u w
+              (all_of_both (λ (m : Marked). (m.0 == q) ≡ false) others answer apart_too no_answer)
+              (so ∙ sym (append_assoc others answer put_later));
+          homed = known (opens_home peer unit o front later none is waits);
+        }
+
+    -- no CC has come for a reference that was not given
+    not_given : {A : Type 0} (peer : ℕ) (unit : Value) → Opens true q peer unit → (front later : List Marked) →
+        on.took ≡ front ++ (0, unit) ∷ later → has_given q carrier ≡ false → A
+    not_given peer (confirm n x) (mine, theirs) front later is free =
+        let (rest, come) = comes_so front (confirm n x) later is in
+        let few = one_of (AreGiven f.whole.end.given) (all_units front) rest (confirm n x)
+        (subst (AllByRecursion (AreGiven f.whole.end.given)) come followed.few) in
+        let up = few refl n refl in
+        absurd (let both : true ≡ false =
+        sym (given_so q f.whole.end positive (subst (λ (k : ℕ). k ≤ f.whole.end.given) mine up))
+        ∙ ap (has_given q) (f.like.lasts wholes) ∙ free in cc)
+    not_given peer (request x) (caller, theirs) front later is free = absurd (cc)
+    not_given peer (disconnect n source reason user) o front later is free = absurd o
+    not_given peer _ o front later is free = absurd o
+
+    by_free : (u : Stage) → has_given q carrier ≡ false → BeforeOpen true q on.took on.put u → IsPut q
+    by_free u free (stays a b is) = absurd (some b)
+    by_free u free (opens_by peer unit o front later apart is others answer put_later apart_too no_answer ans so w) =
+        not_given peer unit o front later is free
+
+    by_stage : (x : Stage) → stage_at q carrier ≡ x → Life true q x on.took on.put (stage_at q new.holding.end.carrier) → IsPut q
+    by_stage past is w = absurd (some w.none_put)
+    by_stage (amid peer) is w =
+        let (link, here) = linked_by (is_some carrier.ended) (has_given q carrier) (value_at q carrier.live) peer is in
+        record {
+          peer = peer;
+          goes = gives_so peer [] on.put on.took (stage_at q new.holding.end.carrier) w tt refl;
+          homed = known (linked_home local f.whole t followed places_so wholes q peer link (value_so ∙ here));
+        }
+    by_stage early is w = by (has_given q carrier) refl
+      where
+        by : (b : Bool) → has_given q carrier ≡ b → IsPut q
+        by true has =
+            by_opening (has_given q new.holding.end.carrier) (stage_at q new.holding.end.carrier) (asked_so q carrier has is).1
+            (opening q positive has is)
+        by false free = by_free (stage_at q new.holding.end.carrier) free w
+
+    is_put : IsPut q
+    is_put = by_stage (stage_at q carrier) refl (life q positive)
 
   pub calling_marked : AllByRecursion (IsMarked Left s t) on.put
   calling_marked =
       turn_marked Left true (begin true local) deeds turn old new step on f s t no_zero
-      (λ lasts q positive l some. known (subst (λ (x : State). HasHome Left q l.peer x t) f.tap (home_by lasts q l l.begins some)))
+      (λ lasts q positive some.
+      let h = is_put lasts q positive some in
+      record { peer = h.peer; goes = h.goes; homed = subst (λ (x : State). IsHomed Left q h.peer x t) f.tap h.homed })

@@ -15,7 +15,7 @@ use Rattle.osi_honest.specs.Courses.{Deeds}
 use Rattle.osi_honest.specs.Marked.{Marked, all_units, units_at}
 use Rattle.osi_tap.specs.Connections.{Joined, Sessions, reference_of}
 use Rattle.osi_tap.specs.Courses.{way_of}
-use Rattle.osi_watched.proofs.sessions.a_right_dt_has_one_place.{one_place}
+use Rattle.osi_watched.proofs.sessions.a_right_dt_has_one_place.{AreUsedApart, one_use}
 use Rattle.osi_watched.proofs.sessions.all_connections_stand.{AllStand, one_at}
 use Rattle.osi_watched.proofs.sessions.references_of_an_end_are_distinct.{AreDistinct}
 use Rattle.osi_watched.proofs.sessions.what_a_turn_puts_waits.{Agree, marks_wait}
@@ -36,14 +36,13 @@ some_same : {X : Type 0} (x y : X) → Some x ≡ Some y → x ≡ y
 some_same x y e = cc
 
 module _ (d : Direction) (deeds : ℕ → Deeds) (known : Known) (put : List Value) (b : Bool) (s : State) (t : Sessions)
-    (a : AllStand d deeds known put b s t) (firm : s.course.loose ≡ false) where
+    (a : AllStand d deeds known put b s t) (apart : AreUsedApart d s.connections) where
   -- the reference of the other side tells which it is
   pub one_home : (q r peer : ℕ) → HasHome d q peer s t → HasHome d r peer s t → q ≡ r
   one_home q r peer h k =
-      let same : h.place ≡ k.place = one_place d peer h.place k.place h.connection k.connection h.joined k.joined s.connections a.apart
-      h.there k.there (a.judged firm h.place h.connection h.there) (a.judged firm k.place k.connection k.there)
-      (one_at s.connections t.live h.place h.connection h.joined a.places h.there h.here)
-      (one_at s.connections t.live k.place k.connection k.joined a.places k.there k.here) h.lives k.lives h.theirs k.theirs in
+      let same : h.place ≡ k.place = one_use d peer h.place k.place h.connection k.connection h.joined k.joined s.connections apart
+      h.there k.there (one_at s.connections t.live h.place h.connection h.joined a.places h.there h.here)
+      (one_at s.connections t.live k.place k.connection k.joined a.places k.there k.here) h.theirs k.theirs k.lives h.lives in
       let joined : h.joined ≡ k.joined =
       some_same h.joined k.joined (sym h.here ∙ ap (λ (i : ℕ). slice_get t.live i) same ∙ k.here) in
       some_same q r (sym h.mine ∙ ap (reference_of d) joined ∙ k.mine)
@@ -98,7 +97,7 @@ differ : {A : Type 0} (b : Bool) → b ≡ true → b ≡ false → A
 differ b h k = absurd (cc)
 
 module _ (d : Direction) (deeds : ℕ → Deeds) (known_so : Known) (put : List Value) (b : Bool) (s : State) (t : Sessions)
-    (a : AllStand d deeds known_so put b s t) (firm : s.course.loose ≡ false) (distinct : AreDistinct d t) (i : ℕ) (c : Connection)
+    (a : AllStand d deeds known_so put b s t) (apart : AreUsedApart d s.connections) (distinct : AreDistinct d t) (i : ℕ) (c : Connection)
     (j : Joined) (r : ℕ) (there : slice_get s.connections i ≡ Some c) (here : slice_get t.live i ≡ Some j)
     (mine : reference_of d j ≡ Some r) (live : is_open (own (way_of d) c).phase ≡ true) (some : 0 < r) where
   -- it is of this connection exactly if it is for the reference that the other side gave it
@@ -127,7 +126,7 @@ module _ (d : Direction) (deeds : ℕ → Deeds) (known_so : Known) (put : List 
         mine = mine;
         theirs = names_so (reference_of (other d) j) n (sym (for_is n m.1 (reference_of (other d) j) is) ∙ e);
       } in
-      eq-eqb m.0 r (one_home d deeds known_so put b s t a firm m.0 r n h home))
+      eq-eqb m.0 r (one_home d deeds known_so put b s t a apart m.0 r n h home))
 
   marked_agree : (units : List Marked) → AllByRecursion (IsMarked d s t) units → Agree r (reference_of (other d) j) units
   marked_agree [] h = tt

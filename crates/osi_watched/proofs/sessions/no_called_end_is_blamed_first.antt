@@ -13,7 +13,8 @@ use Rattle.osi_watched.proofs.sessions.a_called_end_stands_until_class_2.{Stands
 use Rattle.osi_watched.proofs.sessions.no_session_of_a_called_end_breaks_first.{StandsOrSelected, called_keeps}
 use Rattle.osi_watched.proofs.sessions.after_too_many_nobody_is_to_blame.{NoneIsToBlame}
 use Rattle.osi_watched.proofs.sessions.the_first_break_of_all_is_of_the_other_side.{AreQuiet, Ends, first_of_ends, none_of_ends}
-use Rattle.osi_watched.proofs.sessions.no_session_of_an_end_breaks_first.{ends_within, ends_without}
+use Rattle.osi_watched.proofs.sessions.no_session_of_an_end_breaks_first.{ends_without}
+use Rattle.osi_watched.proofs.sessions.what_stands_after_a_loss_stands_before_one.{throughout_unless}
 
 module _ (known : Known) (known_of : AsSent) (parts : AsParts) (caller : CallerLaw) (called : CalledLaw) (local : Local)
     (capture : Capture) (few : length (comes_to capture).course.past < 2 ^ 64) where
@@ -23,9 +24,10 @@ module _ (known : Known) (known_of : AsSent) (parts : AsParts) (caller : CallerL
 
     without_zero : (selected ≡ Some Zero → ⊥) → Ends Right (comes_to capture).course
     without_zero not =
-        ends_within known.proper Right local (called_is_fair local) (StandsOrSelected local known.proper)
-        (called_keeps local known.proper known_of parts caller called) begin capture fresh comes
-        (record { two = not; few = few })
+        ends_without known.proper Zero Right local (called_is_fair local) (StandsOrSelected local known.proper)
+        (throughout_unless Right local (StandsOrSelected local known.proper)
+        (called_keeps local known.proper known_of parts caller called)) begin capture fresh comes
+        (record { not = not; few = few })
 
     in_zero : selected ≡ Some Zero → Ends Right (comes_to capture).course
     in_zero zero =

@@ -15,7 +15,8 @@ use Rattle.osi_watched.proofs.sessions.no_calling_end_is_blamed_first_in_class_0
 use Rattle.osi_watched.proofs.sessions.no_session_of_a_calling_end_breaks_first.{StandsQuiet, calling_keeps}
 use Rattle.osi_watched.proofs.sessions.after_too_many_nobody_is_to_blame.{NoneIsToBlame}
 use Rattle.osi_watched.proofs.sessions.the_first_break_of_all_is_of_the_other_side.{AreQuiet, Ends, first_of_ends, none_of_ends}
-use Rattle.osi_watched.proofs.sessions.no_session_of_an_end_breaks_first.{ends_within, ends_without}
+use Rattle.osi_watched.proofs.sessions.no_session_of_an_end_breaks_first.{ends_without}
+use Rattle.osi_watched.proofs.sessions.what_stands_after_a_loss_stands_before_one.{throughout_unless}
 
 module _ (known : Known) (known_of : AsSent) (parts : AsParts) (caller : CallerLaw) (called : CalledLaw) (local : Local)
     (capture : Capture) (few : length (comes_to capture).course.past < 2 ^ 64) where
@@ -26,13 +27,15 @@ module _ (known : Known) (known_of : AsSent) (parts : AsParts) (caller : CallerL
     -- class 0 is not selected
     by_offer : (selected ≡ Some Zero → ⊥) → (b : Bool) → local.class2 ≡ b → Ends Left (comes_to capture).course
     by_offer not true two =
-        ends_within known.proper Left local (calling_is_fair local) (StandsQuiet local two known.proper)
-        (calling_keeps local two known.proper known_of parts caller called) begin capture fresh comes
-        (record { two = not; few = few })
+        ends_without known.proper Zero Left local (calling_is_fair local) (StandsQuiet local two known.proper)
+        (throughout_unless Left local (StandsQuiet local two known.proper)
+        (calling_keeps local two known.proper known_of parts caller called)) begin capture fresh comes
+        (record { not = not; few = few })
     by_offer not false without =
-        ends_within known.proper Left local (calling_is_fair local) (HasSaidNothing Left local)
-        (mute_keeps known.proper Left local (calling_puts_none local without)) begin capture fresh comes
-        (record { two = not; few = few })
+        ends_without known.proper Zero Left local (calling_is_fair local) (HasSaidNothing Left local)
+        (throughout_unless Left local (HasSaidNothing Left local)
+        (mute_keeps known.proper Left local (calling_puts_none local without))) begin capture fresh comes
+        (record { not = not; few = few })
 
     -- it is
     in_zero : selected ≡ Some Zero → Ends Left (comes_to capture).course

@@ -1,11 +1,12 @@
 -- What holds of a called end at each step is as it is asked for: all its connections stand, or it has selected class 0, and the CC that
--- says so has not passed. Then nobody of the end is to blame, as long as nobody has broken a rule.
--- For the law that no session of an end is blamed first.
+-- says so has not passed. Then nobody of the end is to blame, also after a connection has lost its judgement.
+-- For the laws that no session of an end is to blame.
 use Rattle.osi_watched.proofs.Vocabulary.{[], ap, Bool, false, inl, inr, List, map, None, refl, Some, subst, sym, ℕ, ◌++◌, ◌∙◌, ◌∷◌, ◌≡◌}
 use Rattle.osi_watched.proofs.Vocabulary.{◌⊎◌, AllByRecursion, Value, written, Zero, Local, acceptance, Holding, Traffic as State, takes}
 use Rattle.osi_watched.proofs.Vocabulary.{Connection, AsSent, AsParts, CalledLaw, CallerLaw, Left, Right, AllProper, CanBeWritten, Deeds}
 use Rattle.osi_watched.proofs.Vocabulary.{no_deeds, then_did, units_in, IsFresh, Turn, Joined, none, Sessions, spoken, unit_passes}
-use Rattle.osi_watched.proofs.Vocabulary.{units_pass, Selecting, fresh_apart, no_item, selecting_passes, IsClear, begins_other, begins_own}
+use Rattle.osi_watched.proofs.Vocabulary.{units_pass, Selecting, fresh_apart, no_item, selecting_passes, begins_other, begins_own, Class}
+use Rattle.osi_watched.proofs.Vocabulary.{Option, Two}
 use Rattle.osi_watched.proofs.Vocabulary.{Joint, passes_other, passes_own, Step, Steps, TakesTurn, turns}
 use Rattle.osi_rules.specs.declared.directions.Direction.TheVariants as way
 use Rattle.osi_fair.specs.Wholes as wholes
@@ -19,6 +20,7 @@ use Rattle.osi_watched.proofs.sessions.a_called_end_answers_with_class_2_or_sele
 use Rattle.osi_watched.proofs.sessions.a_called_end_has_its_lines.{called_joined}
 use Rattle.osi_watched.proofs.sessions.a_called_end_hears_what_breaks_no_rule.{AreFine, AreHeard, units_heard}
 use Rattle.osi_watched.proofs.sessions.a_called_end_is_ready.{begin_called}
+use Rattle.osi_fair.proofs.what_the_other_side_closes.{IsOngoing}
 use Rattle.osi_watched.proofs.sessions.a_called_end_stands_as_units_pass.{StandsCalled, begins_other_stands, begins_own_stands}
 use Rattle.osi_watched.proofs.sessions.a_called_end_stands_as_units_pass.{passes_other_stands, passes_own_stands, turns_stand}
 use Rattle.osi_watched.proofs.sessions.a_calling_end_stands_as_units_pass.{known_at}
@@ -27,14 +29,20 @@ use Rattle.osi_watched.proofs.sessions.all_connections_stand.{AllStand, Rests, q
 use Rattle.osi_watched.proofs.sessions.an_end_that_has_said_nothing_is_not_to_blame.{IsMute, mute_begins, mute_none, mute_units}
 use Rattle.osi_watched.proofs.sessions.connections_have_the_same_places.{Agree, packet_agrees, unit_knows, units_agree}
 use Rattle.osi_watched.proofs.sessions.no_connection_is_opened_before_a_class_is_selected.{AreUncalled, UncalledUntil, uncalled_claim}
-use Rattle.osi_watched.proofs.sessions.no_session_of_an_end_breaks_first.{AreTaken, HaveCourses, KeepsNoneToBlame}
+use Rattle.osi_watched.proofs.sessions.no_session_of_an_end_breaks_first.{HaveCourses}
 use Rattle.osi_watched.proofs.sessions.nothing_is_done_before_a_cr_passes.{known_from, may_take}
 use Rattle.osi_watched.proofs.sessions.references_of_an_end_are_distinct.{AreDistinct}
-use Rattle.osi_watched.proofs.sessions.steps_leave_all_standing.{IsFine, Standing}
+use Rattle.osi_watched.proofs.sessions.steps_leave_all_standing.{IsProper, Standing}
 use Rattle.osi_watched.proofs.sessions.steps_of_either_class_leave_all_standing.{stand_none}
 use Rattle.osi_watched.proofs.sessions.the_dr_of_the_other_side_is_in_flight.{first_shut}
 use Rattle.osi_watched.proofs.sessions.units_written_alike_have_the_same_ccs.{AnswersTwo, first_not_zero}
 use Rattle.osi_watched.proofs.sessions.what_stands_of_a_connection.{Known, Stands, lives, past, unnamed}
+use Rattle.osi_watched.proofs.sessions.what_passes_leaves_all_standing.{all_goes}
+use Rattle.osi_watched.proofs.sessions.what_stands_after_a_loss_stands_before_one.{AreTakenOn, KeepsThroughout}
+use Rattle.osi_fair.proofs.a_connection_is_lost_in_class_2_alone.{firm_unless_two}
+
+none_two : (k : Option Class) → k ≡ None → k ≡ Some Two → ⊥
+none_two k none two = let no : None ≡ Some Two = sym none ∙ two in cc
 
 -- ---- at the beginning
 
@@ -48,7 +56,8 @@ standing_first known h = record {
     apart = fresh_apart;
     judged = λ firm i c at. no_item i c at;
     room = refl;
-    live = λ i c j there here. absurd (cc here);
+    live = λ i c j there here judged. absurd (cc here);
+    lost = λ i c j there here lost. absurd (cc here);
     done = λ i j here. absurd (cc here);
   };
 }
@@ -65,19 +74,22 @@ module _ (deeds : ℕ → Deeds) (known : Known) (put : List Value) (b : Bool) w
   rests_mute j uncalled (quiet is mine theirs) = mine.said
   rests_mute j uncalled (rests r waiting later sure h) = not_some j.called r h.shown.named uncalled
 
-  all_mute : (s : State) (t : Sessions) → AllStand Right deeds known put b s t → AreUncalled t → IsMute Right t
-  all_mute s t a uncalled = record {
+  all_mute : (s : State) (t : Sessions) → AllStand Right deeds known put b s t → s.course.loose ≡ false → AreUncalled t → IsMute Right t
+  all_mute s t a firm uncalled = record {
     live = λ i j here.
         let (c, there) = there_too s.connections t.live i j a.places here in
-        stands_mute c j (uncalled.live i j here) (a.live i c j there here);
+        stands_mute c j (uncalled.live i j here) (a.live i c j there here (a.judged firm i c there));
     done = λ i j here. rests_mute j (uncalled.done i j here) (a.done i j here);
   }
 
 -- ---- a packet of the calling side
 
-fine_of : (at : ℕ) (vs : List Value) (c : Passed) → AreTaken Right at vs c → AreFine at vs c
+fine_of : (at : ℕ) (vs : List Value) (c : Passed) → AreTakenOn Right at vs c → AreFine at vs c
 fine_of at [] c h = tt
-fine_of at (v ∷ vs) c h = (h.0.fine, h.0.clear, fine_of at vs (unit_passes Left at v c) h.1)
+fine_of at (v ∷ vs) c h = (
+  record { goes = h.0.goes; two = h.0.two; on = all_goes v Right c.traffic h.0.far; loses = h.0.loses },
+  fine_of at vs (unit_passes Left at v c) h.1,
+)
 
 module _ (local : Local) (proper : AllProper) where
   -- the end has selected class 0, and its CC has not passed
@@ -137,7 +149,7 @@ module _ (local : Local) (proper : AllProper) where
 
   -- its CC would select class 0
   none_passes : {A : Type 0} (at : ℕ) (v : Value) (old new : Joint) → Steps Right (passes_own at v) old new →
-      IsClear old.course.traffic.course → (new.course.traffic.course.class ≡ Some Zero → ⊥) → HasSelected old → A
+      IsOngoing old.course.traffic.course → (new.course.traffic.course.class ≡ Some Zero → ⊥) → HasSelected old → A
   none_passes at v old new (read, octets, put, begun, is) clear then_two h =
       absurd (by (answers_or_selects local old h.followed h.can clear h.places))
     where
@@ -148,7 +160,7 @@ module _ (local : Local) (proper : AllProper) where
           let w = f.whole in
           let j = called_joined local old f in
           let s = own_first Right (wholes.begin false local) old new v (read, octets, put) f in
-          let firm = ap (λ (t : State). t.course.loose) f.tap ∙ clear.sure.firm in
+          let firm = firm_unless_two w.tap.course j.two (λ two. none_two w.tap.course.class z.class two) in
           let right = ap (λ (t : State). t.course.right_stopped) f.tap ∙ clear.sure.right in
           let p = selecting_passes local w j.apart (j.judged firm) right v s.rest (f.begun ∙ begun) s.is z in
           then_two (ap (λ (x : Joint). x.course.traffic.course.class) is
@@ -156,14 +168,14 @@ module _ (local : Local) (proper : AllProper) where
           ∙ ap (λ (t : State). (takes way.Right v t).state.course.class) (sym f.tap) ∙ p.1.class)
 
   own_passes : (deeds : ℕ → Deeds) (at : ℕ) (v : Value) (old new : Joint) → Steps Right (passes_own at v) old new →
-      IsFine Right v old.course → IsClear old.course.traffic.course → (new.course.traffic.course.class ≡ Some Zero → ⊥) →
+      IsProper Right v old.course → IsOngoing old.course.traffic.course → (new.course.traffic.course.class ≡ Some Zero → ⊥) →
       StandsCalled local proper deeds old ⊎ HasSelected old → StandsCalled local proper deeds new ⊎ HasSelected new
   own_passes deeds at v old new step fine clear then_two (inl h) =
       inl (passes_own_stands local proper deeds at v old new step fine clear h)
   own_passes deeds at v old new step fine clear then_two (inr h) = none_passes at v old new step clear then_two h
 
   other_passes : (deeds : ℕ → Deeds) (at : ℕ) (octets : List ℕ) (units : List Value) (old new : Joint) →
-      Steps Right (passes_other at octets units) old new → AreTaken Right at units old.course →
+      Steps Right (passes_other at octets units) old new → AreTakenOn Right at units old.course →
       StandsCalled local proper deeds old ⊎ HasSelected old → StandsCalled local proper deeds new ⊎ HasSelected new
   other_passes deeds at octets units old new step taken (inl h) =
       inl (passes_other_stands local proper deeds at octets units old new step (fine_of at units old.course taken) h)
@@ -176,7 +188,7 @@ module _ (local : Local) (proper : AllProper) where
 
   module _ (turn : Turn) (old new : Joint) (t : TakesTurn turn old new) (deeds : ℕ → Deeds)
       (does : TurnDoes false deeds turn old new t) (g : IsFollowed Right (wholes.begin false local) new)
-      (clear : IsClear old.course.traffic.course) (uncalled : UncalledUntil old.course) where
+      (clear : IsOngoing old.course.traffic.course) (uncalled : UncalledUntil old.course) where
     abbrev Then : Type 0
     Then = StandsCalled local proper (λ r. then_did (deeds r) (does.of.on.more r)) new ⊎ HasSelected new
 
@@ -192,11 +204,15 @@ module _ (local : Local) (proper : AllProper) where
     stands_by h (inr z) =
         let no_class : old.course.traffic.course.class ≡ None =
         ap (λ (c : Passed). c.traffic.course.class) (sym t.course) ∙ ap (λ (s : State). s.course.class) (sym g.tap) ∙ z.class in
+        let firm : old.course.traffic.course.loose ≡ false =
+        ap (λ (c : Passed). c.traffic.course.loose) (sym t.course) ∙ ap (λ (s : State). s.course.loose) (sym g.tap)
+        ∙ firm_unless_two g.whole.tap.course (called_joined local new g).two (λ two. none_two g.whole.tap.course.class z.class two) in
         inr (record {
           followed = g;
           places = subst Agree (sym t.course) h.standing.all.places;
           mute = subst (λ (c : Passed). IsMute Right c.sessions) (sym t.course)
-              (all_mute deeds (known_at old) old.put old.begun old.course.traffic old.course.sessions h.standing.all (uncalled no_class));
+              (all_mute deeds (known_at old) old.put old.begun old.course.traffic old.course.sessions h.standing.all firm
+              (uncalled no_class));
           can = put_can h.can;
           zero = λ two. first_not_zero z.x.source (acceptance Zero z.size z.x local z.r) z.more new.put (record {
             same = ap (λ (l : List Value). map written l) (sym z.put) ∙ g.put;
@@ -207,8 +223,8 @@ module _ (local : Local) (proper : AllProper) where
 
     takes_turn : StandsCalled local proper deeds old ⊎ HasSelected old → Then
     takes_turn (inl h) =
-        stands_by h (answers_or_selects local new g (put_can h.can) (subst (λ (c : Passed). IsClear c.traffic.course) (sym t.course) clear)
-        (subst Agree (sym t.course) h.standing.all.places))
+        stands_by h (answers_or_selects local new g (put_can h.can)
+        (subst (λ (c : Passed). IsOngoing c.traffic.course) (sym t.course) clear) (subst Agree (sym t.course) h.standing.all.places))
     takes_turn (inr h) = inr (record {
       followed = g;
       places = subst Agree (sym t.course) h.places;
@@ -228,7 +244,7 @@ module _ (local : Local) (proper : AllProper) where
     nobody deeds j courses (inr h) = mute_none Right j.course.sessions h.mute
 
     nobody_amid : (deeds : ℕ → Deeds) (at : ℕ) (front : List Value) (old : Joint) → HaveCourses Right deeds old →
-        AreTaken Right at front old.course → StandsCalled local proper deeds old ⊎ HasSelected old →
+        AreTakenOn Right at front old.course → StandsCalled local proper deeds old ⊎ HasSelected old →
         NoneIsToBlame Right (units_pass Left at front old.course).sessions
     nobody_amid deeds at front old courses taken (inr h) =
         mute_none Right (units_pass Left at front old.course).sessions (mute_units Right at front old.course h.places h.mute)
@@ -246,7 +262,7 @@ module _ (local : Local) (proper : AllProper) where
         stand_none known_of parts caller called Right deeds old.put old.begun old.holding.end courses
         (known_from live (units_in old.coming ++ front)) after.traffic after.sessions k.all.stand
 
-    pub called_keeps : KeepsNoneToBlame Right local StandsOrSelected
+    pub called_keeps : KeepsThroughout Right local StandsOrSelected
     called_keeps = record {
       begins = stands_first;
       own_begins = λ deeds old new step courses few h. record {

@@ -1,10 +1,10 @@
--- What holds of a calling end of class 2 at each step is as it is asked for: nobody of the end is to blame, as long as nobody has broken
--- a rule.
+-- What holds of a calling end of class 2 at each step is as it is asked for: nobody of the end is to blame as long as both sides are
+-- judged, also after a connection has lost its judgement.
 -- For the law that no session of an end is blamed first.
 use Rattle.osi_watched.proofs.Vocabulary.{[], List, refl, Some, true, ℕ, ◌++◌, ◌∷◌, ◌≡◌, units_fit, units_found, HasFieldsInRange, Value}
 use Rattle.osi_watched.proofs.Vocabulary.{Zero, Local, Holding, AsSent, AsParts, CalledLaw, CallerLaw, Left, Right, AllProper, Deeds}
 use Rattle.osi_watched.proofs.Vocabulary.{no_deeds, then_did, units_in, IsFresh, Turn, none, unit_passes, units_pass, fresh_apart, no_item}
-use Rattle.osi_watched.proofs.Vocabulary.{IsClear, Joint, passes_other, passes_own, Steps, TakesTurn}
+use Rattle.osi_watched.proofs.Vocabulary.{IsOngoing, Joint, passes_other, passes_own, Steps, TakesTurn}
 use Rattle.osi_fair.specs.Wholes as wholes
 use Rattle.osi_tap.specs.Courses.{Course as Passed}
 use Rattle.osi_watched.specs.Joint.{begin}
@@ -17,14 +17,16 @@ use Rattle.osi_watched.proofs.sessions.a_calling_end_stands_as_units_pass.{Stand
 use Rattle.osi_watched.proofs.sessions.a_calling_end_stands_as_units_pass.{passes_other_stands, passes_own_stands, turns_stand_early}
 use Rattle.osi_watched.proofs.sessions.after_too_many_nobody_is_to_blame.{NoneIsToBlame}
 use Rattle.osi_watched.proofs.sessions.each_unit_of_a_calling_end_has_a_home.{calling_marked}
-use Rattle.osi_watched.proofs.sessions.no_session_of_an_end_breaks_first.{AreTaken, HaveCourses, KeepsNoneToBlame}
+use Rattle.osi_watched.proofs.sessions.no_session_of_an_end_breaks_first.{HaveCourses}
 use Rattle.osi_watched.proofs.sessions.nothing_is_done_before_a_cr_passes.{known_from, may_take}
 use Rattle.osi_watched.proofs.sessions.references_of_an_end_are_distinct.{AreDistinct}
-use Rattle.osi_watched.proofs.sessions.steps_leave_all_standing.{IsFine, Standing}
+use Rattle.osi_watched.proofs.sessions.steps_leave_all_standing.{IsProper, Standing}
 use Rattle.osi_watched.proofs.sessions.steps_of_either_class_leave_all_standing.{stand_none}
 use Rattle.osi_watched.proofs.sessions.the_dr_of_the_other_side_is_in_flight.{first_shut}
 use Rattle.osi_watched.proofs.sessions.what_has_come_before_a_cc.{AreQuiet, begin_quiet, begins_other_quiet, begins_own_quiet}
 use Rattle.osi_watched.proofs.sessions.what_has_come_before_a_cc.{closing_tracked, passes_other_quiet, passes_own_quiet, turns_quiet}
+use Rattle.osi_watched.proofs.sessions.what_passes_leaves_all_standing.{all_goes}
+use Rattle.osi_watched.proofs.sessions.what_stands_after_a_loss_stands_before_one.{AreTakenOn, KeepsThroughout}
 use Rattle.osi_watched.proofs.sessions.what_stands_of_a_connection.{Known}
 
 -- ---- at the beginning
@@ -39,16 +41,20 @@ standing_first known h = record {
     apart = fresh_apart;
     judged = λ firm i c at. no_item i c at;
     room = refl;
-    live = λ i c j there here. absurd (cc here);
+    live = λ i c j there here judged. absurd (cc here);
+    lost = λ i c j there here lost. absurd (cc here);
     done = λ i j here. absurd (cc here);
   };
 }
 
 -- ---- a packet of the called side
 
-fine_of : (at : ℕ) (vs : List Value) (c : Passed) → AreTaken Left at vs c → AreFine at vs c
+fine_of : (at : ℕ) (vs : List Value) (c : Passed) → AreTakenOn Left at vs c → AreFine at vs c
 fine_of at [] c h = tt
-fine_of at (v ∷ vs) c h = (h.0.fine, h.0.clear, fine_of at vs (unit_passes Right at v c) h.1)
+fine_of at (v ∷ vs) c h = (
+  record { lasts = h.0.lasts; on = all_goes v Left c.traffic h.0.far; loses = h.0.loses },
+  fine_of at vs (unit_passes Right at v c) h.1,
+)
 
 module _ (local : Local) (two : local.class2 ≡ true) (proper : AllProper) where
   -- all connections stand, and nothing is in flight to one whose CC has not passed
@@ -69,7 +75,7 @@ module _ (local : Local) (two : local.class2 ≡ true) (proper : AllProper) wher
   }
 
   own_passes : (deeds : ℕ → Deeds) (at : ℕ) (v : Value) (old new : Joint) → Steps Left (passes_own at v) old new →
-      IsFine Left v old.course → IsClear old.course.traffic.course → (new.course.traffic.course.class ≡ Some Zero → ⊥) →
+      IsProper Left v old.course → IsOngoing old.course.traffic.course → (new.course.traffic.course.class ≡ Some Zero → ⊥) →
       StandsQuiet deeds old → StandsQuiet deeds new
   own_passes deeds at v old new step fine clear then_two h = record {
     stands = passes_own_stands local two proper deeds at v old new step fine clear h.stands;
@@ -77,25 +83,24 @@ module _ (local : Local) (two : local.class2 ≡ true) (proper : AllProper) wher
   }
 
   other_passes : (deeds : ℕ → Deeds) (at : ℕ) (octets : List ℕ) (units : List Value) (old new : Joint) →
-      Steps Left (passes_other at octets units) old new → AreTaken Left at units old.course → StandsQuiet deeds old →
+      Steps Left (passes_other at octets units) old new → AreTakenOn Left at units old.course → StandsQuiet deeds old →
       StandsQuiet deeds new
   other_passes deeds at octets units old new step taken h =
       let fine = fine_of at units old.course taken in
       record {
         stands = passes_other_stands local two proper deeds at octets units old new step fine h.stands;
-        quiet = passes_other_quiet local two deeds at octets units old new step h.stands.calling h.stands.standing.all.places fine
-            h.quiet;
+        quiet = passes_other_quiet local two deeds at octets units old new step h.stands.calling fine h.quiet;
       }
 
   takes_turn : (turn : Turn) (old new : Joint) (t : TakesTurn turn old new) (deeds : ℕ → Deeds)
       (does : TurnDoes true deeds turn old new t) → IsFollowed Left (wholes.begin true local) old →
-      IsFollowed Left (wholes.begin true local) new → IsClear old.course.traffic.course → StandsQuiet deeds old →
+      IsFollowed Left (wholes.begin true local) new → IsOngoing old.course.traffic.course → StandsQuiet deeds old →
       StandsQuiet (λ r. then_did (deeds r) (does.of.on.more r)) new
   takes_turn turn old new t deeds does f g clear h =
       let on = does.of.on in
       record {
         stands = turns_stand_early local two proper turn old new t deeds on does.of.life does.units on.can
-            (calling_marked local two deeds turn old new t on f g clear h.stands.standing.all.places)
+            (calling_marked local two deeds turn old new t on does.of.life does.of.first f g clear h.stands.standing.all.places)
             (λ r some may. (h.quiet clear).before r (some, may))
             (λ i c there closing some may.
             closing_tracked old.holding.end.carrier (units_in old.coming) old.course.traffic (h.quiet clear) i c there closing (some, may))
@@ -111,7 +116,7 @@ module _ (local : Local) (two : local.class2 ≡ true) (proper : AllProper) wher
 
     -- after some units of a packet
     nobody_amid : (deeds : ℕ → Deeds) (at : ℕ) (octets : List ℕ) (front back : List Value) (old new : Joint) →
-        Steps Left (passes_other at octets (front ++ back)) old new → HaveCourses Left deeds old → AreTaken Left at front old.course →
+        Steps Left (passes_other at octets (front ++ back)) old new → HaveCourses Left deeds old → AreTakenOn Left at front old.course →
         StandsQuiet deeds old → NoneIsToBlame Left (units_pass Right at front old.course).sessions
     nobody_amid deeds at octets front back old new (all_octets, read, is) courses taken all =
         let h = all.stands in
@@ -132,7 +137,7 @@ module _ (local : Local) (two : local.class2 ≡ true) (proper : AllProper) wher
         stand_none known_of parts caller called Left deeds old.put old.begun old.holding.end courses
         (known_from live (units_in old.coming ++ front)) after.traffic after.sessions k.stand
 
-    pub calling_keeps : KeepsNoneToBlame Left local StandsQuiet
+    pub calling_keeps : KeepsThroughout Left local StandsQuiet
     calling_keeps = record {
       begins = stands_first;
       own_begins = λ deeds old new step courses few h. record {

@@ -7,7 +7,7 @@ use Rattle.std.specs.Prelude.{slice_get}
 use Rattle.std.proofs.lemmas.List.{append-nil, length-append}
 use Rattle.osi_tpdu.specs.Value.{Value}
 use Rattle.osi_class.specs.declared.terms.Class.{Class}
-use Rattle.osi_class.specs.declared.terms.Class.TheVariants.{Two, Zero}
+use Rattle.osi_class.specs.declared.terms.Class.TheVariants.{Two}
 use Rattle.osi_class.specs.declared.terms.Local.{Local}
 use Rattle.osi_judge.specs.Captures.{Capture, other}
 use Rattle.osi_judge.specs.declared.directions.Direction.{Direction}
@@ -19,7 +19,7 @@ use Rattle.osi_rules.specs.Traffic.{State as Traffic, class_for, is_stopped, tak
 use Rattle.osi_rules.specs.Traffic as traffic
 use Rattle.osi_fair.specs.Naming.{packet, rubbish, unit}
 use Rattle.osi_fair.specs.Wholes as wholes
-use Rattle.osi_fair.proofs.what_the_other_side_closes.{IsClear, IsFirm}
+use Rattle.osi_fair.proofs.what_the_other_side_closes.{IsFirm}
 use Rattle.osi_stack.specs.State.{End, Holding}
 use Rattle.osi_honest.specs.Courses.{Course, Deeds, all_did, no_deeds, then_did}
 use Rattle.osi_honest.specs.Seeing.{IsFresh}
@@ -49,53 +49,19 @@ use Rattle.osi_watched.proofs.sessions.after_too_many_nobody_is_to_blame.{NoneIs
 use Rattle.osi_watched.proofs.sessions.connections_have_the_same_places.{marked_traffic, unit_knows}
 use Rattle.osi_watched.proofs.sessions.each_step_leaves_class_0_one_connection.{Sure, class_stays, fresh_sure, sure_claim}
 use Rattle.osi_watched.proofs.sessions.no_more_tsdus_than_moments_have_passed.{AreFew, few_claim}
-use Rattle.osi_watched.proofs.sessions.steps_leave_all_standing.{IsFine, IsTakeable}
 use Rattle.osi_watched.proofs.sessions.steps_of_either_class_leave_all_standing.{IsRight, IsTolerable}
 use Rattle.osi_watched.proofs.sessions.the_first_break_of_all_is_of_the_other_side.{AreClean, Ends, HasBroken, IsSilent, broken_claim}
 use Rattle.osi_watched.proofs.sessions.the_first_break_of_all_is_of_the_other_side.{moment, silent_claim, unit_breaks}
 use Rattle.osi_watched.proofs.sessions.the_first_break_of_all_is_of_the_other_side.{unit_clean, unit_past, unread_breaks_so}
-use Rattle.osi_watched.proofs.sessions.what_passes_is_no_break_while_none_is_told.{fine_so, takeable_so}
 
 -- ---- what is asked of what holds at each step
-
--- a unit of the other side breaks no rule, or its taker passes over that, or it comes after a DR; and it is not one connection too many
-pub record IsTaken (d : Direction) (v : Value) (c : Passed) : Type 0 where
-  pub fine : IsTakeable (other d) v c ⊎ IsAfterDr (other d) v c
-  pub clear : IsClear c.traffic.course
-  pub few : (takes (way_of (other d)) v c.traffic).told.finding ≢ TooMany
-
--- each of these, as it passes
-abbrev pub AreTaken : (d : Direction) (at : ℕ) → List Value → Passed → Type 0
-AreTaken d at [] c = Unit {0}
-AreTaken d at (v ∷ vs) c = IsTaken d v c × AreTaken d at vs (unit_passes (other d) at v c)
 
 -- the courses of all connections of an end
 abbrev pub HaveCourses : Direction → (ℕ → Deeds) → Joint → Type 0
 HaveCourses d deeds j = (r : ℕ) → Course (calls_from d) r (deeds r) j.holding.end
 
--- It holds at the beginning, and each step keeps it as long as nobody breaks a rule. Then nobody of the end is to blame, also after
--- each unit of a packet of the other side.
-pub record KeepsNoneToBlame (d : Direction) (local : Local) (Inv : (ℕ → Deeds) → Joint → Type 0) : Type 0 where
-  pub begins : (h : Holding) → IsFresh (calls_from d) local h → Inv (λ r. no_deeds) (begin h)
-  pub own_begins : (deeds : ℕ → Deeds) (old new : Joint) → Steps d begins_own old new → HaveCourses d deeds old →
-      ((i : ℕ) (j : Joined) → slice_get old.course.sessions.live i ≡ Some j → length (heard (spoken (other d) j)) < 2 ^ 64) →
-      Inv deeds old → Inv deeds new
-  pub other_begins : (deeds : ℕ → Deeds) (old new : Joint) → Steps d begins_other old new → Inv deeds old → Inv deeds new
-  pub own_passes : (deeds : ℕ → Deeds) (at : ℕ) (v : Value) (old new : Joint) → Steps d (passes_own at v) old new →
-      IsFine d v old.course → IsClear old.course.traffic.course → (new.course.traffic.course.class ≡ Some Zero → ⊥) → Inv deeds old →
-      Inv deeds new
-  pub other_passes : (deeds : ℕ → Deeds) (at : ℕ) (octets : List ℕ) (units : List Value) (old new : Joint) →
-      Steps d (passes_other at octets units) old new → AreTaken d at units old.course → Inv deeds old → Inv deeds new
-  pub turn : (turn : Turn) (old new : Joint) (t : TakesTurn turn old new) (deeds : ℕ → Deeds)
-      (does : TurnDoes (calls_from d) deeds turn old new t) → IsFollowed d (wholes.begin (calls_from d) local) old →
-      IsFollowed d (wholes.begin (calls_from d) local) new → IsClear old.course.traffic.course → Inv deeds old →
-      Inv (λ r. then_did (deeds r) (does.of.on.more r)) new
-  pub none : (deeds : ℕ → Deeds) (j : Joint) → HaveCourses d deeds j → Inv deeds j → NoneIsToBlame d j.course.sessions
-  pub none_amid : (deeds : ℕ → Deeds) (at : ℕ) (octets : List ℕ) (front back : List Value) (old new : Joint) →
-      Steps d (passes_other at octets (front ++ back)) old new → HaveCourses d deeds old → AreTaken d at front old.course →
-      Inv deeds old → NoneIsToBlame d (units_pass (other d) at front old.course).sessions
-
--- The same of an end and a tap, as long as this class is not selected.
+-- A unit of the other side breaks no rule, or its taker passes over that, or it comes after a DR; and it is not one connection too many,
+-- and this class is not selected.
 pub record IsPassed (barred : Class) (d : Direction) (v : Value) (c : Passed) : Type 0 where
   pub taken : IsTolerable (other d) v c ⊎ IsAfterDr (other d) v c
   pub firm : IsFirm c.traffic.course
@@ -107,6 +73,8 @@ abbrev pub ArePassed : (barred : Class) (d : Direction) (at : ℕ) → List Valu
 ArePassed barred d at [] c = Unit {0}
 ArePassed barred d at (v ∷ vs) c = IsPassed barred d v c × ArePassed barred d at vs (unit_passes (other d) at v c)
 
+-- It holds at the beginning, and each step keeps it as long as nobody breaks a rule and this class is not selected. Then nobody of the end
+-- is to blame, also after each unit of a packet of the other side.
 pub record KeepsUnless (barred : Class) (d : Direction) (local : Local) (Inv : (ℕ → Deeds) → Joint → Type 0) : Type 0 where
   pub begins : (h : Holding) → IsFresh (calls_from d) local h → Inv (λ r. no_deeds) (begin h)
   pub own_begins : (deeds : ℕ → Deeds) (old new : Joint) → Steps d begins_own old new → HaveCourses d deeds old →
@@ -180,12 +148,7 @@ long_claim n = record {
   bad = λ d at cause c h. long_bad n (is_some (marks_of d c).halted) d at cause c h;
 }
 
--- class 0 is not selected, and fewer units have passed than a tap counts
-pub record IsWithin (c : Passed) : Type 0 where
-  pub two : c.traffic.course.class ≡ Some Zero → ⊥
-  pub few : length c.past < 2 ^ 64
-
--- the same of another class
+-- this class is not selected, and fewer units have passed than a tap counts
 pub record IsWithout (barred : Class) (c : Passed) : Type 0 where
   pub not : c.traffic.course.class ≡ Some barred → ⊥
   pub few : length c.past < 2 ^ 64
@@ -633,48 +596,3 @@ module _ (proper : AllProper) (barred : Class) (d : Direction) (local : Local)
       by : ((comes_to capture).course ≡ comes.last.course) ⊎ TurnsBad d capture comes.last.course → Ends d (comes_to capture).course
       by (inl is) = subst (Ends d) (sym is) (ends_so comes.last (at_last (subst (IsWithout barred) is within)))
       by (inr bad) = bad_so capture comes.last bad (at_last (bad_within capture comes.last.course bad within))
-
--- ---- while class 0 is not selected
-
-without_zero : (c : Passed) → IsWithin c → IsWithout Zero c
-without_zero c h = record { not = h.two; few = h.few }
-
-taken_one : (d : Direction) (v : Value) (c : Passed) → IsPassed Zero d v c → IsTaken d v c
-taken_one d v c h = record { fine = by h.taken; clear = clear; few = h.few }
-  where
-    clear : IsClear c.traffic.course
-    clear = record { sure = h.firm; two = h.not }
-
-    by : IsTolerable (other d) v c ⊎ IsAfterDr (other d) v c → IsTakeable (other d) v c ⊎ IsAfterDr (other d) v c
-    by (inl t) = inl (takeable_so (other d) v c (h.sure.agrees Zero) clear t.mild)
-    by (inr after) = inr after
-
-taken_all : (d : Direction) (at : ℕ) (vs : List Value) (c : Passed) → ArePassed Zero d at vs c → AreTaken d at vs c
-taken_all d at [] c h = tt
-taken_all d at (v ∷ vs) c h = (taken_one d v c h.0, taken_all d at vs (unit_passes (other d) at v c) h.1)
-
-module _ (d : Direction) (local : Local) (Inv : (ℕ → Deeds) → Joint → Type 0) (k : KeepsNoneToBlame d local Inv) where
-  pub unless_zero : KeepsUnless Zero d local Inv
-  unless_zero = record {
-    begins = k.begins;
-    own_begins = k.own_begins;
-    other_begins = k.other_begins;
-    own_passes = λ deeds at v old new step right firm sure was_not not h.
-        let clear : IsClear old.course.traffic.course = record { sure = firm; two = was_not } in
-        k.own_passes deeds at v old new step (fine_so d v old.course (sure.agrees Zero) clear right.none) clear not h;
-    other_passes = λ deeds at octets units old new step passed h.
-        k.other_passes deeds at octets units old new step (taken_all d at units old.course passed) h;
-    turn = λ turn old new t deeds does f g firm not h.
-        k.turn turn old new t deeds does f g (record { sure = firm; two = not }) h;
-    none = k.none;
-    none_amid = λ deeds at octets front back old new step courses passed h.
-        k.none_amid deeds at octets front back old new step courses (taken_all d at front old.course passed) h;
-  }
-
-pub ends_within : AllProper → (d : Direction) (local : Local) → IsFairFrom (way_of d) (wholes.begin (calls_from d) local) →
-    (Inv : (ℕ → Deeds) → Joint → Type 0) → KeepsNoneToBlame d local Inv → (h : Holding) (capture : Capture) →
-    IsFresh (calls_from d) local h → ComesByDoing d (calls_from d) capture h → IsWithin (comes_to capture).course →
-    Ends d (comes_to capture).course
-ends_within proper d local fair Inv k h capture fresh comes within =
-    ends_without proper Zero d local fair Inv (unless_zero d local Inv k) h capture fresh comes
-    (without_zero (comes_to capture).course within)

@@ -80,7 +80,7 @@ pub record IsDone (d : Direction) (c : Passed) : Type 0 where
   pub over : IsOver c
   pub none : NoneIsToBlame d c.sessions
 
-done_claim : (d : Direction) → IsClaim (IsDone d)
+pub done_claim : (d : Direction) → IsClaim (IsDone d)
 done_claim d = record {
   begins = λ e c h. record { over = begins_over e c h.over; none = none_begins d e c.sessions h.none };
   passes = λ e at v c h. record {
@@ -495,14 +495,3 @@ module _ (known : Known) (barred : Class) (d : Direction) (local : Local)
       by (inl is) = subst EndsWell (sym is) (ends_so comes.last at_last)
       by (inr g) = subst EndsWell (sym g.all)
           (after_bad g.at g.cause g.packets g.none g.steps g.how comes.last g.end g.along (subst (IsWithout barred) g.all within) at_last)
-
--- ---- in the end
-
-differ : {A : Type 0} (b : Bool) → b ≡ true → b ≡ false → A
-differ b h k = absurd (cc)
-
--- each connection is judged, or nothing is judged any more
-pub nobody_of_well : (d : Direction) (c : Passed) → NoneIsToBlame d c.sessions ⊎ IsLoose c → c.traffic.course.loose ≡ false →
-    NoneIsToBlame d c.sessions
-nobody_of_well d c (inl none) firm = none
-nobody_of_well d c (inr loose) firm = differ c.traffic.course.loose loose firm

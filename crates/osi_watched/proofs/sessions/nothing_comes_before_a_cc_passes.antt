@@ -1,40 +1,29 @@
 -- Each DT and each AK of class 2 that comes to a called end is for a connection whose CC has passed the tap. So nothing is in flight to the
 -- others.
 -- For all connections of a called end and a tap.
-use Rattle.std.proofs.Common.{◌≡◌, ◌∙◌, refl, ℕ, ◌<◌, ◌≤◌, Bool, true, false, List, [], ◌∷◌, Some, arith}
-use Rattle.std.specs.Prelude.{◌==◌}
-use Rattle.std.specs.List.{AllByRecursion}
-use Rattle.std.proofs.lemmas.Bool.{eqb-true}
-use Rattle.osi_tpdu.specs.Value.{Connect, Value, acknowledge, confirm, data0, data2, disconnect, disconnected, error, request}
-use Rattle.osi_judge.specs.declared.directions.Direction.TheVariants.{Left, Right}
+use Rattle.osi_watched.proofs.Vocabulary.{[], ap, arith, Bool, false, List, None, refl, Some, sym, true, ℕ, ◌<◌, ◌==◌, ◌∙◌, ◌∷◌, ◌≡◌, ◌≤◌}
+use Rattle.osi_watched.proofs.Vocabulary.{eqb-true, AllByRecursion, slice_get, acknowledge, confirm, data0, data2, destination_of}
+use Rattle.osi_watched.proofs.Vocabulary.{disconnect, disconnected, error, request, Value, Zero, is_refused, class_for, is_stopped, takes}
+use Rattle.osi_watched.proofs.Vocabulary.{Connection, Left, Right, HaveSamePlaces, picked_rest}
 use Rattle.osi_rules.specs.declared.directions.Direction.TheVariants as way
-use Rattle.osi_rules.specs.Traffic.{class_for, is_stopped, route, routed, takes}
-use Rattle.osi_fair.proofs.all_are_judged_unless_one_broke.{AreJudged}
-use Rattle.osi_fair.proofs.which_units_are_for_a_connection.{picked_rest}
 use Rattle.osi_tap.specs.Courses.{Course}
-use Rattle.osi_watched.specs.ShownPlaces.{HaveSamePlaces}
-use Rattle.osi_watched.proofs.what_a_taker_passes_over.{applied_of}
-use Rattle.osi_watched.proofs.sessions.a_dt_that_is_no_break_is_right.{dt_clear}
-use Rattle.osi_watched.proofs.sessions.a_right_dt_has_one_place.{two_placed}
-use Rattle.osi_watched.proofs.sessions.a_unit_is_joined_where_it_is_named.{joined_named}
-use Rattle.osi_watched.proofs.sessions.connections_have_the_same_places.{at_same}
-use Rattle.osi_watched.proofs.sessions.each_cr_that_passes_gives_a_new_reference.{AreUpTo, IsUpTo}
-use Rattle.osi_watched.proofs.sessions.right_units_leave_all_standing.{ack_placed}
-use Rattle.osi_watched.proofs.sessions.steps_leave_all_standing.{IsTakeable}
+use Rattle.osi_watched.proofs.sessions.a_unit_is_joined_where_it_is_named.{joined_any}
+use Rattle.osi_watched.proofs.sessions.each_cr_that_passes_gives_a_new_reference.{AreUpTo}
+use Rattle.osi_watched.proofs.sessions.right_units_leave_all_standing.{ak, cc_placed, dt, link_placed}
 use Rattle.osi_watched.proofs.sessions.what_a_unit_does_at_its_place.{Does, asks_again, asks_more, nowhere, somewhere, unit_does}
-use Rattle.osi_watched.proofs.sessions.what_passes_leaves_all_standing.{ack_clear, cc_broke, goes_on, zero_broke}
+use Rattle.osi_watched.proofs.sessions.what_passes_leaves_all_standing.{AllGoesOn, no_zero}
 use Rattle.osi_watched.proofs.sessions.what_stands_of_a_connection.{is_for, waiting_for}
 use Rattle.osi_rules.specs.Traffic.{has_broken}
 
 -- ---- what has come
 
--- no DT of class 0; a DT or an AK is for a reference up to this one
+-- no DT of class 0; a DT, an AK or a CC is for a reference up to this one
 abbrev pub IsBelow : ℕ → Value → Type 0
 IsBelow b (data2 n number end user) = n ≤ b
 IsBelow b (acknowledge credit n number) = n ≤ b
 IsBelow b (data0 end user) = ⊥
 IsBelow b (request x) = Unit {0}
-IsBelow b (confirm n x) = Unit {0}
+IsBelow b (confirm n x) = n ≤ b
 IsBelow b (disconnect n source reason user) = Unit {0}
 IsBelow b (disconnected n source) = Unit {0}
 IsBelow b (error n cause) = Unit {0}
@@ -63,7 +52,7 @@ higher b n (data2 m number end user) up h = omega (arith, up, h)
 higher b n (acknowledge credit m number) up h = omega (arith, up, h)
 higher b n (data0 end user) up h = h
 higher b n (request x) up h = tt
-higher b n (confirm m x) up h = tt
+higher b n (confirm m x) up h = omega (arith, up, h)
 higher b n (disconnect m source reason user) up h = tt
 higher b n (disconnected m source) up h = tt
 higher b n (error m cause) up h = tt
@@ -72,55 +61,36 @@ pub below_higher : (b n : ℕ) (vs : List Value) → b ≤ n → AllByRecursion 
 below_higher b n [] up h = tt
 below_higher b n (v ∷ vs) up h = (higher b n v up h.0, below_higher b n vs up h.1)
 
--- ---- a unit of the other side that breaks no rule
+-- ---- a unit of the other side that passes
 
-module _ (b at : ℕ) (c : Course) (judged : AreJudged c.traffic) (places : HaveSamePlaces c.traffic.connections c.sessions.live)
-    (up : AreUpTo Right b c.sessions) where
-  ack_below : (credit n number : ℕ) → IsTakeable Left (acknowledge credit n number) c →
-      Does Left at (acknowledge credit n number) c.traffic c.sessions (takes way.Left (acknowledge credit n number) c.traffic) → n ≤ b
-  ack_below credit n number fine (nowhere place cs ts) =
-      ack_placed way.Left credit n number c.traffic
-      (applied_of (acknowledge credit n number) (takes way.Left (acknowledge credit n number) c.traffic).told.finding (λ dr. dr)
-      (ack_clear way.Left credit n number c.traffic fine.goes fine.firm judged) fine.none) place
-  ack_below credit n number fine (somewhere i e j x r place there here one finding is cs ts) =
-      (up.live i j n here
-      (joined_named Left (acknowledge credit n number) c n i e j places refl place there (judged fine.firm i e there) here)).1
-  ack_below credit n number fine (asks_more x is number_is cs ts) = absurd (cc is)
-  ack_below credit n number fine (asks_again x is number_is i j here cs ts) = absurd (cc is)
+module _ (b at : ℕ) (c : Course) (places : HaveSamePlaces c.traffic.connections c.sessions.live) (up : AreUpTo Right b c.sessions)
+    (known : (i : ℕ) (e : Connection) → slice_get c.traffic.connections i ≡ Some e → e.is_judged ≡ false →
+    is_refused e.seen_by_left.phase ≡ false) where
+  -- one that has a place is for a reference of the tap
+  place_below : (v : Value) (n : ℕ) → destination_of v ≡ Some n → ((takes way.Left v c.traffic).told.place ≡ None → ⊥) →
+      Does Left at v c.traffic c.sessions (takes way.Left v c.traffic) → n ≤ b
+  place_below v n dest some (nowhere place cs ts) = absurd (some place)
+  place_below v n dest some (somewhere i e j x r place there here one finding is far cs ts) =
+      (up.live i j n here (joined_any Left v c n i e j places dest place there (λ lost. known i e there lost) here)).1
+  place_below v n dest some (asks_more x is number cs ts) = absurd (let no : None ≡ Some n = sym (ap destination_of is) ∙ dest in cc)
+  place_below v n dest some (asks_again x is number i j here free cs ts) =
+      absurd (let no : None ≡ Some n = sym (ap destination_of is) ∙ dest in cc)
 
-  pub left_below : (v : Value) → IsTakeable Left v c → IsBelow b v
-  left_below (data2 n number end user) fine =
-      let v : Value = data2 n number end user in
-      let kept = applied_of v (takes way.Left v c.traffic).told.finding (λ dr. dr)
-      (dt_clear way.Left v end c.traffic refl fine.goes fine.firm judged) fine.none in
-      let p = two_placed way.Left n number end user c.traffic kept in
-      let (k, here, one) = at_same c.traffic.connections c.sessions.live p.place p.connection places p.there in
-      (up.live p.place k n here (joined_named Left v c n p.place p.connection k places refl p.told p.there p.judged here)).1
-  left_below (acknowledge credit n number) fine =
-      ack_below credit n number fine (unit_does Left at (acknowledge credit n number) c.traffic c.sessions places)
-  left_below (data0 end user) fine =
-      zero_broke (class_for way.Left c.traffic.course) way.Left (has_broken way.Right c.traffic.course) end user c.traffic fine.two
-      (goes_on (data0 end user) (is_stopped way.Left c.traffic.course) way.Left c.traffic
-      (routed way.Left (data0 end user) c.traffic (route way.Left c.traffic.course (data0 end user))) fine.goes fine.none)
-  left_below (request x) fine = tt
-  left_below (confirm n x) fine = tt
-  left_below (disconnect n source reason user) fine = tt
-  left_below (disconnected n source) fine = tt
-  left_below (error n cause) fine = tt
+  named_below : (v : Value) (n : ℕ) → destination_of v ≡ Some n → ((takes way.Left v c.traffic).told.place ≡ None → ⊥) → n ≤ b
+  named_below v n dest some = place_below v n dest some (unit_does Left at v c.traffic c.sessions places)
 
-  -- it is no CC
-  pub no_cc_of_left : {A : Type 0} (n : ℕ) (x : Connect) → IsTakeable Left (confirm n x) c → A
-  no_cc_of_left n x fine =
-      cc_broke (class_for way.Left c.traffic.course) (has_broken way.Right c.traffic.course) n x c.traffic fine.firm judged
-      (goes_on (confirm n x) (is_stopped way.Left c.traffic.course) way.Left c.traffic
-      (routed way.Left (confirm n x) c.traffic (route way.Left c.traffic.course (confirm n x))) fine.goes fine.none)
-
-  pub left_up_to : (v : Value) → IsTakeable Left v c → IsUpTo Right b v
-  left_up_to (confirm n x) fine = no_cc_of_left n x fine
-  left_up_to (request x) fine = tt
-  left_up_to (disconnect n source reason user) fine = tt
-  left_up_to (disconnected n source) fine = tt
-  left_up_to (data0 end user) fine = tt
-  left_up_to (data2 n number end user) fine = tt
-  left_up_to (acknowledge credit n number) fine = tt
-  left_up_to (error n cause) fine = tt
+  pub left_below : (v : Value) → is_stopped way.Left c.traffic.course ≡ false → (class_for way.Left c.traffic.course ≡ Some Zero → ⊥) →
+      AllGoesOn v Right c.traffic → IsBelow b v
+  left_below (data2 n number end user) goes two on =
+      named_below (data2 n number end user) n refl
+      (λ none. link_placed way.Left (data2 n number end user) n c.traffic (dt number end user refl) goes two on none)
+  left_below (acknowledge credit n number) goes two on =
+      named_below (acknowledge credit n number) n refl
+      (λ none. link_placed way.Left (acknowledge credit n number) n c.traffic (ak credit number refl) goes two on none)
+  left_below (confirm n x) goes two on =
+      named_below (confirm n x) n refl (λ none. cc_placed n x c.traffic goes two on none)
+  left_below (data0 end user) goes two on = no_zero way.Left end user c.traffic goes two on
+  left_below (request x) goes two on = tt
+  left_below (disconnect n source reason user) goes two on = tt
+  left_below (disconnected n source) goes two on = tt
+  left_below (error n cause) goes two on = tt

@@ -3,9 +3,12 @@
 use Rattle.std.proofs.Common.{◌≡◌, ◌∙◌, refl, sym, ap, subst, ℕ, ◌<◌, ◌≤◌, Bool, true, false, if◌then◌else◌, List, [], ◌∷◌, ◌++◌}
 use Rattle.std.proofs.Common.{Option, Some}
 use Rattle.std.proofs.Common.{None, arith, inl, inr, is_some}
+use Rattle.std.specs.Prelude.{◌&&◌, ◌⊎◌, nat_le}
+use Rattle.std.proofs.lemmas.Bool.{le-leb, lt-ltb}
 use Rattle.std.specs.List.{AllByRecursion}
 use Rattle.osi_tpdu.specs.Packet.{units_of}
-use Rattle.osi_tpdu.specs.Value.{Connect, Value, acknowledge, confirm, data0, data2, disconnect, disconnected, error, request}
+use Rattle.osi_tpdu.specs.Value.{Connect, Value, acknowledge, confirm, data0, data2, destination_of, disconnect, disconnected, error}
+use Rattle.osi_tpdu.specs.Value.{request}
 use Rattle.osi_class.specs.declared.terms.Local.{Local}
 use Rattle.osi_carrier.specs.State.{State as Carrier}
 use Rattle.osi_carrier.specs.declared.ends.EndReason.{EndReason}
@@ -13,14 +16,16 @@ use Rattle.osi_judge.specs.declared.directions.Direction.TheVariants.{Left}
 use Rattle.osi_rules.specs.Traffic.{State}
 use Rattle.osi_fair.specs.Pieces as pieces
 use Rattle.osi_fair.specs.Wholes.{Whole}
-use Rattle.osi_fair.proofs.each_connection_has_its_line.{Followed, IsAnswer, IsAsking}
-use Rattle.osi_fair.proofs.which_units_are_for_a_connection.{IsDc, first_kept, first_left, names, picked_rest, those}
+use Rattle.osi_fair.proofs.each_connection_has_its_line.{AreGiven, Followed, IsAnswer, IsAsking, Tracked}
+use Rattle.osi_fair.proofs.which_units_are_for_a_connection.{IsDc, is_dc, first_kept, first_left, names, picked_rest, those}
 use Rattle.osi_honest.specs.Arriving.{AreApart, Opens}
 use Rattle.osi_honest.specs.Courses.{Continues, Deeds, then_did, units_in, units_taken}
 use Rattle.osi_honest.specs.Marked.{Marked, all_units, units_at}
 use Rattle.osi_honest.specs.Turns.{Turn}
 use Rattle.osi_honest.proofs.courses.how_long_a_connection_is_open.{Life, Stage, amid, early, opens_by, past, stage_at, stage_over, stays}
+use Rattle.osi_honest.proofs.courses.the_first_cc_opens_a_connection.{asked_so}
 use Rattle.osi_honest.proofs.courses.what_calls_of_a_link_say.{taken_more}
+use Rattle.osi_stack.specs.Calls.{has_given}
 use Rattle.osi_tap.specs.Connections.{Sessions}
 use Rattle.osi_watched.specs.Joint.{Joint, TakesTurn}
 use Rattle.osi_watched.specs.Shown.{parts_of}
@@ -100,18 +105,9 @@ module _ (r : ℕ) (deeds more : Deeds) (took put : List Marked) (put_is : more.
 abbrev pub AreUndone : ℕ → (ℕ → Deeds) → Carrier → Type 0
 AreUndone b deeds c = (r : ℕ) → b < r → IsUndone (deeds r) (stage_at r c)
 
--- a CC is for a reference up to this one
-abbrev pub IsFew : ℕ → Value → Type 0
-IsFew b v = (n : ℕ) (x : Connect) → v ≡ confirm n x → n ≤ b
-
 all_front : (P : Value → Type 0) (xs ys : List Value) → AllByRecursion P (xs ++ ys) → AllByRecursion P xs
 all_front P [] ys h = tt
 all_front P (x ∷ xs) ys h = (h.0, all_front P xs ys h.1)
-
-few_not : (b r : ℕ) (vs : List Value) → b < r → AllByRecursion (IsFew b) vs → AllByRecursion (IsNotCc r) vs
-few_not b r [] less h = tt
-few_not b r (v ∷ vs) less h =
-    ((λ x is. let low = h.0 r x is in absurd (omega (arith, low, less))), few_not b r vs less h.1)
 
 never_early : {A : Type 0} (s : Stage) → s ≡ past → s ≡ early → A
 never_early s e h = absurd (cc (sym e ∙ h))
@@ -119,9 +115,10 @@ never_early s e h = absurd (cc (sym e ∙ h))
 pub turn_undone : (b : ℕ) (turn : Turn) (old new : Joint) (t : TakesTurn turn old new) (deeds : ℕ → Deeds)
     (on : Continues true deeds old.holding turn new.holding) →
     ((r : ℕ) → 0 < r → Life true r (stage_at r old.holding.end.carrier) on.took on.put (stage_at r new.holding.end.carrier)) →
-    (old.holding.end.carrier.ended ≡ None → AllByRecursion (IsFew b) (units_in old.coming)) →
-    AreUndone b deeds old.holding.end.carrier → AreUndone b (λ r. then_did (deeds r) (on.more r)) new.holding.end.carrier
-turn_undone b turn old new t deeds on life few u r less =
+    (old.holding.end.carrier.ended ≡ None → (r : ℕ) → b < r → stage_at r old.holding.end.carrier ≡ early →
+    AllByRecursion (IsNotCc r) (units_in old.coming)) → AreUndone b deeds old.holding.end.carrier →
+    AreUndone b (λ r. then_did (deeds r) (on.more r)) new.holding.end.carrier
+turn_undone b turn old new t deeds on life none u r less =
     let some : 0 < r = omega (arith, less) in
     life_undone r (deeds r) (on.more r) on.took on.put (on.own r some) (on.taken r some) (stage_at r old.holding.end.carrier)
     (stage_at r new.holding.end.carrier) (life r some) (λ is. by old.holding.end.carrier.ended refl is) (u r less)
@@ -130,9 +127,8 @@ turn_undone b turn old new t deeds on life few u r less =
         AllByRecursion (IsNotCc r) (all_units on.took)
     by None lasts is =
         let s = turn_uses turn old new t true deeds on lasts in
-        few_not b r (all_units on.took) less
-        (all_front (IsFew b) (all_units on.took) (s.left ++ units_in new.coming)
-        (subst (AllByRecursion (IsFew b)) s.coming (few lasts)))
+        all_front (IsNotCc r) (all_units on.took) (s.left ++ units_in new.coming)
+        (subst (AllByRecursion (IsNotCc r)) s.coming (none lasts r less is))
     by (Some reason) over is =
         never_early (stage_at r old.holding.end.carrier) (stage_over r old.holding.end.carrier (ap is_some over)) is
 
@@ -142,29 +138,50 @@ pub same_units : (packets : List (List ℕ)) → pieces.units_in packets ≡ uni
 same_units [] = refl
 same_units (p ∷ packets) = ap (λ (l : List Value). pieces.units_by (units_of p) ++ l) (same_units packets)
 
--- each CC that has come is for a connection at the tap, as long as none has lost its judgement
-answers_few : (b : ℕ) (s : State) (t : Sessions) (end : Carrier) (vs : List Value) → s.course.loose ≡ false →
-    HaveSamePlaces s.connections t.live → AreUpTo Left b t → end.ended ≡ None →
-    AllByRecursion (λ (v : Value). IsAnswer s.course.loose s.connections end v) vs → AllByRecursion (IsFew b) vs
-answers_few b s t end [] firm places up lasts h = tt
-answers_few b s t end (v ∷ vs) firm places up lasts h = (
-  λ n x is.
-      let ((p, c, at, tracked, same), row) = h.0 n x is lasts (inr firm) in
-      let (j, here, one) = at_same s.connections t.live p c places at in
-      (up.live p j n here (ap (λ (m : ℕ). Some m) (one.calling ∙ same))).1,
-  answers_few b s t end vs firm places up lasts h.1,
-)
+-- Each CC that has come for a reference above those of the tap is for one that was not given, or at which no CC is awaited.
+given_or : (r : ℕ) (end : Carrier) → (has_given r end ≡ false) ⊎ (has_given r end ≡ true)
+given_or r end = by (has_given r end) refl
+  where
+    by : (b : Bool) → has_given r end ≡ b → (has_given r end ≡ false) ⊎ (has_given r end ≡ true)
+    by false e = inl e
+    by true e = inr e
 
-pub few_come : (b : ℕ) (local : Local) (first : Whole) (j : Joint) (f : IsFollowed Left first j) → Followed local f.whole →
-    j.course.traffic.course.loose ≡ false → HaveSamePlaces j.course.traffic.connections j.course.sessions.live →
-    AreUpTo Left b j.course.sessions → j.holding.end.carrier.ended ≡ None → AllByRecursion (IsFew b) (units_in j.coming)
-few_come b local first j f h firm places up lasts =
-    answers_few b j.course.traffic j.course.sessions f.whole.end (units_in j.coming) firm places up
-    (none_of f.whole.end.ended (sym f.like.over ∙ ap is_some lasts))
-    (subst (λ (l : List Value). AllByRecursion (λ (v : Value). IsAnswer j.course.traffic.course.loose j.course.traffic.connections
-    f.whole.end v) l) (f.coming lasts ∙ same_units j.coming)
-    (subst (λ (s : State). AllByRecursion (λ (v : Value). IsAnswer s.course.loose s.connections f.whole.end v) f.whole.coming) f.tap
-    h.answers))
+pub given_so : (r : ℕ) (c : Carrier) → 0 < r → r ≤ c.given → has_given r c ≡ true
+given_so r c some up = ap (λ (b : Bool). b && nat_le r c.given) (lt-ltb 0 r some) ∙ le-leb r c.given up
+
+not_given : {A : Type 0} (r : ℕ) (end : Carrier) → 0 < r → has_given r end ≡ false → r ≤ end.given → A
+not_given r end some free up = absurd (let both : true ≡ false = sym (given_so r end some up) ∙ free in cc)
+
+module _ (b : ℕ) (s : State) (t : Sessions) (end : Carrier) (places : HaveSamePlaces s.connections t.live) (up : AreUpTo Left b t)
+    (lasts : end.ended ≡ None) (r : ℕ) (less : b < r) (may : stage_at r end ≡ early) where
+  -- a CC that is awaited is for a connection of the tap
+  tracked_low : {A : Type 0} → Tracked s.connections r → A
+  tracked_low (p, c, at, tracked, same) =
+      let (j, here, one) = at_same s.connections t.live p c places at in
+      let low = (up.live p j r here (ap (λ (m : ℕ). Some m) (one.calling ∙ same))).1 in
+      absurd (omega (arith, low, less))
+
+  none_comes : (vs : List Value) → AllByRecursion (λ (v : Value). IsAnswer s.course.loose s.connections end v) vs →
+      AllByRecursion (AreGiven end.given) vs → AllByRecursion (IsNotCc r) vs
+  none_comes [] h few = tt
+  none_comes (v ∷ vs) h few = (λ x is. by x is (given_or r end), none_comes vs h.1 few.1)
+    where
+      by : (x : Connect) → v ≡ confirm r x → (has_given r end ≡ false) ⊎ (has_given r end ≡ true) → ⊥
+      by x is (inl free) =
+          not_given r end (omega (arith, less)) free (few.0 (ap is_dc is) r (ap destination_of is))
+      by x is (inr has) = tracked_low (h.0 r x is lasts (inl (asked_so r end has may).1)).0
+
+pub none_come : (b : ℕ) (local : Local) (first : Whole) (j : Joint) (f : IsFollowed Left first j) → Followed local f.whole →
+    HaveSamePlaces j.course.traffic.connections j.course.sessions.live → AreUpTo Left b j.course.sessions →
+    j.holding.end.carrier.ended ≡ None → (r : ℕ) → b < r → stage_at r j.holding.end.carrier ≡ early →
+    AllByRecursion (IsNotCc r) (units_in j.coming)
+none_come b local first j f h places up lasts r less may =
+    let whole_lasts = none_of f.whole.end.ended (sym f.like.over ∙ ap is_some lasts) in
+    let alike : stage_at r f.whole.end ≡ stage_at r j.holding.end.carrier = ap (stage_at r) (f.like.lasts whole_lasts) in
+    subst (AllByRecursion (IsNotCc r)) (f.coming lasts ∙ same_units j.coming)
+    (none_comes b f.whole.tap j.course.sessions f.whole.end
+    (subst (λ (s : State). HaveSamePlaces s.connections j.course.sessions.live) (sym f.tap) places) up whole_lasts r less (alike ∙ may)
+    f.whole.coming h.answers h.few)
 
 -- ---- a CR that passes
 

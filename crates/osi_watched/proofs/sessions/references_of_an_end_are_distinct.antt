@@ -145,13 +145,13 @@ distinct_by : (d e : Direction) (at : ℕ) (v : Value) (s : State) (t : Sessions
     ((i : ℕ) (j : Joined) → slice_get t.live i ≡ Some j → j.room ≡ All) → Does e at v s t (takes (way_of e) v s) →
     AreDistinct d (taken e at v (takes (way_of e) v s).told.meaning (takes (way_of e) v s).told.place t)
 distinct_by d e at v s t h new rooms (nowhere place cs ts) = subst (AreDistinct d) (sym ts) h
-distinct_by d e at v s t h new rooms (somewhere p c k x r place there here one finding is cs ts) =
+distinct_by d e at v s t h new rooms (somewhere p c k x r place there here one finding is far cs ts) =
     subst (AreDistinct d) (sym ts)
     (set_distinct d p k (joined.meant e at v (meaning_if x (meant v)) k) t here h (meant_fresh d e at v x k t (rooms p k here) new))
 distinct_by d e at v s t h new rooms (asks_more x is number cs ts) =
     subst (AreDistinct d) (sym ts)
     (more_distinct d (asked number x.source t.room) t h (asked_fresh d x number t (subst (λ (u : Value). GivesNew d u t) is new)))
-distinct_by d e at v s t h new rooms (asks_again x is number p k here cs ts) =
+distinct_by d e at v s t h new rooms (asks_again x is number p k here free cs ts) =
     subst (AreDistinct d) (sym ts)
     (again_distinct d p k (asked number x.source t.room) t here h
     (asked_fresh d x number t (subst (λ (u : Value). GivesNew d u t) is new)))

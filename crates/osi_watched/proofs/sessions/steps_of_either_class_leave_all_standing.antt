@@ -58,7 +58,7 @@ own_stands : (d : Direction) (deeds : ℕ → Deeds) (known : Known) (at : ℕ) 
 own_stands d deeds known at v rest c sure r ready a =
     zero_by (class_for (way_of d) c.traffic.course)
     (λ h. zero.own_stands d deeds known at v rest c (is_zero d c.traffic sure r.firm r.goes h) r.none a)
-    (λ not. two.own_stands d deeds known at v rest c r.firm r.goes not r.none (ready not) a)
+    (λ not. two.own_stands_firm d deeds known at v rest c r.firm r.goes not r.none (ready not) a)
 
 pub any_passes_own : (d : Direction) (deeds : ℕ → Deeds) (known : Known) (at : ℕ) (v : Value) (old new : Joint) →
     Steps d (passes_own at v) old new → Sure old.course → IsRight d v old.course →

@@ -6,7 +6,7 @@ use Rattle.osi_watched.proofs.Vocabulary.{subst, sym, true, ℕ, ◌++◌, ◌�
 use Rattle.osi_watched.proofs.Vocabulary.{acknowledge, confirm, Connect, data0, data2, disconnect, disconnected, error, request, Value}
 use Rattle.osi_watched.proofs.Vocabulary.{is_applied, begins, is_closing, is_silent, own, asked_by, connection_after, found_on, half_after}
 use Rattle.osi_watched.proofs.Vocabulary.{meaning_if, meant, Traffic as State, takes, Connection, Finding, Broke, NotJudged, Reach, Half}
-use Rattle.osi_watched.proofs.Vocabulary.{Phase, Closed, Closing, Open, Refused, Silent, other, Direction, Left, Right, AreJudged}
+use Rattle.osi_watched.proofs.Vocabulary.{Phase, Closed, Closing, Open, Refused, Silent, other, Direction, Left, Right}
 use Rattle.osi_watched.proofs.Vocabulary.{all_begin, asked, Joined, reference_of, Sessions, taken, way_of, All, after_add, after_change}
 use Rattle.osi_watched.proofs.Vocabulary.{after_map, slice_get_within, HaveSamePlaces, IsOneOf, named_by}
 use Rattle.osi_rules.specs.Traffic as traffic
@@ -15,12 +15,13 @@ use Rattle.osi_rules.specs.declared.findings.Rule.TheVariants as rule
 use Rattle.osi_tap.specs.Connections.{none, packet_begins}
 use Rattle.osi_tap.specs.Connections as joined
 use Rattle.osi_watched.proofs.sessions.a_unit_is_joined_where_it_is_named.{named_there, names_there}
-use Rattle.osi_watched.proofs.sessions.all_connections_stand.{map_of, other_after, own_after}
+use Rattle.osi_watched.proofs.sessions.all_connections_stand.{begun_judged, map_of, other_after, own_after}
 use Rattle.osi_watched.proofs.sessions.connections_have_the_same_places.{at_same}
 use Rattle.osi_watched.proofs.sessions.references_of_an_end_are_distinct.{named_shut}
 use Rattle.osi_watched.proofs.sessions.right_units_leave_all_standing.{other_twice}
 use Rattle.osi_watched.proofs.sessions.what_a_tap_shows_goes_on.{named_added}
 use Rattle.osi_watched.proofs.sessions.what_a_unit_does_at_its_place.{Does, asks_again, asks_more, nowhere, somewhere, unit_does}
+use Rattle.osi_watched.proofs.sessions.what_holds_of_a_lost_connection.{was_judged}
 use Rattle.osi_watched.proofs.sessions.what_is_left_for_an_end.{dr_last, dr_more, has_dr}
 use Rattle.osi_watched.proofs.sessions.what_stands_of_a_connection.{named_begun, open_begun}
 
@@ -30,10 +31,10 @@ pub record IsShutAt (d : Direction) (is_live : ℕ → Bool) (coming : List Valu
   pub named : reference_of d j ≡ Some r
   pub dr : is_live r ≡ true → has_dr r coming ≡ true
 
--- each that the other side has closed is such a one
+-- each that the other side has closed, and that is judged, is such a one
 pub record AreShut (d : Direction) (is_live : ℕ → Bool) (coming : List Value) (s : State) (t : Sessions) : Type 0 where
   pub each : (i : ℕ) (c : Connection) (j : Joined) → slice_get s.connections i ≡ Some c → slice_get t.live i ≡ Some j →
-      is_closing (own (way_of (other d)) c).phase ≡ true → IsShutAt d is_live coming j
+      c.is_judged ≡ true → is_closing (own (way_of (other d)) c).phase ≡ true → IsShutAt d is_live coming j
 
 -- nothing has passed
 pub first_shut : (d : Direction) (is_live : ℕ → Bool) (coming : List Value) → AreShut d is_live coming traffic.fresh none
@@ -44,12 +45,12 @@ first_shut d is_live coming = record { each = λ i c j there here. absurd (cc he
 pub begins_shut : (d e : Direction) (is_live : ℕ → Bool) (coming : List Value) (s : State) (t : Sessions) →
     AreShut d is_live coming s t → AreShut d is_live coming (traffic.packet_begins (way_of e) s) (all_begin e t)
 begins_shut d e is_live coming s t h = record {
-  each = λ i c j there here closing.
+  each = λ i c j there here judged closing.
       let (x, at, is) = after_map (begins (way_of e)) s.connections i c there in
       let (y, so, same) = map_of (packet_begins e) t.live i j here in
       let was = ap is_closing (sym (open_begun (other d) e x))
       ∙ ap (λ (z : Connection). is_closing (own (way_of (other d)) z).phase) (sym is) ∙ closing in
-      let k = h.each i x y at so was in
+      let k = h.each i x y at so (begun_judged e x c true is judged) was in
       record { r = k.r; named = ap (reference_of d) same ∙ named_begun d e y ∙ k.named; dr = k.dr };
 }
 
@@ -117,11 +118,11 @@ module _ (d e : Direction) (at : ℕ) (v : Value) (is_live : ℕ → Bool) (comi
     (places : HaveSamePlaces s.connections t.live) (h : AreShut d is_live coming s t)
     (here_so : (p : ℕ) (first : Connection) (k : Joined) (x : Bool) (r : Reach) → (takes (way_of e) v s).told.place ≡ Some p →
     slice_get s.connections p ≡ Some first → slice_get t.live p ≡ Some k → IsOneOf first k →
-    is_applied (found_on (way_of e) s first v) ≡ x →
+    is_applied (found_on (way_of e) s first v) ≡ x → first.is_judged ≡ true →
     is_closing (own (way_of (other d)) (connection_after (way_of e) v x r first)).phase ≡ true →
     IsShutAt d is_live (coming ++ more) (joined.meant e at v (meaning_if x (meant v)) k)) where
   abbrev IsClosing : Connection → Type 0
-  IsClosing c = is_closing (own (way_of (other d)) c).phase ≡ true
+  IsClosing c = (c.is_judged ≡ true) × (is_closing (own (way_of (other d)) c).phase ≡ true)
 
   abbrev Goes : Joined → Type 0
   Goes j = IsShutAt d is_live (coming ++ more) j
@@ -130,7 +131,7 @@ module _ (d e : Direction) (at : ℕ) (v : Value) (is_live : ℕ → Bool) (comi
   after = taken e at v (takes (way_of e) v s).told.meaning (takes (way_of e) v s).told.place t
 
   still : (i : ℕ) (c : Connection) (j : Joined) → slice_get s.connections i ≡ Some c → slice_get t.live i ≡ Some j → IsClosing c → Goes j
-  still i c j there here closing = grown d is_live coming more j j refl (h.each i c j there here closing)
+  still i c j there here closing = grown d is_live coming more j j refl (h.each i c j there here closing.0 closing.1)
 
   place_by : (p : ℕ) (first : Connection) (k : Joined) (x : Bool) (r : Reach) → (takes (way_of e) v s).told.place ≡ Some p →
       slice_get s.connections p ≡ Some first → slice_get t.live p ≡ Some k → IsOneOf first k →
@@ -138,14 +139,15 @@ module _ (d e : Direction) (at : ℕ) (v : Value) (is_live : ℕ → Bool) (comi
       ((i ≡ p) × (c ≡ connection_after (way_of e) v x r first)) ⊎ ((i ≡ p → ⊥) × (slice_get s.connections i ≡ Some c)) →
       ((i ≡ p) × (j ≡ joined.meant e at v (meaning_if x (meant v)) k)) ⊎ ((i ≡ p → ⊥) × (slice_get t.live i ≡ Some j)) → Goes j
   place_by p first k x r told at_first at_joined one is i c j closing (inl (m, so)) (inl (n, same)) =
-      subst Goes (sym same) (here_so p first k x r told at_first at_joined one is (subst IsClosing so closing))
+      let now = subst IsClosing so closing in
+      subst Goes (sym same) (here_so p first k x r told at_first at_joined one is (was_judged (way_of e) v x r first now.0) now.1)
   place_by p first k x r told at_first at_joined one is i c j closing (inl (m, so)) (inr (n, same)) = absurd (n m)
   place_by p first k x r told at_first at_joined one is i c j closing (inr (m, so)) (inl (n, same)) = absurd (m n)
   place_by p first k x r told at_first at_joined one is i c j closing (inr (m, so)) (inr (n, same)) = still i c j so same closing
 
   not_asked : {A : Type 0} (x : Connect) (c : Connection) → c ≡ asked_by x → IsClosing c → A
   not_asked x c is closing =
-      differ (is_closing (own (way_of (other d)) (asked_by x)).phase) (subst IsClosing is closing) (asked_open d x)
+      differ (is_closing (own (way_of (other d)) (asked_by x)).phase) (subst IsClosing is closing).1 (asked_open d x)
 
   add_by : (x : Connect) (number : ℕ) (i : ℕ) (c : Connection) (j : Joined) → IsClosing c →
       ((i ≡ length s.connections) × (c ≡ asked_by x)) ⊎ (slice_get s.connections i ≡ Some c) →
@@ -169,7 +171,7 @@ module _ (d e : Direction) (at : ℕ) (v : Value) (is_live : ℕ → Bool) (comi
   each_by (nowhere place cs ts) i c j there here closing =
       still i c j (ap (λ (z : List Connection). slice_get z i) (sym cs) ∙ there)
       (ap (λ (z : Sessions). slice_get z.live i) (sym ts) ∙ here) closing
-  each_by (somewhere p first k x r place at_first at_joined one finding is cs ts) i c j there here closing =
+  each_by (somewhere p first k x r place at_first at_joined one finding is far cs ts) i c j there here closing =
       place_by p first k x r place at_first at_joined one is i c j closing
       (after_change s.connections p i (connection_after (way_of e) v x r first) c
       (ap (λ (z : List Connection). slice_get z i) (sym cs) ∙ there))
@@ -179,13 +181,13 @@ module _ (d e : Direction) (at : ℕ) (v : Value) (is_live : ℕ → Bool) (comi
       add_by x number i c j closing
       (after_add s.connections i (asked_by x) c (ap (λ (z : List Connection). slice_get z i) (sym cs) ∙ there))
       (after_add t.live i (asked number x.source t.room) j (ap (λ (z : Sessions). slice_get z.live i) (sym ts) ∙ here))
-  each_by (asks_again x is number p k at_joined cs ts) i c j there here closing =
+  each_by (asks_again x is number p k at_joined free cs ts) i c j there here closing =
       again_by x number p i c j closing
       (after_change s.connections p i (asked_by x) c (ap (λ (z : List Connection). slice_get z i) (sym cs) ∙ there))
       (after_change t.live p i (asked number x.source t.room) j (ap (λ (z : Sessions). slice_get z.live i) (sym ts) ∙ here))
 
   unit_shut : AreShut d is_live (coming ++ more) (takes (way_of e) v s).state after
-  unit_shut = record { each = each_by (unit_does e at v s t places) }
+  unit_shut = record { each = λ i c j there here judged closing. each_by (unit_does e at v s t places) i c j there here (judged, closing) }
 
 abbrev pub HaveRoom : Sessions → Type 0
 HaveRoom t = (i : ℕ) (j : Joined) → slice_get t.live i ≡ Some j → j.room ≡ All
@@ -208,14 +210,14 @@ module _ (d : Direction) (at : ℕ) (v : Value) (is_live : ℕ → Bool) (coming
 
   own_here : (p : ℕ) (first : Connection) (k : Joined) (x : Bool) (r : Reach) → (takes (way_of d) v s).told.place ≡ Some p →
       slice_get s.connections p ≡ Some first → slice_get t.live p ≡ Some k → IsOneOf first k →
-      is_applied (found_on (way_of d) s first v) ≡ x →
+      is_applied (found_on (way_of d) s first v) ≡ x → first.is_judged ≡ true →
       is_closing (own (way_of (other d)) (connection_after (way_of d) v x r first)).phase ≡ true →
       IsShutAt d is_live (coming ++ []) (joined.meant d at v (meaning_if x (meant v)) k)
-  own_here p first k false r told at_first at_joined one applied closing =
+  own_here p first k false r told at_first at_joined one applied judged closing =
       grown d is_live coming [] k k refl
-      (h.each p first k at_first at_joined (ap (λ (y : Half). is_closing y.phase) (sym (theirs_after d v false r first)) ∙ closing))
-  own_here p first k true r told at_first at_joined one applied closing =
-      let old = h.each p first k at_first at_joined
+      (h.each p first k at_first at_joined judged (ap (λ (y : Half). is_closing y.phase) (sym (theirs_after d v false r first)) ∙ closing))
+  own_here p first k true r told at_first at_joined one applied judged closing =
+      let old = h.each p first k at_first at_joined judged
       (ap (λ (y : Half). is_closing y.phase) (sym (theirs_after d v true r first)) ∙ closing) in
       grown d is_live coming [] k (joined.meant d at v (meaning_if true (meant v)) k)
       (named_still d d at v k (rooms p k at_joined) (no_cc first k one applied old.r old.named)) old
@@ -230,10 +232,9 @@ module _ (d : Direction) (at : ℕ) (v : Value) (is_live : ℕ → Bool) (coming
 -- ---- a unit of the other side
 
 module _ (d : Direction) (at : ℕ) (is_live : ℕ → Bool) (coming : List Value) (s : State) (t : Sessions)
-    (places : HaveSamePlaces s.connections t.live) (rooms : HaveRoom t) (judged : AreJudged s) (firm : s.course.loose ≡ false)
-    (h : AreShut d is_live coming s t) where
+    (places : HaveSamePlaces s.connections t.live) (rooms : HaveRoom t) (h : AreShut d is_live coming s t) where
   abbrev Here : Value → (p : ℕ) → Connection → Joined → Reach → Type 0
-  Here v p first k r = slice_get s.connections p ≡ Some first → slice_get t.live p ≡ Some k →
+  Here v p first k r = slice_get s.connections p ≡ Some first → slice_get t.live p ≡ Some k → first.is_judged ≡ true →
       is_closing (half_after v (own (way_of (other d)) first)).phase ≡ true →
       IsShutAt d is_live (coming ++ v ∷ []) (joined.meant (other d) at v (meaning_if true (meant v)) k)
 
@@ -242,68 +243,61 @@ module _ (d : Direction) (at : ℕ) (is_live : ℕ → Bool) (coming : List Valu
       ((n : ℕ) (x : Connect) → v ≡ confirm n x → d ≡ Right → ⊥) →
       (is_closing (half_after v (own (way_of (other d)) first)).phase ≡ true → is_closing (own (way_of (other d)) first).phase ≡ true) →
       Here v p first k r
-  same_here v p first k r not was at_first at_joined closing =
+  same_here v p first k r not was at_first at_joined judged closing =
       grown d is_live coming (v ∷ []) k (joined.meant (other d) at v (meaning_if true (meant v)) k)
-      (named_still d (other d) at v k (rooms p k at_joined) not) (h.each p first k at_first at_joined (was closing))
+      (named_still d (other d) at v k (rooms p k at_joined) not) (h.each p first k at_first at_joined judged (was closing))
 
   here_by : (v : Value) (p : ℕ) (first : Connection) (k : Joined) (r : Reach) → (takes (way_of (other d)) v s).told.place ≡ Some p →
       IsOneOf first k → Here v p first k r
-  here_by (request x) p first k r told one at_first at_joined closing =
-      same_here (request x) p first k r (λ m y e. absurd (cc e)) (λ was. was) at_first at_joined closing
-  here_by (confirm n x) p first k r told one at_first at_joined closing = absurd (cc)
-  here_by (disconnect n source reason user) p first k r told one at_first at_joined closing =
+  here_by (request x) p first k r told one at_first at_joined judged closing =
+      same_here (request x) p first k r (λ m y e. absurd (cc e)) (λ was. was) at_first at_joined judged closing
+  here_by (confirm n x) p first k r told one at_first at_joined judged closing = absurd (cc)
+  here_by (disconnect n source reason user) p first k r told one at_first at_joined judged closing =
       let v : Value = disconnect n source reason user in
       record {
         r = n;
-        named = named_shut d k ∙ sym (other_twice d k) ∙ named_there (other d) n first k one (judged firm p first at_first)
+        named = named_shut d k ∙ sym (other_twice d k) ∙ named_there (other d) n first k one judged
             (names_there (way_of (other d)) v s n p first at_first refl told);
         dr = λ live. dr_last n v coming (eq-eqb n n refl);
       }
-  here_by (disconnected n source) p first k r told one at_first at_joined closing = absurd (cc)
-  here_by (data0 end user) p first k r told one at_first at_joined closing =
-      same_here (data0 end user) p first k r (λ m y e. absurd (cc e)) (λ was. was) at_first at_joined closing
-  here_by (data2 n number end user) p first k r told one at_first at_joined closing =
-      same_here (data2 n number end user) p first k r (λ m y e. absurd (cc e)) (λ was. was) at_first at_joined closing
-  here_by (acknowledge credit n number) p first k r told one at_first at_joined closing =
-      same_here (acknowledge credit n number) p first k r (λ m y e. absurd (cc e)) (λ was. was) at_first at_joined closing
-  here_by (error n cause) p first k r told one at_first at_joined closing = absurd (cc)
+  here_by (disconnected n source) p first k r told one at_first at_joined judged closing = absurd (cc)
+  here_by (data0 end user) p first k r told one at_first at_joined judged closing =
+      same_here (data0 end user) p first k r (λ m y e. absurd (cc e)) (λ was. was) at_first at_joined judged closing
+  here_by (data2 n number end user) p first k r told one at_first at_joined judged closing =
+      same_here (data2 n number end user) p first k r (λ m y e. absurd (cc e)) (λ was. was) at_first at_joined judged closing
+  here_by (acknowledge credit n number) p first k r told one at_first at_joined judged closing =
+      same_here (acknowledge credit n number) p first k r (λ m y e. absurd (cc e)) (λ was. was) at_first at_joined judged closing
+  here_by (error n cause) p first k r told one at_first at_joined judged closing = absurd (cc)
 
   other_here : (v : Value) (p : ℕ) (first : Connection) (k : Joined) (x : Bool) (r : Reach) →
       (takes (way_of (other d)) v s).told.place ≡ Some p → slice_get s.connections p ≡ Some first → slice_get t.live p ≡ Some k →
-      IsOneOf first k → is_applied (found_on (way_of (other d)) s first v) ≡ x →
+      IsOneOf first k → is_applied (found_on (way_of (other d)) s first v) ≡ x → first.is_judged ≡ true →
       is_closing (own (way_of (other d)) (connection_after (way_of (other d)) v x r first)).phase ≡ true →
       IsShutAt d is_live (coming ++ v ∷ []) (joined.meant (other d) at v (meaning_if x (meant v)) k)
-  other_here v p first k false r told at_first at_joined one applied closing =
+  other_here v p first k false r told at_first at_joined one applied judged closing =
       grown d is_live coming (v ∷ []) k k refl
-      (h.each p first k at_first at_joined (ap (λ (y : Half). is_closing y.phase) (sym (none_after d v r first)) ∙ closing))
-  other_here v p first k true r told at_first at_joined one applied closing =
-      here_by v p first k r told one at_first at_joined
+      (h.each p first k at_first at_joined judged (ap (λ (y : Half). is_closing y.phase) (sym (none_after d v r first)) ∙ closing))
+  other_here v p first k true r told at_first at_joined one applied judged closing =
+      here_by v p first k r told one at_first at_joined judged
       (ap (λ (y : Half). is_closing y.phase) (sym (own_after (other d) v r first)) ∙ closing)
 
   pub other_shut : (v : Value) → AreShut d is_live (coming ++ v ∷ []) (takes (way_of (other d)) v s).state
       (taken (other d) at v (takes (way_of (other d)) v s).told.meaning (takes (way_of (other d)) v s).told.place t)
   other_shut v = unit_shut d (other d) at v is_live coming (v ∷ []) s t places h (other_here v)
 
--- one that changes nothing
-pub same_shut : (d : Direction) (is_live : ℕ → Bool) (coming more : List Value) (s : State) (t : Sessions) →
-    AreShut d is_live coming s t → AreShut d is_live (coming ++ more) s t
-same_shut d is_live coming more s t h = record {
-  each = λ i c j there here closing. grown d is_live coming more j j refl (h.each i c j there here closing);
-}
-
 -- ---- a turn of the end
 
 pub turn_shut : (d : Direction) (is_live then_live : ℕ → Bool) (coming then_coming : List Value) (s : State) (t : Sessions) →
     ((i : ℕ) (c : Connection) (j : Joined) (r : ℕ) → slice_get s.connections i ≡ Some c → slice_get t.live i ≡ Some j →
-    is_closing (own (way_of (other d)) c).phase ≡ true → reference_of d j ≡ Some r → then_live r ≡ true →
+    c.is_judged ≡ true → is_closing (own (way_of (other d)) c).phase ≡ true → reference_of d j ≡ Some r → then_live r ≡ true →
     (is_live r ≡ true) × (has_dr r coming ≡ true → has_dr r then_coming ≡ true)) → AreShut d is_live coming s t →
     AreShut d then_live then_coming s t
 turn_shut d is_live then_live coming then_coming s t on h = record {
-  each = λ i c j there here closing.
-      let k = h.each i c j there here closing in
+  each = λ i c j there here judged closing.
+      let k = h.each i c j there here judged closing in
       record {
         r = k.r;
         named = k.named;
-        dr = λ live. let (was, stays) = on i c j k.r there here closing k.named live in stays (k.dr was);
+        dr = λ live. let (was, stays) = on i c j k.r there here judged closing k.named live in stays (k.dr was);
       };
 }

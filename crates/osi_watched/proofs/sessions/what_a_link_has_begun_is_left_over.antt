@@ -113,10 +113,11 @@ pub joined_is_begun : (d : Direction) (deeds : ℕ → Deeds) (known : Known) (p
     (e : End) →
     AllStand d deeds known put b s t → ((r : ℕ) → Course (calls_from d) r (deeds r) e) → (r peer : ℕ) (link : Standing) →
     IsZeroAt r peer link e.carrier → (p : ℕ) (c : Connection) (j : Joined) → slice_get s.connections p ≡ Some c →
-    slice_get t.live p ≡ Some j → is_open (own (way_of d) c).phase ≡ true → reference_of d j ≡ Some r →
+    slice_get t.live p ≡ Some j → c.is_judged ≡ true → is_open (own (way_of d) c).phase ≡ true → reference_of d j ≡ Some r →
     ((q : ℕ) (later : List Part) → q ≡ r → known q later → later ≡ []) →
     begun_octets (spoken (other d) j).begun ≡ link.ends.joining.begun
-joined_is_begun d deeds known put b s t e a courses r peer link z p c j there here live named none = by (a.live p c j there here)
+joined_is_begun d deeds known put b s t e a courses r peer link z p c j there here judged live named none =
+    by (a.live p c j there here judged)
   where
     number : (m n : ℕ) → Some m ≡ Some n → m ≡ n
     number m n same = cc

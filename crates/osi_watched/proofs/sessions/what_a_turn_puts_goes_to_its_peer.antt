@@ -175,10 +175,19 @@ module _ (d : Direction) (is_caller : Bool) (first : Whole) (deeds : ℕ → Dee
       l.left.is ∙ ap (λ (x : List Marked). l.left.before ++ x) none ∙ append-nil l.left.before in
       subst (AreApart q) (sym all) l.left.none_before
 
+  -- what it put for a connection goes to this peer, and has a home there
+  pub record IsPutFor (q : ℕ) (s : State) (t : Sessions) : Type 0 where
+    pub peer : ℕ
+    pub goes : AllByRecursion (GoesTo q peer) on.put
+    pub homed : IsHomed d q peer s t
+
+  pub put_for : (q : ℕ) (l : Lived q) (s : State) (t : Sessions) → IsHomed d q l.peer s t → IsPutFor q s t
+  put_for q l s t homed = record { peer = l.peer; goes = goes_to q on.put l.peer l.left l.gives; homed = homed }
+
   -- ---- each unit has a home if each connection that put one has
 
   module _ (s : State) (t : Sessions) (class_2 : AllByRecursion IsNotZero (all_units on.put))
-      (home : carrier.ended ≡ None → (q : ℕ) → 0 < q → (l : Lived q) → (AreApart q on.put → ⊥) → IsHomed d q l.peer s t) where
+      (home : carrier.ended ≡ None → (q : ℕ) → 0 < q → (AreApart q on.put → ⊥) → IsPutFor q s t) where
     unit_marked : carrier.ended ≡ None → (front rest : List Marked) (m : Marked) → on.put ≡ front ++ m ∷ rest → IsMarked d s t m
     unit_marked lasts front rest m is = by m.0 refl
       where
@@ -189,12 +198,10 @@ module _ (d : Direction) (is_caller : Bool) (first : Whole) (deeds : ℕ → Dee
         by zero e = of_none e (none_for m.1 (at (λ (k : Marked). is_of_link k.1 ≡ nat_lt 0 k.0) on.by_links ∙ ap (nat_lt 0) e))
         by (suc n) e =
             let some : 0 < m.0 = omega (arith, e) in
-            let l = on.lives m.0 some in
             let mine : (m.0 == m.0) ≡ true = eq-eqb m.0 m.0 refl in
-            let goes = at (GoesTo m.0 l.peer) (goes_to m.0 on.put l.peer l.left l.gives) mine in
+            let h = home lasts m.0 some (λ apart. differ (m.0 == m.0) mine (at (λ (k : Marked). (k.0 == m.0) ≡ false) apart)) in
             let unlike = at (λ (k : Marked). IsNotZero k.1) (by_units IsNotZero on.put class_2) in
-            of_one l.peer (for_so l.peer m.1 goes unlike)
-            (home lasts m.0 some l (λ apart. differ (m.0 == m.0) mine (at (λ (k : Marked). (k.0 == m.0) ≡ false) apart)))
+            of_one h.peer (for_so h.peer m.1 (at (GoesTo m.0 h.peer) h.goes mine) unlike) h.homed
 
     all_marked : carrier.ended ≡ None → (front units : List Marked) → on.put ≡ front ++ units → AllByRecursion (IsMarked d s t) units
     all_marked lasts front [] is = tt

@@ -3,6 +3,7 @@
 -- For all connections of an end and a tap.
 use Rattle.osi_watched.proofs.Vocabulary.{[], ap, arith, Bool, false, if◌then◌else◌, length, None, Option, refl, set, Some, true, ℕ, ◌++◌}
 use Rattle.osi_watched.proofs.Vocabulary.{◌∙◌, ◌∷◌, ◌≡◌, slice_get_past, position, slice_get, offset_of, Connect, request, Value}
+use Rattle.osi_watched.proofs.Vocabulary.{first_true, is_over_by, sym, ◌&&◌}
 use Rattle.osi_watched.proofs.Vocabulary.{is_applied, reach_of, first_failed, is_free, is_live, is_named, asked_by, asks_by, asks_kept}
 use Rattle.osi_watched.proofs.Vocabulary.{asks_of, at_found, at_place, class_for, connection_after, found_on, is_stopped, meaning_if, meant}
 use Rattle.osi_watched.proofs.Vocabulary.{none_told, Outcome, request_tests, route, routed, Traffic as State, takes, Connection, Finding}
@@ -10,6 +11,16 @@ use Rattle.osi_watched.proofs.Vocabulary.{Kept, NotJudged, Reach, Route, Asks, N
 use Rattle.osi_watched.proofs.Vocabulary.{Joined, placed, Sessions, taken, way_of, first_there, HaveSamePlaces, IsOneOf}
 use Rattle.osi_tap.specs.Connections as joined
 use Rattle.osi_watched.proofs.sessions.connections_have_the_same_places.{as_long, at_same, not_asked}
+
+-- only what is judged is over
+free_judged : (c : Connection) → is_free c ≡ true → c.is_judged ≡ true
+free_judged c h = by c.is_judged refl
+  where
+    by : (b : Bool) → c.is_judged ≡ b → b ≡ true
+    by true e = refl
+    by false e =
+        let no : false ≡ true =
+        sym (ap (λ (b : Bool). (b && is_over_by c.left c.seen_by_left) && (b && is_over_by c.right c.seen_by_right)) e) ∙ h in absurd (cc)
 
 -- what a unit does of which this is told
 pub data Does (d : Direction) (at : ℕ) (v : Value) (s : State) (t : Sessions) (o : Outcome) : Type 0 where
@@ -19,7 +30,8 @@ pub data Does (d : Direction) (at : ℕ) (v : Value) (s : State) (t : Sessions) 
   -- it is for this one
   somewhere : (i : ℕ) (c : Connection) (j : Joined) (b : Bool) (r : Reach) → o.told.place ≡ Some i → slice_get s.connections i ≡ Some c →
       slice_get t.live i ≡ Some j → IsOneOf c j → o.told.finding ≡ found_on (way_of d) s c v →
-      is_applied (found_on (way_of d) s c v) ≡ b → o.state.connections ≡ set s.connections i (connection_after (way_of d) v b r c) →
+      is_applied (found_on (way_of d) s c v) ≡ b → o.told.reach ≡ r →
+      o.state.connections ≡ set s.connections i (connection_after (way_of d) v b r c) →
       taken d at v o.told.meaning o.told.place t ≡ record t { live = set t.live i (joined.meant d at v (meaning_if b (meant v)) j) } →
       Does d at v s t o
   -- it is a CR, which gets a new place, or that of one that is over
@@ -27,6 +39,7 @@ pub data Does (d : Direction) (at : ℕ) (v : Value) (s : State) (t : Sessions) 
       taken d at v o.told.meaning o.told.place t ≡ record t { live = t.live ++ asked number x.source t.room ∷ [] } →
       Does d at v s t o
   asks_again : (x : Connect) → v ≡ request x → (number i : ℕ) (j : Joined) → slice_get t.live i ≡ Some j →
+      ((free : Connection) × (slice_get s.connections i ≡ Some free) × (free.is_judged ≡ true)) →
       o.state.connections ≡ set s.connections i (asked_by x) →
       taken d at v o.told.meaning o.told.place t
       ≡ record t { live = set t.live i (asked number x.source t.room); done = t.done ++ j ∷ [] } → Does d at v s t o
@@ -37,7 +50,7 @@ module _ (d : Direction) (at : ℕ) (v : Value) (s : State) (t : Sessions) (h : 
   does_one i (Some c) e =
       let (j, there, one) = at_same s.connections t.live i c h e in
       let b = is_applied (found_on (way_of d) s c v) in
-      somewhere i c j b (reach_of (class_for (way_of d) s.course) (found_on (way_of d) s c v)) refl e there one refl refl refl
+      somewhere i c j b (reach_of (class_for (way_of d) s.course) (found_on (way_of d) s c v)) refl e there one refl refl refl refl
       (not_asked d at v b i t
       ∙ ap (λ (o : Option Joined). changed i (joined.meant d at v (meaning_if b (meant v))) t o) there)
 
@@ -56,7 +69,9 @@ module _ (d : Direction) (at : ℕ) (x : Connect) (s : State) (t : Sessions) (h 
   does_ask (Some i) e =
       let (free, there) = first_there is_free s.connections i i (asked_by x) e in
       let (over, here, was) = at_same s.connections t.live i free h there in
-      asks_again x refl (offset_of (count t)) i over here refl (ap (λ (o : Option Joined). placed i new t o) here)
+      asks_again x refl (offset_of (count t)) i over here
+      (free, there, free_judged free (first_true is_free s.connections i free e there)) refl
+      (ap (λ (o : Option Joined). placed i new t o) here)
 
   does_by : (f : Finding) → Does d at (request x) s t (asks_by (way_of d) f x s)
   does_by Kept = does_ask (position is_free s.connections) refl

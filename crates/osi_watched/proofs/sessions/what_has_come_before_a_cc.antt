@@ -1,5 +1,5 @@
 -- What has come for a connection of a calling end that has not opened: its CC has passed the tap, or no DT and no AK for it has. So it is
--- at the beginning, and each step keeps it so, as long as nobody breaks a rule.
+-- at the beginning, and each step keeps it so, as long as both sides are judged.
 -- For the session of each connection of a calling end.
 use Rattle.std.proofs.Common.{◌≡◌, ◌∙◌, ◌⊎◌, inl, inr, refl, sym, ap, subst, ℕ, ◌<◌, Bool, true, false, List, [], ◌∷◌, ◌++◌}
 use Rattle.std.proofs.Common.{Option, Some, None, is_some, drop, length, map, append_assoc, arith}
@@ -13,8 +13,11 @@ use Rattle.osi_tpdu.specs.Value.{Connect, HasFieldsInRange, Value, acknowledge, 
 use Rattle.osi_tpdu.specs.Value.{disconnected, error, request}
 use Rattle.osi_tpdu.specs.Writing.{Fits}
 use Rattle.osi_tpdu.proofs.the_units_of_a_packet.{units_fit, units_found}
+use Rattle.osi_class.specs.declared.terms.Class.{Class}
+use Rattle.osi_class.specs.declared.terms.Class.TheVariants.{Two, Zero}
 use Rattle.osi_class.specs.declared.terms.Local.{Local}
-use Rattle.osi_carrier.specs.State.{State as Carrier}
+use Rattle.osi_carrier.specs.Rows.{value_at}
+use Rattle.osi_carrier.specs.State.{State as Carrier, asked}
 use Rattle.osi_judge.specs.declared.directions.Direction.TheVariants.{Left, Right}
 use Rattle.osi_rules.specs.declared.connections.Connection.{Connection}
 use Rattle.osi_rules.specs.declared.directions.Direction.{Direction as Way}
@@ -26,31 +29,34 @@ use Rattle.osi_rules.specs.declared.findings.Rule.TheVariants as rule
 use Rattle.osi_rules.specs.declared.halves.Half.{Half}
 use Rattle.osi_rules.specs.declared.halves.Phase.{Phase}
 use Rattle.osi_rules.specs.declared.halves.Phase.TheVariants.{Closed, Closing, Open, Refused, Silent}
-use Rattle.osi_rules.specs.Reaches.{is_applied}
+use Rattle.osi_rules.specs.Reaches.{is_applied, reach_of}
 use Rattle.osi_rules.specs.Rows.{Test, acknowledge_tests, data2_tests, first_failed}
-use Rattle.osi_rules.specs.Sides.{begins, is_closed, is_closing, is_open, is_silent}
-use Rattle.osi_rules.specs.Traffic.{Outcome, State, asked_by, connection_after, found, found_on, judged_on, takes, uses_source}
+use Rattle.osi_rules.specs.Sides.{begins, is_closed, is_closing, is_open, is_refused, is_silent}
+use Rattle.osi_rules.specs.Traffic.{Outcome, State, asked_by, class_for, connection_after, found, found_on, judged_on, takes, uses_source}
 use Rattle.osi_rules.specs.Traffic as traffic
 use Rattle.osi_fair.specs.Naming.{packet}
 use Rattle.osi_fair.specs.Naming.{unit as passing}
 use Rattle.osi_fair.specs.Wholes.{Whole}
 use Rattle.osi_fair.specs.Wholes as wholes
 use Rattle.osi_fair.proofs.a_calling_end_is_fair_in_class_2.{Joined as Follows, next_joined}
-use Rattle.osi_fair.proofs.a_dr_for_what_is_gone.{before_clear}
-use Rattle.osi_fair.proofs.all_are_judged_unless_one_broke.{AreJudged}
+use Rattle.osi_fair.proofs.a_dr_for_what_is_gone.{before_going}
+use Rattle.osi_fair.proofs.a_reference_names_one_connection.{applied_judged}
+use Rattle.osi_fair.proofs.names_stay_apart_though_one_is_lost.{each_sound}
 use Rattle.osi_fair.proofs.each_connection_has_its_line.{Followed, IsAnswer, Tracked, all_so, is_tracked}
 use Rattle.osi_fair.proofs.no_two_open_connections_have_one_peer.{both, differ, left_open}
 use Rattle.osi_fair.proofs.what_becomes_of_a_connection.{IsIdle, Told, comes_for}
 use Rattle.osi_fair.proofs.what_holds_of_one_item.{HoldsOfEach, after_add, after_map, after_set}
 use Rattle.osi_fair.proofs.what_keeps_names_apart.{Sound}
 use Rattle.osi_fair.proofs.what_stays_of_each_connection.{left_then, own_stays, right_passes}
-use Rattle.osi_fair.proofs.what_the_other_side_closes.{IsClear, going_on, is_name, judged_same}
+use Rattle.osi_fair.proofs.what_the_other_side_closes.{IsOngoing, is_name, judged_same}
 use Rattle.osi_fair.proofs.which_units_are_for_a_connection.{each_picked, names, picked_join, picked_other, those, those_join}
 use Rattle.osi_honest.specs.Courses.{Continues, Deeds, units_in, units_read}
 use Rattle.osi_honest.specs.Marked.{Marked}
 use Rattle.osi_honest.specs.Turns.{Turn}
 use Rattle.osi_honest.proofs.courses.how_long_a_connection_is_open.{Life, Stage, amid, early, past, stage_at}
+use Rattle.osi_honest.proofs.courses.the_first_cc_opens_a_connection.{asked_so}
 use Rattle.osi_stack.specs.Calls.{has_given}
+use Rattle.osi_watched.proofs.a_break_ends_no_judging_or_all.{takes_reach}
 use Rattle.osi_stack.specs.State.{Holding}
 use Rattle.osi_tap.specs.Connections.{Joined, Sessions}
 use Rattle.osi_tap.specs.Courses.{Course, unit_passes, units_pass}
@@ -58,20 +64,18 @@ use Rattle.osi_watched.specs.Joint.{Joint, Steps, TakesTurn, begin, begins_other
 use Rattle.osi_watched.specs.ShownPlaces.{HaveSamePlaces, IsOneOf, named_by}
 use Rattle.osi_watched.proofs.a_carrier_does_events.{none_of}
 use Rattle.osi_watched.proofs.steps_are_events.{IsFollowed, own_first}
-use Rattle.osi_watched.proofs.what_a_taker_passes_over.{IsDr, IsMild}
-use Rattle.osi_watched.proofs.sessions.a_calling_end_hears_what_breaks_no_rule.{AreFine, one_plain}
+use Rattle.osi_watched.proofs.sessions.a_calling_end_hears_what_breaks_no_rule.{AreFine, IsHeardOn, one_plain}
 use Rattle.osi_watched.proofs.sessions.a_calling_end_is_ready.{IsCalling, first, whole_joined}
-use Rattle.osi_watched.proofs.sessions.a_calling_end_takes_nothing_before_its_cc.{AwaitsCc, awaits_cc}
-use Rattle.osi_watched.proofs.sessions.a_calling_end_takes_what_is_in_flight.{early_lasts, given_so}
+use Rattle.osi_watched.proofs.sessions.a_calling_end_takes_nothing_before_its_cc.{HasCc, has_cc}
+use Rattle.osi_watched.proofs.sessions.a_calling_end_takes_what_is_in_flight.{early_lasts}
 use Rattle.osi_watched.proofs.sessions.a_turn_does_what_its_deeds_say.{turn_leaves, units_join}
-use Rattle.osi_watched.proofs.sessions.a_unit_after_a_dr_changes_nothing.{IsAfterDr, is_there}
+use Rattle.osi_watched.proofs.sessions.a_unit_after_a_dr_changes_nothing.{not_over}
 use Rattle.osi_watched.proofs.sessions.a_unit_is_joined_where_it_is_named.{named_there, names_there}
-use Rattle.osi_watched.proofs.sessions.connections_have_the_same_places.{Agree, unit_agrees, unit_knows}
-use Rattle.osi_watched.proofs.sessions.nothing_is_done_before_a_cr_passes.{IsNoZero, same_units}
-use Rattle.osi_watched.proofs.sessions.right_units_leave_all_standing.{IsLink, link_names}
-use Rattle.osi_watched.proofs.sessions.steps_leave_all_standing.{IsTakeable}
+use Rattle.osi_watched.proofs.sessions.connections_have_the_same_places.{unit_knows}
+use Rattle.osi_watched.proofs.sessions.nothing_is_done_before_a_cr_passes.{IsNoZero, given_so, same_units}
 use Rattle.osi_watched.proofs.sessions.what_a_turn_puts_goes_to_its_peer.{all_front, one_of}
 use Rattle.osi_watched.proofs.sessions.what_a_unit_does_at_its_place.{Does, asks_again, asks_more, nowhere, somewhere, unit_does}
+use Rattle.osi_watched.proofs.sessions.what_passes_leaves_all_standing.{AllGoesOn}
 use Rattle.osi_watched.proofs.sessions.what_stands_of_a_connection.{is_for, waiting_for}
 
 -- ---- what is so
@@ -108,9 +112,9 @@ quiet_as a b xs ys s t same alike q =
 abbrev is_answered : Whole → Value → Type 0
 is_answered w v = IsAnswer w.tap.course.loose w.tap.connections w.end v
 
-answer_of : (local : Local) (w next : Whole) (more : List Value) → Followed local next → next.tap.course.loose ≡ false →
-    next.coming ≡ w.coming ++ more → (r : ℕ) → next.end.ended ≡ None → AwaitsCc r w.coming → Tracked next.tap.connections r
-answer_of local w next more f firm is r lasts a =
+answer_of : (local : Local) (w next : Whole) (more : List Value) → Followed local next → next.coming ≡ w.coming ++ more → (r : ℕ) →
+    next.end.ended ≡ None → value_at r next.end.live ≡ Some asked → HasCc r w.coming → Tracked next.tap.connections r
+answer_of local w next more f is r lasts waits a =
     let all : AllByRecursion (is_answered next) (those r (w.coming ++ more)) =
     each_picked (is_answered next) (names r) (w.coming ++ more)
     (all_so (is_answered next) (λ v. names r v ≡ true → is_answered next v) (w.coming ++ more) (λ v h named. h)
@@ -119,7 +123,7 @@ answer_of local w next more f firm is r lasts a =
     (subst (AllByRecursion (is_answered next)) (those_join r w.coming more) all) in
     let one = one_of (is_answered next) a.before a.after (confirm r a.confirmed)
     (subst (AllByRecursion (is_answered next)) a.is some) in
-    (one r a.confirmed refl lasts (inr firm)).0
+    (one r a.confirmed refl lasts (inl waits)).0
 
 given_there : (local : Local) (w : Whole) (r : ℕ) → Follows local w → 0 < r → Tracked w.tap.connections r → has_given r w.end ≡ true
 given_there local w r j some (p, c, at, tracked, same) =
@@ -129,13 +133,14 @@ given_there local w r j some (p, c, at, tracked, same) =
     given_so r w.end some (omega (arith, low, most, same))
 
 -- as the tap knows more of the same end
-still_tracked : (local : Local) (w next : Whole) (more : List Value) → Follows local w → Follows local next → IsClear w.tap.course →
-    IsClear next.tap.course → next.end ≡ w.end → next.coming ≡ w.coming ++ more → (r : ℕ) → MayOpen w.end r →
+still_tracked : (local : Local) (w next : Whole) (more : List Value) → Follows local w → Follows local next → IsOngoing w.tap.course →
+    IsOngoing next.tap.course → next.end ≡ w.end → next.coming ≡ w.coming ++ more → (r : ℕ) → MayOpen w.end r →
     Tracked w.tap.connections r → Tracked next.tap.connections r
 still_tracked local w next more j then_j clear then_clear same is r may tracked =
     let lasts = early_lasts r w.end may.1 in
-    answer_of local w next more (then_j.followed (going_on next.tap.course then_clear)) then_clear.sure.firm is r
-    (ap (λ (c : Carrier). c.ended) same ∙ lasts) (awaits_cc local w r j clear tracked (given_there local w r j may.0 tracked) may.1 lasts)
+    let given = given_there local w r j may.0 tracked in
+    answer_of local w next more (then_j.followed then_clear) is r (ap (λ (c : Carrier). c.ended) same ∙ lasts)
+    (ap (λ (c : Carrier). value_at r c.live) same ∙ (asked_so r w.end given may.1).1) (has_cc local w r j clear tracked given may.1 lasts)
 
 -- ---- a unit of the end passes
 
@@ -197,15 +202,15 @@ some_one c e h = cc
 
 module _ (local : Local) (v : Value) (w : Whole) (rest : List Value) (put : w.put ≡ v ∷ rest) (begun : w.begun ≡ true) (t : Sessions)
     (places : HaveSamePlaces w.tap.connections t.live) (j : Follows local w)
-    (then_clear : IsClear (takes way.Left v w.tap).state.course) (q : IsQuiet w.end w.coming w.tap) where
+    (then_clear : IsOngoing (takes way.Left v w.tap).state.course) (q : IsQuiet w.end w.coming w.tap) where
   abbrev own_after : Whole
   own_after = record w { put = rest; begun = false; tap = (takes way.Left v w.tap).state }
 
   own_joined : Follows local own_after
   own_joined = next_joined local wholes.passes_own w own_after (v, put, begun, refl) j
 
-  own_clear : IsClear w.tap.course
-  own_clear = before_clear (passing way.Left v) w.tap then_clear
+  own_clear : IsOngoing w.tap.course
+  own_clear = before_going (passing way.Left v) w.tap then_clear
 
   own_still : (r : ℕ) → MayOpen w.end r → Tracked w.tap.connections r → Tracked own_after.tap.connections r
   own_still = still_tracked local w own_after [] j own_joined own_clear then_clear refl (sym (append-nil w.coming))
@@ -228,12 +233,14 @@ module _ (local : Local) (v : Value) (w : Whole) (rest : List Value) (put : w.pu
   own_by i c k b false r e at one place is there shut may =
       let same = (own_stays b w.tap v r c is).reference in
       q.closed i c at e (subst (MayOpen w.end) same may)
-  own_by i c k b true r e at one place is there shut may =
-      let same = (own_stays b w.tap v r c is).reference in
-      let judged = j.kept.sane.judged own_clear.sure.firm i c at in
-      let tracked = closed_there b r c (j.kept.sane.apart.sound i c at judged) e v
+  own_by i c k false true r e at one place is there shut may =
+      still_open c (connection_after way.Left v false r c) (own_judged r c) e shut
+  own_by i c k true true r e at one place is there shut may =
+      let same = (own_stays true w.tap v r c is).reference in
+      let judged = applied_judged c.is_judged (found way.Left w.tap.course (uses_source way.Left w.tap.connections v) c v) is in
+      let tracked = closed_there true r c (j.kept.sane.apart.sound i c at judged) e v
       (λ n named. sym one.called ∙ named_there Left n c k one judged (names_there way.Left v w.tap n i c at named place)) shut in
-      own_shut i c (connection_after way.Left v b r c) at there same tracked shut (subst (MayOpen w.end) same may)
+      own_shut i c (connection_after way.Left v true r c) at there same tracked shut (subst (MayOpen w.end) same may)
 
   asked_open : {A : Type 0} (x : Connection) (y : Connect) → x ≡ asked_by y → is_open x.left.phase ≡ false → A
   asked_open x y is shut = differ true refl (ap (λ (c : Connection). is_open c.left.phase) (sym is) ∙ shut)
@@ -241,7 +248,7 @@ module _ (local : Local) (v : Value) (w : Whole) (rest : List Value) (put : w.pu
   own_closed : (d : Does Left 0 v w.tap t (takes way.Left v w.tap)) → HoldsOfEach (λ (c : Connection). IsPast w.end c.left)
       own_after.tap.connections
   own_closed (nowhere place cs ts) p x at = q.closed p x (ap (λ (l : List Connection). slice_get l p) (sym cs) ∙ at)
-  own_closed (somewhere i c k b r place there here one finding is cs ts) p x at =
+  own_closed (somewhere i c k b r place there here one finding is far cs ts) p x at =
       by (after_set w.tap.connections i p (connection_after way.Left v b r c) x (ap (λ (l : List Connection). slice_get l p) (sym cs) ∙ at))
     where
       by : ((p ≡ i) × (x ≡ connection_after way.Left v b r c)) ⊎ (slice_get w.tap.connections p ≡ Some x) → IsPast w.end x.left
@@ -256,7 +263,7 @@ module _ (local : Local) (v : Value) (w : Whole) (rest : List Value) (put : w.pu
       by : ((p ≡ length w.tap.connections) × (x ≡ asked_by y)) ⊎ (slice_get w.tap.connections p ≡ Some x) → IsPast w.end x.left
       by (inr was) = q.closed p x was
       by (inl (same, new)) = λ shut may. asked_open x y new shut
-  own_closed (asks_again y is number i k here cs ts) p x at =
+  own_closed (asks_again y is number i k here free cs ts) p x at =
       by (after_set w.tap.connections i p (asked_by y) x (ap (λ (l : List Connection). slice_get l p) (sym cs) ∙ at))
     where
       by : ((p ≡ i) × (x ≡ asked_by y)) ⊎ (slice_get w.tap.connections p ≡ Some x) → IsPast w.end x.left
@@ -291,27 +298,43 @@ for_one r (disconnect n source reason user) zero h = absurd (cc h)
 for_one r (disconnected n source) zero h = absurd (cc h)
 for_one r (error n cause) zero h = absurd (cc h)
 
--- its sender has sent a CC, and has not closed the connection
-open_by : (v : Value) → (IsDr v → ⊥) → (silent opened : Bool) (tests : List Test) →
-    IsMild v (first_failed ((not silent, Broke rule.UnknownReference) ∷ (opened, Broke rule.Closed) ∷ tests)) → opened ≡ true
-open_by v other true opened tests none = absurd none
-open_by v other false true tests none = refl
-open_by v other false false tests none = absurd (other none)
+-- all judging ends with one whose sender has sent no CC
+unknown_ends : (k : Option Class) → (k ≡ Some Zero → ⊥) → reach_of k (Broke rule.UnknownReference) ≡ reach.Everything
+unknown_ends None two = refl
+unknown_ends (Some Two) two = refl
+unknown_ends (Some Zero) two = absurd (two refl)
 
-right_open : (s : State) (c : Connection) → c.is_judged ≡ true → (r : ℕ) (v : Value) → IsForOne r v →
-    IsMild v (found_on way.Right s c v) → is_open c.right.phase ≡ true
-right_open s c judged r v (a_dt number end user is) none =
+first_silent : (b : Bool) (tests : List Test) → b ≡ true →
+    first_failed ((not b, Broke rule.UnknownReference) ∷ tests) ≡ Broke rule.UnknownReference
+first_silent true tests h = refl
+first_silent false tests h = absurd (cc)
+
+silent_found : (s : State) (c : Connection) → c.is_judged ≡ true → (r : ℕ) (v : Value) → IsForOne r v → is_silent c.right.phase ≡ true →
+    found_on way.Right s c v ≡ Broke rule.UnknownReference
+silent_found s c judged r v (a_dt number end user is) silent =
     let dt : Value = data2 r number end user in
-    let found_so : IsMild dt (found way.Right s.course (uses_source way.Right s.connections dt) c dt) =
-    subst (IsMild dt) (judged_same c.is_judged (found way.Right s.course (uses_source way.Right s.connections dt) c dt) judged)
-    (subst (λ (u : Value). IsMild u (found_on way.Right s c u)) is none) in
-    open_by dt (λ dr. dr) (is_silent c.right.phase) (is_open c.right.phase) (drop 2 (data2_tests way.Right c number (length user))) found_so
-right_open s c judged r v (an_ak credit number is) none =
+    subst (λ (u : Value). found_on way.Right s c u ≡ Broke rule.UnknownReference) (sym is)
+    (judged_same c.is_judged (found way.Right s.course (uses_source way.Right s.connections dt) c dt) judged
+    ∙ first_silent (is_silent c.right.phase) (drop 1 (data2_tests way.Right c number (length user))) silent)
+silent_found s c judged r v (an_ak credit number is) silent =
     let ak : Value = acknowledge credit r number in
-    let found_so : IsMild ak (found way.Right s.course (uses_source way.Right s.connections ak) c ak) =
-    subst (IsMild ak) (judged_same c.is_judged (found way.Right s.course (uses_source way.Right s.connections ak) c ak) judged)
-    (subst (λ (u : Value). IsMild u (found_on way.Right s c u)) is none) in
-    open_by ak (λ dr. dr) (is_silent c.right.phase) (is_open c.right.phase) (drop 2 (acknowledge_tests way.Right c number credit)) found_so
+    subst (λ (u : Value). found_on way.Right s c u ≡ Broke rule.UnknownReference) (sym is)
+    (judged_same c.is_judged (found way.Right s.course (uses_source way.Right s.connections ak) c ak) judged
+    ∙ first_silent (is_silent c.right.phase) (drop 1 (acknowledge_tests way.Right c number credit)) silent)
+
+link_goes : (r : ℕ) (v : Value) (s : State) → IsForOne r v → AllGoesOn v Left s → (takes way.Right v s).told.reach ≡ reach.Everything → ⊥
+link_goes r v s (a_dt number end user is) =
+    subst (λ (u : Value). AllGoesOn u Left s → (takes way.Right u s).told.reach ≡ reach.Everything → ⊥) (sym is) (λ on. on)
+link_goes r v s (an_ak credit number is) =
+    subst (λ (u : Value). AllGoesOn u Left s → (takes way.Right u s).told.reach ≡ reach.Everything → ⊥) (sym is) (λ on. on)
+
+-- right has answered the CR by a CC, and left's DR not
+answered_so : (p : Phase) → is_silent p ≡ false → is_refused p ≡ false → is_closed p ≡ false → (is_open p || is_closing p) ≡ true
+answered_so Silent a b c = absurd (cc)
+answered_so Open a b c = refl
+answered_so Refused a b c = absurd (cc)
+answered_so Closing a b c = refl
+answered_so Closed a b c = absurd (cc)
 
 destination_is : (r : ℕ) (v : Value) → IsForOne r v → destination_of v ≡ Some r
 destination_is r v (a_dt number end user is) = ap destination_of is
@@ -324,38 +347,50 @@ no_dc : {A : Type 0} (r m source : ℕ) (v : Value) → IsForOne r v → v ≡ d
 no_dc r m source v (a_dt number end user is) e = absurd (cc (sym is ∙ e))
 no_dc r m source v (an_ak credit number is) e = absurd (cc (sym is ∙ e))
 
-module _ (local : Local) (v : Value) (w : Whole) (j : Follows local w)
-    (none : IsMild v (takes way.Right v w.tap).told.finding) (clear : IsClear w.tap.course)
-    (then_clear : IsClear (takes way.Right v w.tap).state.course) (q : IsQuiet w.end w.coming w.tap) where
+module _ (local : Local) (v : Value) (w : Whole) (j : Follows local w) (on : AllGoesOn v Left w.tap) (clear : IsOngoing w.tap.course)
+    (then_clear : IsOngoing (takes way.Right v w.tap).state.course) (q : IsQuiet w.end w.coming w.tap) where
+  -- right has not closed the connection that a DT or an AK names, or awaits a DC there
+  not_silent : (r : ℕ) → IsForOne r v → (t : Told v w.tap (takes way.Right v w.tap)) → t.c.is_judged ≡ true →
+      is_silent t.c.right.phase ≡ false
+  not_silent r one t judged = by (is_silent t.c.right.phase) refl
+    where
+      by : (b : Bool) → is_silent t.c.right.phase ≡ b → b ≡ false
+      by false e = refl
+      by true e =
+          absurd (link_goes r v w.tap one on
+          ((takes_reach way.Right v w.tap).far
+          ∙ ap (reach_of (class_for way.Right w.tap.course)) (ap (λ (o : Outcome). o.told.finding) t.is ∙ silent_found w.tap t.c judged r v
+          one e)
+          ∙ unknown_ends (class_for way.Right w.tap.course) clear.two))
+
+  right_there : (r : ℕ) → IsForOne r v → (t : Told v w.tap (takes way.Right v w.tap)) → (b : Bool) → t.c.is_judged ≡ b →
+      (is_open t.c.right.phase || is_closing t.c.right.phase) ≡ true
+  right_there r one t true judged =
+      let (refused, closed) = not_over way.Right t.n t.c judged t.named in
+      answered_so t.c.right.phase (not_silent r one t judged) refused closed
+  right_there r one t false lost = (j.followed clear).lost t.q t.c t.at lost
+
   -- the connection that a DT or an AK names has its CC
-  named_there_by : (r : ℕ) → MayOpen w.end r → IsForOne r v → (t : Told v w.tap (takes way.Right v w.tap)) → (opened : Bool) →
-      is_open t.c.left.phase ≡ opened → t.c.left.reference ≡ r → is_open t.c.right.phase ≡ true → Tracked w.tap.connections r
-  named_there_by r may one t true e same right = (
-    t.q,
-    t.c,
-    t.at,
-    both (is_open t.c.left.phase) (is_open t.c.right.phase || is_closing t.c.right.phase) e
-        (ap (λ (b : Bool). b || is_closing t.c.right.phase) right),
-    same,
-  )
-  named_there_by r may one t false e same right = absurd (q.closed t.q t.c t.at e (subst (MayOpen w.end) (sym same) may))
+  named_there_by : (r : ℕ) → MayOpen w.end r → (t : Told v w.tap (takes way.Right v w.tap)) → (opened : Bool) →
+      is_open t.c.left.phase ≡ opened → t.c.left.reference ≡ r → (is_open t.c.right.phase || is_closing t.c.right.phase) ≡ true →
+      Tracked w.tap.connections r
+  named_there_by r may t true e same right =
+      (t.q, t.c, t.at, both (is_open t.c.left.phase) (is_open t.c.right.phase || is_closing t.c.right.phase) e right, same)
+  named_there_by r may t false e same right = absurd (q.closed t.q t.c t.at e (subst (MayOpen w.end) (sym same) may))
 
   tracked_of : (r : ℕ) → MayOpen w.end r → IsForOne r v →
       Told v w.tap (takes way.Right v w.tap) ⊎ IsIdle v w.tap (takes way.Right v w.tap) → Tracked w.tap.connections r
   tracked_of r may one (inr idle) = no_dc r idle.m idle.source v one idle.dc
   tracked_of r may one (inl t) =
-      let judged = j.kept.sane.judged clear.sure.firm t.q t.c t.at in
-      let sound = j.kept.sane.apart.sound t.q t.c t.at judged in
+      let sound = each_sound way.Right w.tap.connections j.kept.sane.apart (j.peers clear) t.q t.c t.at in
       let same : t.c.left.reference ≡ r =
       is_name t.c t.n sound t.named ∙ same_name (destination_of v) t.n r t.dest (destination_is r v one) in
-      let found_none = subst (IsMild v) (ap (λ (o : Outcome). o.told.finding) t.is) none in
-      named_there_by r may one t (is_open t.c.left.phase) refl same (right_open w.tap t.c judged r v one found_none)
+      named_there_by r may t (is_open t.c.left.phase) refl same (right_there r one t t.c.is_judged refl)
 
   tracked_now : (r : ℕ) → MayOpen w.end r → IsForOne r v → Tracked w.tap.connections r
   tracked_now r may one =
-      let going = going_on w.tap.course clear in
-      tracked_of r may one (comes_for w.tap (j.fine going) v clear.sure.left clear.sure.right (j.followed going).zero
-      (going_on (takes way.Right v w.tap).state.course then_clear).sure)
+      tracked_of r may one (comes_for w.tap (j.fine clear) v clear.sure.left clear.sure.right (j.followed clear).zero
+      then_clear.sure)
 
 -- one that right is closing has its CC too, if it may open
 pub closing_tracked : (end : Carrier) (coming : List Value) (s : State) → IsQuiet end coming s → (i : ℕ) (c : Connection) →
@@ -377,26 +412,8 @@ closing_tracked end coming s q i c at closing may = by (is_open c.left.phase) re
     )
     by false e = absurd (q.closed i c at e may)
 
-link_one : (r n : ℕ) (v : Value) → IsLink v n → IsForOne r v → n ≡ r
-link_one r n v link one = same_name (destination_of v) n r (link_names v n link) (destination_is r v one)
-
--- so it has if a DT or an AK for it comes after a DR
-after_tracked : (end : Carrier) (coming : List Value) (v : Value) (c : Course) → IsAfterDr Right v c →
-    IsQuiet end coming c.traffic → AreJudged c.traffic → c.traffic.course.loose ≡ false →
-    HaveSamePlaces c.traffic.connections c.sessions.live → (r : ℕ) → MayOpen end r → IsForOne r v → Tracked c.traffic.connections r
-after_tracked end coming v c after q judged firm places r may one =
-    let p = is_there Right 0 v c after judged firm places in
-    let same : p.connection.left.reference ≡ r =
-    same_one p.connection.left.reference r (ap (λ (n : ℕ). Some n) (sym p.one.calling) ∙ p.named
-    ∙ ap (λ (n : ℕ). Some n) (link_one r after.n v after.link one)) in
-    subst (Tracked c.traffic.connections) same
-    (closing_tracked end coming c.traffic q p.place p.connection p.there p.closing (subst (MayOpen end) (sym same) may))
-  where
-    same_one : (m n : ℕ) → Some m ≡ Some n → m ≡ n
-    same_one m n e = cc
-
 module _ (local : Local) (v : Value) (ranges : HasFieldsInRange v) (w : Whole) (j : Follows local w) (zero : IsNoZero v)
-    (clear : IsClear w.tap.course) (then_clear : IsClear (takes way.Right v w.tap).state.course) (q : IsQuiet w.end w.coming w.tap)
+    (clear : IsOngoing w.tap.course) (then_clear : IsOngoing (takes way.Right v w.tap).state.course) (q : IsQuiet w.end w.coming w.tap)
     (now : (r : ℕ) → MayOpen w.end r → IsForOne r v → Tracked w.tap.connections r) where
   abbrev other_after : Whole
   other_after = record w { tap = (takes way.Right v w.tap).state; coming = w.coming ++ v ∷ [] }
@@ -427,38 +444,35 @@ module _ (local : Local) (v : Value) (ranges : HasFieldsInRange v) (w : Whole) (
 
 -- ---- the units of a packet of the other side
 
-clear_first : (at : ℕ) (vs : List Value) (c : Course) → AreFine at vs c → IsClear (units_pass Right at vs c).traffic.course →
-    IsClear c.traffic.course
-clear_first at [] c fine clear = clear
-clear_first at (v ∷ vs) c (one, clear, more) then_clear = clear
+ongoing_first : (at : ℕ) (vs : List Value) (c : Course) → AreFine at vs c → IsOngoing (units_pass Right at vs c).traffic.course →
+    IsOngoing c.traffic.course
+ongoing_first at [] c fine clear = clear
+ongoing_first at (v ∷ vs) c (one, more) then_clear = one.lasts
 
 -- a DT or an AK that may be for a connection which has not opened is for one whose CC has passed
-fine_tracked : (local : Local) (v : Value) (w : Whole) (c : Course) → IsTakeable Right v c ⊎ IsAfterDr Right v c → Agree c →
-    IsClear c.traffic.course → IsClear (takes way.Right v w.tap).state.course → Follows local w → w.tap ≡ c.traffic →
+fine_tracked : (local : Local) (v : Value) (w : Whole) (c : Course) → IsHeardOn v c →
+    IsOngoing (takes way.Right v w.tap).state.course → Follows local w → w.tap ≡ c.traffic →
     IsQuiet w.end w.coming w.tap → (r : ℕ) → MayOpen w.end r → IsForOne r v → Tracked w.tap.connections r
-fine_tracked local v w c (inl one) places clear then_clear j same q r may for_it =
-    tracked_now local v w j (subst (λ (s : State). IsMild v (takes way.Right v s).told.finding) (sym same) one.none)
-    (subst (λ (s : State). IsClear s.course) (sym same) clear) then_clear q r may for_it
-fine_tracked local v w c (inr after) places clear then_clear j same q r may for_it =
-    subst (λ (s : State). Tracked s.connections r) (sym same)
-    (after_tracked w.end w.coming v c after (subst (IsQuiet w.end w.coming) same q) (subst AreJudged same j.kept.sane.judged)
-    clear.sure.firm places r may for_it)
+fine_tracked local v w c one then_clear j same q r may for_it =
+    tracked_now local v w j (subst (AllGoesOn v Left) (sym same) one.on)
+    (subst (λ (s : State). IsOngoing s.course) (sym same) one.lasts) then_clear q r may for_it
 
-units_quiet : (local : Local) (at : ℕ) (vs : List Value) (w : Whole) (c : Course) → AreFine at vs c → Agree c →
-    IsClear (units_pass Right at vs c).traffic.course → AllByRecursion HasFieldsInRange vs → Follows local w → w.tap ≡ c.traffic →
+units_quiet : (local : Local) (at : ℕ) (vs : List Value) (w : Whole) (c : Course) → AreFine at vs c →
+    IsOngoing (units_pass Right at vs c).traffic.course → AllByRecursion HasFieldsInRange vs → Follows local w → w.tap ≡ c.traffic →
     IsQuiet w.end w.coming w.tap → IsQuiet w.end (w.coming ++ vs) (units_pass Right at vs c).traffic
-units_quiet local at [] w c fine places clear ranges j same q =
+units_quiet local at [] w c fine clear ranges j same q =
     subst (IsQuiet w.end (w.coming ++ [])) same (subst (λ (l : List Value). IsQuiet w.end l w.tap) (sym (append-nil w.coming)) q)
-units_quiet local at (v ∷ vs) w c (one, clear, more) places then_clear ranges j same q =
+units_quiet local at (v ∷ vs) w c (one, more) then_clear ranges j same q =
     let next : Whole = record w { tap = (takes way.Right v w.tap).state; coming = w.coming ++ v ∷ [] } in
     let knows : next.tap ≡ (unit_passes Right at v c).traffic =
     ap (λ (s : State). (takes way.Right v s).state) same ∙ sym (unit_knows Right at v c) in
-    let next_clear = subst (λ (s : State). IsClear s.course) (sym knows) (clear_first at vs (unit_passes Right at v c) more then_clear) in
-    let now_clear = subst (λ (s : State). IsClear s.course) (sym same) clear in
+    let next_clear = subst (λ (s : State). IsOngoing s.course) (sym knows)
+    (ongoing_first at vs (unit_passes Right at v c) more then_clear) in
+    let now_clear = subst (λ (s : State). IsOngoing s.course) (sym same) one.lasts in
     let then_quiet = other_quiet local v ranges.0 w j (one_plain 0 v c one).0 now_clear next_clear q
-    (fine_tracked local v w c one places clear next_clear j same q) in
+    (fine_tracked local v w c one next_clear j same q) in
     subst (λ (l : List Value). IsQuiet w.end l (units_pass Right at (v ∷ vs) c).traffic) (append_assoc w.coming (v ∷ []) vs)
-    (units_quiet local at vs next (unit_passes Right at v c) more (unit_agrees Right at v c places) then_clear ranges.1
+    (units_quiet local at vs next (unit_passes Right at v c) more then_clear ranges.1
     (next_joined local (wholes.passes_other v) w next (ranges.0, refl) j) knows then_quiet)
 
 -- ---- a turn of the end
@@ -485,9 +499,9 @@ none_later r xs ys none = last (waiting_for (Some r) xs) (waiting_for (Some r) y
 abbrev pub AreQuietNow : Joint → Type 0
 AreQuietNow j = IsQuiet j.holding.end.carrier (units_in j.coming) j.course.traffic
 
--- as long as nobody has broken a rule, and class 0 is not selected
+-- as long as both sides are judged, and class 0 is not selected
 abbrev pub AreQuiet : Joint → Type 0
-AreQuiet j = IsClear j.course.traffic.course → AreQuietNow j
+AreQuiet j = IsOngoing j.course.traffic.course → AreQuietNow j
 
 pub begin_quiet : (holding : Holding) → AreQuiet (begin holding)
 begin_quiet holding = λ clear. record { before = λ r may. inr refl; closed = λ p c at. absurd (cc at) }
@@ -529,13 +543,13 @@ pub begins_own_quiet : (old new : Joint) → Steps Left begins_own old new → A
 begins_own_quiet old new (some, none, is) q =
     subst AreQuiet (sym is) (λ clear.
     begun_before old.holding.end.carrier (units_in old.coming) way.Left old.course.traffic
-    (q (before_clear (packet way.Left) old.course.traffic clear)))
+    (q (before_going (packet way.Left) old.course.traffic clear)))
 
 pub begins_other_quiet : (old new : Joint) → Steps Left begins_other old new → AreQuiet old → AreQuiet new
 begins_other_quiet old new is q =
     subst AreQuiet (sym is) (λ clear.
     begun_before old.holding.end.carrier (units_in old.coming) way.Right old.course.traffic
-    (q (before_clear (packet way.Right) old.course.traffic clear)))
+    (q (before_going (packet way.Right) old.course.traffic clear)))
 
 module _ (local : Local) (two : local.class2 ≡ true) where
   -- an end at which a connection may open, and the whole end that follows it, are alike
@@ -574,14 +588,14 @@ module _ (local : Local) (two : local.class2 ≡ true) where
       (unit_passes Left at unit old.course).traffic (sym tap) (λ r may. let (m, same) = joint_alike old f r may in (m, sym same))
       (own_quiet local unit f.whole s.rest s.is (f.begun ∙ begun) old.course.sessions
       (subst (λ (t : State). HaveSamePlaces t.connections old.course.sessions.live) (sym f.tap) places) (whole_joined local two old f)
-      (subst (λ (t : State). IsClear t.course) (sym tap) clear)
-      (to_whole old f (q (before_clear (passing way.Left unit) old.course.traffic
-      (subst (λ (t : State). IsClear t.course) (sym knows) clear))))))
+      (subst (λ (t : State). IsOngoing t.course) (sym tap) clear)
+      (to_whole old f (q (before_going (passing way.Left unit) old.course.traffic
+      (subst (λ (t : State). IsOngoing t.course) (sym knows) clear))))))
 
   pub passes_other_quiet : (deeds : ℕ → Deeds) (at : ℕ) (bytes : List ℕ) (units : List Value) (old new : Joint) →
-      Steps Left (passes_other at bytes units) old new → IsCalling local two deeds old → Agree old.course →
+      Steps Left (passes_other at bytes units) old new → IsCalling local two deeds old →
       AreFine at units old.course → AreQuiet old → AreQuiet new
-  passes_other_quiet deeds at bytes units old new (octets, read, is) h places fine q =
+  passes_other_quiet deeds at bytes units old new (octets, read, is) h fine q =
       let f = h.ahead.followed in
       let one : units_in (bytes ∷ []) ≡ units = append-nil (units_read (units_of bytes)) ∙ ap units_read read in
       let all : units_in (old.coming ++ bytes ∷ []) ≡ units_in old.coming ++ units =
@@ -592,15 +606,15 @@ module _ (local : Local) (two : local.class2 ≡ true) where
       subst AreQuiet (sym is) (λ clear.
       quiet_as f.whole.end old.holding.end.carrier (f.whole.coming ++ units) (units_in (old.coming ++ bytes ∷ [])) after after refl
       (λ r may. let (m, same) = joint_alike old f r may in (m, all ∙ ap (λ (l : List Value). l ++ units) (sym same)))
-      (units_quiet local at units f.whole old.course fine places clear ranges (whole_joined local two old f) f.tap
-      (to_whole old f (q (clear_first at units old.course fine clear)))))
+      (units_quiet local at units f.whole old.course fine clear ranges (whole_joined local two old f) f.tap
+      (to_whole old f (q (ongoing_first at units old.course fine clear)))))
 
 pub turns_quiet : (turn : Turn) (old new : Joint) (t : TakesTurn turn old new) (deeds : ℕ → Deeds)
     (on : Continues true deeds old.holding turn new.holding) →
     ((r : ℕ) → 0 < r → Life true r (stage_at r old.holding.end.carrier) on.took on.put (stage_at r new.holding.end.carrier)) →
     AreQuiet old → AreQuiet new
 turns_quiet turn old new t deeds on life q clear =
-    let now = q (subst (λ (c : Course). IsClear c.traffic.course) t.course clear) in
+    let now = q (subst (λ (c : Course). IsOngoing c.traffic.course) t.course clear) in
     subst (λ (c : Course). IsQuiet new.holding.end.carrier (units_in new.coming) c.traffic) (sym t.course) (record {
       before = λ r may. by r (now.before r (was r may));
       closed = λ p c at shut may. now.closed p c at shut (was c.left.reference may);

@@ -5,7 +5,7 @@ use Rattle.osi_watched.proofs.Vocabulary.{[], ap, append_assoc, arith, false, in
 use Rattle.osi_watched.proofs.Vocabulary.{subst, suc, sym, true, zero, ℕ, ◌++◌, ◌<◌, ◌==◌, ◌∙◌, ◌∷◌, ◌≡◌, ◌≤◌, ◌⊎◌, eq-eqb, eqb-true}
 use Rattle.osi_watched.proofs.Vocabulary.{AllByRecursion, slice_get, acknowledge, confirm, Connect, data2, disconnect, request, Value}
 use Rattle.osi_watched.proofs.Vocabulary.{Local, packets, Carrier, EndReason, Traffic as State, Right, over_acts, Answers, Begins, is_shut}
-use Rattle.osi_watched.proofs.Vocabulary.{Opens, opens, Continues, Deeds, all_units, is_of_link, Marked, Turn, Sessions, IsNoCc, IsClear}
+use Rattle.osi_watched.proofs.Vocabulary.{Opens, opens, Continues, Deeds, all_units, is_of_link, Marked, Turn, Sessions}
 use Rattle.osi_watched.proofs.Vocabulary.{Joint, TakesTurn, HaveSamePlaces}
 use Rattle.osi_fair.specs.Wholes.{begin}
 use Rattle.osi_honest.specs.Arriving.{AreApart, is_open as opened}
@@ -13,12 +13,12 @@ use Rattle.osi_tap.specs.Courses.{Course}
 use Rattle.osi_fair.proofs.small_facts_that_many_lemmas_use.{differ, number_is}
 use Rattle.osi_watched.proofs.small_facts_that_many_lemmas_use.{same_bool}
 use Rattle.osi_watched.proofs.steps_are_events.{IsFollowed}
-use Rattle.osi_watched.proofs.sessions.a_called_end_has_its_lines.{called_no_cc}
 use Rattle.osi_watched.proofs.sessions.a_called_end_of_class_2_has_its_lines.{HasLines}
 use Rattle.osi_watched.proofs.sessions.a_called_end_of_class_2_puts_no_dt_of_class_0.{called_turn_two}
 use Rattle.osi_watched.proofs.sessions.all_connections_stand.{one_at}
 use Rattle.osi_watched.proofs.sessions.each_cc_of_a_called_end_opens_another_connection.{none_open_for, open_there, same_destination}
 use Rattle.osi_watched.proofs.sessions.each_cc_of_a_called_end_opens_another_connection.{same_source}
+use Rattle.osi_watched.proofs.sessions.each_unit_of_a_called_end_has_a_home.{OpensByNoCc}
 use Rattle.osi_watched.proofs.sessions.each_unit_of_a_turn_has_one_connection.{HasHome, IsFor}
 use Rattle.osi_watched.proofs.sessions.units_written_alike_have_the_same_ccs.{AreAlike, HasCc, has_alike, has_back, has_front, turned}
 use Rattle.osi_watched.proofs.sessions.what_a_turn_puts_goes_to_its_peer.{GoesTo, IsNotZero, Lived, by_units, came, for_so, goes_to}
@@ -49,7 +49,8 @@ marked_has n r (m ∷ front) back x source = inr (marked_has n r front back x so
 module _ (local : Local) (deeds : ℕ → Deeds) (turn : Turn) (old new : Joint) (step : TakesTurn turn old new)
     (on : Continues false deeds old.holding turn new.holding) (f : IsFollowed Right (begin false local) old)
     (g : IsFollowed Right (begin false local) new) (before : HasLines local f.whole) (after : HasLines local g.whole)
-    (clear : IsClear old.course.traffic.course) (places : HaveSamePlaces old.course.traffic.connections old.course.sessions.live)
+    (no_cc : OpensByNoCc local deeds turn old new step on f)
+    (places : HaveSamePlaces old.course.traffic.connections old.course.sessions.live)
     (units : step.units ≡ all_units on.put) (like_old : AreAlike f.whole.put old.put) (like_new : AreAlike g.whole.put new.put) where
   abbrev s : State
   s = old.course.traffic
@@ -91,23 +92,23 @@ module _ (local : Local) (deeds : ℕ → Deeds) (turn : Turn) (old new : Joint)
   abbrev IsNamed : (q peer : ℕ) → Type 0
   IsNamed q peer = HasCc peer q new.put ⊎ HasHome Right q peer s t
 
-  open_named : carrier.ended ≡ None → (q : ℕ) (l : LivedSo q) →
+  open_named : carrier.ended ≡ None → (q : ℕ) → 0 < q → (l : LivedSo q) →
       Begins false q l.peer carrier new.holding.end.carrier l.arrived l.left → AreApart q on.put ⊎ IsNamed q l.peer
-  open_named lasts q l (opened link there none none_left) =
-      by (open_there local f.whole t before.called before.apart before.judged places_f
+  open_named lasts q positive l (opened link there none none_left) =
+      by (open_there local f.whole t before.called before.apart before.named places_f
       (whole_lasts Right false (begin false local) deeds turn old new step on f lasts) q l.peer link
       (linked_so Right false (begin false local) deeds turn old new step on f lasts q l.peer link there))
     where
       by : HasCc l.peer q f.whole.put ⊎ HasHome Right q l.peer f.whole.tap t → AreApart q on.put ⊎ IsNamed q l.peer
       by (inl h) = inr (inl (has_old l.peer q h))
       by (inr h) = inr (inr (subst (λ (x : State). HasHome Right q l.peer x t) f.tap h))
-  open_named lasts q l (opens shut unit opening front is others answer gives put) = by unit opening gives is
+  open_named lasts q positive l (opens shut unit opening front is others answer gives put) = by unit opening gives is
     where
       by : (u : Value) → Opens false q l.peer u → Answers q l.peer u answer → l.arrived.before ≡ front ++ (0, u) ∷ [] →
           AreApart q on.put ⊎ IsNamed q l.peer
       by (confirm n x) opening gives come =
-          absurd (came Right false (begin false local) deeds turn old new step on f lasts (confirm n x) front q l come IsNoCc
-          (called_no_cc local old f clear.sure) n x refl)
+          inl (no_cc lasts q positive shut n x opening.0
+          (came Right false (begin false local) deeds turn old new step on f lasts (confirm n x) front q l come))
       by (request x) opening (cc_is, source, one) come =
           let parts : on.put ≡ others ++ (0, confirm l.peer cc_is) ∷ (l.left.during ++ l.left.after) =
           l.left.is ∙ ap (λ (k : List Marked). k ++ (l.left.during ++ l.left.after)) (put ∙ ap (λ (k : List Marked). others ++ k) one)
@@ -116,15 +117,15 @@ module _ (local : Local) (deeds : ℕ → Deeds) (turn : Turn) (old new : Joint)
           (marked_has l.peer q others (l.left.during ++ l.left.after) cc_is source))))
       by (disconnect n source reason user) h gives come = absurd h
       by _ h gives come = absurd h
-  open_named lasts q l (is_shut shut then_shut none none_left) =
+  open_named lasts q positive l (is_shut shut then_shut none none_left) =
       inl (none_shut Right false (begin false local) deeds turn old new step on f q l none_left)
 
   -- an end that is over puts nothing
-  pub named : (q : ℕ) (l : LivedSo q) → AreApart q on.put ⊎ IsNamed q l.peer
-  named q l = by carrier.ended refl
+  pub named : (q : ℕ) → 0 < q → (l : LivedSo q) → AreApart q on.put ⊎ IsNamed q l.peer
+  named q positive l = by carrier.ended refl
     where
       by : (o : Option EndReason) → carrier.ended ≡ o → AreApart q on.put ⊎ IsNamed q l.peer
-      by None lasts = open_named lasts q l l.begins
+      by None lasts = open_named lasts q positive l l.begins
       by (Some reason) gone =
           let done = over_acts turn old.holding new.holding (subst IsSome (sym gone) refl) step.takes in
           inl (subst (AreApart q) (sym (none_put on.put (sym on.written ∙ done.1))) tt)
@@ -144,7 +145,7 @@ module _ (local : Local) (deeds : ℕ → Deeds) (turn : Turn) (old new : Joint)
       forth_by l e (inl apart) = differ (m.0 == r) e (at (λ (k : Marked). (k.0 == r) ≡ false) apart)
       forth_by l e (inr (inl h)) =
           let same : l.peer ≡ n =
-          same_source local g.whole t after.called after.apart after.judged places_g l.peer n r (has_whole l.peer r h)
+          same_source local g.whole t after.called after.apart after.named places_g l.peer n r (has_whole l.peer r h)
           (has_whole n r has) in
           ap (λ (i : ℕ). is_for (Some i) m.1) (sym same) ∙ sym (same_for l.peer m.1)
           ∙ at (GoesTo r l.peer) (goes_to r on.put l.peer l.left l.gives) e
@@ -162,11 +163,11 @@ module _ (local : Local) (deeds : ℕ → Deeds) (turn : Turn) (old new : Joint)
           differ (m.0 == m.0) (eq-eqb m.0 m.0 refl) (at (λ (k : Marked). (k.0 == m.0) ≡ false) apart)
       back_by l mine (inr (inl h)) =
           eq-eqb m.0 r
-          (same_destination local g.whole t after.called after.apart after.judged places_g n m.0 r
+          (same_destination local g.whole t after.called after.apart after.named places_g n m.0 r
           (subst (λ (i : ℕ). HasCc i m.0 g.whole.put) (sym (peer_so l mine)) (has_whole l.peer m.0 h)) (has_whole n r has))
       back_by l mine (inr (inr h)) =
           let one = one_at s.connections t.live h.place h.connection h.joined places h.there h.here in
-          absurd (none_open_for local g.whole t after.called after.apart after.judged places_g n r (has_whole n r has) h.place
+          absurd (none_open_for local g.whole t after.called after.apart after.named places_g n r (has_whole n r has) h.place
           h.connection (ap (λ (x : State). slice_get x.connections h.place) tap_g ∙ h.there) h.lives
           (sym one.calling ∙ number_is h.joined.calling l.peer h.theirs ∙ sym (peer_so l mine)))
 
@@ -175,12 +176,14 @@ module _ (local : Local) (deeds : ℕ → Deeds) (turn : Turn) (old new : Joint)
           differ (is_for (Some n) m.1) mine
           (none_for m.1 (at (λ (k : Marked). is_of_link k.1 ≡ nat_lt 0 k.0) on.by_links ∙ ap (nat_lt 0) e) (Some n))
       back (suc q) e mine =
-          let l : LivedSo m.0 = on.lives m.0 (omega (arith, e)) in back_by l mine (named m.0 l)
+          let some : 0 < m.0 = omega (arith, e) in
+          let l : LivedSo m.0 = on.lives m.0 some in back_by l mine (named m.0 some l)
 
       one_agrees : (m.0 == r) ≡ is_for (Some n) m.1
       one_agrees =
-          let l : LivedSo r = on.lives r (omega (arith, above)) in
-          same_bool (m.0 == r) (is_for (Some n) m.1) (λ e. forth_by l e (named r l)) (λ e. back m.0 refl e)
+          let some : 0 < r = omega (arith, above) in
+          let l : LivedSo r = on.lives r some in
+          same_bool (m.0 == r) (is_for (Some n) m.1) (λ e. forth_by l e (named r some l)) (λ e. back m.0 refl e)
 
     all_agree : (front rest : List Marked) → on.put ≡ front ++ rest → Agree r (Some n) rest
     all_agree front [] is = tt

@@ -24,13 +24,11 @@ known c =
     record { proper = all_proper law c.what_closes_sends_nothing.ensures.octets; can = can_begin law }
 
 pub returns-clause-called : goal.returns-clause-called
-returns-clause-called c = λ local begin end turns capture i j fresh run octets seen few there firm.
+returns-clause-called c = λ local begin end turns capture i j fresh run octets seen few there.
     called_later (known c) (as_sent c) c.what_leaves_in_parts.ensures.read c.an_honest_session_is_explained.ensures.caller
-    c.an_honest_session_is_explained.ensures.called local capture begin end turns i j fresh run octets seen
-    (record { few = few; firm = firm }) there
+    c.an_honest_session_is_explained.ensures.called local capture begin end turns i j fresh run octets seen few there
 
 pub returns-clause-calling : goal.returns-clause-calling
-returns-clause-calling c = λ local begin end turns capture i j fresh run octets seen few there firm.
+returns-clause-calling c = λ local begin end turns capture i j fresh run octets seen few there.
     calling_later (known c) (as_sent c) c.what_leaves_in_parts.ensures.read c.an_honest_session_is_explained.ensures.caller
-    c.an_honest_session_is_explained.ensures.called local capture begin end turns i j fresh run octets seen
-    (record { few = few; firm = firm }) there
+    c.an_honest_session_is_explained.ensures.called local capture begin end turns i j fresh run octets seen few there

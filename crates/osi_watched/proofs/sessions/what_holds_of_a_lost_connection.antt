@@ -1,0 +1,173 @@
+-- Of a connection that has lost its judgement nothing more is joined: nobody of the end is to blame there, as when it was lost, and what
+-- passes leaves it so. For all connections of an end and a tap.
+use Rattle.osi_watched.proofs.Vocabulary.{ap, arith, Bool, false, if◌then◌else◌, None, not, Option, refl, Some, sym, true}
+use Rattle.osi_watched.proofs.Vocabulary.{ℕ, ◌&&◌, ◌∙◌, ◌≡◌, slice_get, acknowledge, confirm, data0, data2}
+use Rattle.osi_watched.proofs.Vocabulary.{destination_of, disconnect, disconnected, error, request, Value, Class, Two, Zero, is_applied}
+use Rattle.osi_watched.proofs.Vocabulary.{reach_of, begins, first_failed, is_named, is_over_by, is_refused, asks_by}
+use Rattle.osi_watched.proofs.Vocabulary.{class_for, connection_after, found, found_on, is_stopped, judged_on, none_told}
+use Rattle.osi_watched.proofs.Vocabulary.{has_broken}
+use Rattle.osi_watched.proofs.Vocabulary.{request_tests, route, route_in, routed, sent_on, takes, Traffic as State, uses_source, Connection}
+use Rattle.osi_watched.proofs.Vocabulary.{Way, Finding, Kept, NotJudged, Reach, Phase, Refused, other}
+use Rattle.osi_watched.proofs.Vocabulary.{Direction, Left, Right, IsToBlame, Joined, way_of, All, IsOneOf, named_by}
+use Rattle.osi_rules.specs.declared.directions.Direction.TheVariants as way
+use Rattle.osi_rules.specs.declared.findings.Reach.TheVariants as reach
+use Rattle.osi_rules.specs.Sides as sides
+use Rattle.osi_tap.specs.Connections.{packet_begins}
+use Rattle.osi_fair.proofs.what_keeps_names_apart.{Sound}
+use Rattle.osi_watched.proofs.small_facts_that_many_lemmas_use.{or_first}
+use Rattle.osi_watched.proofs.sessions.a_unit_is_joined_where_it_is_named.{named_there, names_there}
+
+-- ---- what holds
+
+-- right has answered it, and did not refuse it
+pub record IsLost (d : Direction) (c : Connection) (j : Joined) : Type 0 where
+  pub none : IsToBlame d j → ⊥
+  pub room : j.room ≡ All
+  pub right : is_refused c.right.phase ≡ false
+  pub left_knows : is_refused c.seen_by_left.phase ≡ false
+
+-- when a packet begins, nothing is said
+pub begun_blame : (d e : Direction) (j : Joined) → IsToBlame d (packet_begins e j) → IsToBlame d j
+begun_blame Left Left j b = record { finding = b.finding; found = record { found = b.found.found; room = b.found.room }; broke = b.broke }
+begun_blame Left Right j b = record { finding = b.finding; found = record { found = b.found.found; room = b.found.room }; broke = b.broke }
+begun_blame Right Left j b = record { finding = b.finding; found = record { found = b.found.found; room = b.found.room }; broke = b.broke }
+begun_blame Right Right j b = record { finding = b.finding; found = record { found = b.found.found; room = b.found.room }; broke = b.broke }
+
+pub lost_begins : (d e : Direction) (c : Connection) (j : Joined) → IsLost d c j →
+    IsLost d (begins (way_of e) c) (packet_begins e j)
+lost_begins d Left c j h = record {
+  none = λ blame. h.none (begun_blame d Left j blame);
+  room = h.room;
+  right = h.right;
+  left_knows = h.right;
+}
+lost_begins d Right c j h = record {
+  none = λ blame. h.none (begun_blame d Right j blame);
+  room = h.room;
+  right = h.right;
+  left_knows = h.left_knows;
+}
+
+-- a unit without an effect leaves it so, however far it reaches
+pub lost_still : (d : Direction) (r : Reach) (c : Connection) (j : Joined) → IsLost d c j → IsLost d (judged_on r c) j
+lost_still d reach.Connection c j h = record { none = h.none; room = h.room; right = h.right; left_knows = h.left_knows }
+lost_still d reach.Nothing c j h = h
+lost_still d reach.Side c j h = h
+lost_still d reach.Everything c j h = h
+
+-- ---- which is lost after a unit
+
+on_judged : (r : Reach) (c : Connection) → (judged_on r c).is_judged ≡ true → c.is_judged ≡ true
+on_judged reach.Connection c h = absurd (cc)
+on_judged reach.Nothing c h = h
+on_judged reach.Side c h = h
+on_judged reach.Everything c h = h
+
+on_lost : (r : Reach) (c : Connection) → (judged_on r c).is_judged ≡ false → c.is_judged ≡ true → r ≡ reach.Connection
+on_lost reach.Connection c h was = refl
+on_lost reach.Nothing c h was = absurd (let no : true ≡ false = sym was ∙ h in cc)
+on_lost reach.Side c h was = absurd (let no : true ≡ false = sym was ∙ h in cc)
+on_lost reach.Everything c h was = absurd (let no : true ≡ false = sym was ∙ h in cc)
+
+sent_judged : (e : Way) (v : Value) (c : Connection) → (sent_on e v c).is_judged ≡ c.is_judged
+sent_judged e v c = grind arith
+
+pub was_judged : (e : Way) (v : Value) (x : Bool) (r : Reach) (c : Connection) → (connection_after e v x r c).is_judged ≡ true →
+    c.is_judged ≡ true
+was_judged e v true r c h = sym (sent_judged e v c) ∙ on_judged r (sent_on e v c) h
+was_judged e v false r c h = on_judged r c h
+
+pub now_lost : (e : Way) (v : Value) (x : Bool) (r : Reach) (c : Connection) → (connection_after e v x r c).is_judged ≡ false →
+    c.is_judged ≡ true → r ≡ reach.Connection
+now_lost e v true r c h was = on_lost r (sent_on e v c) h (sent_judged e v c ∙ was)
+now_lost e v false r c h was = on_lost r c h was
+
+pub goes_judged : (e : Way) (v : Value) (x : Bool) (r : Reach) (c : Connection) → (connection_after e v x r c).is_judged ≡ true →
+    r ≡ reach.Connection → ⊥
+goes_judged e v true r c h is =
+    let no : false ≡ true = sym (ap (λ (y : Reach). (judged_on y (sent_on e v c)).is_judged) is) ∙ h in cc
+goes_judged e v false r c h is = let no : false ≡ true = sym (ap (λ (y : Reach). (judged_on y c).is_judged) is) ∙ h in cc
+
+-- the unit has no effect then
+pub part_applied : (k : Option Class) (f : Finding) → reach_of k f ≡ reach.Connection → is_applied f ≡ false
+part_applied k f h = grind arith
+
+-- nor has a unit for a connection that is lost
+pub lost_applied : (e : Way) (v : Value) (s : State) (c : Connection) → c.is_judged ≡ false → is_applied (found_on e s c v) ≡ false
+lost_applied e v s c lost =
+    ap (λ (b : Bool). is_applied (if b then found e s.course (uses_source e s.connections v) c v else NotJudged)) lost
+
+-- ---- a connection that is lost by a unit of the other side
+
+-- in class 2 such a unit has a reference
+dest_by : (k : Option Class) (d : Way) (b : Bool) (v : Value) (s : State) (p : ℕ) → (k ≡ Some Zero → ⊥) →
+    (routed d v s (route_in k d b v)).told.place ≡ Some p → (routed d v s (route_in k d b v)).told.reach ≡ reach.Connection →
+    (n : ℕ) × (destination_of v ≡ Some n)
+dest_by k d b (confirm n x) s p two place far = (n, refl)
+dest_by k d b (disconnect n source reason user) s p two place far = (n, refl)
+dest_by k d b (disconnected n source) s p two place far = (n, refl)
+dest_by k d b (data2 n number end user) s p two place far = (n, refl)
+dest_by k d b (acknowledge credit n number) s p two place far = (n, refl)
+dest_by k d b (error n cause) s p two place far = (n, refl)
+dest_by (Some Zero) d b v s p two place far = absurd (two refl)
+dest_by None way.Left b (data0 end user) s p two place far = absurd (cc)
+dest_by None way.Right b (data0 end user) s p two place far = absurd (cc)
+dest_by (Some Two) way.Left b (data0 end user) s p two place far = absurd (cc)
+dest_by (Some Two) way.Right b (data0 end user) s p two place far = absurd (cc)
+dest_by None way.Left b (request x) s p two place far = asked (first_failed (request_tests s x)) place far
+  where
+    asked : (f : Finding) → (asks_by way.Left f x s).told.place ≡ Some p → (asks_by way.Left f x s).told.reach ≡ reach.Connection →
+        (n : ℕ) × (destination_of (request x) ≡ Some n)
+    asked Kept place far = absurd (cc)
+    asked f place far = absurd (cc)
+dest_by None way.Right b (request x) s p two place far = absurd (cc)
+dest_by (Some Two) way.Left b (request x) s p two place far = asked (first_failed (request_tests s x)) place far
+  where
+    asked : (f : Finding) → (asks_by way.Left f x s).told.place ≡ Some p → (asks_by way.Left f x s).told.reach ≡ reach.Connection →
+        (n : ℕ) × (destination_of (request x) ≡ Some n)
+    asked Kept place far = absurd (cc)
+    asked f place far = absurd (cc)
+dest_by (Some Two) way.Right b (request x) s p two place far = absurd (cc)
+
+dest_so : (b : Bool) (d : Way) (v : Value) (s : State) (p : ℕ) → (class_for d s.course ≡ Some Zero → ⊥) →
+    (if b then none_told d NotJudged s else routed d v s (route d s.course v)).told.place ≡ Some p →
+    (if b then none_told d NotJudged s else routed d v s (route d s.course v)).told.reach ≡ reach.Connection →
+    (n : ℕ) × (destination_of v ≡ Some n)
+dest_so true d v s p two place far = absurd (cc)
+dest_so false d v s p two place far = dest_by (class_for d s.course) d (has_broken (sides.other d) s.course) v s p two place far
+
+refused_not : (p : Phase) (r n : ℕ) → named_by p r ≡ Some n → is_refused p ≡ false
+refused_not Refused r n h = absurd (cc)
+refused_not _ r n h = refl
+
+-- the names of a connection that is judged
+over_not : (j over rest : Bool) → j ≡ true → (not (j && over) && rest) ≡ true → over ≡ false
+over_not true true rest e h = absurd (cc)
+over_not true false rest e h = refl
+over_not false over rest e h = absurd (cc)
+
+right_not : (d : Direction) (n : ℕ) (c : Connection) (j : Joined) → IsOneOf c j → c.is_judged ≡ true → is_named (way_of d) n c ≡ true →
+    is_refused c.right.phase ≡ false
+right_not Left n c j one judged named =
+    refused_not c.right.phase c.right.reference n (sym one.called ∙ named_there Left n c j one judged named)
+right_not Right n c j one judged named =
+    or_first (is_refused c.right.phase) _ (over_not c.is_judged (is_over_by c.right c.seen_by_right) _ judged named)
+
+left_not : (a b : Bool) → (a ≡ true → b ≡ true) → b ≡ false → a ≡ false
+left_not true b h k = absurd (let no : true ≡ false = sym (h refl) ∙ k in cc)
+left_not false b h k = refl
+
+pub now_so : (d : Direction) (v : Value) (s : State) (p : ℕ) (c : Connection) (j : Joined) → IsOneOf c j → Sound c →
+    c.is_judged ≡ true → slice_get s.connections p ≡ Some c → (class_for (way_of (other d)) s.course ≡ Some Zero → ⊥) →
+    (takes (way_of (other d)) v s).told.place ≡ Some p → (takes (way_of (other d)) v s).told.reach ≡ reach.Connection →
+    (IsToBlame d j → ⊥) → j.room ≡ All → IsLost d c j
+now_so d v s p c j one sound judged there two place far none room =
+    let e = way_of (other d) in
+    let (n, dest) = dest_so (is_stopped e s.course) e v s p two place far in
+    let right = right_not (other d) n c j one judged (names_there e v s n p c there dest place) in
+    record {
+      none = none;
+      room = room;
+      right = right;
+      left_knows = left_not (is_refused c.seen_by_left.phase) (is_refused c.right.phase) sound.left_knows.refused right;
+    }
