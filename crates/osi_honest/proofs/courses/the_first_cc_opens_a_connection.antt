@@ -1,9 +1,12 @@
 -- A connection that awaits its CC opens with the first CC that comes for it, or it is over with that: no CC comes before it opens.
 -- For the course of a connection.
-use Rattle.osi_honest.proofs.Vocabulary.{[], ap, append_assoc, arith, Bool, false, inl, inr, is_some, List, nat_le, nat_lt, None, Option, refl, Some}
-use Rattle.osi_honest.proofs.Vocabulary.{append-nil, nat_tests, subst, sym, true, ℕ, ◌&&◌, ◌++◌, ◌==◌, ◌∙◌, ◌∷◌, ◌≡◌, ◌≤◌, AllByRecursion, confirm, Value, Class, Two, Zero, react_quiet}
-use Rattle.osi_honest.proofs.Vocabulary.{put_here, confirmed, in_class, in_two, before_class, opens_by as opens, to_connection, value_at}
-use Rattle.osi_honest.proofs.Vocabulary.{asked, closing, Connection, EndReason, Happening, linked, State as Carrier, open_link, opens_line, hears, to_session, session_carried, End, Line, Input, broken, came, linked_up as opened, has_given, Answers, AreApart, Opens, Marked}
+use Rattle.osi_honest.proofs.Vocabulary.{[], ap, append_assoc, arith, Bool, false, inl, inr, is_some, List, nat_le, nat_lt, None, Option}
+use Rattle.osi_honest.proofs.Vocabulary.{refl, Some, append-nil, nat_tests, subst, sym, true, ℕ, ◌&&◌, ◌++◌, ◌==◌, ◌∙◌, ◌∷◌, ◌≡◌, ◌≤◌}
+use Rattle.osi_honest.proofs.Vocabulary.{AllByRecursion, confirm, Value, Class, Two, Zero, react_quiet, put_here, confirmed, in_class}
+use Rattle.osi_honest.proofs.Vocabulary.{in_two, before_class, opens_by as opens, to_connection, value_at, asked, closing, Connection}
+use Rattle.osi_honest.proofs.Vocabulary.{EndReason, Happening, linked, State as Carrier, open_link, opens_line, hears, to_session}
+use Rattle.osi_honest.proofs.Vocabulary.{session_carried, End, Line, Input, broken, came, linked_up as opened, has_given, Answers}
+use Rattle.osi_honest.proofs.Vocabulary.{AreApart, Opens, Marked}
 use Rattle.osi_tpdu.specs.Value.{Connect}
 use Rattle.osi_carrier.specs.React.{react}
 use Rattle.osi_carrier.specs.Happenings as told
@@ -38,7 +41,8 @@ pub awaiting_life : (is_caller : Bool) (r : ℕ) (took put : List Marked) (given
     Life is_caller r early took put t
 awaiting_life is_caller r took put given t (awaits a b none has is) = stays a b (inl is)
 awaiting_life is_caller r took put given t (goes a b is) = stays a b (inr is)
-awaiting_life is_caller r took put given t (opens_so peer unit o some later none no_cc is others answer put_later apart none_answer ans so w) =
+awaiting_life is_caller r took put given t (opens_so peer unit o some later none no_cc is others answer put_later apart none_answer ans so
+    w) =
     opens_by peer unit o some later none is others answer put_later apart none_answer ans so w
 
 -- ---- one unit at most
