@@ -1,6 +1,6 @@
--- Steps of an end and a tap leave it so that a connection has lost its judgement, or in class 0 the end alone is judged.
--- For the laws that an end is blamed nowhere.
-use Rattle.std.proofs.Common.{◌≡◌, ◌∙◌, ℕ, Bool, List, [], ◌∷◌, sym, ap, subst, inl, inr}
+-- Steps after what nobody can read keep a claim on what has passed; and a unit of an end that alone is judged, in class 0, is right.
+-- For the law that no session of an end is to blame after a break.
+use Rattle.std.proofs.Common.{◌≡◌, ◌∙◌, ℕ, Bool, List, [], ◌∷◌, sym, ap, subst}
 use Rattle.osi_tpdu.specs.Value.{Value}
 use Rattle.osi_class.specs.declared.terms.Local.{Local}
 use Rattle.osi_judge.specs.Captures.{other}
@@ -9,12 +9,11 @@ use Rattle.osi_rules.specs.declared.findings.Finding.TheVariants.{Kept}
 use Rattle.osi_rules.specs.Traffic.{State as Traffic, is_stopped, takes}
 use Rattle.osi_fair.specs.Wholes as wholes
 use Rattle.osi_honest.proofs.class_0.what_a_packet_does_in_class_0.{AllProper}
-use Rattle.osi_tap.specs.Courses.{Course, unit_passes, way_of}
+use Rattle.osi_tap.specs.Courses.{Course, way_of}
 use Rattle.osi_watched.specs.Joint.{Joint, Step, Steps, begins_other, begins_own, passes_other, passes_own, turns}
 use Rattle.osi_watched.specs.Spoilt.{LaterAlong, LaterSteps}
-use Rattle.osi_watched.proofs.in_class_0_one_side_alone_is_judged.{IsAlone, JudgesLess, alone_own, less_begins, less_others, loose_claim}
-use Rattle.osi_watched.proofs.later_steps_are_events.{later_followed}
-use Rattle.osi_watched.proofs.steps_are_events.{IsFollowed, own_first, step_followed}
+use Rattle.osi_watched.proofs.in_class_0_one_side_alone_is_judged.{IsAlone}
+use Rattle.osi_watched.proofs.steps_are_events.{IsFollowed, own_first}
 use Rattle.osi_watched.proofs.the_first_break_is_not_of_an_end.{IsFairAlone}
 use Rattle.osi_watched.proofs.what_passes_keeps_a_claim.{IsClaim, step_kept, units_kept}
 
@@ -46,47 +45,3 @@ module _ (d : Direction) (proper : AllProper) (is_caller : Bool) (local : Local)
       (ap (λ (t : Traffic). is_stopped (way_of d) t.course) f.tap ∙ a.own)
       (ap (λ (t : Traffic). t.course.loose) f.tap ∙ a.firm)
       (ap (λ (t : Traffic). t.course.class) f.tap ∙ a.zero))
-
-  -- the whole end goes along
-  pub record StandsLess (j : Joint) : Type 0 where
-    pub followed : IsFollowed d first j
-    pub less : JudgesLess d j.course
-
-  own_less : (at : ℕ) (v : Value) (old new : Joint) → Steps d (passes_own at v) old new → IsFollowed d first old →
-      JudgesLess d old.course → JudgesLess d (unit_passes d at v old.course)
-  own_less at v old new step f (inl h) = inl (loose_claim.passes d at v old.course h)
-  own_less at v old new step f (inr a) = inr (alone_own d at v old.course (own_alone at v old new step f a) a)
-
-  step_by : (step : Step) (old new : Joint) → Steps d step old new → IsFollowed d first old → JudgesLess d old.course →
-      JudgesLess d new.course
-  step_by (turns turn) old new t f h = subst (JudgesLess d) (sym t.course) h
-  step_by begins_own old new step f h = subst (λ (j : Joint). JudgesLess d j.course) (sym step.2) (less_begins d d old.course h)
-  step_by (passes_own at v) old new step f h =
-      subst (λ (j : Joint). JudgesLess d j.course) (sym step.4) (own_less at v old new step f h)
-  step_by begins_other old new step f h =
-      subst (λ (j : Joint). JudgesLess d j.course) (sym step) (less_begins d (other d) old.course h)
-  step_by (passes_other at packet units) old new step f h =
-      subst (λ (j : Joint). JudgesLess d j.course) (sym step.2) (less_others d at units old.course h)
-
-  pub step_less : (step : Step) (old new : Joint) → Steps d step old new → StandsLess old → StandsLess new
-  step_less step old new does h = record {
-    followed = step_followed d first proper step old new does h.followed;
-    less = step_by step old new does h.followed h.less;
-  }
-
-  later_by : (step : Step) (old new : Joint) → LaterSteps d step old new → IsFollowed d first old → JudgesLess d old.course →
-      JudgesLess d new.course
-  later_by (turns turn) old new t f h = step_by (turns turn) old new t f h
-  later_by begins_own old new step f h = step_by begins_own old new step f h
-  later_by (passes_own at v) old new step f h = step_by (passes_own at v) old new step f h
-  later_by begins_other old new step f h = step_by begins_other old new step f h
-  later_by (passes_other at packet units) old new step f h =
-      subst (λ (j : Joint). JudgesLess d j.course) (sym step.2) (less_others d at units old.course h)
-
-  pub later_less : (steps : List Step) (old new : Joint) → LaterAlong d old steps new → StandsLess old → StandsLess new
-  later_less [] old new is h = subst StandsLess (sym is) h
-  later_less (step ∷ steps) old new (mid, one, more) h =
-      later_less steps mid new more (record {
-        followed = later_followed d first proper step old mid one h.followed;
-        less = later_by step old mid one h.followed h.less;
-      })

@@ -1,6 +1,6 @@
 -- In class 0 a break of the other side leaves an end judged alone, and whatever passes leaves that so, as long as each unit of the end is
--- right. For the law that the transport of an end is blamed nowhere.
-use Rattle.std.proofs.Common.{◌≡◌, ◌∙◌, ◌⊎◌, inl, inr, ℕ, Bool, true, false, List, [], ◌∷◌, Option, Some, None, refl, sym, ap, subst}
+-- right. For the laws that an end is to blame nowhere.
+use Rattle.std.proofs.Common.{◌≡◌, ◌∙◌, ℕ, Bool, true, false, Option, Some, None, refl, sym, ap, subst}
 use Rattle.std.specs.Prelude.{◌||◌, is_some}
 use Rattle.osi_tpdu.specs.Value.{Value}
 use Rattle.osi_class.specs.declared.terms.Class.{Class}
@@ -22,8 +22,8 @@ use Rattle.osi_tap.specs.declared.marks.Cause.{Cause}
 use Rattle.osi_tap.specs.declared.marks.Cause.TheVariants as cause
 use Rattle.osi_tap.specs.Connections.{taken}
 use Rattle.osi_tap.specs.Courses.{Course, cause_of, marked, marks_of, moment_of, moved, noted_by, packet_begins, unit_passes}
-use Rattle.osi_tap.specs.Courses.{units_pass, unread, way_of}
-use Rattle.osi_watched.proofs.a_break_ends_no_judging_or_all.{all_ends, class_kept, far_of, known_too, loose_by}
+use Rattle.osi_tap.specs.Courses.{unread, way_of}
+use Rattle.osi_watched.proofs.a_break_ends_no_judging_or_all.{class_kept, far_of, known_too, loose_by}
 use Rattle.osi_watched.proofs.a_break_ends_no_judging_or_all.{loose_more, loose_so, mark, mid, o}
 use Rattle.osi_watched.proofs.a_break_ends_no_judging_or_all.{reached_loose, reach_so, refused_over}
 use Rattle.osi_watched.proofs.a_break_ends_no_judging_or_all.{refused_stops, refused_traffic, refuses, side_so, stops_so, unread_if}
@@ -184,36 +184,3 @@ module _ (d : Direction) (at : ℕ) (k : Cause) (c : Course) (j : IsJudged c) (o
 
   pub unread_alone : AfterUnread d (unread e at k c)
   unread_alone = by_class (class_for (way_of e) c.traffic.course) refl
-
--- ---- less than all is judged
-
--- a connection has lost its judgement, or in class 0 this side alone is judged
-abbrev pub JudgesLess : Direction → Course → Type 0
-JudgesLess d c = IsLoose c ⊎ IsAlone d c
-
-pub less_begins : (d e : Direction) (c : Course) → JudgesLess d c → JudgesLess d (packet_begins e c)
-less_begins d e c (inl h) = inl (loose_claim.begins e c h)
-less_begins d e c (inr a) = inr (alone_begins d e c a)
-
-pub less_others : (d : Direction) (at : ℕ) (vs : List Value) (c : Course) → JudgesLess d c → JudgesLess d (units_pass (other d) at vs c)
-less_others d at [] c h = h
-less_others d at (v ∷ vs) c (inl h) = less_others d at vs (unit_passes (other d) at v c) (inl (loose_claim.passes (other d) at v c h))
-less_others d at (v ∷ vs) c (inr a) = less_others d at vs (unit_passes (other d) at v c) (inr (alone_other d at v c a))
-
-pub less_unread : (d : Direction) (at : ℕ) (k : Cause) (c : Course) → JudgesLess d c → JudgesLess d (unread (other d) at k c)
-less_unread d at k c (inl h) = inl (loose_claim.bad (other d) at k c h)
-less_unread d at k c (inr a) = inr (alone_unread d at k c a)
-
--- after a unit of the other side with which some judging ends, nothing is judged any more, or less
-less_by : (d : Direction) (at : ℕ) (v : Value) (c : Course) → IsJudged c → IsKnownOnce c.traffic → (r : Reach) →
-    (traffic.takes (way_of (other d)) v c.traffic).told.reach ≡ r → (r ≡ reach.Nothing → ⊥) →
-    IsOver (unit_passes (other d) at v c) ⊎ JudgesLess d (unit_passes (other d) at v c)
-less_by d at v c j once reach.Nothing is less = absurd (less refl)
-less_by d at v c j once reach.Connection is less = inr (inl (loose_so (other d) at v c reach.Connection is))
-less_by d at v c j once reach.Side is less = inr (inr (unit_alone d at v c j once is))
-less_by d at v c j once reach.Everything is less = inl (all_ends (other d) at v c is)
-
-pub hard_less : (d : Direction) (at : ℕ) (v : Value) (c : Course) → IsJudged c → IsKnownOnce c.traffic →
-    ((traffic.takes (way_of (other d)) v c.traffic).told.reach ≡ reach.Nothing → ⊥) →
-    IsOver (unit_passes (other d) at v c) ⊎ JudgesLess d (unit_passes (other d) at v c)
-hard_less d at v c j once less = less_by d at v c j once (traffic.takes (way_of (other d)) v c.traffic).told.reach refl less

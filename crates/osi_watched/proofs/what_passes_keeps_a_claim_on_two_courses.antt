@@ -83,7 +83,8 @@ module _ (P : Course → Course → Type 0) (k : IsClaim P) where
       (begun_kept Left s.left.held s e h)
 
   right_by : (b : Bool) (os : List ℕ) (s : State) (e : Course) → P s.course e →
-      AreBoth (if b then with_stream Right (counted (length os) s.right) s else looks Right (gathered os s.right) (begun Right s.right.held s))
+      AreBoth (if b then with_stream Right (counted (length os) s.right) s
+      else looks Right (gathered os s.right) (begun Right s.right.held s))
       (if b then with_stream Right (counted (length os) s.right) (record s { course = e })
       else looks Right (gathered os s.right) (begun Right s.right.held (record s { course = e })))
   right_by true os s e h = record { course = e; same = refl; so = h }

@@ -228,7 +228,8 @@ module _ (most : ℕ) (d : Direction) where
           sessions = subst (λ (s : Sessions). AreBounded most s (refused w c.traffic).sessions)
               (sym (marked_leaves mark r (mid c c.traffic)))
               (subst (λ (s : Sessions). AreBounded most c.sessions s) (sym (marked_leaves mark r (mid w c.traffic))) h.sessions);
-          past = subst (λ (wholes : List Moment). AreMomentsOf (refused c c.traffic).past wholes) (sym (marked_past mark r (mid w c.traffic)))
+          past = subst (λ (wholes : List Moment). AreMomentsOf (refused c c.traffic).past wholes)
+              (sym (marked_past mark r (mid w c.traffic)))
               (subst (λ (past : List Moment). AreMomentsOf past (mid w c.traffic).past) (sym (marked_past mark r (mid c c.traffic)))
               (moments_more c.past w.past (unread_moment e at cause c.sessions) (unread_moment e at cause w.sessions)
               (record { direction = refl; at = refl; mark = refl; sessions = h.sessions.of }) h.past));

@@ -59,7 +59,7 @@ use Rattle.osi_watched.proofs.sessions.an_end_of_class_0_has_begun_what_a_tap_ha
 use Rattle.osi_watched.proofs.sessions.an_end_of_class_0_has_its_connection_open.{IsOpenIn, MayBeFollowed, end_opens}
 use Rattle.osi_watched.proofs.sessions.connections_have_the_same_places.{at_same}
 use Rattle.osi_watched.proofs.sessions.no_more_tsdus_than_moments_have_passed.{AreFew, few_claim}
-use Rattle.osi_watched.proofs.sessions.no_session_of_an_end_breaks_first.{KeepsUnless, firm_so, goes_so, own_right}
+use Rattle.osi_watched.proofs.sessions.no_session_of_an_end_breaks_first.{KeepsUnless, firm_so, own_right}
 use Rattle.osi_watched.proofs.sessions.steps_of_either_class_leave_all_standing.{IsRight}
 
 -- with this packet the TSDU of the other side is too long

@@ -53,10 +53,6 @@ HasBegun barred d Inv = (deeds : ℕ → Deeds) (j : Joint) → Inv deeds j → 
     (o : IsOnly j.course.traffic) (x : Joined) → slice_get j.course.sessions.live o.place ≡ Some x →
     begun_octets (spoken (other d) x).begun ≡ link.ends.joining.begun
 
--- another class is class 0 itself
-pub barred_begun : (d : Direction) (Inv : (ℕ → Deeds) → Joint → Type 0) → HasBegun Zero d Inv
-barred_begun d Inv deeds j h courses sane firm class not all r peer link z o x here = absurd (not class)
-
 -- ---- the connection of the end
 
 module _ (r peer : ℕ) (link : Standing) (c : Carrier) (z : IsZeroAt r peer link c) where

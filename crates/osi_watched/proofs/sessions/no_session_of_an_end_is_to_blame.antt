@@ -1,6 +1,6 @@
--- No session of an end is to blame, also after breaks of the other side that a taker passes over, if something holds at each step by which
--- nobody of the end is to blame, as long as all is judged and one class is not selected.
--- For the law that no session of an end is blamed after such a break.
+-- No session of an end is to blame after breaks of the other side, or a connection has lost its judgement, if something holds at each step
+-- by which nobody of the end is to blame, as long as one class is not selected.
+-- For the law that no session of an end is to blame after a break.
 use Rattle.std.proofs.Common.{◌≡◌, ◌∙◌, ◌⊎◌, inl, inr, refl, sym, ap, subst, ℕ, ◌^◌, ◌<◌, Bool, true, false, Ok}
 use Rattle.std.proofs.Common.{List, [], ◌∷◌, ◌++◌, length, Option, Some, None, append_assoc, arith}
 use Rattle.std.specs.Prelude.{slice_get}

@@ -13,7 +13,6 @@ use Rattle.osi_watched.proofs.sessions.right_units_leave_all_standing.{ak, cc_pl
 use Rattle.osi_watched.proofs.sessions.what_a_unit_does_at_its_place.{Does, asks_again, asks_more, nowhere, somewhere, unit_does}
 use Rattle.osi_watched.proofs.sessions.what_passes_leaves_all_standing.{AllGoesOn, no_zero}
 use Rattle.osi_watched.proofs.sessions.what_stands_of_a_connection.{is_for, waiting_for}
-use Rattle.osi_rules.specs.Traffic.{has_broken}
 
 -- ---- what has come
 

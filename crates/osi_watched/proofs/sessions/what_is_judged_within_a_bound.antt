@@ -233,7 +233,8 @@ placed_by most i j w s t (Some x) (Some y) at k h = record {
 
 same_count : (most : ℕ) (s t : Sessions) → AreBounded most s t → count s ≡ count t
 same_count most s t h =
-    ap (λ (n : ℕ). n + length s.done) (as_many s.live t.live h.of.live) ∙ ap (λ (n : ℕ). length t.live + n) (as_many s.done t.done h.of.done)
+    ap (λ (n : ℕ). n + length s.done) (as_many s.live t.live h.of.live)
+    ∙ ap (λ (n : ℕ). length t.live + n) (as_many s.done t.done h.of.done)
 
 pub asked_so : (most calling : ℕ) (s t : Sessions) → AreBounded most s t →
     IsJudgedOf (asked (offset_of (count s)) calling s.room) (asked (offset_of (count t)) calling t.room)
