@@ -52,6 +52,7 @@ bench:
 	bench/run
 
 ledger: all lib
+	scripts/proving osi_bench_transport rt lib
 	scripts/proving osi_bench rt lib
 	bench/ledger
 
