@@ -57,8 +57,8 @@
 //!   another names that one. The other side gives these references to no other connection: a CC or a CR with one of them would end
 //!   all judging.
 //!
-//! What is not here: what the tap reads of the octets that an end writes. So the theorem on the octets of a whole end, as
-//! `osi_honest` has it for sessions of class 0, doesn't follow yet.
+//! What is not here: what the tap reads of the octets that an end writes. The theorems on the octets of a whole end are those of
+//! `osi_watched`.
 #![tactic(auto)]
 
 pub mod laws;

@@ -28,7 +28,7 @@ pub mod a_dt_of_class_0_leaves_all_standing
 pub mod a_dt_of_class_0_is_in_flight
 pub mod each_step_leaves_class_0_one_connection
 pub mod what_has_no_effect_joins_nothing
-pub mod a_unit_after_a_dr_changes_nothing
+pub mod a_unit_after_a_dr_is_for_a_closing_connection
 pub mod after_too_many_nobody_is_to_blame
 pub mod steps_of_either_class_leave_all_standing
 pub mod a_turn_does_what_its_deeds_say

@@ -6,7 +6,8 @@ use Rattle.osi_carrier.specs.Fetching.{PacketLent}
 use Rattle.osi_carrier.specs.Lending.{Lends, carrying_lent, lent_event, lent_if, with_lent}
 use Rattle.osi_carrier.specs.declared.lending.Lent.{Lent}
 use Rattle.osi_carrier.specs.declared.lending.FedLent.{FedLent}
-use Rattle.osi_carrier.proofs.Vocabulary.{Acts, Carrying, EndReason, Fed, Feeds, Happening, PacketActs, State, Tells, is_spoilt, stops, waits}
+use Rattle.osi_carrier.proofs.Vocabulary.{Acts, Carrying, EndReason, Fed, Feeds, Happening, PacketActs, State, Tells}
+use Rattle.osi_carrier.proofs.Vocabulary.{is_spoilt, stops, waits}
 use Rattle.osi_carrier.proofs.stream.a_piece_is_read_packet_by_packet.{IsRead, read_stops, fed_goes}
 
 -- nothing is lent to a caller who doesn't want it
@@ -31,10 +32,10 @@ told_waits : (l : List Happening) (event : Happening) → not (length (l ++ even
 told_waits [] event = refl
 told_waits (x ∷ l) event = grind arith
 
--- feeding stops behind it
-pub lent_feeds : (wanted : Bool) (old : Carrying) (piece : List ℕ) (now : Carrying) (rest : List ℕ) (used : ℕ) (lent : Lent) (new : Carrying)
-    (fed : Fed) → IsRead old piece now rest → PacketLent wanted now rest used lent new → fed.used ≡ length piece - (length rest - used) →
-    fed.whole ≡ true → Feeds old piece fed (carrying_lent (Some lent) new)
+-- feeding stops after it
+pub lent_feeds : (wanted : Bool) (old : Carrying) (piece : List ℕ) (now : Carrying) (rest : List ℕ) (used : ℕ) (lent : Lent)
+    (new : Carrying) (fed : Fed) → IsRead old piece now rest → PacketLent wanted now rest used lent new →
+    fed.used ≡ length piece - (length rest - used) → fed.whole ≡ true → Feeds old piece fed (carrying_lent (Some lent) new)
 lent_feeds wanted old piece now rest used lent new fed read h is whole =
     let told = carrying_lent (Some lent) new in
     let waiting : waits told.state ≡ true = told_waits new.state.events (lent_event lent) in

@@ -6,7 +6,7 @@ use Rattle.osi_watched.proofs.Vocabulary.{acknowledge, data2, Value, Part, other
 use Rattle.osi_watched.proofs.Vocabulary.{parts_of, picked_rest}
 use Rattle.osi_tap.specs.Courses.{Course}
 use Rattle.osi_fair.proofs.small_facts_that_many_lemmas_use.{number_is}
-use Rattle.osi_watched.proofs.sessions.a_unit_after_a_dr_changes_nothing.{IsAfterDr, is_there}
+use Rattle.osi_watched.proofs.sessions.a_unit_after_a_dr_is_for_a_closing_connection.{IsAfterDr, is_there}
 use Rattle.osi_watched.proofs.sessions.right_units_leave_all_standing.{IsLink, ak, dt, other_twice}
 use Rattle.osi_watched.proofs.sessions.the_dr_of_the_other_side_is_in_flight.{AreShut}
 use Rattle.osi_watched.proofs.sessions.what_is_in_flight_to_an_end.{in_flight}

@@ -44,7 +44,7 @@ use Rattle.osi_watched.proofs.what_a_taker_passes_over.{mild_of}
 use Rattle.osi_watched.proofs.what_a_unit_leaves_at_a_tap.{IsCalm, IsJudged, IsOver, Leaves, unit_leaves}
 use Rattle.osi_watched.proofs.what_passes_keeps_a_claim.{IsClaim, after_join, after_kept, step_kept, units_kept}
 use Rattle.osi_watched.proofs.what_the_turns_among_steps_do.{ComesByDoing, IsOfTap, StepsDo, TurnDoes}
-use Rattle.osi_watched.proofs.sessions.a_unit_after_a_dr_changes_nothing.{IsAfterDr, after_two}
+use Rattle.osi_watched.proofs.sessions.a_unit_after_a_dr_is_for_a_closing_connection.{IsAfterDr, after_two}
 use Rattle.osi_watched.proofs.sessions.after_too_many_nobody_is_to_blame.{NoneIsToBlame, too_many_silenced}
 use Rattle.osi_watched.proofs.sessions.connections_have_the_same_places.{marked_traffic, unit_knows}
 use Rattle.osi_watched.proofs.sessions.each_step_leaves_class_0_one_connection.{Sure, class_stays, fresh_sure, sure_claim}

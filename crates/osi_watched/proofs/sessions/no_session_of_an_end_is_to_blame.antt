@@ -60,7 +60,7 @@ use Rattle.osi_watched.proofs.sessions.a_break_in_class_0_leaves_an_end_alone.{K
 use Rattle.osi_watched.proofs.sessions.a_break_in_class_0_leaves_an_end_alone.{octets_begin_alone, packet_begins_alone, spoilt_alone}
 use Rattle.osi_watched.proofs.sessions.a_break_in_class_0_leaves_an_end_alone.{step_alone, unit_begins}
 use Rattle.osi_watched.proofs.sessions.a_tap_counts_what_it_has_joined_of_a_tsdu.{fresh_counted}
-use Rattle.osi_watched.proofs.sessions.a_unit_after_a_dr_changes_nothing.{IsAfterDr, after_dr}
+use Rattle.osi_watched.proofs.sessions.a_unit_after_a_dr_is_for_a_closing_connection.{IsAfterDr, after_dr}
 use Rattle.osi_watched.proofs.sessions.after_too_many_nobody_is_to_blame.{NoneIsToBlame, none_begins, over_joins}
 use Rattle.osi_watched.proofs.sessions.an_end_beside_a_tap_that_judges_all.{Goes, other_begins_goes, other_goes, own_begins_goes}
 use Rattle.osi_watched.proofs.sessions.an_end_beside_a_tap_that_judges_all.{own_goes, turn_goes}

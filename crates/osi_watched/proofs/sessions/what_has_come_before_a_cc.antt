@@ -69,7 +69,7 @@ use Rattle.osi_watched.proofs.sessions.a_calling_end_is_ready.{IsCalling, first,
 use Rattle.osi_watched.proofs.sessions.a_calling_end_takes_nothing_before_its_cc.{HasCc, has_cc}
 use Rattle.osi_watched.proofs.sessions.a_calling_end_takes_what_is_in_flight.{early_lasts}
 use Rattle.osi_watched.proofs.sessions.a_turn_does_what_its_deeds_say.{turn_leaves, units_join}
-use Rattle.osi_watched.proofs.sessions.a_unit_after_a_dr_changes_nothing.{not_over}
+use Rattle.osi_watched.proofs.sessions.a_unit_after_a_dr_is_for_a_closing_connection.{not_over}
 use Rattle.osi_watched.proofs.sessions.a_unit_is_joined_where_it_is_named.{named_there, names_there}
 use Rattle.osi_watched.proofs.sessions.connections_have_the_same_places.{unit_knows}
 use Rattle.osi_watched.proofs.sessions.nothing_is_done_before_a_cr_passes.{IsNoZero, given_so, same_units}

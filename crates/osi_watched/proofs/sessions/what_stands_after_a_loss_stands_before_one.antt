@@ -14,7 +14,7 @@ use Rattle.osi_watched.proofs.steps_are_events.{IsFollowed}
 use Rattle.osi_watched.proofs.what_a_taker_passes_over.{mild_reach}
 use Rattle.osi_watched.proofs.what_the_turns_among_steps_do.{TurnDoes}
 use Rattle.osi_fair.proofs.what_the_other_side_closes.{IsOngoing}
-use Rattle.osi_watched.proofs.sessions.a_unit_after_a_dr_changes_nothing.{IsAfterDr}
+use Rattle.osi_watched.proofs.sessions.a_unit_after_a_dr_is_for_a_closing_connection.{IsAfterDr}
 use Rattle.osi_watched.proofs.sessions.after_too_many_nobody_is_to_blame.{NoneIsToBlame}
 use Rattle.osi_watched.proofs.sessions.no_session_of_an_end_breaks_first.{ArePassed, HaveCourses, IsPassed, KeepsUnless}
 use Rattle.osi_watched.proofs.sessions.steps_leave_all_standing.{IsProper}

@@ -22,7 +22,8 @@ returns-then-not-is_restarting-clause-value c =
 
 pub returns-in_default-clause-value : goal.returns-in_default-clause-value
 returns-in_default-clause-value c =
-    waits_unsaid (word (said_by c.args.abort.now)) c.args.standing c.args.tsdu.now (unsaid c.say.result _ c.in_default.not-Ok c.say.ensures.left)
+    waits_unsaid (word (said_by c.args.abort.now)) c.args.standing c.args.tsdu.now
+    (unsaid c.say.result _ c.in_default.not-Ok c.say.ensures.left)
 
 pub returns-then-not-branch-clause-value : goal.returns-then-not-branch-clause-value
 returns-then-not-branch-clause-value c =

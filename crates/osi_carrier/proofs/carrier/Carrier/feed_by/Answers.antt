@@ -18,9 +18,11 @@ pub returns-in-Over-clause-feeds : goal.returns-in-Over-clause-feeds
 returns-in-Over-clause-feeds c =
     let goes : Goes c.args.self.now c.args.piece.now (length c.args.piece.now) c.read_packet.new.self = elim c.in-Over.is [
       | inl over ↦ read_over c.args.self.now c.args.piece.now c.packets.self c.packets.rest.now c.read_packet.new.self c.packets.invariant
-          (subst (λ (f : Fetched). Fetches c.args.lends c.packets.self c.packets.rest.now f c.read_packet.new.lent c.read_packet.new.self) over c.read_packet.ensures)
+          (subst (λ (f : Fetched). Fetches c.args.lends c.packets.self c.packets.rest.now f c.read_packet.new.lent
+          c.read_packet.new.self) over c.read_packet.ensures)
       | inr part ↦ read_part c.args.self.now c.args.piece.now c.packets.self c.packets.rest.now c.read_packet.new.self c.packets.invariant
-          (subst (λ (f : Fetched). Fetches c.args.lends c.packets.self c.packets.rest.now f c.read_packet.new.lent c.read_packet.new.self) part c.read_packet.ensures)
+          (subst (λ (f : Fetched). Fetches c.args.lends c.packets.self c.packets.rest.now f c.read_packet.new.lent
+          c.read_packet.new.self) part c.read_packet.ensures)
     ] in
     nothing_lent c.args.self.now c.args.piece.now c.fed-in-Over.result c.read_packet.new.self c.fed-in-Over.ensures.none
     (fed_goes c.args.self.now c.args.piece.now c.packets.self c.packets.rest.now (length c.args.piece.now) c.fed-in-Over.result.fed

@@ -1,21 +1,16 @@
--- A DT or an AK that a side sends on a connection that it has closed by a DR changes nothing at the tap but that this side has broken
--- a rule, and is for a connection that this side is closing, in class 2. No other unit but a second DR is found so.
+-- A DT or an AK that is found to come after a DR of its sender is for a connection that this side is closing, in class 2. No other
+-- unit but a second DR is found so.
 -- For the sessions of an end after such a unit of the other side.
-use Rattle.osi_watched.proofs.Vocabulary.{[], ap, Bool, false, if◌then◌else◌, List, None, not, Option, refl, Some, sym, true, ℕ, ◌&&◌, ◌∙◌}
-use Rattle.osi_watched.proofs.Vocabulary.{◌∷◌, ◌≡◌, ◌||◌, AllByRecursion, drop, length, position, set, set_same, slice_get, subst}
-use Rattle.osi_watched.proofs.Vocabulary.{acknowledge, confirm, Connect, data0, data2, disconnect, disconnected, error, request, Value}
-use Rattle.osi_watched.proofs.Vocabulary.{Class, Two, Zero}
-use Rattle.osi_watched.proofs.Vocabulary.{acknowledge_tests, data0_tests, data2_tests, first_failed, is_applied, reach_of, Test, is_closed}
-use Rattle.osi_watched.proofs.Vocabulary.{is_closing, is_live, is_named, is_open, is_over_by, is_refused, is_silent, own, asks_by}
-use Rattle.osi_watched.proofs.Vocabulary.{asks_of, at_found, at_place, class_for, connection_after, course_after, found}
-use Rattle.osi_watched.proofs.Vocabulary.{found_on, is_stopped, none_told, Outcome, request_tests, route, route_in, routed, takes}
-use Rattle.osi_watched.proofs.Vocabulary.{uses_source}
-use Rattle.osi_watched.proofs.Vocabulary.{unnamed_by, Traffic as State, Connection, Rules, Way, Finding, Broke, Kept, NotJudged}
-use Rattle.osi_watched.proofs.Vocabulary.{Phase, Closed, Closing, Open, Refused, Silent, Route, Asks, Named, Only, Unnamed, other}
-use Rattle.osi_watched.proofs.Vocabulary.{Direction, Joined, reference_of, unit_passes, way_of, HaveSamePlaces}
-use Rattle.osi_watched.proofs.Vocabulary.{IsOneOf}
-use Rattle.osi_watched.proofs.Vocabulary.{has_broken}
-use Rattle.osi_watched.proofs.Vocabulary.{is_report}
+use Rattle.osi_watched.proofs.Vocabulary.{[], Bool, false, if◌then◌else◌, List, None, not, Option, refl, Some, sym, true, ℕ, ◌&&◌, ◌∙◌}
+use Rattle.osi_watched.proofs.Vocabulary.{◌∷◌, ◌≡◌, ◌||◌, AllByRecursion, drop, length, position, slice_get, subst, acknowledge}
+use Rattle.osi_watched.proofs.Vocabulary.{confirm, Connect, data0, data2, disconnect, disconnected, error, request, Value, Class, Two}
+use Rattle.osi_watched.proofs.Vocabulary.{Zero, acknowledge_tests, data0_tests, data2_tests, first_failed, Test, is_closed, is_closing}
+use Rattle.osi_watched.proofs.Vocabulary.{is_live, is_named, is_open, is_over_by, is_refused, is_silent, own, asks_by, asks_of}
+use Rattle.osi_watched.proofs.Vocabulary.{at_found, at_place, class_for, found, found_on, is_stopped, none_told, Outcome, request_tests}
+use Rattle.osi_watched.proofs.Vocabulary.{route, route_in, routed, takes, uses_source, unnamed_by, Traffic as State, Connection, Rules}
+use Rattle.osi_watched.proofs.Vocabulary.{Way, Finding, Broke, Kept, NotJudged, Phase, Closed, Closing, Open, Refused, Silent, Route}
+use Rattle.osi_watched.proofs.Vocabulary.{Asks, Named, Only, Unnamed, other, Direction, Joined, reference_of, way_of, HaveSamePlaces}
+use Rattle.osi_watched.proofs.Vocabulary.{IsOneOf, has_broken, is_report}
 use Rattle.osi_rules.specs.Rows.{confirm_tests, disconnected_tests, error_tests, given_again}
 use Rattle.osi_rules.specs.Traffic.{in_doubt}
 use Rattle.osi_rules.specs.Sides as sides
@@ -26,10 +21,8 @@ use Rattle.osi_tap.specs.Connections.{Sessions}
 use Rattle.osi_tap.specs.Courses.{Course}
 use Rattle.osi_watched.proofs.what_a_taker_passes_over.{IsDr}
 use Rattle.osi_watched.proofs.sessions.a_unit_is_joined_where_it_is_named.{named_there, names_there}
-use Rattle.osi_watched.proofs.sessions.connections_have_the_same_places.{unit_knows}
 use Rattle.osi_watched.proofs.sessions.right_units_leave_all_standing.{IsLink, ak, dt, link_names}
 use Rattle.osi_watched.proofs.sessions.what_a_unit_does_at_its_place.{Does, asks_again, asks_more, nowhere, somewhere, unit_does}
-use Rattle.osi_watched.proofs.sessions.what_has_no_effect_joins_nothing.{joins_none}
 
 -- ---- what is found of such a unit
 
@@ -151,19 +144,9 @@ asks_none d _ s h = cc
 
 -- ---- what it does
 
-plain_course : (d : Way) (c : Connection) (v : Value) (course : Rules) → (IsDr v → ⊥) → course_after d c v false course ≡ course
-plain_course d c (disconnect n source reason user) course not = absurd (not tt)
-plain_course d c (confirm n x) course not = refl
-plain_course d c _ course not = refl
-
--- it is noted that its sender has broken a rule
-abbrev pub noted_closed : Way → State → State
-noted_closed d s = record s { course = traffic.noted d (Broke rule.Closed) s.course }
-
--- nothing else, unless it is a DR; and it is for a connection
+-- it may follow a DR, and it is for a connection
 record Goes (d : Way) (v : Value) (s : State) (o : Outcome) : Type 0 where
   follows : MayFollow v
-  same : (IsDr v → ⊥) → o.state ≡ noted_closed d s
   placed : o.told.place ≡ None → ⊥
 
 module _ (d : Way) (v : Value) (s : State) where
@@ -179,16 +162,6 @@ module _ (d : Way) (v : Value) (s : State) where
   found_goes i None e h = absurd (unnamed_not (is_report (traffic.has_erred (sides.other d) s.course) v) s.course.loose s.course.strays v h)
   found_goes i (Some c) e h = record {
     follows = on_follows c h;
-    same = λ not.
-        ap (λ (f : Finding). record s {
-          connections = set s.connections i (connection_after d v (is_applied f) (reach_of (class_for d s.course) f) c);
-          course = traffic.noted d f (traffic.reached d (reach_of (class_for d s.course) f) (course_after d c v (is_applied f) s.course));
-        }) h
-        ∙ ap (λ (l : List Connection). record s {
-          connections = l;
-          course = traffic.noted d (Broke rule.Closed) (course_after d c v false s.course);
-        }) (set_same s.connections i c e)
-        ∙ ap (λ (k : Rules). record s { course = traffic.noted d (Broke rule.Closed) k }) (plain_course d c v s.course not);
     placed = λ none. cc none;
   }
 
@@ -227,10 +200,6 @@ after_dr e v c found not = by (goes (way_of e) v c.traffic found).follows
     by (a_link n link) = record { n = n; link = link; closed = found }
     by (a_dr h) = absurd (not h)
 
-link_not : (v : Value) (n : ℕ) → IsLink v n → IsDr v → ⊥
-link_not v n (dt number end user is) h = subst IsDr is h
-link_not v n (ak credit number is) h = subst IsDr is h
-
 -- outside class 2 such a unit is for no connection
 abbrev IsFoundSo : Way → Bool → Option Class → State → Value → Type 0
 IsFoundSo d b k s v = IsFound (routed d v s (route_in k d b v)).told.finding
@@ -266,14 +235,6 @@ after_two e v c a =
     let s = c.traffic in
     link_two d (has_broken (sides.other d) s.course) (class_for d s.course) s v a.n a.link
     (judged_so (is_stopped d s.course) d v s (route d s.course v) a.closed)
-
--- it changes nothing else
-pub same_traffic : (e : Direction) (at : ℕ) (v : Value) (c : Course) → IsAfterDr e v c →
-    (unit_passes e at v c).traffic ≡ noted_closed (way_of e) c.traffic
-same_traffic e at v c a = unit_knows e at v c ∙ (goes (way_of e) v c.traffic a.closed).same (link_not v a.n a.link)
-
-pub same_sessions : (e : Direction) (at : ℕ) (v : Value) (c : Course) → IsAfterDr e v c → (unit_passes e at v c).sessions ≡ c.sessions
-same_sessions e at v c a = joins_none e at v c (ap is_applied a.closed)
 
 -- ---- the connection that it is for
 
