@@ -30,7 +30,7 @@ static bool feed(osi_judge *judge, const struct piece *piece)
     return true;
 }
 
-/* Prints what `osi judge` prints of all that has passed. */
+/* Prints the verdict on all that has passed, in the lines of `osi judge`. */
 static void print_text(osi_judge *judge)
 {
     osi_octets text;

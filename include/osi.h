@@ -576,8 +576,9 @@ void osi_counts(osi_end *end, osi_counters *shown);
 
 /* ---- judging a connection that passes --------------------------------------------------------------------
  * A judge watches a connection between two other programs, and says which side first sent what no
- * conforming end could have sent there (docs/JUDGING.md): `osi judge`, piece by piece. It needs no
- * osi_end.
+ * conforming end could have sent there (docs/JUDGING.md), piece by piece. It needs no osi_end. It judges one
+ * connection of class 0, and of transport what it needs for that: no sizes, and of references only those of a
+ * DC. An osi_watch (below) judges all of transport.
  *
  *     osi_judge judge = OSI_JUDGE;
  *     osi_verdict verdict;
@@ -744,8 +745,8 @@ bool osi_judge_next(osi_judge *judge, osi_verdict *verdict) OSI_LOOK;
  * of OSI_BAD_ARGUMENT (no side; the struct is all 0) and OSI_SLOT_EMPTY (the same). */
 uint32_t osi_judge_verdict(osi_judge *judge, uint32_t side, osi_verdict *verdict);
 
-/* Writes the text of what has passed so far, as `osi judge` prints it, which osi_judge_text then lends.
- * OSI_OK, OSI_SLOT_EMPTY, OSI_NO_MEMORY (the text that was written before is still there). */
+/* Writes the text of the verdict on what has passed so far, in the lines of `osi judge`, which osi_judge_text
+ * then lends. OSI_OK, OSI_SLOT_EMPTY, OSI_NO_MEMORY (the text that was written before is still there). */
 uint32_t osi_judge_write(osi_judge *judge) OSI_LOOK;
 
 /* Lends the text that was written last, its lines each with a line feed; no octets if there is none. It is

@@ -1242,8 +1242,8 @@ public:
         return call(osi_judge_verdict, detail::bits(side), &shown) == code::ok ? verdict_of(shown) : verdict();
     }
 
-    /* The text of what has passed so far, as `osi judge` prints it: ok, slot_empty, no_memory. It is valid until
-     * the next call with this judge. */
+    /* The text of the verdict on what has passed so far, in the lines of `osi judge`: ok, slot_empty, no_memory.
+     * It is valid until the next call with this judge. */
     result<std::string_view> text() noexcept
     {
         result<std::string_view> answer;

@@ -16,8 +16,8 @@ BEYOND_CALLS = {"in_flight.disputes an abort of a provider without resources", "
 # Those of class 2, or of several connections: a script has one connection of class 0, and stops before anything else.
 BEYOND_CLASS_0 = {"kept_and_outside.disputes a request of class 2, which nobody answers",
                   "transport_of_class_0.disputes data of class 2, where the CR offers class 0 too"}
-# The files in which each capture is so.
-OF_CLASS_2 = ("class_2.disputes ", "class_2_after_a_break.disputes ")
+# The files in which each capture is so, or breaks a rule of transport that no script shows: one of sizes, or of a CC's reference.
+REPORTED = ("class_2.disputes ", "class_2_after_a_break.disputes ", "sizes_and_references.disputes ")
 
 
 def disputes(top):
@@ -174,7 +174,7 @@ class Witnesses:
         pieces = pieces_of(text)
         # No call sends a DC, so a script stops before one that is right.
         confirms = any(has_disconnect_confirm(stream) for stream in streams(pieces).values())
-        is_wide = name.startswith(OF_CLASS_2) or name in BEYOND_CLASS_0
+        is_wide = name.startswith(REPORTED) or name in BEYOND_CLASS_0
         may_stop = (confirms or name in BEYOND_CALLS) and UNFINISHED.search(script) or is_wide
         self.check(f"{name}: both kept the protocol, and the script stops", judged != 0 or status == 0 or may_stop)
         self.check(f"{name}: the script is not played to its end", self.osi(["pair"], script)[0] == 0)

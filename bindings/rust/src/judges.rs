@@ -424,7 +424,7 @@ impl Judge {
         Verdict::of(&shown)
     }
 
-    /// What `osi judge` prints of what has passed so far.
+    /// The text of the verdict on what has passed so far, in the lines of `osi judge`.
     ///
     /// # Errors
     /// [`Error::NoMemory`].

@@ -83,7 +83,7 @@ Asks side v answer old new = ⊥
 
 -- ---- the text of a judgement
 
--- what `osi judge` prints of whatever capture the judge was fed
+-- the text of a verdict on whatever capture the judge was fed
 abbrev pub IsTextOf : Watch → List ℕ → Type 0
 IsTextOf w text = (capture : Capture) → Knows w.judge capture → (status : ℕ) × Judged capture text status
 

@@ -129,7 +129,7 @@ pub extern "C" fn osi_judge_verdict(
     OK
 }
 
-/// What `osi judge` prints of what passed so far.
+/// The text of the verdict on what passed so far.
 fn text_of(alloc: Global, watch: &Watch) -> Result<Vec<u8>, AllocError>
     ensures { IfOk result (λ t. IsTextOf watch.now t.items) }
 {
@@ -137,7 +137,7 @@ fn text_of(alloc: Global, watch: &Watch) -> Result<Vec<u8>, AllocError>
     Ok(judgement.lines)
 }
 
-/// Writes what `osi judge` prints of what passed so far, which [`osi_judge_text`] then lends.
+/// Writes the text of the verdict on what passed so far, which [`osi_judge_text`] then lends.
 #[unsafe(no_mangle)]
 pub extern "C" fn osi_judge_write(alloc: Global, judge: &mut OsiJudge) -> u32
     ensures { Writes (feeding_of result) judge.old.inner.value judge.new.inner.value }

@@ -27,7 +27,7 @@ use Rattle.osi_judge.specs.Onward.{StandsBehind}
 use Rattle.osi_judge.proofs.told.a_session_stands_in_one_way.{one_stands}
 use Rattle.osi_dispute.specs.declared.verdicts.Connection.TheVariants.{Session}
 use Rattle.osi_tap.specs.Tapping.{comes_to}
-use Rattle.osi_dispute.specs.Disputes.{is_wide, IsJudgement, IsNarrow, IsWide}
+use Rattle.osi_dispute.specs.Disputes.{is_beyond, IsJudgement, IsNarrow, IsWide}
 use Rattle.osi_dispute.proofs.reports_are_alike.{one_reported}
 use Rattle.osi_dispute.specs.Texts.{verdict_text, verdict_status}
 use Rattle.osi_dispute.proofs.a_capture_has_one_finding.{HasOneList}
@@ -222,8 +222,8 @@ one_verdict one place only c v w a b = one_determined one place only c v w a b
 
 -- ---- of a text
 
-narrow_or_wide : (o : Verdict) → is_wide o ≡ false → is_wide o ≡ true → ⊥
-narrow_or_wide o n w = not_both (is_wide o) n w
+narrow_or_wide : (c : Capture) (o : Verdict) → is_beyond c o ≡ false → is_beyond c o ≡ true → ⊥
+narrow_or_wide c o n w = not_both (is_beyond c o) n w
   where
     not_both : (b : Bool) → b ≡ false → b ≡ true → ⊥
     not_both true n w = cc
@@ -243,13 +243,13 @@ one_narrow : HasOneList → HasOnePlace → HasOneFirst → (c : Capture) (lines
 one_narrow has place only c lines others status other one (inl two) = both_narrow has place only c lines others status other one two
 one_narrow has place only c lines others status other one (inr two) =
     let e = one_verdict has place only c one.judged.verdict two.verdict one.judged.judged.determined two.judged.determined in
-    absurd (narrow_or_wide two.verdict (subst (λ (x : Verdict). is_wide x ≡ false) e one.narrow) two.wide)
+    absurd (narrow_or_wide c two.verdict (subst (λ (x : Verdict). is_beyond c x ≡ false) e one.within) two.beyond)
 
 one_wide : HasOneList → HasOnePlace → HasOneFirst → (c : Capture) (lines others : List ℕ) (status other : ℕ)
     → IsWide c lines status → IsNarrow c others other ⊎ IsWide c others other → (lines ≡ others) × (status ≡ other)
 one_wide has place only c lines others status other one (inl two) =
     let e = one_verdict has place only c one.verdict two.judged.verdict one.judged.determined two.judged.judged.determined in
-    absurd (narrow_or_wide two.judged.verdict two.narrow (subst (λ (x : Verdict). is_wide x ≡ true) e one.wide))
+    absurd (narrow_or_wide c two.judged.verdict two.within (subst (λ (x : Verdict). is_beyond c x ≡ true) e one.beyond))
 one_wide has place only c lines others status other one (inr two) =
     one_reported (comes_to c) lines others status other one.reported two.reported
 

@@ -10,7 +10,7 @@ use Rattle.osi_judge.specs.Following.{judged, first_in, Taps, FirstIs}
 use Rattle.osi_judge.specs.declared.judge.Judge.{Judge}
 use Rattle.osi_tap.specs.declared.tap.Tap.{Tap}
 use Rattle.osi_tap.specs.Standing.{HoldsState}
-use Rattle.osi_tap.specs.Tapping.{State, begin, after, comes_to}
+use Rattle.osi_tap.specs.Tapping.{State, after}
 use Rattle.osi_tap.proofs.a_piece_comes_to_what_its_octets_do.{after_more}
 use Rattle.osi_dispute.specs.Verdicts.{Knows}
 use Rattle.osi_dispute.specs.Rows.{Row, side_of, passed_by}
@@ -34,14 +34,14 @@ pub passes_as : (old new : Judge) (more : Capture)
     → FirstIs (first_in new) (judged new) (capture ++ more)) → Passes Knows old new more
 passes_as old new more t f = λ capture k. record { taps = t capture k.taps; first = f capture k.taps k.first }
 
--- what is known of a tap
-abbrev pub Comes : Tap → Capture → Type 0
-Comes t capture = HoldsState t (comes_to capture)
+-- what is known of a tap, which held this state before the capture
+abbrev pub Comes : State → Tap → Capture → Type 0
+Comes begin t capture = HoldsState t (after capture begin)
 
-pub comes_as : (old new : Tap) (more : Capture) → ((s : State) → HoldsState old s → HoldsState new (after more s))
-    → Passes Comes old new more
-comes_as old new more t = λ capture k.
-    subst (λ (s : State). HoldsState new s) (sym (after_more capture more begin)) (t (comes_to capture) k)
+pub comes_as : (begin : State) (old new : Tap) (more : Capture) → ((s : State) → HoldsState old s → HoldsState new (after more s))
+    → Passes (Comes begin) old new more
+comes_as begin old new more t = λ capture k.
+    subst (λ (s : State). HoldsState new s) (sym (after_more capture more begin)) (t (after capture begin) k)
 
 -- ---- octets of a piece
 

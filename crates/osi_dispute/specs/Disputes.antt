@@ -1,10 +1,14 @@
 -- What was found of a text of both sides of a capture.
-use Rattle.std.specs.Prelude.{◌≡◌, ◌⊎◌, ◌||◌, ℕ, Bool, true, false, List, Option, Some, None}
+use Rattle.std.specs.Prelude.{◌≡◌, ◌⊎◌, ◌&&◌, ◌||◌, not, is_some, ℕ, Bool, true, false, List, Option, Some, None}
+use Rattle.osi_judge.specs.declared.directions.Direction.TheVariants.{Left, Right}
 use Rattle.osi_judge.specs.declared.stops.Stop.{Stop}
 use Rattle.osi_judge.specs.declared.stops.Stopped.{Stopped}
 use Rattle.osi_judge.specs.declared.stops.Stop.TheVariants.{OtherClass, MoreConnections}
 use Rattle.osi_judge.specs.Captures.{Capture}
-use Rattle.osi_tap.specs.Tapping.{State, comes_to}
+use Rattle.osi_tap.specs.declared.marks.Mark.{Mark}
+use Rattle.osi_tap.specs.declared.rooms.Room.TheVariants.{Octets}
+use Rattle.osi_tap.specs.Courses.{marks_of}
+use Rattle.osi_tap.specs.Tapping.{State, after, begin_within, comes_to}
 use Rattle.osi_dispute.specs.declared.verdicts.Verdict.{Verdict}
 use Rattle.osi_dispute.specs.Reports.{Report, IsReport}
 use Rattle.osi_dispute.specs.ReportTexts.{report_text, last_status}
@@ -39,16 +43,31 @@ stops_at_other (Some s) = is_other s.stop
 abbrev pub is_wide : Verdict → Bool
 is_wide v = stops_at_other v.left.stopped || stops_at_other v.right.stopped
 
--- The capture has one connection of class 0, and they report a verdict on it.
+-- what a capture comes to by the rules of transport alone: no session is judged
+abbrev pub transport_of : Capture → State
+transport_of capture = after capture (begin_within (Octets 0))
+
+-- by these rules a side broke one that `osi_judge` doesn't look at, which has read all packets of this side
+abbrev pub is_missed : Option Mark → Option Stopped → Bool
+is_missed broke stopped = is_some broke && not (is_some stopped)
+
+abbrev pub misses : State → Verdict → Bool
+misses s v = is_missed (marks_of Left s.course).broke v.left.stopped || is_missed (marks_of Right s.course).broke v.right.stopped
+
+-- the capture is beyond `osi_judge`: its verdict is not on all connections, or there is a break that it doesn't look at
+abbrev pub is_beyond : Capture → Verdict → Bool
+is_beyond capture v = is_wide v || misses (transport_of capture) v
+
+-- The capture has one connection of class 0, of which no break is missed, and they report a verdict on it.
 pub record IsNarrow (capture : Capture) (lines : List ℕ) (status : ℕ) : Type 0 where
   pub judged : Judged capture lines status
-  pub narrow : is_wide judged.verdict ≡ false
+  pub within : is_beyond capture judged.verdict ≡ false
 
--- Or it has one of another class, or more than one, and they report all connections.
+-- Or it is beyond that, and they report all connections.
 pub record IsWide (capture : Capture) (lines : List ℕ) (status : ℕ) : Type 0 where
   pub verdict : Verdict
   pub judged : IsVerdict capture verdict
-  pub wide : is_wide verdict ≡ true
+  pub beyond : is_beyond capture verdict ≡ true
   pub reported : Reported (comes_to capture) lines status
 
 -- the text is a capture, of which they report one or the other

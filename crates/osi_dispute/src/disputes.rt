@@ -3,9 +3,10 @@
 ghost use Rattle.std.specs.Prelude.{◌≡◌, ◌++◌, ◌⊎◌, ◌<◌, Err, IfOk, OnOk, List};
 ghost use Rattle.osi_judge.specs.Captures.{Capture, piece};
 ghost use Rattle.osi_listing.specs.Capture.{IsNoCapture};
-ghost use Rattle.osi_tap.specs.Standing.{HoldsState};
-ghost use Rattle.osi_tap.specs.Tapping.{comes_to};
-ghost use Rattle.osi_dispute.specs.Disputes.{stops_at_other, is_wide, IsJudgement, IsNarrow, IsWide, Reported};
+ghost use Rattle.osi_tap.specs.Standing.{HoldsState, IsJudged};
+ghost use Rattle.osi_tap.specs.Tapping.{State, after, begin, comes_to};
+ghost use Rattle.osi_dispute.specs.Disputes.{stops_at_other, is_wide, is_missed, misses, transport_of};
+ghost use Rattle.osi_dispute.specs.Disputes.{IsJudgement, IsNarrow, IsWide, Reported};
 ghost use Rattle.osi_dispute.specs.Rows.{side_of, passed_by, capture_of, rows_of};
 ghost use Rattle.osi_dispute.specs.Reading.{rows_left};
 ghost use Rattle.osi_dispute.specs.Verdicts.{Knows};
@@ -16,7 +17,7 @@ use crate::texts::Judgement;
 use crate::verdicts::{Verdict, judgement_by, verdict_of};
 use osi_judge::{Direction, Judge, Stop, Stopped};
 use osi_listing::{CaptureFault, octets_of};
-use osi_tap::Tap;
+use osi_tap::{Mark, Tap};
 use std::alloc::{AllocError, Global};
 
 /// Feeds all of a piece.
@@ -62,8 +63,8 @@ fn feed_pieces(
 
 /// Feeds all of a piece to a tap.
 fn tap_all(tap: &mut Tap, direction: Direction, octets: &[u8]) -> Result<(), AllocError>
-    ensures { OnOk result ((capture : Capture) → HoldsState tap.old (comes_to capture)
-        → HoldsState tap.new (comes_to (capture ++ piece direction octets.now))) }
+    ensures { OnOk result ((begin : State) (capture : Capture) → HoldsState tap.old (after capture begin)
+        → HoldsState tap.new (after (capture ++ piece direction octets.now) begin)) }
 {
     let mut rest = octets;
     'rest: while !rest.is_empty() {
@@ -76,8 +77,8 @@ fn tap_all(tap: &mut Tap, direction: Direction, octets: &[u8]) -> Result<(), All
 
 /// Feeds pieces to a tap; `left_is_tabbed` says whether the lines of left begin with a tab.
 fn tap_pieces(tap: &mut Tap, pieces: Pieces<'_>, left_is_tabbed: bool) -> Result<(), AllocError>
-    ensures { OnOk result ((capture : Capture) → HoldsState tap.old (comes_to capture)
-        → HoldsState tap.new (comes_to (capture ++ passed_by left_is_tabbed (rows_left pieces.entry)))) }
+    ensures { OnOk result ((begin : State) (capture : Capture) → HoldsState tap.old (after capture begin)
+        → HoldsState tap.new (after (capture ++ passed_by left_is_tabbed (rows_left pieces.entry)) begin)) }
 {
     let mut pieces = pieces;
     'pieces: while let Some(piece) = pieces.next_piece() {
@@ -99,7 +100,7 @@ fn judgement_by_tap(alloc: Global, tap: &mut Tap) -> Result<Judgement, AllocErro
     Ok(Judgement { lines, status })
 }
 
-/// The judgement of pieces in which there is a connection of class 2, or more than one.
+/// The report of pieces: of the transport of both sides, and of each connection.
 fn tapped(alloc: Global, pieces: Pieces<'_>) -> Result<Judgement, AllocError>
     ensures reported { IfOk result (λ j. Reported (comes_to (capture_of (rows_left pieces.entry))) j.lines.items j.status) }
     ensures small { IfOk result (λ j. j.status < 2) }
@@ -126,6 +127,33 @@ fn is_wide(verdict: &Verdict) -> bool
     stops_at_other(verdict.left.stopped) || stops_at_other(verdict.right.stopped)
 }
 
+/// A tap that was fed pieces and judges only transport.
+fn transport_of(alloc: Global, pieces: Pieces<'_>) -> Result<Tap, AllocError>
+    ensures holds { IfOk result (λ t. HoldsState t (transport_of (capture_of (rows_left pieces.entry)))) }
+    ensures judged { IfOk result (λ t. IsJudged t) }
+{
+    let mut transport = Tap::within(alloc, 0);
+    tap_pieces(&mut transport, pieces, is_left_tabbed(pieces))?;
+    transport.settle()?;
+    Ok(transport)
+}
+
+fn is_missed(broke: Option<Mark>, stopped: Option<Stopped>) -> bool
+    ensures { result ≡ is_missed broke stopped }
+{
+    broke.is_some() && stopped.is_none()
+}
+
+/// Whether the transport of a side broke a rule that the judge doesn't look at. The judge knows no sizes, and no references but
+/// those of a DC.
+fn misses(transport: &Tap, verdict: &Verdict) -> bool
+    ensures { (s : State) → HoldsState transport.now s → IsJudged transport.now → result ≡ misses s verdict.now }
+{
+    let left = transport.broke(Direction::Left);
+    let right = transport.broke(Direction::Right);
+    is_missed(left, verdict.left.stopped) || is_missed(right, verdict.right.stopped)
+}
+
 /// The judgement of a text that captures these octets.
 fn judge_octets(alloc: Global, text: &[u8], octets: &[u8]) -> Result<Judgement, AllocError>
     ensures judged { IfOk result (λ j. IsNarrow (capture_of (rows_of text.now octets.now)) j.lines.items j.status
@@ -139,6 +167,10 @@ fn judge_octets(alloc: Global, text: &[u8], octets: &[u8]) -> Result<Judgement, 
         return Err(AllocError);
     };
     if is_wide(&verdict) {
+        return tapped(alloc, pieces);
+    }
+    let transport = transport_of(alloc, pieces)?;
+    if misses(&transport, &verdict) {
         return tapped(alloc, pieces);
     }
     judgement_by(alloc, &verdict)

@@ -29,7 +29,7 @@ pub fn a_text_has_one_finding()
 }
 
 /// A capture has one verdict, what a capture comes to has one report, and a text has one judgement: the lines and the status
-/// are a function of the text, whether it captures one connection of class 0 or others.
+/// are a function of the text, whether a judge gives them or a tap.
 pub fn a_text_has_one_judgement()
     ensures verdict { (capture : Capture) (v w : Verdict) → IsDetermined capture v → IsDetermined capture w → v ≡ w }
     ensures report { (s : State) (r q : Report) → IsReport s r → IsReport s q → r ≡ q }

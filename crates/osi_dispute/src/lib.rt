@@ -18,8 +18,9 @@
 //! read, its [`Connection`], and where its transport was stopped), and the [`Outcome`]. [`push_verdict`] writes
 //! a verdict as lines, and [`status_of`] says which status the program ends with.
 //!
-//! That is so for one connection of class 0. If there is more than one, or one of another class, the octets are fed
-//! to a `Tap` of `osi_tap` in place of the judge. [`push_report`] asks it what it found of each connection (a [`Pair`])
+//! That is so for one connection of class 0. If there is more than one, or one of another class, or if a `Tap` of `osi_tap`
+//! finds a break of transport in packets that the judge has read and found right, the octets are fed to a `Tap` in place of
+//! the judge. [`push_report`] asks it what it found of each connection (a [`Pair`])
 //! and of the [`Transport`] of each side, and who was first ([`Last`]), and writes all that:
 //!
 //! ```text
@@ -32,9 +33,8 @@
 //! ```
 //!
 //! A verdict is a function of facts of the capture (`specs/Facts`), so a capture has one verdict
-//! (`laws::a_text_has_one_judgement`). A report says what the capture comes to (`specs/Reports`): all of it is a function
-//! of the capture but for the last line, of which it is proved that what it says is so, and not that no session broke the
-//! protocol before. Numbers, offsets and names are those of the listing of that side
+//! (`laws::a_text_has_one_judgement`). A report says what the capture comes to (`specs/Reports`), and its last line names the
+//! earliest break of all. So it is a function of the capture, too. Numbers, offsets and names are those of the listing of that side
 //! (`osi_listing`) and of transcripts (`osi_script`).
 //!
 //! It leaves the judgement to `osi_judge` and `osi_tap`, and standard input and output to the program.

@@ -81,7 +81,7 @@ class Judge(Tapped[Verdict]):
         return Verdict.of(shown)
 
     def text(self) -> str:
-        """What ``osi judge`` prints of what has passed so far. SLOT_EMPTY, NO_MEMORY."""
+        """The verdict on what has passed so far, in the lines of ``osi judge``. SLOT_EMPTY, NO_MEMORY."""
         lent = Octets()
         with self._lock:
             self._check(self._osi.osi_judge_write(byref(self._slot)))

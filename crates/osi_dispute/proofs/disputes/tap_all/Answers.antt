@@ -5,20 +5,20 @@ use Rattle.osi_dispute.proofs.what_is_fed_piece_by_piece_passes_whole.{fed_all, 
 use Rattle.osi_dispute.proofs.disputes.tap_all.Goals as goal
 
 pub rest-preserved : goal.rest-preserved
-rest-preserved c =
+rest-preserved c = λ begin.
     let d = c.args.direction in
     let rest = c.rest.rest.now in
     let n = c.in_ok-used.used in
-    let more : Passes Comes c.rest.tap c.feed.new.self (piece d (take n rest)) =
-    comes_as c.rest.tap c.feed.new.self (piece d (take n rest))
+    let more : Passes (Comes begin) c.rest.tap c.feed.new.self (piece d (take n rest)) =
+    comes_as begin c.rest.tap c.feed.new.self (piece d (take n rest))
     c.in_ok-used.ensures.ok in
-    subst (λ (z : List ℕ). IsFed Comes d c.args.tap.now c.feed.new.self c.args.octets.now z) (sym c.split_at.ensures.back)
-    (fed_more Comes d c.args.tap.now c.rest.tap c.feed.new.self c.args.octets.now rest n c.rest.invariant more)
+    subst (λ (z : List ℕ). IsFed (Comes begin) d c.args.tap.now c.feed.new.self c.args.octets.now z) (sym c.split_at.ensures.back)
+    (fed_more (Comes begin) d c.args.tap.now c.rest.tap c.feed.new.self c.args.octets.now rest n (c.rest.invariant begin) more)
 
 pub returns : goal.returns
-returns c =
+returns c = λ begin.
     let none : c.rest.rest.now ≡ [] = search (empty_yes, empty_not, c.is_empty.ensures, c.rest-test.false) in
-    fed_all Comes c.args.direction c.args.tap.now c.rest.tap c.args.octets.now c.rest.rest.now none c.rest.invariant
+    fed_all (Comes begin) c.args.direction c.args.tap.now c.rest.tap c.args.octets.now c.rest.rest.now none (c.rest.invariant begin)
 
 pub rest-init : goal.rest-init
-rest-init c = fed_none Comes c.args.direction c.args.tap.now c.args.octets.now
+rest-init c = λ begin. fed_none (Comes begin) c.args.direction c.args.tap.now c.args.octets.now
