@@ -1,5 +1,5 @@
 -- A capture is judged as one connection of class 0, or its connections are reported: for `judge_octets`.
-use Rattle.std.proofs.Common.{◌≡◌, ◌∙◌, ◌⊎◌, inl, inr, refl, sym, ap, subst, Bool, true, false, ◌||◌, List, [], ◌++◌, Result, Ok, Err}
+use Rattle.std.proofs.Common.{◌≡◌, ◌∙◌, ◌⊎◌, inl, inr, sym, ap, subst, Bool, true, false, ◌||◌, List, [], ◌++◌, Result, Ok, Err}
 use Rattle.std.proofs.Common.{IfOk}
 use Rattle.osi_judge.specs.declared.judge.Judge.{Judge}
 use Rattle.osi_judge.specs.Captures.{Capture}

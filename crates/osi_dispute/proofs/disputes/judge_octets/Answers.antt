@@ -24,7 +24,8 @@ returns-then-misses-clause-judged c =
     let knows = fed_rows c.feed_pieces.new.judge c.is_left_tabbed.result rows (rows_of c.args.text.now c.args.octets.now)
     c.is_left_tabbed.ensures c.of-pieces.ensures (c.in_ok-feed_pieces.ensures [] begins) in
     let missed = c.misses.ensures (transport_of (capture_of rows)) c.in_ok-transport.ensures.holds c.in_ok-transport.ensures.judged in
-    as_wide c.tapped-then-misses.result capture c.in-Ok.verdict rows (rows_of c.args.text.now c.args.octets.now) (c.in-Ok.ensures capture knows)
+    as_wide c.tapped-then-misses.result capture c.in-Ok.verdict rows (rows_of c.args.text.now c.args.octets.now)
+    (c.in-Ok.ensures capture knows)
     (beyond_missed capture rows (rows_of c.args.text.now c.args.octets.now) c.in-Ok.verdict c.is_wide.result c.misses.result true
     c.of-pieces.ensures refl c.is_wide.ensures c.if-is_wide.false missed c.if-misses.true)
     c.of-pieces.ensures refl c.tapped-then-misses.ensures.reported
