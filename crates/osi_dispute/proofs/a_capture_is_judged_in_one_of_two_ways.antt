@@ -1,6 +1,5 @@
 -- A capture is judged as one connection of class 0, or its connections are reported: for `judge_octets`.
-use Rattle.std.proofs.Common.{◌≡◌, ◌∙◌, ◌⊎◌, inl, inr, sym, ap, subst, Bool, true, false, ◌||◌, List, [], ◌++◌, Result, Ok, Err}
-use Rattle.std.proofs.Common.{IfOk}
+use Rattle.std.proofs.Common.{◌≡◌, ◌⊎◌, inl, inr, sym, subst, Bool, true, false, List, [], ◌++◌, Result, Ok, Err, IfOk}
 use Rattle.osi_judge.specs.declared.judge.Judge.{Judge}
 use Rattle.osi_judge.specs.Captures.{Capture}
 use Rattle.osi_tap.specs.declared.tap.Tap.{Tap}
@@ -8,7 +7,7 @@ use Rattle.osi_tap.specs.Standing.{HoldsState}
 use Rattle.osi_tap.specs.Tapping.{State, after, comes_to}
 use Rattle.osi_dispute.specs.declared.texts.Judgement.{Judgement}
 use Rattle.osi_dispute.specs.declared.verdicts.Verdict.{Verdict}
-use Rattle.osi_dispute.specs.Disputes.{IsNarrow, IsWide, Reported, is_beyond, is_wide, misses, transport_of}
+use Rattle.osi_dispute.specs.Disputes.{IsNarrow, IsWide, Reported, is_beyond}
 use Rattle.osi_dispute.specs.Rows.{Row, passed_by, left_is_tabbed, capture_of}
 use Rattle.osi_dispute.specs.Texts.{verdict_text, verdict_status}
 use Rattle.osi_dispute.specs.Verdicts.{Knows, IsVerdict}
@@ -46,19 +45,9 @@ pub tapped_rows : {E : Type 0} (r : Result Judgement E) (t : Tap) (left : Bool) 
 tapped_rows (Ok j) t left rows e h f = f (capture_of rows) (subst (λ (b : Bool). HoldsState t (comes_to (passed_by b rows))) e h)
 tapped_rows (Err x) t left rows e h f = f
 
--- a tap that was new with some bound was fed these rows
-pub carried_rows : (begin : State) (t : Tap) (left : Bool) (rows : List Row) → left ≡ left_is_tabbed rows
-    → HoldsState t (after ([] ++ passed_by left rows) begin) → HoldsState t (after (capture_of rows) begin)
-carried_rows begin t left rows e h = subst (λ (b : Bool). HoldsState t (after (passed_by b rows) begin)) e h
-
--- ---- whether a capture is beyond a judge
-
-pub beyond_wide : (c : Capture) (v : Verdict) → is_wide v ≡ true → is_beyond c v ≡ true
-beyond_wide c v w = ap (λ (b : Bool). b || misses (transport_of c) v) w
-
-pub beyond_missed : (c : Capture) (some rows : List Row) (v : Verdict) (wide missed answer : Bool) → some ≡ rows → c ≡ capture_of rows
-    → wide ≡ is_wide v → wide ≡ false
-    → missed ≡ misses (transport_of (capture_of some)) v → missed ≡ answer → is_beyond c v ≡ answer
-beyond_missed c some rows v wide missed answer e f w n m a =
-    ap (λ (b : Bool). b || misses (transport_of c) v) (sym w ∙ n)
-    ∙ ap (λ (x : Capture). misses (transport_of x) v) (f ∙ ap capture_of (sym e)) ∙ sym m ∙ a
+-- A tap that judges no session was fed these rows, which are those of a text.
+pub carried_rows : (begin : State) (t : Tap) (left : Bool) (some rows : List Row) → left ≡ left_is_tabbed some → some ≡ rows
+    → HoldsState t (after ([] ++ passed_by left some) begin) → HoldsState t (after (capture_of rows) begin)
+carried_rows begin t left some rows e f h =
+    subst (λ (z : List Row). HoldsState t (after (capture_of z) begin)) f
+    (subst (λ (b : Bool). HoldsState t (after (passed_by b some) begin)) e h)

@@ -5,7 +5,7 @@ ghost use Rattle.osi_judge.specs.Captures.{Capture, piece};
 ghost use Rattle.osi_listing.specs.Capture.{IsNoCapture};
 ghost use Rattle.osi_tap.specs.Standing.{HoldsState, IsJudged};
 ghost use Rattle.osi_tap.specs.Tapping.{State, after, begin, comes_to};
-ghost use Rattle.osi_dispute.specs.Disputes.{stops_at_other, is_wide, is_missed, misses, transport_of};
+ghost use Rattle.osi_dispute.specs.Disputes.{stops_at_other, is_wide, is_missed, is_beyond, misses, transport_of};
 ghost use Rattle.osi_dispute.specs.Disputes.{IsJudgement, IsNarrow, IsWide, Reported};
 ghost use Rattle.osi_dispute.specs.Rows.{side_of, passed_by, capture_of, rows_of};
 ghost use Rattle.osi_dispute.specs.Reading.{rows_left};
@@ -44,23 +44,6 @@ fn direction_of(is_tabbed: bool, left_is_tabbed: bool) -> Direction
     }
 }
 
-/// Feeds pieces; `left_is_tabbed` says whether the lines of left begin with a tab.
-fn feed_pieces(
-    judge: &mut Judge,
-    pieces: Pieces<'_>,
-    left_is_tabbed: bool,
-) -> Result<(), AllocError>
-    ensures { OnOk result ((capture : Capture) → Knows judge.old capture
-        → Knows judge.new (capture ++ passed_by left_is_tabbed (rows_left pieces.entry))) }
-{
-    let mut pieces = pieces;
-    'pieces: while let Some(piece) = pieces.next_piece() {
-        let direction = direction_of(piece.is_tabbed, left_is_tabbed);
-        feed_all(judge, direction, piece.octets)?;
-    }
-    Ok(())
-}
-
 /// Feeds all of a piece to a tap.
 fn tap_all(tap: &mut Tap, direction: Direction, octets: &[u8]) -> Result<(), AllocError>
     ensures { OnOk result ((begin : State) (capture : Capture) → HoldsState tap.old (after capture begin)
@@ -71,6 +54,27 @@ fn tap_all(tap: &mut Tap, direction: Direction, octets: &[u8]) -> Result<(), All
         let used = tap.feed(direction, rest)?;
         let (_, behind) = rest.split_at(used);
         rest = behind;
+    }
+    Ok(())
+}
+
+/// Feeds pieces to a judge, and to a tap of their transport; `left_is_tabbed` says whether the lines of left begin with a tab.
+fn feed_pieces(
+    judge: &mut Judge,
+    transport: &mut Tap,
+    pieces: Pieces<'_>,
+    left_is_tabbed: bool,
+) -> Result<(), AllocError>
+    ensures judge { OnOk result ((capture : Capture) → Knows judge.old capture
+        → Knows judge.new (capture ++ passed_by left_is_tabbed (rows_left pieces.entry))) }
+    ensures transport { OnOk result ((begin : State) (capture : Capture) → HoldsState transport.old (after capture begin)
+        → HoldsState transport.new (after (capture ++ passed_by left_is_tabbed (rows_left pieces.entry)) begin)) }
+{
+    let mut pieces = pieces;
+    'pieces: while let Some(piece) = pieces.next_piece() {
+        let direction = direction_of(piece.is_tabbed, left_is_tabbed);
+        feed_all(judge, direction, piece.octets)?;
+        tap_all(transport, direction, piece.octets)?;
     }
     Ok(())
 }
@@ -127,17 +131,6 @@ fn is_wide(verdict: &Verdict) -> bool
     stops_at_other(verdict.left.stopped) || stops_at_other(verdict.right.stopped)
 }
 
-/// A tap that was fed pieces and judges only transport.
-fn transport_of(alloc: Global, pieces: Pieces<'_>) -> Result<Tap, AllocError>
-    ensures holds { IfOk result (λ t. HoldsState t (transport_of (capture_of (rows_left pieces.entry)))) }
-    ensures judged { IfOk result (λ t. IsJudged t) }
-{
-    let mut transport = Tap::within(alloc, 0);
-    tap_pieces(&mut transport, pieces, is_left_tabbed(pieces))?;
-    transport.settle()?;
-    Ok(transport)
-}
-
 fn is_missed(broke: Option<Mark>, stopped: Option<Stopped>) -> bool
     ensures { result ≡ is_missed broke stopped }
 {
@@ -154,6 +147,14 @@ fn misses(transport: &Tap, verdict: &Verdict) -> bool
     is_missed(left, verdict.left.stopped) || is_missed(right, verdict.right.stopped)
 }
 
+/// Whether the capture is beyond the judge.
+fn is_beyond(transport: &Tap, verdict: &Verdict) -> bool
+    ensures { (capture : Capture) → HoldsState transport.now (transport_of capture) → IsJudged transport.now
+        → result ≡ is_beyond capture verdict.now }
+{
+    is_wide(verdict) || misses(transport, verdict)
+}
+
 /// The judgement of a text that captures these octets.
 fn judge_octets(alloc: Global, text: &[u8], octets: &[u8]) -> Result<Judgement, AllocError>
     ensures judged { IfOk result (λ j. IsNarrow (capture_of (rows_of text.now octets.now)) j.lines.items j.status
@@ -161,16 +162,14 @@ fn judge_octets(alloc: Global, text: &[u8], octets: &[u8]) -> Result<Judgement, 
     ensures small { IfOk result (λ j. j.status < 2) }
 {
     let mut judge = Judge::new(alloc)?;
+    let mut transport = Tap::within(alloc, 0);
     let pieces = Pieces::of(text, octets);
-    feed_pieces(&mut judge, pieces, is_left_tabbed(pieces))?;
+    feed_pieces(&mut judge, &mut transport, pieces, is_left_tabbed(pieces))?;
+    transport.settle()?;
     let Ok(verdict) = verdict_of(&judge) else {
         return Err(AllocError);
     };
-    if is_wide(&verdict) {
-        return tapped(alloc, pieces);
-    }
-    let transport = transport_of(alloc, pieces)?;
-    if misses(&transport, &verdict) {
+    if is_beyond(&transport, &verdict) {
         return tapped(alloc, pieces);
     }
     judgement_by(alloc, &verdict)
