@@ -1,5 +1,5 @@
 -- What was found of a text of both sides of a capture.
-use Rattle.std.specs.Prelude.{◌≡◌, ◌⊎◌, ◌&&◌, ◌||◌, not, is_some, ℕ, Bool, true, false, List, Option, Some, None}
+use Rattle.std.specs.Prelude.{◌≡◌, ◌⊎◌, ◌||◌, nat_lt, ℕ, Bool, true, false, List, Option, Some, None}
 use Rattle.osi_judge.specs.declared.directions.Direction.TheVariants.{Left, Right}
 use Rattle.osi_judge.specs.declared.stops.Stop.{Stop}
 use Rattle.osi_judge.specs.declared.stops.Stopped.{Stopped}
@@ -47,9 +47,11 @@ is_wide v = stops_at_other v.left.stopped || stops_at_other v.right.stopped
 abbrev pub transport_of : Capture → State
 transport_of capture = after capture (begin_within (Octets 0))
 
--- by these rules a side broke one that `osi_judge` doesn't look at, which has read all packets of this side
+-- by these rules a side broke one in a packet that `osi_judge` has read and found right
 abbrev pub is_missed : Option Mark → Option Stopped → Bool
-is_missed broke stopped = is_some broke && not (is_some stopped)
+is_missed None stopped = false
+is_missed (Some mark) None = true
+is_missed (Some mark) (Some s) = nat_lt mark.offset s.offset
 
 abbrev pub misses : State → Verdict → Bool
 misses s v = is_missed (marks_of Left s.course).broke v.left.stopped || is_missed (marks_of Right s.course).broke v.right.stopped

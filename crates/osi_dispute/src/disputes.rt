@@ -131,10 +131,15 @@ fn is_wide(verdict: &Verdict) -> bool
     stops_at_other(verdict.left.stopped) || stops_at_other(verdict.right.stopped)
 }
 
+/// Whether a side broke a rule of transport in a packet before the one at which the judge stops.
 fn is_missed(broke: Option<Mark>, stopped: Option<Stopped>) -> bool
     ensures { result ≡ is_missed broke stopped }
 {
-    broke.is_some() && stopped.is_none()
+    match (broke, stopped) {
+        (None, _) => false,
+        (Some(_), None) => true,
+        (Some(mark), Some(stopped)) => mark.offset < stopped.offset,
+    }
 }
 
 /// Whether the transport of a side broke a rule that the judge doesn't look at. The judge knows no sizes, and no references but
