@@ -78,8 +78,8 @@ pub Reads-whole : (at : ℕ) (p : Parameters) (rest : List ℕ) (whole : Result 
 Reads-whole at p rest whole r some known = whole_by at p rest whole (parameter_at at rest) r some known refl
 
 good_by : (at : ℕ) (p : Parameters) (rest : List ℕ) (whole : Result Parameters TpduFault) (item : Item)
-    (more : Result Parameters TpduFault) → Reads at p rest whole → 1 ≤ length rest → IsOk whole → parameter_at at rest ≡ Ok item → with_parameter at item.0 item.1 p ≡ more
-    → IsOk (with_parameter at item.0 item.1 p)
+    (more : Result Parameters TpduFault) → Reads at p rest whole → 1 ≤ length rest → IsOk whole → parameter_at at rest ≡ Ok item →
+    with_parameter at item.0 item.1 p ≡ more → IsOk (with_parameter at item.0 item.1 p)
 good_by at p rest whole item (Ok more) r some known took added = rw added refl
 good_by at p rest whole item (Err f) r some known took refused =
     absurd (bad_unknown whole f (Reads-refused at p rest whole item f r some took refused) known)

@@ -10,7 +10,8 @@ use Rattle.osi_spdu.proofs.basics.the_steps_of_reading.{bind_ok, bind_of, ok_is}
 use Rattle.osi_spdu.proofs.basics.length_indicators.{octets-tail, measured_ok, measured_again}
 use Rattle.osi_spdu.proofs.basics.length_indicators as lengths
 use Rattle.osi_spdu.proofs.parameters.one_level_is_read.{params_found, params_only, unit_follows}
-use Rattle.osi_spdu.proofs.first_faults.the_first_fault_is_returned.{failed, fault_is, never, no_value, measured_bad, value_of_no, counted_is}
+use Rattle.osi_spdu.proofs.first_faults.the_first_fault_is_returned.{failed, fault_is, never, no_value}
+use Rattle.osi_spdu.proofs.first_faults.the_first_fault_is_returned.{measured_bad, value_of_no, counted_is}
 use Rattle.osi_spdu.proofs.first_faults.the_first_fault_is_returned.{same_len, bind_bad, unit_level_found, unit_level_only, missing_found}
 use Rattle.osi_spdu.proofs.first_faults.the_first_fault_is_returned.{missing_only}
 

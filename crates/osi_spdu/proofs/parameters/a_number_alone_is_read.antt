@@ -1,9 +1,12 @@
 -- A serial number that is the only parameter of a unit is read as the loop over parameters reads it.
 -- For `levels::digits_alone` and `levels::number_alone`.
-use Rattle.std.proofs.Common.{◌≡◌, ℕ, ◌+◌, ◌≤◌, Bool, true, false, cond, ltb, eqb, List, [], ◌∷◌, length, take, drop, get_or, set, Some, None, Ok}
+use Rattle.std.proofs.Common.{◌≡◌, ℕ, ◌+◌, ◌≤◌, Bool, true, false, cond, ltb, eqb, List}
+use Rattle.std.proofs.Common.{[], ◌∷◌, length, take, drop, get_or, set, Some, None, Ok}
 use Rattle.std.proofs.Common.{◌-◌, option_map, refl, sym, ap, subst, ◌∙◌, arith}
-use Rattle.osi_spdu.proofs.Vocabulary.{le-ltb, ne_eqb, drop_all, take_all, is_some, numeral, digits_of, canonical, canonical_in, may_enclose}
-use Rattle.osi_spdu.proofs.Vocabulary.{Code, Number, number_of, slot_of, is_group, Kind, codes_of, among, Params, place_of, cells_of, slots_of}
+use Rattle.osi_spdu.proofs.Vocabulary.{le-ltb, ne_eqb, drop_all, take_all, is_some}
+use Rattle.osi_spdu.proofs.Vocabulary.{numeral, digits_of, canonical, canonical_in, may_enclose}
+use Rattle.osi_spdu.proofs.Vocabulary.{Code, Number, number_of, slot_of, is_group, Kind}
+use Rattle.osi_spdu.proofs.Vocabulary.{codes_of, among, Params, place_of, cells_of, slots_of}
 use Rattle.osi_spdu.proofs.Vocabulary.{filled, Known, nothing, Measured, measured_at, counted_at, parameter_at, params_of, in_unit}
 use Rattle.osi_spdu.proofs.Vocabulary.{parameter_taken, stored, code_among}
 use Rattle.osi_spdu.specs.Reading.{opened}

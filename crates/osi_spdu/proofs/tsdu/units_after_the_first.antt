@@ -1,5 +1,6 @@
 -- Units after the first one, given one after the other.
-use Rattle.std.proofs.Common.{◌≡◌, ℕ, zero, suc, ◌-◌, ◌≤◌, ◌==◌, ◌&&◌, ◌||◌, not, true, false, List, [], ◌∷◌, length, drop, get_or, Option, Some}
+use Rattle.std.proofs.Common.{◌≡◌, ℕ, zero, suc, ◌-◌, ◌≤◌, ◌==◌, ◌&&◌, ◌||◌, not}
+use Rattle.std.proofs.Common.{true, false, List, [], ◌∷◌, length, drop, get_or, Option, Some}
 use Rattle.std.proofs.Common.{None, Result, Ok, Err, refl, sym, ap, subst, ◌∙◌, arith}
 use Rattle.osi_spdu.proofs.Vocabulary.{is_ok, AllByRecursion, result_unwrap_or, and_parts, or_right, eq-eqb, SpduFault, Kind, Category}
 use Rattle.osi_spdu.proofs.Vocabulary.{Zero, One, Two, kind_named, category_of, may_stand, Units, ◌>>=◌, Next, next_at, behind_at, crowded}
