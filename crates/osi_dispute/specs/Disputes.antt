@@ -1,9 +1,9 @@
 -- What was found of a text of both sides of a capture.
-use Rattle.std.specs.Prelude.{◌≡◌, ◌⊎◌, ◌||◌, nat_lt, ℕ, Bool, true, false, List, Option, Some, None}
+use Rattle.std.specs.Prelude.{◌≡◌, ◌⊎◌, ◌||◌, nat_lt, nat_le, if◌then◌else◌, ℕ, Bool, true, false, List, Option, Some, None}
 use Rattle.osi_judge.specs.declared.directions.Direction.TheVariants.{Left, Right}
 use Rattle.osi_judge.specs.declared.stops.Stop.{Stop}
 use Rattle.osi_judge.specs.declared.stops.Stopped.{Stopped}
-use Rattle.osi_judge.specs.declared.stops.Stop.TheVariants.{OtherClass, MoreConnections}
+use Rattle.osi_judge.specs.declared.stops.Stop.TheVariants.{OtherClass, MoreConnections, Refused}
 use Rattle.osi_judge.specs.Captures.{Capture}
 use Rattle.osi_tap.specs.declared.marks.Mark.{Mark}
 use Rattle.osi_tap.specs.declared.rooms.Room.TheVariants.{Octets}
@@ -47,11 +47,20 @@ is_wide v = stops_at_other v.left.stopped || stops_at_other v.right.stopped
 abbrev pub transport_of : Capture → State
 transport_of capture = after capture (begin_within (Octets 0))
 
--- by these rules a side broke one in a packet that `osi_judge` has read and found right
+-- `osi_judge` reads the packet at which it stops, and finds it right: it is a refusal
+abbrev pub is_refusal : Stop → Bool
+is_refusal Refused = true
+is_refusal stop = false
+
+-- it has read the packet that begins there, and found it right
+abbrev pub is_found_right : ℕ → Stopped → Bool
+is_found_right offset s = if is_refusal s.stop then nat_le offset s.offset else nat_lt offset s.offset
+
+-- by the rules of transport a side broke one in a packet that `osi_judge` has read and found right
 abbrev pub is_missed : Option Mark → Option Stopped → Bool
 is_missed None stopped = false
 is_missed (Some mark) None = true
-is_missed (Some mark) (Some s) = nat_lt mark.offset s.offset
+is_missed (Some mark) (Some s) = is_found_right mark.offset s
 
 abbrev pub misses : State → Verdict → Bool
 misses s v = is_missed (marks_of Left s.course).broke v.left.stopped || is_missed (marks_of Right s.course).broke v.right.stopped

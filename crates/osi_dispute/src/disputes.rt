@@ -5,7 +5,7 @@ ghost use Rattle.osi_judge.specs.Captures.{Capture, piece};
 ghost use Rattle.osi_listing.specs.Capture.{IsNoCapture};
 ghost use Rattle.osi_tap.specs.Standing.{HoldsState, IsJudged};
 ghost use Rattle.osi_tap.specs.Tapping.{State, after, begin, comes_to};
-ghost use Rattle.osi_dispute.specs.Disputes.{stops_at_other, is_wide, is_missed, is_beyond, misses, transport_of};
+ghost use Rattle.osi_dispute.specs.Disputes.{stops_at_other, is_wide, is_found_right, is_missed, is_beyond, misses, transport_of};
 ghost use Rattle.osi_dispute.specs.Disputes.{IsJudgement, IsNarrow, IsWide, Reported};
 ghost use Rattle.osi_dispute.specs.Rows.{side_of, passed_by, capture_of, rows_of};
 ghost use Rattle.osi_dispute.specs.Reading.{rows_left};
@@ -131,14 +131,25 @@ fn is_wide(verdict: &Verdict) -> bool
     stops_at_other(verdict.left.stopped) || stops_at_other(verdict.right.stopped)
 }
 
-/// Whether a side broke a rule of transport in a packet before the one at which the judge stops.
+/// Whether the judge has read the packet of a side that begins there, and found it right: a packet before the one at which it
+/// stops, and that one if it is a refusal.
+fn is_found_right(offset: u64, stopped: Stopped) -> bool
+    ensures { result ≡ is_found_right offset stopped }
+{
+    match stopped.stop {
+        Stop::Refused => offset <= stopped.offset,
+        _ => offset < stopped.offset,
+    }
+}
+
+/// Whether a side broke a rule of transport in a packet that the judge has read and found right.
 fn is_missed(broke: Option<Mark>, stopped: Option<Stopped>) -> bool
     ensures { result ≡ is_missed broke stopped }
 {
     match (broke, stopped) {
         (None, _) => false,
         (Some(_), None) => true,
-        (Some(mark), Some(stopped)) => mark.offset < stopped.offset,
+        (Some(mark), Some(stopped)) => is_found_right(mark.offset, stopped),
     }
 }
 
