@@ -16,7 +16,7 @@ BEYOND_CALLS = {"in_flight.disputes an abort of a provider without resources", "
 # Those of class 2, or of several connections: a script has one connection of class 0, and stops before anything else.
 BEYOND_CLASS_0 = {"kept_and_outside.disputes a request of class 2, which nobody answers",
                   "transport_of_class_0.disputes data of class 2, where the CR offers class 0 too"}
-# The files in which each capture is so, or breaks a rule of transport that no script shows: one of sizes, or of a CC's reference.
+# The files in which each capture is so, or breaks a rule of transport that no script shows: one of sizes or references.
 REPORTED = ("class_2.disputes ", "class_2_after_a_break.disputes ", "sizes_and_references.disputes ")
 
 

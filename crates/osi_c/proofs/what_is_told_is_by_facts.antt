@@ -1,6 +1,6 @@
 -- What C is told of a side is told by what a judge keeps of both sides, and these are facts of the capture.
 -- For the functions of `watching`.
-use Rattle.std.proofs.Common.{◌≡◌, refl, sym, subst, ℕ, Bool, true, false, Option, Some, None, inr, if◌then◌else◌}
+use Rattle.std.proofs.Common.{◌≡◌, ◌∙◌, refl, sym, subst, ℕ, nat_lt, Bool, true, false, ◌&&◌, Option, Some, None, inr, if◌then◌else◌}
 use Rattle.osi_session.specs.Standing.{seen_called}
 use Rattle.osi_judge.specs.declared.directions.Direction.{Direction}
 use Rattle.osi_judge.specs.declared.directions.Direction.TheVariants as side
@@ -16,7 +16,8 @@ use Rattle.osi_judge.specs.Stops.{is_break}
 use Rattle.osi_judge.specs.Tapping.{IsFoundIn, IsStoppedIn}
 use Rattle.osi_judge.proofs.captured.what_is_known_of_a_side_is_of_the_capture.{known_in, is_first_in}
 use Rattle.osi_dispute.specs.Facts.{Facts, AreFacts, IsFirstOf, facts_of, is_refusal}
-use Rattle.osi_c.specs.Verdicts.{told_of_kept, told_of_found, told_unless, IsTrue, Tells, told_in, reference_in, is_certain}
+use Rattle.osi_c.specs.Verdicts.{told_of_kept, told_of_blamed, told_of_found, told_unless, IsTrue, Tells, told_in, reference_in}
+use Rattle.osi_c.specs.Verdicts.{is_certain}
 use Rattle.osi_c.specs.Verdicts.{Shows}
 use Rattle.osi_c.specs.Watching.{is_told, IsDue, HasNone, ShowsOf}
 use Rattle.osi_c.specs.declared.verdicts.OsiVerdict.{OsiVerdict}
@@ -65,11 +66,26 @@ kept_true d c full (Some s) f h = at_true d c full s (is_break s.stop) (is_refus
 kept_true d c true None f h = (f, refl)
 kept_true d c false None f h = (f, (None, h, refl))
 
+both_left : (a b : Bool) → (a && b) ≡ true → a ≡ true
+both_left true b e = refl
+both_left false b e = e
+
+sooner_true : (d : Direction) (c : Capture) (full : Bool) (s : Stopped) (t : Told) (breaks sooner both : Bool) → is_break s.stop ≡ breaks
+    → (breaks && sooner) ≡ both → IsTrue d c full t → IsStoppedIn d c (Some s) → IsTrue d c full (if both then told.Stopped s else t)
+sooner_true d c full s t breaks sooner true e q x h = (h, e ∙ both_left breaks sooner q)
+sooner_true d c full s t breaks sooner false e q x h = x
+
+blamed_true : (d : Direction) (c : Capture) (full : Bool) (s : Option Stopped) (o : ℕ) (t : Told) → IsTrue d c full t
+    → IsStoppedIn d c s → IsTrue d c full (told_of_blamed s o t)
+blamed_true d c full None o t x h = x
+blamed_true d c full (Some s) o t x h =
+    sooner_true d c full s t (is_break s.stop) (nat_lt s.offset o) (is_break s.stop && nat_lt s.offset o) refl refl x h
+
 found_true : (d : Direction) (c : Capture) (full : Bool) (x : Finding) (s : Option Stopped) (o : ℕ) (by : Break) → IsFoundIn d c x
     → IsStoppedIn d c s → IsTrue d c full (told_of_found full x s o by)
 found_true d c full Kept s o by f h = kept_true d c full s f h
-found_true d c full (Broke i) s o by f h = (i, f)
-found_true d c full (Left i) s o by f h = (i, f)
+found_true d c full (Broke i) s o by f h = blamed_true d c full s o (told.Broke o by) (i, f) h
+found_true d c full (Left i) s o by f h = blamed_true d c full s o (told.Leaves o by) (i, f) h
 found_true d c full TooMany s o by f h = f
 
 unless_true : (d : Direction) (c : Capture) (full dropped : Bool) (t : Told) → IsTrue d c full t → IsTrue d c full (told_unless dropped t)

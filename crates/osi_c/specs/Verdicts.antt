@@ -1,5 +1,5 @@
 -- What C is told of a side of a connection that it watches.
-use Rattle.std.specs.Prelude.{◌≡◌, ℕ, Bool, true, false, Option, Some, None, if◌then◌else◌}
+use Rattle.std.specs.Prelude.{◌≡◌, ℕ, nat_lt, Bool, true, false, ◌&&◌, Option, Some, None, if◌then◌else◌}
 use Rattle.osi_judge.specs.Captures.{Capture, other}
 use Rattle.osi_judge.specs.Feeding.{Tapped, stopped_of}
 use Rattle.osi_judge.specs.Following.{judged, half_of, first_in}
@@ -33,10 +33,16 @@ told_of_kept is_full (Some s) = told_at s
 told_of_kept true None = told.Full
 told_of_kept false None = told.Kept
 
+-- The session is to blame by the packet at this offset, unless the transport was to blame before: a DT of left may come before the
+-- answer to its CR.
+abbrev pub told_of_blamed : Option Stopped → (offset : ℕ) → Told → Told
+told_of_blamed None offset t = t
+told_of_blamed (Some s) offset t = if is_break s.stop && nat_lt s.offset offset then told.Stopped s else t
+
 abbrev pub told_of_found : (is_full : Bool) → Finding → Option Stopped → (offset : ℕ) → Break → Told
 told_of_found is_full finding.Kept stopped offset by = told_of_kept is_full stopped
-told_of_found is_full (finding.Broke i) stopped offset by = told.Broke offset by
-told_of_found is_full (finding.Left i) stopped offset by = told.Leaves offset by
+told_of_found is_full (finding.Broke i) stopped offset by = told_of_blamed stopped offset (told.Broke offset by)
+told_of_found is_full (finding.Left i) stopped offset by = told_of_blamed stopped offset (told.Leaves offset by)
 told_of_found is_full finding.TooMany stopped offset by = told.TooMany
 
 -- after the other side left the profile first, a side is judged no further

@@ -3,7 +3,7 @@
 ghost use Rattle.std.specs.Prelude.{◌≡◌, Some};
 ghost use Rattle.osi_judge.specs.Following.{judged, half_of, first_in};
 ghost use Rattle.osi_dispute.specs.Facts.{is_first, is_left, is_refusal, other_left};
-ghost use Rattle.osi_c.specs.Verdicts.{told_at, told_of_kept, told_of_found, told_of_half, told_in, is_certain, kind_code};
+ghost use Rattle.osi_c.specs.Verdicts.{told_at, told_of_kept, told_of_blamed, told_of_found, told_of_half, told_in, is_certain, kind_code};
 ghost use Rattle.osi_c.specs.Verdicts.{IsRuleOf, said_in, offset_in};
 ghost use Rattle.osi_c.specs.Verdicts.{reference_in, reference_code, Shows, nothing};
 ghost use Rattle.osi_c.specs.Watched.{side_of};
@@ -145,6 +145,20 @@ fn told_of_kept(is_full: bool, stopped: Option<Stopped>) -> Told
     }
 }
 
+/// What is told of a side whose session is to blame by the packet at this offset: that its transport broke the protocol, if it
+/// did so before. A DT of left may come before the answer to its CR.
+fn told_of_blamed(stopped: Option<Stopped>, offset: u64, told: Told) -> Told
+    ensures { result ≡ told_of_blamed stopped offset told }
+{
+    let Some(stopped) = stopped else {
+        return told;
+    };
+    if stopped.stop.is_break() && stopped.offset < offset {
+        return Told::Stopped(stopped);
+    }
+    told
+}
+
 /// What is told of a side of which this is known.
 fn told_of_found(
     is_full: bool,
@@ -157,8 +171,8 @@ fn told_of_found(
 {
     match finding {
         Finding::Kept => told_of_kept(is_full, stopped),
-        Finding::Broke(_) => Told::Broke(offset, by),
-        Finding::Left(_) => Told::Leaves(offset, by),
+        Finding::Broke(_) => told_of_blamed(stopped, offset, Told::Broke(offset, by)),
+        Finding::Left(_) => told_of_blamed(stopped, offset, Told::Leaves(offset, by)),
         Finding::TooMany => Told::TooMany,
     }
 }

@@ -1,6 +1,6 @@
 -- The line of the side that broke the protocol first has words, so a verdict ends with one: for the laws.
 use Rattle.std.proofs.Common.{◌≡◌, refl, sym, ap, subst, ℕ, ◌<◌, Bool, true, false, ◌||◌, ◌&&◌, List, []}
-use Rattle.std.proofs.Common.{length, Option, Some, None, arith}
+use Rattle.std.proofs.Common.{nat_lt, if◌then◌else◌, length, Option, Some, None, arith}
 use Rattle.osi_judge.specs.declared.directions.Direction.{Direction}
 use Rattle.osi_judge.specs.declared.directions.Direction.TheVariants as side
 use Rattle.osi_judge.specs.declared.findings.Finding.{Finding}
@@ -9,24 +9,30 @@ use Rattle.osi_judge.specs.declared.rules.Break.{Break}
 use Rattle.osi_judge.specs.declared.standings.Stands.{Stands}
 use Rattle.osi_judge.specs.declared.stops.Stopped.{Stopped}
 use Rattle.osi_judge.specs.Captures.{Capture}
-use Rattle.osi_judge.specs.Stops.{breaks, broke_session}
+use Rattle.osi_judge.specs.Stops.{is_break, breaks, broke_session}
 use Rattle.osi_judge.specs.Tapping.{IsFoundIn, IsReferenceIn, told}
 use Rattle.osi_judge.specs.Transport.{Sent, IsSent}
 use Rattle.osi_judge.proofs.captured.what_is_known_of_a_side_is_of_the_capture.{nameless_said_nothing}
+use Rattle.osi_dispute.specs.declared.verdicts.Account.{Account}
 use Rattle.osi_dispute.specs.declared.verdicts.Unjudged.{Unjudged}
 use Rattle.osi_dispute.specs.declared.verdicts.Unjudged.TheVariants.{Transport, TooMany as Many}
 use Rattle.osi_dispute.specs.declared.verdicts.Verdict.{Verdict}
 use Rattle.osi_judge.specs.declared.stops.Stop.TheVariants as stop
 use Rattle.osi_dispute.specs.Names.{unjudged_text}
 use Rattle.osi_dispute.specs.Texts.{first_text, broke_first, left_first as left_first_line, stopped_first, connection_first}
-use Rattle.osi_dispute.specs.Texts.{first_line, unjudged_line, line_by, outcome_line}
+use Rattle.osi_dispute.specs.Texts.{is_stopped_before, first_line, unjudged_line, line_by, outcome_line}
 use Rattle.osi_dispute.specs.Facts.{Facts, AreFacts, is_broken, told_by, is_refused, is_unanswered}
 use Rattle.osi_dispute.specs.Facts.{connection_by}
-use Rattle.osi_dispute.specs.Facts.{account_by, keeps, unjudged, kept_outcome, verdict_by, IsFirstOf}
+use Rattle.osi_dispute.specs.Facts.{left_first, account_by, keeps, unjudged, begins_late}
+use Rattle.osi_dispute.specs.Facts.{kept_outcome, outcome_of, outcome_unless, verdict_by, IsFirstOf}
 use Rattle.osi_dispute.specs.Facts.{IsDetermined}
 
 abbrev HasWords : List ℕ → Type 0
 HasWords line = line ≡ [] → ⊥
+
+both_left : (a b : Bool) → (a && b) ≡ true → a ≡ true
+both_left true b e = refl
+both_left false b e = e
 
 -- ---- lines
 
@@ -45,6 +51,16 @@ unfolding stopped_first first_text
 stop_words d None b e = absurd (cc)
 stop_words side.Left (Some s) b e = absurd (cc)
 stop_words side.Right (Some s) b e = absurd (cc)
+
+broke_before : (s : Option Stopped) (offset : ℕ) → is_stopped_before s offset ≡ true → breaks s ≡ true
+broke_before None offset b = absurd (cc)
+broke_before (Some s) offset b = both_left (is_break s.stop) (nat_lt s.offset offset) b
+
+-- of a side whose session is to blame, its transport is told if it broke the protocol before
+sooner_words : (d : Direction) (s : Option Stopped) (offset : ℕ) (line : List ℕ) (sooner : Bool) → is_stopped_before s offset ≡ sooner
+    → HasWords line → HasWords (if sooner then stopped_first d s else line)
+sooner_words d s offset line true e w = stop_words d s (broke_before s offset e)
+sooner_words d s offset line false e w = w
 
 unjudged_words : (why : Unjudged) → HasWords (unjudged_line why)
 unfolding unjudged_line unjudged_text
@@ -85,9 +101,11 @@ side_words : (d : Direction) (f : Finding) (count offset : ℕ) (stands : Stands
     → HasWords (connection_first d stopped
     (connection_by false reference (broke_session f) refused unanswered (told_by f count offset stands by)))
 side_words d (Broke i) count offset stands by stopped None refused unanswered h n = absurd (n refl refl)
-side_words d (Broke i) count offset stands by stopped (Some r) refused unanswered h n = broke_words d offset by
+side_words d (Broke i) count offset stands by stopped (Some r) refused unanswered h n =
+    sooner_words d stopped offset (broke_first d offset by) (is_stopped_before stopped offset) refl (broke_words d offset by)
 side_words d (Left i) count offset stands by stopped None refused unanswered h n = absurd (n refl refl)
-side_words d (Left i) count offset stands by stopped (Some r) refused unanswered h n = left_words d offset by
+side_words d (Left i) count offset stands by stopped (Some r) refused unanswered h n =
+    sooner_words d stopped offset (left_first_line d offset by) (is_stopped_before stopped offset) refl (left_words d offset by)
 side_words d Kept count offset stands by stopped None refused unanswered h n = stop_words d stopped h
 side_words d Kept count offset stands by stopped (Some r) true unanswered h n = stop_words d stopped h
 side_words d Kept count offset stands by stopped (Some r) false true h n = stop_words d stopped h
@@ -111,12 +129,35 @@ kept_words v true (Some why) right = unjudged_words why
 kept_words v true None (Some why) = unjudged_words why
 kept_words v true None None = λ e. absurd (cc)
 
+-- the outcome of a capture that does not begin in the middle
+judged_words : (c : Capture) (first : Option Direction) (l r : Facts) (v : Verdict) → AreFacts side.Left c l → AreFacts side.Right c r
+    → IsFirstOf first l r → v.left ≡ account_by (left_first first side.Right r.found) l r
+    → v.right ≡ account_by (left_first first side.Left l.found) r r
+    → HasWords (line_by v (outcome_of first (keeps l.found l.stopped && keeps r.found r.stopped) (unjudged l.stopped)
+    (unjudged r.stopped)))
+judged_words c None l r v a b f m s =
+    kept_words v (keeps l.found l.stopped && keeps r.found r.stopped) (unjudged l.stopped) (unjudged r.stopped)
+judged_words c (Some side.Left) l r v a b f m s =
+    subst (λ (x : Account). HasWords (first_line side.Left x)) (sym m) (account_words side.Left c l r a f)
+judged_words c (Some side.Right) l r v a b f m s =
+    subst (λ (x : Account). HasWords (first_line side.Right x)) (sym s) (account_words side.Right c r r b f)
+
+not_late : (b late : Bool) → late ≡ false → (b || late) ≡ b
+not_late true late e = refl
+not_late false late e = e
+
+words_unless : (c : Capture) (first : Option Direction) (l r : Facts) (late : Bool) → begins_late l.stopped ≡ late → AreFacts side.Left c l
+    → AreFacts side.Right c r → IsFirstOf first l r → HasWords (line_by (verdict_by first l r) (outcome_unless late
+    (outcome_of first (keeps l.found l.stopped && keeps r.found r.stopped) (unjudged l.stopped) (unjudged r.stopped))))
+words_unless c first l r true e a b f = unjudged_words (Transport stop.NoOpening)
+words_unless c first l r false e a b f =
+    judged_words c first l r (verdict_by first l r) a b f
+    (ap (λ (x : Bool). account_by x l r) (not_late (left_first first side.Right r.found) (begins_late l.stopped) e))
+    (ap (λ (x : Bool). account_by x r r) (not_late (left_first first side.Left l.found) (begins_late l.stopped) e))
+
 words_by : (c : Capture) (first : Option Direction) (l r : Facts) → AreFacts side.Left c l → AreFacts side.Right c r
     → IsFirstOf first l r → HasWords (outcome_line (verdict_by first l r))
-words_by c None l r a b f =
-    kept_words (verdict_by None l r) (keeps l.found l.stopped && keeps r.found r.stopped) (unjudged l.stopped) (unjudged r.stopped)
-words_by c (Some side.Left) l r a b f = account_words side.Left c l r a f
-words_by c (Some side.Right) l r a b f = account_words side.Right c r r b f
+words_by c first l r a b f = words_unless c first l r (begins_late l.stopped) refl a b f
 
 pub last_words : (c : Capture) (v : Verdict) → IsDetermined c v → HasWords (outcome_line v)
 unfolding IsDetermined

@@ -1,6 +1,6 @@
 -- Two verdicts on one capture are one: for the laws.
 use Rattle.std.proofs.Common.{◌≡◌, ◌∙◌, ◌⊎◌, inl, inr, refl, sym, ap, subst, ℕ, ◌-◌, Bool, true, false, List, length, Option, Some}
-use Rattle.std.proofs.Common.{None, option_map}
+use Rattle.std.proofs.Common.{None, option_map, ◌||◌}
 use Rattle.osi_tpkt.specs.Stream.{Ending, offset_of}
 use Rattle.osi_tpkt.proofs.a_stream_is_cut_in_one_way.{one_cut}
 use Rattle.osi_judge.specs.declared.directions.Direction.{Direction}
@@ -19,7 +19,7 @@ use Rattle.osi_judge.specs.Tapping.{IsReadIn, IsReferenceIn, IsStoppedIn, IsPlac
 use Rattle.osi_dispute.specs.declared.verdicts.Told.TheVariants as told
 use Rattle.osi_dispute.specs.declared.verdicts.Verdict.{Verdict}
 use Rattle.osi_dispute.specs.Facts.{Determined, IsDetermined, Facts, AreFacts, told_by, told_of, is_refused, is_unanswered}
-use Rattle.osi_dispute.specs.Facts.{connection_by, left_first, outcome_by, verdict_by, StandsIn}
+use Rattle.osi_dispute.specs.Facts.{connection_by, left_first, begins_late, outcome_by, verdict_by, StandsIn}
 use Rattle.osi_judge.specs.Foremost.{foremost}
 use Rattle.osi_judge.specs.KeptIn.{IsRuledIn, IsKeptStanding}
 use Rattle.osi_judge.proofs.told.a_side_strays_at_one_place.{one_judged, one_list}
@@ -163,14 +163,14 @@ verdicts_same first l r m s a b =
     λ i. record {
       left = record {
         reading = left_reading i;
-        connection = connection_by (left_first first side.Right (right_found i)) (left_reference i) (broke_session (left_found i))
-            (is_refused (right_stop i)) (is_unanswered (right_reference i) (right_stop i)) (left_told i);
+        connection = connection_by (left_first first side.Right (right_found i) || begins_late (left_stop i)) (left_reference i)
+            (broke_session (left_found i)) (is_refused (right_stop i)) (is_unanswered (right_reference i) (right_stop i)) (left_told i);
         stopped = left_stop i;
       };
       right = record {
         reading = right_reading i;
-        connection = connection_by (left_first first side.Left (left_found i)) (right_reference i) (broke_session (right_found i))
-            (is_refused (right_stop i)) (is_unanswered (right_reference i) (right_stop i)) (right_told i);
+        connection = connection_by (left_first first side.Left (left_found i) || begins_late (left_stop i)) (right_reference i)
+            (broke_session (right_found i)) (is_refused (right_stop i)) (is_unanswered (right_reference i) (right_stop i)) (right_told i);
         stopped = right_stop i;
       };
       outcome = outcome_by first (left_found i) (right_found i) (left_stop i) (right_stop i);
@@ -184,11 +184,11 @@ stands_same : HasOneList → (c : Capture) (first : Option Direction) (m s : Fac
     → StandsIn side.Right c (verdict_by first m s).right.connection
     → verdict_by first (standing_by m x) (standing_by s y) ≡ verdict_by first m s
 stands_same one c first m s x y h k p q =
-    let left = one_connection one side.Left c (left_first first side.Right s.found) m.reference (broke_session m.found)
-    (is_refused s.stopped)
+    let left = one_connection one side.Left c (left_first first side.Right s.found || begins_late m.stopped) m.reference
+    (broke_session m.found) (is_refused s.stopped)
     (is_unanswered s.reference s.stopped) m.found m.count m.offset x m.stands m.by h k in
-    let right = one_connection one side.Right c (left_first first side.Left m.found) s.reference (broke_session s.found)
-    (is_refused s.stopped)
+    let right = one_connection one side.Right c (left_first first side.Left m.found || begins_late m.stopped) s.reference
+    (broke_session s.found) (is_refused s.stopped)
     (is_unanswered s.reference s.stopped) s.found s.count s.offset y s.stands s.by p q in
     λ i. record {
       left = record { reading = m.reading; connection = left i; stopped = m.stopped };

@@ -25,7 +25,7 @@ use Rattle.osi_dispute.specs.declared.verdicts.Connection.TheVariants.{Silent, R
 use Rattle.osi_dispute.specs.declared.verdicts.Account.{Account}
 use Rattle.osi_dispute.specs.declared.verdicts.Outcome.{Outcome}
 use Rattle.osi_dispute.specs.Facts.{AreFacts, told_by, told_of, is_refused, is_unanswered, connection_by}
-use Rattle.osi_dispute.specs.Facts.{left_first}
+use Rattle.osi_dispute.specs.Facts.{is_dropped}
 use Rattle.osi_dispute.specs.Facts.{IsFirstOf, IsDetermined, StandsIn, facts_of, StandsBy, IsToldOf, Connects, Accounts}
 use Rattle.osi_dispute.specs.Facts.{outcome_in}
 use Rattle.osi_dispute.specs.Verdicts.{Knows}
@@ -178,8 +178,8 @@ stands_in d c j (Unanswered r) t h = tt
 stands_in d c j (Session r x) t h = stands_session d c j r x t h
 
 pub determined : (j : Judge) (c : Capture) (l r : Account) (o : Outcome) → Knows j c
-    → Accounts (left_first (first_in j) side.Right (judged j).right.side.finding) (judged j).left (judged j).right l
-    → Accounts (left_first (first_in j) side.Left (judged j).left.side.finding) (judged j).right (judged j).right r
+    → Accounts (is_dropped side.Left (first_in j) (judged j)) (judged j).left (judged j).right l
+    → Accounts (is_dropped side.Right (first_in j) (judged j)) (judged j).right (judged j).right r
     → o ≡ outcome_in (first_in j) (judged j) → IsDetermined c (record { left = l; right = r; outcome = o })
 unfolding IsDetermined
 determined j c l r o k a b e = record {

@@ -1,15 +1,17 @@
 -- What was found of a text of both sides of a capture.
-use Rattle.std.specs.Prelude.{◌≡◌, ◌⊎◌, ◌||◌, nat_lt, nat_le, if◌then◌else◌, ℕ, Bool, true, false, List, Option, Some, None}
+use Rattle.std.specs.Prelude.{◌≡◌, ◌⊎◌, ◌||◌, ◌&&◌, not, nat_lt, ℕ, Bool, true, false, List, Option, Some, None}
 use Rattle.osi_judge.specs.declared.directions.Direction.TheVariants.{Left, Right}
 use Rattle.osi_judge.specs.declared.stops.Stop.{Stop}
 use Rattle.osi_judge.specs.declared.stops.Stopped.{Stopped}
-use Rattle.osi_judge.specs.declared.stops.Stop.TheVariants.{OtherClass, MoreConnections, Refused}
+use Rattle.osi_judge.specs.declared.stops.Stop.TheVariants.{OtherClass, MoreConnections}
 use Rattle.osi_judge.specs.Captures.{Capture}
+use Rattle.osi_judge.specs.Stops.{is_break}
 use Rattle.osi_tap.specs.declared.marks.Mark.{Mark}
 use Rattle.osi_tap.specs.declared.rooms.Room.TheVariants.{Octets}
 use Rattle.osi_tap.specs.Courses.{marks_of}
 use Rattle.osi_tap.specs.Tapping.{State, after, begin_within, comes_to}
 use Rattle.osi_dispute.specs.declared.verdicts.Verdict.{Verdict}
+use Rattle.osi_dispute.specs.Facts.{begins_late}
 use Rattle.osi_dispute.specs.Reports.{Report, IsReport}
 use Rattle.osi_dispute.specs.ReportTexts.{report_text, last_status}
 use Rattle.osi_dispute.specs.Rows.{IsCaptureOf}
@@ -47,27 +49,19 @@ is_wide v = stops_at_other v.left.stopped || stops_at_other v.right.stopped
 abbrev pub transport_of : Capture → State
 transport_of capture = after capture (begin_within (Octets 0))
 
--- `osi_judge` reads the packet at which it stops, and finds it right: it is a refusal
-abbrev pub is_refusal : Stop → Bool
-is_refusal Refused = true
-is_refusal stop = false
-
--- it has read the packet that begins there, and found it right
-abbrev pub is_found_right : ℕ → Stopped → Bool
-is_found_right offset s = if is_refusal s.stop then nat_le offset s.offset else nat_lt offset s.offset
-
--- by the rules of transport a side broke one in a packet that `osi_judge` has read and found right
+-- by these rules a side broke one, and `osi_judge` found no break of its transport, or only a later one
 abbrev pub is_missed : Option Mark → Option Stopped → Bool
 is_missed None stopped = false
 is_missed (Some mark) None = true
-is_missed (Some mark) (Some s) = is_found_right mark.offset s
+is_missed (Some mark) (Some s) = not (is_break s.stop) || nat_lt mark.offset s.offset
 
 abbrev pub misses : State → Verdict → Bool
 misses s v = is_missed (marks_of Left s.course).broke v.left.stopped || is_missed (marks_of Right s.course).broke v.right.stopped
 
--- the capture is beyond `osi_judge`: its verdict is not on all connections, or there is a break that it doesn't look at
+-- The capture is beyond `osi_judge`: its verdict is not on all connections, or there is a break that it doesn't look at. If it begins
+-- in the middle of a connection, nothing is judged.
 abbrev pub is_beyond : Capture → Verdict → Bool
-is_beyond capture v = is_wide v || misses (transport_of capture) v
+is_beyond capture v = not (begins_late v.left.stopped) && (is_wide v || misses (transport_of capture) v)
 
 -- The capture has one connection of class 0, of which no break is missed, and they report a verdict on it.
 pub record IsNarrow (capture : Capture) (lines : List ℕ) (status : ℕ) : Type 0 where

@@ -8,7 +8,7 @@ use Rattle.osi_judge.specs.declared.judge.Reading.{Reading}
 use Rattle.osi_judge.specs.declared.rules.Break.{Break}
 use Rattle.osi_judge.specs.declared.standings.Stands.{Stands}
 use Rattle.osi_judge.specs.declared.stops.Stop.{Stop}
-use Rattle.osi_judge.specs.declared.stops.Stop.TheVariants.{Refused as Refusal}
+use Rattle.osi_judge.specs.declared.stops.Stop.TheVariants.{NoOpening, Refused as Refusal}
 use Rattle.osi_judge.specs.declared.stops.Stopped.{Stopped}
 use Rattle.osi_judge.specs.Captures.{Capture, other}
 use Rattle.osi_judge.specs.Explaining.{Told as ToldOf}
@@ -99,7 +99,7 @@ connection_with reference false true unanswered t = Refused reference
 connection_with reference false false true t = Unanswered reference
 connection_with reference false false false t = Session reference t
 
--- Nothing is told where the other side left the profile first, nor where this side gave no reference.
+-- Nothing is told if the other side left the profile first, or the capture begins in the middle, or this side gave no reference.
 abbrev pub connection_by : (dropped : Bool) → Option ℕ → (blamed refused unanswered : Bool) → Told → Connection
 connection_by true reference blamed refused unanswered t = Silent
 connection_by false None blamed refused unanswered t = Silent
@@ -133,6 +133,15 @@ abbrev pub unjudged : Option Stopped → Option Unjudged
 unjudged None = None
 unjudged (Some s) = unjudged_at s.stop
 
+-- the capture begins in the middle of a connection: the first packet of left has no CR
+abbrev pub is_no_opening : Stop → Bool
+is_no_opening NoOpening = true
+is_no_opening stop = false
+
+abbrev pub begins_late : (left_stop : Option Stopped) → Bool
+begins_late None = false
+begins_late (Some s) = is_no_opening s.stop
+
 abbrev pub keeps : Finding → Option Stopped → Bool
 keeps found stopped = not (breaks stopped) && is_kept found
 
@@ -142,16 +151,25 @@ kept_outcome true (Some why) right = NotJudged why
 kept_outcome true None (Some why) = NotJudged why
 kept_outcome true None None = BothKept
 
+abbrev pub outcome_of : Option Direction → (both_keep : Bool) → (left right : Option Unjudged) → Outcome
+outcome_of (Some d) both_keep left right = First d
+outcome_of None both_keep left right = kept_outcome both_keep left right
+
+-- nothing is judged if the capture begins in the middle
+abbrev pub outcome_unless : (late : Bool) → Outcome → Outcome
+outcome_unless true outcome = NotJudged (Transport NoOpening)
+outcome_unless false outcome = outcome
+
 abbrev pub outcome_by : Option Direction → (left right : Finding) → (left_stop right_stop : Option Stopped) → Outcome
-outcome_by (Some d) left right left_stop right_stop = First d
-outcome_by None left right left_stop right_stop =
-    kept_outcome (keeps left left_stop && keeps right right_stop) (unjudged left_stop) (unjudged right_stop)
+outcome_by first left right left_stop right_stop =
+    outcome_unless (begins_late left_stop)
+    (outcome_of first (keeps left left_stop && keeps right right_stop) (unjudged left_stop) (unjudged right_stop))
 
 -- by the side whose break passed first, and what is known of both
 abbrev pub verdict_by : Option Direction → Facts → Facts → Verdict
 verdict_by first left right = record {
-  left = account_by (left_first first Right right.found) left right;
-  right = account_by (left_first first Left left.found) right right;
+  left = account_by (left_first first Right right.found || begins_late left.stopped) left right;
+  right = account_by (left_first first Left left.found || begins_late left.stopped) right right;
   outcome = outcome_by first left.found right.found left.stopped right.stopped;
 }
 
@@ -234,6 +252,10 @@ pub record Accounts (dropped : Bool) (t right : Tapped) (a : Account) : Type 0 w
 -- the other side left the profile first
 abbrev pub other_left : Direction → Option Direction → Both → Bool
 other_left d first j = left_first first (other d) (half_of (other d) j).side.finding
+
+-- nothing is told of a side
+abbrev pub is_dropped : Direction → Option Direction → Both → Bool
+is_dropped d first j = other_left d first j || begins_late (stopped_of j.left)
 
 -- the outcome by what is kept of both sides, if nobody broke the protocol and in any case
 abbrev pub kept_outcome_of : Both → Outcome

@@ -1,5 +1,5 @@
 -- The text of a judgement.
-use Rattle.std.specs.Prelude.{ℕ, Bool, true, false, List, [], ◌++◌, codes, Option, Some, None}
+use Rattle.std.specs.Prelude.{ℕ, nat_lt, Bool, true, false, ◌&&◌, if◌then◌else◌, List, [], ◌++◌, codes, Option, Some, None}
 use Rattle.osi_judge.specs.declared.directions.Direction.{Direction}
 use Rattle.osi_judge.specs.declared.directions.Direction.TheVariants.{Left, Right}
 use Rattle.osi_judge.specs.declared.stops.Stopped.{Stopped}
@@ -64,10 +64,19 @@ unfoldable pub stopped_first : Direction → Option Stopped → List ℕ
 stopped_first d None = []
 stopped_first d (Some s) = first_text d (codes " broke the protocol") s.offset ++ stop_text s.stop ++ codes "\n"
 
--- if the session broke the protocol or left the profile, that was before its transport was stopped
+-- Its transport broke the protocol before the packet at this offset. Its session may be to blame by this packet all the same: a DT
+-- of left may come before the answer to its CR.
+abbrev pub is_stopped_before : Option Stopped → (offset : ℕ) → Bool
+is_stopped_before None offset = false
+is_stopped_before (Some s) offset = is_break s.stop && nat_lt s.offset offset
+
+-- the session is to blame by the packet at this offset, unless the transport was to blame before
+abbrev pub session_first : Direction → Option Stopped → (offset : ℕ) → (line : List ℕ) → List ℕ
+session_first d stopped offset line = if is_stopped_before stopped offset then stopped_first d stopped else line
+
 abbrev pub told_first : Direction → Option Stopped → Told → List ℕ
-told_first d stopped (told.Broke offset by) = broke_first d offset by
-told_first d stopped (told.Left offset by) = left_first d offset by
+told_first d stopped (told.Broke offset by) = session_first d stopped offset (broke_first d offset by)
+told_first d stopped (told.Left offset by) = session_first d stopped offset (left_first d offset by)
 told_first d stopped (told.Kept tsdus stands) = stopped_first d stopped
 told_first d stopped told.TooMany = stopped_first d stopped
 

@@ -5,7 +5,7 @@ ghost use Rattle.osi_judge.specs.Captures.{Capture, piece};
 ghost use Rattle.osi_listing.specs.Capture.{IsNoCapture};
 ghost use Rattle.osi_tap.specs.Standing.{HoldsState, IsJudged};
 ghost use Rattle.osi_tap.specs.Tapping.{State, after, begin, comes_to};
-ghost use Rattle.osi_dispute.specs.Disputes.{stops_at_other, is_wide, is_found_right, is_missed, is_beyond, misses, transport_of};
+ghost use Rattle.osi_dispute.specs.Disputes.{stops_at_other, is_wide, is_missed, is_beyond, misses, transport_of};
 ghost use Rattle.osi_dispute.specs.Disputes.{IsJudgement, IsNarrow, IsWide, Reported};
 ghost use Rattle.osi_dispute.specs.Rows.{side_of, passed_by, capture_of, rows_of};
 ghost use Rattle.osi_dispute.specs.Reading.{rows_left};
@@ -14,7 +14,7 @@ ghost use Rattle.osi_dispute.specs.Verdicts.{Knows};
 use crate::pieces::{Pieces, is_left_tabbed};
 use crate::report_texts::push_report;
 use crate::texts::Judgement;
-use crate::verdicts::{Verdict, judgement_by, verdict_of};
+use crate::verdicts::{Verdict, begins_late, judgement_by, verdict_of};
 use osi_judge::{Direction, Judge, Stop, Stopped};
 use osi_listing::{CaptureFault, octets_of};
 use osi_tap::{Mark, Tap};
@@ -131,25 +131,14 @@ fn is_wide(verdict: &Verdict) -> bool
     stops_at_other(verdict.left.stopped) || stops_at_other(verdict.right.stopped)
 }
 
-/// Whether the judge has read the packet of a side that begins there, and found it right: a packet before the one at which it
-/// stops, and that one if it is a refusal.
-fn is_found_right(offset: u64, stopped: Stopped) -> bool
-    ensures { result ≡ is_found_right offset stopped }
-{
-    match stopped.stop {
-        Stop::Refused => offset <= stopped.offset,
-        _ => offset < stopped.offset,
-    }
-}
-
-/// Whether a side broke a rule of transport in a packet that the judge has read and found right.
+/// Whether a side broke a rule of transport where the judge found no break of its transport, or only a later one.
 fn is_missed(broke: Option<Mark>, stopped: Option<Stopped>) -> bool
     ensures { result ≡ is_missed broke stopped }
 {
     match (broke, stopped) {
         (None, _) => false,
         (Some(_), None) => true,
-        (Some(mark), Some(stopped)) => is_found_right(mark.offset, stopped),
+        (Some(mark), Some(stopped)) => !stopped.stop.is_break() || mark.offset < stopped.offset,
     }
 }
 
@@ -163,11 +152,14 @@ fn misses(transport: &Tap, verdict: &Verdict) -> bool
     is_missed(left, verdict.left.stopped) || is_missed(right, verdict.right.stopped)
 }
 
-/// Whether the capture is beyond the judge.
+/// Whether the capture is beyond the judge. If it begins in the middle of a connection, nothing is judged.
 fn is_beyond(transport: &Tap, verdict: &Verdict) -> bool
     ensures { (capture : Capture) → HoldsState transport.now (transport_of capture) → IsJudged transport.now
         → result ≡ is_beyond capture verdict.now }
 {
+    if begins_late(verdict.left.stopped) {
+        return false;
+    }
     is_wide(verdict) || misses(transport, verdict)
 }
 

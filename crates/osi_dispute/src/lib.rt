@@ -19,9 +19,9 @@
 //! a verdict as lines, and [`status_of`] says which status the program ends with.
 //!
 //! That is so for one connection of class 0. If there is more than one, or one of another class, or if a `Tap` of `osi_tap`
-//! finds a break of transport in a packet that the judge has read and found right, the octets are fed to a `Tap` in place of
-//! the judge. [`push_report`] asks it what it found of each connection (a [`Pair`])
-//! and of the [`Transport`] of each side, and who was first ([`Last`]), and writes all that:
+//! finds a break of a side's transport where the judge finds none, or only a later one, the octets are fed to a `Tap` in place of
+//! the judge. [`push_report`] asks it what it found of each connection (a [`Pair`]) and of the [`Transport`] of each side, and who
+//! was first ([`Last`]), and writes all that:
 //!
 //! ```text
 //! left 1 kept 1 phase Ready held 55 next 1 below 1 lowest 1

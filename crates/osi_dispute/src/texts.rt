@@ -2,8 +2,8 @@
 
 ghost use Rattle.std.specs.Prelude.{◌≡◌, ◌++◌, ◌<◌, OnOk};
 ghost use Rattle.osi_dispute.specs.Texts.{told_lines, connection_lines, stopped_lines, who_text, where_text, first_text, broke_first};
-ghost use Rattle.osi_dispute.specs.Texts.{left_first, stopped_first, first_line, unjudged_line, outcome_line, verdict_text};
-ghost use Rattle.osi_dispute.specs.Texts.{verdict_status};
+ghost use Rattle.osi_dispute.specs.Texts.{left_first, stopped_first, is_stopped_before, first_line, unjudged_line, outcome_line};
+ghost use Rattle.osi_dispute.specs.Texts.{verdict_text, verdict_status};
 
 use crate::lines::{
     push_break, push_broke, push_kept, push_leaves, push_outside, push_reading, push_side,
@@ -143,18 +143,30 @@ fn push_stopped_first(
     push_words(text, "\n")
 }
 
+/// Whether the transport of a side broke the protocol before the packet at this offset. Its session may be to blame by this packet
+/// all the same: a DT of left may come before the answer to its CR.
+fn is_stopped_before(stopped: Option<Stopped>, offset: u64) -> bool
+    ensures { result ≡ is_stopped_before stopped offset }
+{
+    match stopped {
+        Some(stopped) => stopped.stop.is_break() && stopped.offset < offset,
+        None => false,
+    }
+}
+
 /// The line of the side that broke the protocol first, or left the profile.
 fn push_whose(text: &mut Vec<u8>, direction: Direction, account: &Account) -> Result<(), AllocError>
     ensures { OnOk result (text.new.items ≡ text.old.items ++ first_line direction account.now) }
 {
+    let stopped = account.stopped;
     match account.connection {
-        Connection::Session(_, Told::Broke(offset, by)) => {
+        Connection::Session(_, Told::Broke(offset, by)) if !is_stopped_before(stopped, offset) => {
             push_broke_first(text, direction, offset, &by)
         }
-        Connection::Session(_, Told::Left(offset, by)) => {
+        Connection::Session(_, Told::Left(offset, by)) if !is_stopped_before(stopped, offset) => {
             push_left_first(text, direction, offset, &by)
         }
-        _ => push_stopped_first(text, direction, account.stopped),
+        _ => push_stopped_first(text, direction, stopped),
     }
 }
 

@@ -3,7 +3,7 @@
 ghost use Rattle.std.specs.Prelude.{◌≡◌, ◌<◌, true, false, Some, IfOk};
 ghost use Rattle.osi_dispute.specs.Disputes.{Judged};
 ghost use Rattle.osi_dispute.specs.Texts.{verdict_text, verdict_status};
-ghost use Rattle.osi_dispute.specs.Facts.{is_refused, is_unanswered, is_first, is_left, other_left, unjudged, keeps};
+ghost use Rattle.osi_dispute.specs.Facts.{is_refused, is_unanswered, is_first, is_left, is_dropped, begins_late, unjudged, keeps};
 ghost use Rattle.osi_dispute.specs.Facts.{kept_outcome_of, outcome_in};
 ghost use Rattle.osi_dispute.specs.Facts.{IsToldOf, Connects, Accounts};
 ghost use Rattle.osi_judge.specs.Captures.{Capture};
@@ -127,10 +127,23 @@ fn is_left(finding: Finding) -> bool
     matches!(finding, Finding::Left(_))
 }
 
-/// Whether the other side left the profile first: then this side is judged no further.
-fn is_dropped(judge: &Judge, direction: Direction) -> bool
-    ensures { result ≡ other_left direction (first_in judge.now) (judged judge.now) }
+/// Whether the capture begins in the middle of a connection: the first packet of left has no CR.
+pub(crate) fn begins_late(left: Option<Stopped>) -> bool
+    ensures { result ≡ begins_late left }
 {
+    match left {
+        Some(stopped) => matches!(stopped.stop, Stop::NoOpening),
+        None => false,
+    }
+}
+
+/// Whether nothing is told of a side: the other side left the profile first, or the capture begins in the middle.
+fn is_dropped(judge: &Judge, direction: Direction) -> bool
+    ensures { result ≡ is_dropped direction (first_in judge.now) (judged judge.now) }
+{
+    if begins_late(judge.stopped(Direction::Left)) {
+        return true;
+    }
     let other = direction.other();
     if !is_first(judge.first(), other) {
         return false;
@@ -190,7 +203,7 @@ fn connection_by(
 }
 
 fn connection_of(judge: &Judge, direction: Direction) -> Result<Connection, AllocError>
-    ensures told { IfOk result (λ c. Connects (other_left direction (first_in judge.now) (judged judge.now))
+    ensures told { IfOk result (λ c. Connects (is_dropped direction (first_in judge.now) (judged judge.now))
         (half_of direction (judged judge.now)) (half_of Direction.Right (judged judge.now)) c) }
     ensures found { IfOk result (λ c. (capture : Capture) → Knows judge.now capture → IsTrueOf direction capture c) }
 {
@@ -204,7 +217,7 @@ fn connection_of(judge: &Judge, direction: Direction) -> Result<Connection, Allo
 }
 
 fn account_of(judge: &Judge, direction: Direction) -> Result<Account, AllocError>
-    ensures told { IfOk result (λ a. Accounts (other_left direction (first_in judge.now) (judged judge.now))
+    ensures told { IfOk result (λ a. Accounts (is_dropped direction (first_in judge.now) (judged judge.now))
         (half_of direction (judged judge.now)) (half_of Direction.Right (judged judge.now)) a) }
     ensures connection { IfOk result (λ a. (capture : Capture) → Knows judge.now capture → IsTrueOf direction capture a.connection) }
     ensures stopped { IfOk result (λ a. (capture : Capture) → Knows judge.now capture → IsStoppedIn direction capture a.stopped) }
@@ -281,6 +294,9 @@ fn outcome_of(judge: &Judge) -> Outcome
     ensures value { result ≡ outcome_in (first_in judge.now) (judged judge.now) }
     ensures told { (capture : Capture) → Knows judge.now capture → IsOutcome capture result }
 {
+    if begins_late(judge.stopped(Direction::Left)) {
+        return Outcome::NotJudged(Unjudged::Transport(Stop::NoOpening));
+    }
     match judge.first() {
         Some(direction) => Outcome::First(direction),
         None => kept_outcome(judge),

@@ -1,9 +1,8 @@
 use Rattle.std.proofs.Common.{◌∙◌, sym, subst, Bool}
-use Rattle.osi_judge.specs.Captures.{other}
 use Rattle.osi_judge.specs.Following.{judged, half_of, first_in}
 use Rattle.osi_judge.specs.declared.directions.Direction.TheVariants.{Right}
 use Rattle.osi_dispute.specs.declared.verdicts.Connection.TheVariants.{Silent}
-use Rattle.osi_dispute.specs.Facts.{left_first, Connects}
+use Rattle.osi_dispute.specs.Facts.{is_dropped, Connects}
 use Rattle.osi_dispute.proofs.what_is_told_is_by_facts.{dropped, nameless}
 use Rattle.osi_dispute.proofs.verdicts.connection_of.Goals as goal
 
@@ -11,7 +10,7 @@ pub returns-then-is_dropped-clause-told : goal.returns-then-is_dropped-clause-to
 returns-then-is_dropped-clause-told c =
     let j = judged c.args.judge.now in
     let d = c.args.direction in
-    dropped (left_first (first_in c.args.judge.now) (other d) (half_of (other d) j).side.finding) (half_of d j) (half_of Right j)
+    dropped (is_dropped d (first_in c.args.judge.now) j) (half_of d j) (half_of Right j)
     (sym c.is_dropped.ensures ∙ c.if-is_dropped.true)
 
 pub returns-in-None-clause-told : goal.returns-in-None-clause-told
