@@ -842,9 +842,10 @@ uint32_t osi_watch_next(osi_watch *watch, osi_watch_verdict *verdict) OSI_LOOK;
  *   right broke packet 92 CC ReferenceInUse                     the transport of a side
  *   left not judged after right packet 92 CC ReferenceInUse     a side of which nothing more is judged
  *
- * The line has no line feed, and a 0 octet after it. Returns its length without the 0; a buffer of OSI_WATCH_VERDICT_TEXT octets holds any line. If
- * size is smaller, as much of the line as fits is written, with a 0 octet after it; if size is 0, nothing is, and the text may be
- * null. A verdict that is all 0, and OSI_VERDICT_KEPT, give no text. No memory is taken, and no watch is needed. */
+ * The line has no line feed, and a 0 octet after it. Returns its length without the 0; a buffer of
+ * OSI_WATCH_VERDICT_TEXT octets holds any line. If size is smaller, as much of the line as fits is written,
+ * with a 0 octet after it; if size is 0, nothing is, and the text may be null. A verdict that is all 0, and
+ * OSI_VERDICT_KEPT, give no text. No memory is taken, and no watch is needed. */
 size_t osi_watch_verdict_text(const osi_watch_verdict *verdict, char *text, size_t size);
 
 /* A buffer of so many octets holds the line of any verdict, with the 0 octet after it. */
