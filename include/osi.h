@@ -617,7 +617,8 @@ typedef struct osi_judge {
 #define OSI_LEFT 0u  /* the side that opened the byte connection, and sent the CR */
 #define OSI_RIGHT 1u /* the other side */
 
-/* What a verdict says of a side. OSI_VERDICT_KEPT may change while octets pass; the others don't. */
+/* What a verdict says of a side. OSI_VERDICT_KEPT may change while octets pass. The others may change only to
+ * OSI_VERDICT_NONE, if the other side leaves the profile. */
 #define OSI_VERDICT_NONE 0u       /* nothing: the other side left the profile before */
 #define OSI_VERDICT_KEPT 1u       /* all that it sent so far is what a conforming end may send */
 #define OSI_VERDICT_BROKE 2u      /* it broke the protocol: said, rule, offset */

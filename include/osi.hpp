@@ -595,7 +595,8 @@ enum class tap_side : std::uint32_t {
     right = OSI_RIGHT,
 };
 
-/* What a verdict says of a side. `kept` may change while octets pass; the others don't. */
+/* What a verdict says of a side. `kept` may change while octets pass. The others may change only to `none`, if the
+ * other side leaves the profile. */
 enum class verdict_kind : std::uint32_t {
     none = OSI_VERDICT_NONE,             /* nothing: the other side left the profile before */
     kept = OSI_VERDICT_KEPT,             /* all that it sent so far is what a conforming end may send */

@@ -16,7 +16,8 @@ pub enum TapSide {
     Right = 1,
 }
 
-/// What a [`Verdict`] says of a side. [`Kept`](VerdictKind::Kept) may change while octets pass; the others don't.
+/// What a [`Verdict`] says of a side. [`Kept`](VerdictKind::Kept) may change while octets pass. The others may change
+/// only to [`None`](VerdictKind::None), if the other side leaves the profile.
 #[derive(Clone, Copy, Debug, PartialEq, Eq, Hash)]
 pub enum VerdictKind {
     /// Nothing: the other side left the profile before.

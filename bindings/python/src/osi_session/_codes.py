@@ -277,7 +277,8 @@ class TapSide(IntEnum):
 
 
 class VerdictKind(IntEnum):
-    """What a ``Verdict`` says of a side. KEPT may change while octets pass; the others don't."""
+    """What a ``Verdict`` says of a side. KEPT may change while octets pass. The others may change only to NONE, if the other
+    side leaves the profile."""
 
     NONE = 0
     """Nothing: the other side left the profile before."""
