@@ -4,9 +4,9 @@ use Rattle.std.proofs.Common.{◌≡◌, refl, sym, subst, true, false, List, []
 use Rattle.osi_machine.specs.Core.{turned, called}
 use Rattle.osi_machine.proofs.Vocabulary.{AllByRecursion, Granted, Answer, Call, Accept, Data, Give, Please, Minor, MinorConfirm, Major}
 use Rattle.osi_machine.proofs.Vocabulary.{MajorConfirm, Restart, RestartConfirm, Release, ReleaseRefuse, HasSerial, Meaning, CN, AC, RF, DT}
-use Rattle.osi_machine.proofs.Vocabulary.{GT, PT, MIP, MIA, MAP, MAA, RS, RA, FN, DN, NF, AB, AA, stands, drops, allowed, is_empty, Owner}
-use Rattle.osi_machine.proofs.Vocabulary.{Owners, turned_owner, turned_owners, is_plain, AllFit, Core, CoreStep, call_at, take_at, Side}
-use Rattle.osi_machine.proofs.Vocabulary.{Left, Right, stays_in_core, answered, taking, takes, at_side, core_step, core_run, IsNumberedStep}
+use Rattle.osi_machine.proofs.Vocabulary.{GT, PT, MIP, MIA, MAP, MAA, RS, RA, FN, DN, NF, AB, AA, stands, drops, allowed, Owner, Owners}
+use Rattle.osi_machine.proofs.Vocabulary.{turned_owner, turned_owners, is_plain, AllFit, Core, CoreStep, call_at, take_at, Side, Left}
+use Rattle.osi_machine.proofs.Vocabulary.{Right, stays_in_core, answered, taking, takes, at_side, core_step, core_run, IsNumberedStep}
 use Rattle.osi_machine.proofs.Vocabulary.{not-true}
 use Rattle.osi_machine.proofs.basics.what_holds_in_each_phase.{by_test}
 use Rattle.osi_machine.proofs.invariant.what_holds_of_both_sides.{Half, Pair, Stands}
@@ -32,13 +32,7 @@ call_stands : (w : Core) (c : Call) → stays_in_core c ≡ true → IsGranted w
     → Stands (answered w c (Ok (granted w.own.session c)))
 call_stands w (Accept requirements serial sides sizes octets) k q s = accept_stands w requirements serial sides sizes octets q s
 call_stands w (Data octets) k q s = data_stands w octets q.phase q.needed.0 s q.kept
-call_stands w (Give tokens) k q s =
-    give_stands w tokens (record {
-      phase = q.phase;
-      selected = q.needed.0;
-      held = q.needed.1.0;
-      one = not-true (is_empty tokens) q.needed.1.1.0;
-    }) s q.kept
+call_stands w (Give tokens) k q s = grind (arith, give_stands, not-true)
 call_stands w (Please tokens octets) k q s = please_stands w tokens octets q.phase q.needed.0 s q.kept
 call_stands w (Minor confirm octets) k q s = minor_stands w confirm octets q s
 call_stands w (MinorConfirm n octets) k q s = minor_confirm_stands w n octets q s

@@ -1,29 +1,20 @@
 -- What is written of a field reads back as it.
-use Rattle.std.proofs.Common.{◌≡◌, ◌∙◌, ℕ, ◌+◌, ◌*◌, ◌/◌, ◌%◌, ◌≤◌, ◌==◌, ◌&&◌, Bool, true, false, Some, None, option_map, if◌then◌else◌}
-use Rattle.std.proofs.Common.{refl, sym, ap, eqb, arith}
-use Rattle.osi_message.proofs.Vocabulary.{bit_and, and_parts, eqb-true, and_assoc, TsduMaximumSize, Wish, Asker, Answerer, Choice}
-use Rattle.osi_message.proofs.Vocabulary.{TokenSetting, wish_number, size_octets, setting_octets, written_sizes, named, wish_named}
-use Rattle.osi_message.proofs.Vocabulary.{sizes_in, setting_named, first_in}
+use Rattle.std.proofs.Common.{◌≡◌, ◌∙◌, ℕ, ◌+◌, ◌*◌, ◌/◌, ◌%◌, ◌≤◌, Some, option_map, ap, eqb, arith}
+use Rattle.osi_message.proofs.Vocabulary.{bit_and, and_parts, eqb-true, and_assoc, TsduMaximumSize, Wish, TokenSetting, wish_number}
+use Rattle.osi_message.proofs.Vocabulary.{size_octets, setting_octets, written_sizes, named, wish_named, sizes_in, setting_named, first_in}
 
 same_bit : (t b : ℕ) → bit_and 85 b ≡ b → eqb (bit_and (bit_and t 85) b) b ≡ eqb (bit_and t b) b
 same_bit t b e = ap (λ (x : ℕ). eqb x b) (and_assoc b t 85 ∙ ap (bit_and t) e)
 
 -- the bits that name no token make no difference
 pub named_again : (t : ℕ) → named (bit_and t 85) ≡ named t
-named_again t =
-    let a = same_bit t 1 refl in
-    let b = same_bit t 4 refl in
-    let c = same_bit t 16 refl in
-    let d = same_bit t 64 refl in
-    λ i. record { data_token = a i; minor = b i; major = c i; release = d i }
+named_again t = grind (arith, same_bit)
 
 wish_again : (w : Wish) → wish_named (wish_number w) ≡ w
-wish_again Asker = refl
-wish_again _ = refl
+wish_again w = grind arith
 
 pub wish_small : (w : Wish) → wish_number w ≤ 2
-wish_small Asker = omega arith
-wish_small _ = omega arith
+wish_small w = grind arith
 
 -- four pairs of bits are read as the wishes that they represent
 pub pairs_again : (a b c d : ℕ) → a ≤ 2 → b ≤ 2 → c ≤ 2 → d ≤ 2 →
@@ -43,10 +34,7 @@ setting_again s =
 
 -- two numbers of two octets are read as the sizes that they represent
 pub sizes_again : (s : TsduMaximumSize) → sizes_in (Some (size_octets s)) ≡ s
-sizes_again s =
-    let a : 256 * (s.from_asker / 256) + s.from_asker % 256 ≡ s.from_asker = omega arith in
-    let b : 256 * (s.from_answerer / 256) + s.from_answerer % 256 ≡ s.from_answerer = omega arith in
-    λ i. record { from_asker = a i; from_answerer = b i }
+sizes_again s = grind arith
 
 -- if nothing is written, both are 0
 pub written_again : (s : TsduMaximumSize) → sizes_in (option_map size_octets (written_sizes s)) ≡ s

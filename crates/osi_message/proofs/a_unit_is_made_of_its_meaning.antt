@@ -1,5 +1,5 @@
 -- The parameters that a unit is made with are those of its meaning.
-use Rattle.std.proofs.Common.{◌≡◌, ◌∙◌, ap, ℕ, ◌+◌, Bool, true, false, List, [], ◌∷◌, Option, Some, None, refl, option_map, arith}
+use Rattle.std.proofs.Common.{◌≡◌, ◌∙◌, ap, ℕ, true, List, [], ◌∷◌, Option, Some, option_map, arith}
 use Rattle.std.specs.Borrow.{Bor}
 use Rattle.osi_spdu.specs.declared.codes.Code.TheVariants as code
 use Rattle.osi_spdu.specs.declared.serials.Serial.{Serial}
@@ -9,17 +9,15 @@ use Rattle.osi_spdu.specs.declared.requirements.Requirements.{Requirements}
 use Rattle.osi_spdu.specs.declared.fields.Reason.{Reason}
 use Rattle.osi_spdu.specs.declared.fields.SyncType.TheVariants.{Open}
 use Rattle.osi_spdu.specs.Params.{place_of}
-use Rattle.osi_message.proofs.Vocabulary.{bit_and, Code, ConnectAcceptItem, SyncType, TokenItem, TransportDisconnect, ProtocolOptions}
-use Rattle.osi_message.proofs.Vocabulary.{UserRequirements, Version, InitialNumber, Number, CallingSelector, CalledSelector, UserData}
-use Rattle.osi_message.proofs.Vocabulary.{TokenSetting, ResyncType, TsduMaximumSize, number_of, digits_of, setting_octets, resync_octet}
-use Rattle.osi_message.proofs.Vocabulary.{bits_of, unit_bits, written_sizes, nothing, put, cells_of, slots_of, known_of, no_params, Tokens}
+use Rattle.osi_message.proofs.Vocabulary.{bit_and, SyncType, TokenItem, TransportDisconnect, CallingSelector, CalledSelector, TokenSetting}
+use Rattle.osi_message.proofs.Vocabulary.{ResyncType, TsduMaximumSize, number_of, digits_of, setting_octets, resync_octet, bits_of}
+use Rattle.osi_message.proofs.Vocabulary.{unit_bits, written_sizes, nothing, put, cells_of, slots_of, known_of, no_params, Tokens}
 use Rattle.osi_message.proofs.Vocabulary.{token_octet, put_some, with_data, terms, numbered}
 use Rattle.osi_message.proofs.the_octet_of_a_set_of_tokens.{octet_kept}
 
 same_serial : (serial : Option Serial) →
     option_map (λ s. digits_of s.number) serial ≡ option_map digits_of (option_map (λ s. s.number) serial)
-same_serial None = refl
-same_serial (Some s) = refl
+same_serial serial = grind arith
 
 abbrev serial_number : Option Serial → Option ℕ
 serial_number serial = option_map (λ s. s.number) serial

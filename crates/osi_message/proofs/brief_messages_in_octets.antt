@@ -44,21 +44,13 @@ none_there [] b e t = refl
 none_there (o ∷ octets) b e t = absurd (grind (arith, e, t))
 
 pub none_left : (octets : List ℕ) (b : Bool) → b ≡ (length octets == 0) → not b ≡ false → octets ≡ []
-none_left octets true e t = none_there octets true e refl
-none_left octets false e t = absurd (cc)
+none_left octets b e t = grind (arith, none_there)
 
 -- ---- the meaning
 
 brief_sendable : (m : Meaning) → is_brief m ≡ true → IsSendable m
 unfolding user_data_of
-brief_sendable (GT tokens) h = record { version = refl; numbered = tt; sized = refl; addressed = tt; short = omega arith }
-brief_sendable (PT tokens []) h = record { version = refl; numbered = tt; sized = refl; addressed = tt; short = omega arith }
-brief_sendable (FN []) h = record { version = refl; numbered = tt; sized = refl; addressed = tt; short = omega arith }
-brief_sendable (DN []) h = record { version = refl; numbered = tt; sized = refl; addressed = tt; short = omega arith }
-brief_sendable (NF []) h = record { version = refl; numbered = tt; sized = refl; addressed = tt; short = omega arith }
-brief_sendable (AB bits []) h = record { version = refl; numbered = tt; sized = refl; addressed = tt; short = omega arith }
-brief_sendable AA h = record { version = refl; numbered = tt; sized = refl; addressed = tt; short = omega arith }
-brief_sendable _ h = absurd (cc)
+brief_sendable m h = grind arith
 
 -- the octets of a brief message mean it
 pub brief_said : ((m : Meaning) → IsSendable m → tsdu_at (written m) ≡ Ok (spelled m)) →

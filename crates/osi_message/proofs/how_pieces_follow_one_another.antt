@@ -1,6 +1,6 @@
 -- Data in parts: how its pieces follow one another, and what is true of them.
-use Rattle.std.proofs.Common.{◌≡◌, ◌∙◌, refl, sym, ap, subst, ℕ, zero, suc, ◌<◌, ◌≤◌, Bool, true, false, if◌then◌else◌, nat_le, List, []}
-use Rattle.std.proofs.Common.{◌∷◌, ◌++◌, length, take, drop, map, arith, append_assoc}
+use Rattle.std.proofs.Common.{◌≡◌, refl, sym, ap, subst, ℕ, zero, suc, ◌<◌, ◌≤◌, Bool, true, false, if◌then◌else◌, nat_le, List, [], ◌∷◌}
+use Rattle.std.proofs.Common.{◌++◌, length, take, drop, map, arith, append_assoc}
 use Rattle.osi_message.proofs.Vocabulary.{le-leb, leb-false, lt-leb, length-append, length-drop, First, Middle, Last, part, Words}
 use Rattle.osi_message.proofs.Vocabulary.{part_octets, word_octets, pieces, later_parts, parts_of}
 
@@ -8,8 +8,7 @@ use Rattle.osi_message.proofs.Vocabulary.{part_octets, word_octets, pieces, late
 
 same_if : (b : Bool) (o x : List ℕ) (xs ys : List (List ℕ)) → (b ≡ false → xs ≡ ys) →
     (if b then o ∷ [] else x ∷ xs) ≡ (if b then o ∷ [] else x ∷ ys)
-same_if true o x xs ys e = refl
-same_if false o x xs ys e = ap (λ r. x ∷ r) (e refl)
+same_if b o x xs ys e = grind arith
 
 -- fuel beyond the number of octets makes no difference
 same_pieces : (f g size : ℕ) (o : List ℕ) → 0 < size → length o ≤ f → length o ≤ g → pieces f size o ≡ pieces g size o
@@ -27,17 +26,13 @@ all_pieces size o = pieces (length o) size o
 
 step_of : (n size : ℕ) (o : List ℕ) → length o ≡ n → 0 < size → size < length o →
     pieces n size o ≡ take size o ∷ all_pieces size (drop size o)
-step_of zero size o e some long = absurd (omega arith)
-step_of (suc n) size o e some long =
-    let no : nat_le (length o) size ≡ false = lt-leb (length o) size long in let d = length-drop size o in
-    rw no (ap (λ r. take size o ∷ r) (same_pieces n (length (drop size o)) size (drop size o) some (omega arith) (omega arith)))
+step_of n size o e some long = grind (arith, lt-leb, length-drop, same_pieces)
 
 step : (size : ℕ) (o : List ℕ) → 0 < size → size < length o → all_pieces size o ≡ take size o ∷ all_pieces size (drop size o)
 step size o some long = step_of (length o) size o refl some long
 
 end_of : (n size : ℕ) (o : List ℕ) → length o ≤ size → pieces n size o ≡ o ∷ []
-end_of zero size o short = refl
-end_of (suc n) size o short = let yes : nat_le (length o) size ≡ true = le-leb (length o) size short in rw yes refl
+end_of n size o short = grind (arith, le-leb)
 
 -- there is one piece at least
 pub record IsCons (os : List (List ℕ)) : Type 0 where
@@ -46,12 +41,10 @@ pub record IsCons (os : List (List ℕ)) : Type 0 where
   pub is : os ≡ head ∷ tail
 
 cons_if : (b : Bool) (o x : List ℕ) (xs : List (List ℕ)) → IsCons (if b then o ∷ [] else x ∷ xs)
-cons_if true o x xs = record { head = o; tail = []; is = refl }
-cons_if false o x xs = record { head = x; tail = xs; is = refl }
+cons_if b o x xs = grind arith
 
 pub some_piece : (fuel size : ℕ) (o : List ℕ) → IsCons (pieces fuel size o)
-some_piece zero size o = record { head = o; tail = []; is = refl }
-some_piece (suc fuel) size o = cons_if (nat_le (length o) size) o (take size o) (pieces fuel size (drop size o))
+some_piece fuel size o = grind (arith, cons_if)
 
 -- ---- parts
 
@@ -64,9 +57,7 @@ middle_of x os c = subst (λ (l : List (List ℕ)). later_parts (x ∷ l) ≡ pa
 
 pub rest_step : (size : ℕ) (o : List ℕ) → 0 < size → size < length o →
     rest_parts size o ≡ part Middle (take size o) ∷ rest_parts size (drop size o)
-rest_step size o some long =
-    ap later_parts (step size o some long) ∙ middle_of (take size o) (all_pieces size (drop size o))
-    (some_piece (length (drop size o)) size (drop size o))
+rest_step size o some long = grind (arith, step, middle_of, some_piece)
 
 pub rest_end : (size : ℕ) (o : List ℕ) → length o ≤ size → rest_parts size o ≡ part Last o ∷ []
 rest_end size o short = ap later_parts (end_of (length o) size o short)
@@ -86,21 +77,12 @@ IsParting size all rest tsdus = tsdus ++ octets_of (rest_parts size rest) ≡ oc
 
 pub parting_begins : (size : ℕ) (all first rest : List ℕ) (tsdus : List (List ℕ)) → 0 < size → size < length all
     → first ≡ take size all → rest ≡ drop size all → tsdus ≡ part_octets First first ∷ [] → IsParting size all rest tsdus
-parting_begins size all first rest tsdus some long f r t =
-    subst (λ (l : List (List ℕ)). IsParting size all rest l) (sym t)
-    (subst (λ (l : List ℕ). IsParting size all rest (part_octets First l ∷ [])) (sym f)
-    (subst (λ (l : List ℕ). IsParting size all l (part_octets First (take size all) ∷ [])) (sym r)
-    (ap octets_of (sym (parts_begin size all some long)))))
+parting_begins size all first rest tsdus some long f r t = grind (arith, parts_begin)
 
 pub parting_goes_on : (size : ℕ) (all rest piece behind : List ℕ) (old new : List (List ℕ)) → 0 < size → size < length rest
     → piece ≡ take size rest → behind ≡ drop size rest → new ≡ old ++ part_octets Middle piece ∷ []
     → IsParting size all rest old → IsParting size all behind new
-parting_goes_on size all rest piece behind old new some long f r t h =
-    subst (λ (l : List (List ℕ)). IsParting size all behind l) (sym t)
-    (subst (λ (l : List ℕ). IsParting size all behind (old ++ part_octets Middle l ∷ [])) (sym f)
-    (subst (λ (l : List ℕ). IsParting size all l (old ++ part_octets Middle (take size rest) ∷ [])) (sym r)
-    (append_assoc old (part_octets Middle (take size rest) ∷ []) (octets_of (rest_parts size (drop size rest)))
-    ∙ ap (λ (w : Words). old ++ octets_of w) (sym (rest_step size rest some long)) ∙ h)))
+parting_goes_on size all rest piece behind old new some long f r t h = grind (arith, append_assoc, rest_step)
 
 -- what has something put after it is not empty
 pub some_put : {A : Type 0} (f : A → List ℕ) (new : List A) (old : List (List ℕ)) (tsdu : List ℕ) → map f new ≡ old ++ tsdu ∷ [] →

@@ -1,12 +1,10 @@
 -- The numbers in messages are those that a point may have.
-use Rattle.std.proofs.Common.{◌≡◌, refl, ℕ, ◌≤◌, ◌<◌, Bool, true, false, ◌&&◌, nat_le, nat_lt, List, [], ◌∷◌, length, Option, Some, None}
-use Rattle.std.proofs.Common.{unwrap_or, if◌then◌else◌, arith}
+use Rattle.std.proofs.Common.{◌≡◌, ℕ, ◌≤◌, ◌<◌, true, List, [], ◌∷◌, length, Option, Some, None, unwrap_or, arith}
 use Rattle.osi_spdu.specs.declared.kinds.Kind.TheVariants as kind
 use Rattle.osi_message.specs.declared.messages.Message.TheVariants as message
-use Rattle.osi_message.proofs.Vocabulary.{list_all, and_parts, leb-true, ltb-true, Kind, InitialNumber, Number, Known, Contents, Units}
-use Rattle.osi_message.proofs.Vocabulary.{is_digit, is_numeral, decimal_from, decimal, numeral, Place, Message, meant_by, IsSmall}
-use Rattle.osi_message.proofs.Vocabulary.{IsNumbered, IsNumberedWord, AreNumberedWords, serial_in, number_in, meaning_by, meaning, place_of}
-use Rattle.osi_message.proofs.Vocabulary.{word_at, word, said_by_units}
+use Rattle.osi_message.proofs.Vocabulary.{list_all, and_parts, leb-true, ltb-true, Kind, Known, Contents, Units, is_digit, decimal_from}
+use Rattle.osi_message.proofs.Vocabulary.{decimal, numeral, Place, Message, meant_by, IsSmall, IsNumbered, IsNumberedWord, AreNumberedWords}
+use Rattle.osi_message.proofs.Vocabulary.{serial_in, number_in, meaning_by, meaning, place_of, word_at, word, said_by_units}
 
 -- ---- numbers of at most six digits
 
@@ -14,10 +12,7 @@ abbrev pub IsDigit : ℕ → Type 0
 IsDigit d = (48 ≤ d) × (d < 58)
 
 split : (d : ℕ) (digits : List ℕ) → list_all is_digit (d ∷ digits) ≡ true → IsDigit d × (list_all is_digit digits ≡ true)
-split d digits h =
-    let p = and_parts (is_digit d) (list_all is_digit digits) h in
-    let q = and_parts (nat_le 48 d) (nat_lt d 58) p.0 in
-    ((leb-true 48 d q.0, ltb-true d 58 q.1), p.1)
+split d digits h = grind (arith, and_parts, leb-true, ltb-true)
 
 pub six : (a b c d e f : ℕ) → list_all is_digit (a ∷ b ∷ c ∷ d ∷ e ∷ f ∷ []) ≡ true →
     IsDigit a × IsDigit b × IsDigit c × IsDigit d × IsDigit e × IsDigit f
@@ -45,12 +40,10 @@ numeral_small : (digits : List ℕ) → IsSmall (numeral digits)
 numeral_small digits = grind (arith, and_parts, decimal_small, leb-true)
 
 serial_small : (value : Option (List ℕ)) → IsSmall (serial_in value)
-serial_small None = tt
-serial_small (Some digits) = numeral_small digits
+serial_small value = grind (arith, numeral_small)
 
 or_zero : (o : Option ℕ) → IsSmall o → unwrap_or o 0 ≤ 999999
-or_zero None h = omega arith
-or_zero (Some n) h = h
+or_zero o h = grind arith
 
 number_small : (value : Option (List ℕ)) → number_in value ≤ 999999
 number_small value = or_zero (serial_in value) (serial_small value)

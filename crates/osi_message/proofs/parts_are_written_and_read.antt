@@ -3,9 +3,9 @@ use Rattle.std.proofs.Common.{◌≡◌, ◌∙◌, refl, sym, ap, ℕ, List, []
 use Rattle.osi_message.proofs.Vocabulary.{append-nil, DataTransfer, GiveTokens, Enclosure, SpduFault, number_of, is_group, category_of}
 use Rattle.osi_message.proofs.Vocabulary.{codes_of, members_of, required_of, si_of, nothing, put, Contents, Units, canonical, tsdu_at}
 use Rattle.osi_message.proofs.Vocabulary.{written_code, body_octets, unit_octets, tsdu_octets, is_formed, free_len, IsCanonical}
-use Rattle.osi_message.proofs.Vocabulary.{IsFormedUnit, IsFormedTsdu, UnitFits, TsduFits, Place, First, Middle, Last, no_token, GT, says}
-use Rattle.osi_message.proofs.Vocabulary.{part, Words, enclosure_of, part_octets, meaning, word, said_if_read, said_at, said_by_units}
-use Rattle.osi_message.proofs.Vocabulary.{unit_with, behind_tokens}
+use Rattle.osi_message.proofs.Vocabulary.{IsFormedUnit, IsFormedTsdu, UnitFits, TsduFits, Place, no_token, GT, says, part, Words}
+use Rattle.osi_message.proofs.Vocabulary.{enclosure_of, part_octets, meaning, word, said_if_read, said_at, said_by_units, unit_with}
+use Rattle.osi_message.proofs.Vocabulary.{behind_tokens}
 use Rattle.osi_message.proofs.what_can_be_sent_has_a_written_form.{HaveRoom, no_value, with_one, no_tokens_fit, behind_formed}
 
 -- ---- how a part is written
@@ -16,8 +16,7 @@ part_unit place octets = record { kind = DataTransfer; known = put Enclosure (en
 
 enclosure_good : (place : Place) → canonical Enclosure (enclosure_of place ∷ []) ≡ Some (enclosure_of place ∷ [])
 unfolding canonical
-enclosure_good First = refl
-enclosure_good _ = refl
+enclosure_good place = grind arith
 
 part_good : (place : Place) → IsCanonical (put Enclosure (enclosure_of place ∷ []) nothing)
 unfolding number_of
@@ -43,8 +42,7 @@ part_written place octets = ap (part_octets place) (append-nil octets)
 
 part_says : (place : Place) (octets : List ℕ) → word (part_unit place octets) ≡ part place octets
 unfolding word number_of
-part_says First octets = refl
-part_says _ octets = refl
+part_says place octets = grind arith
 
 tokens_say : word (unit_with GiveTokens nothing) ≡ says (GT no_token)
 unfolding word meaning

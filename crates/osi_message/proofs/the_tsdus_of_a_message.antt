@@ -1,35 +1,31 @@
 -- What is true of the TSDUs in which a message is sent.
-use Rattle.std.proofs.Common.{◌≡◌, ◌∙◌, refl, sym, ap, subst, ℕ, zero, suc, ◌+◌, ◌-◌, ◌<◌, ◌≤◌, ◌==◌, Bool, true, false, not, ◌||◌, ◌&&◌}
-use Rattle.std.proofs.Common.{if◌then◌else◌, nat_le, List, [], ◌∷◌, ◌++◌, length, take, drop, map, Result, Ok, arith}
+use Rattle.std.proofs.Common.{◌≡◌, ◌∙◌, refl, sym, ap, subst, ℕ, zero, suc, ◌+◌, ◌-◌, ◌<◌, ◌≤◌, Bool, true, false, not, ◌||◌, if◌then◌else◌}
+use Rattle.std.proofs.Common.{nat_le, List, [], ◌∷◌, ◌++◌, length, take, drop, map, Result, Ok, arith}
 use Rattle.osi_message.specs.declared.messages.Message.TheVariants as message
-use Rattle.osi_message.proofs.Vocabulary.{AllByRecursion, leb-true, leb-false, and_parts, ne_eqb, append-nil, take-append-drop, length-drop}
+use Rattle.osi_message.proofs.Vocabulary.{AllByRecursion, leb-true, leb-false, ne_eqb, append-nil, take-append-drop, length-drop}
 use Rattle.osi_message.proofs.Vocabulary.{length-take, IsOctets, octets_cons, octets_take, octets_drop, is_size, tsdu_at, SpduFault, Place}
 use Rattle.osi_message.proofs.Vocabulary.{First, Middle, Last, Message, Meaning, DT, GT, meant_by, no_token, IsInOctets, Word, says, part}
-use Rattle.osi_message.proofs.Vocabulary.{Words, enclosure_of, part_octets, word_octets, said_by_units, said_at, IsSendable, words_of}
-use Rattle.osi_message.proofs.Vocabulary.{spelled, written, pieces, later_parts, parts_of, is_whole, is_parted, words_sent, tsdus_of}
-use Rattle.osi_message.proofs.Vocabulary.{in_one, AreLater, AreParts, joined, behind_no_token, AreFull}
+use Rattle.osi_message.proofs.Vocabulary.{Words, part_octets, word_octets, said_by_units, said_at, IsSendable, words_of, spelled, written}
+use Rattle.osi_message.proofs.Vocabulary.{pieces, later_parts, parts_of, is_whole, is_parted, words_sent, tsdus_of, in_one, AreLater}
+use Rattle.osi_message.proofs.Vocabulary.{AreParts, joined, behind_no_token, AreFull}
 use Rattle.osi_message.proofs.units_of_the_fast_path.{data_written, said_data}
-use Rattle.osi_message.proofs.how_pieces_follow_one_another.{all_pieces, IsCons, some_piece, octets_of, rest_parts, middle_of, parts_begin}
+use Rattle.osi_message.proofs.how_pieces_follow_one_another.{all_pieces, IsCons, some_piece, octets_of, parts_begin}
 
 -- ---- one TSDU
 
 not_true : (b : Bool) → not b ≡ true → b ≡ false
-not_true true h = absurd cc
-not_true false h = refl
+not_true b h = grind arith
 
 whole_if : (b : Bool) (m : Meaning) (parts : Words) → not b ≡ false → map word_octets (if b then says m ∷ [] else parts) ≡ in_one m
-whole_if true m parts h = refl
-whole_if false m parts h = absurd cc
+whole_if b m parts h = grind arith
 
 -- a message other than data, and data within the limit, is sent in one TSDU
 pub sent_alone : (limit : ℕ) (m : Meaning) → is_parted limit m ≡ false → tsdus_of limit m ≡ in_one m
 unfolding words_sent
-sent_alone limit (DT octets) h = whole_if (is_whole limit octets) (DT octets) (parts_of (pieces (length octets) (limit - 7) octets)) h
-sent_alone limit _ h = refl
+sent_alone limit m h = grind (arith, whole_if)
 
 parts_if : (b : Bool) (whole parts : Words) → not b ≡ true → (if b then whole else parts) ≡ parts
-parts_if true whole parts h = absurd cc
-parts_if false whole parts h = refl
+parts_if b whole parts h = grind arith
 
 pub words_parted : (limit : ℕ) (octets : List ℕ) → is_parted limit (DT octets) ≡ true →
     words_sent limit (DT octets) ≡ parts_of (all_pieces (limit - 7) octets)
@@ -40,8 +36,7 @@ words_parted limit octets h = parts_if (is_whole limit octets) (says (DT octets)
 pub message_alone : (limit : ℕ) (m : Message) → ((octets : _) → m ≡ message.Data octets → ⊥) →
     tsdus_of limit (meant_by m) ≡ in_one (meant_by m)
 unfolding words_sent
-message_alone limit (message.Data octets) h = absurd (h octets refl)
-message_alone limit _ h = refl
+message_alone limit m h = grind arith
 
 -- ---- by the test of the limit
 
@@ -53,19 +48,11 @@ pub sent_parted : (limit : ℕ) (octets : List ℕ) → is_whole limit octets �
 sent_parted limit octets h = ap octets_of (words_parted limit octets (ap not h))
 
 size_if : (b c : Bool) → (b || c) ≡ true → (b ≡ false) → c ≡ true
-size_if true c h e = absurd cc
-size_if false c h e = h
-
-neither : (b c : Bool) → (b || c) ≡ false → (b ≡ false) × (c ≡ false)
-neither true c h = absurd cc
-neither false c h = (refl, h)
+size_if b c h e = grind arith
 
 pub size_of_parts : (limit : ℕ) (octets : List ℕ) → is_size limit ≡ true → is_whole limit octets ≡ false →
     (64 ≤ limit) × (limit ≤ 65535) × (limit < 4 + length octets)
-size_of_parts limit octets size h =
-    let n = neither (limit == 0) (nat_le (4 + length octets) limit) h in
-    let p = and_parts (nat_le 64 limit) (nat_le limit 65535) (size_if (limit == 0) (nat_le 64 limit && nat_le limit 65535) size n.0) in
-    (leb-true 64 limit p.0, leb-true limit 65535 p.1, leb-false (4 + length octets) limit n.1)
+size_of_parts limit octets size h = grind arith
 
 pub some_octets : (limit : ℕ) (octets : List ℕ) → is_size limit ≡ true → is_whole limit octets ≡ false → 0 < limit - 7
 some_octets limit octets size h = let n = size_of_parts limit octets size h in omega (arith, n.0)
@@ -105,30 +92,24 @@ later_joined _ = refl
 
 parts_joined : (os : List (List ℕ)) → joined (parts_of os) ≡ flat os
 unfolding flat
-parts_joined [] = refl
-parts_joined (x ∷ os) = ap (λ r. x ++ r) (later_joined os)
+parts_joined os = grind (arith, later_joined)
 
 flat_if : (b : Bool) (size : ℕ) (o : List ℕ) (os : List (List ℕ)) → flat os ≡ drop size o →
     flat (if b then o ∷ [] else take size o ∷ os) ≡ o
 unfolding flat
-flat_if true size o os e = append-nil o
-flat_if false size o os e = ap (λ r. take size o ++ r) e ∙ take-append-drop size o
+flat_if b size o os e = grind (arith, append-nil, take-append-drop)
 
 pieces_flat : (fuel size : ℕ) (o : List ℕ) → flat (pieces fuel size o) ≡ o
 unfolding flat
 pieces_flat zero size o = append-nil o
-pieces_flat (suc fuel) size o =
-    flat_if (nat_le (length o) size) size o (pieces fuel size (drop size o)) (pieces_flat fuel size (drop size o))
+pieces_flat (suc fuel) size o = grind (arith, flat_if, pieces_flat fuel size (drop size o))
 
 joined_if : (b : Bool) (o : List ℕ) (parts : Words) → joined parts ≡ o → joined (if b then says (DT o) ∷ [] else parts) ≡ o
-joined_if true o parts e = append-nil o
-joined_if false o parts e = e
+joined_if b o parts e = grind (arith, append-nil)
 
 pub sent_joined : (limit : ℕ) (octets : List ℕ) → joined (words_sent limit (DT octets)) ≡ octets
 unfolding words_sent
-sent_joined limit octets =
-    let os = all_pieces (limit - 7) octets in
-    joined_if (is_whole limit octets) octets (parts_of os) (parts_joined os ∙ pieces_flat (length octets) (limit - 7) octets)
+sent_joined limit octets = grind (arith, all_pieces, joined_if, parts_joined, pieces_flat)
 
 -- ---- how they are read
 
@@ -153,39 +134,20 @@ parts_read read (x ∷ os) = let a = read First x in let b = later_read read os 
 read_if : (b : Bool) (o : List ℕ) (parts : Words) → said_at (written (DT o)) ≡ read_so (says (DT o)) →
     map said_at (octets_of parts) ≡ map read_so parts
     → map said_at (octets_of (if b then says (DT o) ∷ [] else parts)) ≡ map read_so (if b then says (DT o) ∷ [] else parts)
-read_if true o parts e h = ap (λ (r : Read). r ∷ []) e
-read_if false o parts e h = h
+read_if b o parts e h = grind arith
 
 pub sent_read : ((m : Meaning) → IsSendable m → tsdu_at (written m) ≡ Ok (spelled m)) →
     ((m : Meaning) → IsSendable m → said_by_units (spelled m) ≡ words_of m)
     → ReadAsParts → (limit : ℕ) (octets : List ℕ) → map said_at (tsdus_of limit (DT octets)) ≡ map read_so (words_sent limit (DT octets))
 unfolding words_sent
-sent_read read said parts limit octets =
-    let os = all_pieces (limit - 7) octets in
-    read_if (is_whole limit octets) octets (parts_of os) (said_data read said octets) (parts_read parts os)
+sent_read read said parts limit octets = grind (arith, all_pieces, read_if, said_data, parts_read)
 
 -- ---- their lengths
-
-later_some : (o : List ℕ) (os : List (List ℕ)) → 0 < length (octets_of (later_parts (o ∷ os)))
-later_some o [] = omega arith
-later_some o (x ∷ os) = omega arith
-
-some_later : (os : List (List ℕ)) → IsCons os → 0 < length (octets_of (later_parts os))
-some_later os c = subst (λ (l : List (List ℕ)). 0 < length (octets_of (later_parts l))) (sym c.is) (later_some c.head c.tail)
-
-full_put : (limit : ℕ) (tsdu : List ℕ) (tsdus : List (List ℕ)) → length tsdu ≡ limit → 0 < length tsdus → AreFull limit tsdus →
-    AreFull limit (tsdu ∷ tsdus)
-full_put limit tsdu [] e some h = absurd (omega arith)
-full_put limit tsdu (t ∷ tsdus) e some h = (e, h)
 
 full_if : (b : Bool) (size : ℕ) (o : List ℕ) (os : List (List ℕ)) → (b ≡ true → length o ≤ size) → (b ≡ false → size ≤ length o) → IsCons os
     → AreFull (7 + size) (octets_of (later_parts os)) →
     AreFull (7 + size) (octets_of (later_parts (if b then o ∷ [] else take size o ∷ os)))
-full_if true size o os short long c h = let n = short refl in omega (arith, n)
-full_if false size o os short long c h =
-    let n = long refl in let t = length-take size o in
-    subst (λ (w : Words). AreFull (7 + size) (octets_of w)) (sym (middle_of (take size o) os c))
-    (full_put (7 + size) (part_octets Middle (take size o)) (octets_of (later_parts os)) (omega (arith, n, t)) (some_later os c) h)
+full_if b size o os short long c h = grind (arith, length-take)
 
 later_full : (fuel size : ℕ) (o : List ℕ) → 0 < size → length o ≤ fuel → AreFull (7 + size) (octets_of (later_parts (pieces fuel size o)))
 later_full zero size o some few = omega (arith, few)
@@ -196,31 +158,13 @@ later_full (suc fuel) size o some few =
     (some_piece fuel size (drop size o)) (later_full fuel size (drop size o) some (omega (arith, few, d, some)))
 
 parts_full : (size : ℕ) (o : List ℕ) → 0 < size → size < length o → AreFull (7 + size) (octets_of (parts_of (all_pieces size o)))
-parts_full size o some long =
-    let t = length-take size o in let rest = drop size o in
-    subst (λ (w : Words). AreFull (7 + size) (octets_of w)) (sym (parts_begin size o some long))
-    (full_put (7 + size) (part_octets First (take size o)) (octets_of (rest_parts size rest)) (omega (arith, long, t))
-    (some_later (all_pieces size rest) (some_piece (length rest) size rest)) (later_full (length rest) size rest some (omega arith)))
+parts_full size o some long = grind (arith, length-take, parts_begin, later_full)
 
 one_full : (limit : ℕ) (octets : List ℕ) → 0 < limit → is_whole limit octets ≡ true → AreFull limit (in_one (DT octets))
-one_full limit octets some h =
-    let short : 4 + length octets ≤ limit =
-    leb-true (4 + length octets) limit
-    (size_if (limit == 0) (nat_le (4 + length octets) limit) h (ne_eqb limit 0 (λ e. omega (arith, e, some)))) in
-    let w = ap length (data_written octets) in
-    omega (arith, short, w)
+one_full limit octets some h = grind (arith, leb-true, size_if, ne_eqb, data_written)
 
 pub sent_full : (limit : ℕ) (octets : List ℕ) → is_size limit ≡ true → 0 < limit → AreFull limit (tsdus_of limit (DT octets))
-sent_full limit octets size some = by (is_whole limit octets) refl
-  where
-    by : (b : Bool) → is_whole limit octets ≡ b → AreFull limit (tsdus_of limit (DT octets))
-    by true h = subst (AreFull limit) (sym (sent_whole limit octets h)) (one_full limit octets some h)
-    by false h =
-        let n = size_of_parts limit octets size h in
-        let e : 7 + (limit - 7) ≡ limit = omega (arith, n.0) in
-        subst (AreFull limit) (sym (sent_parted limit octets h))
-        (subst (λ (l : ℕ). AreFull l (octets_of (parts_of (all_pieces (limit - 7) octets)))) e
-        (parts_full (limit - 7) octets (some_octets limit octets size h) (more_octets limit octets size h)))
+sent_full limit octets size some = grind (arith, sent_whole, one_full, size_of_parts, sent_parted, octets_of, parts_full)
 
 full_short : (limit most : ℕ) (tsdus : List (List ℕ)) → limit ≤ most → AreFull limit tsdus →
     AllByRecursion (λ (t : List ℕ). length t ≤ most) tsdus
@@ -243,30 +187,11 @@ sent_short limit octets size few = by (is_whole limit octets) refl
 -- ---- their octets
 
 part_is : (place : Place) (o : List ℕ) → IsOctets o → IsOctets (part_octets place o)
-part_is place o h =
-    octets_cons 1 (0 ∷ 1 ∷ 3 ∷ 25 ∷ 1 ∷ enclosure_of place ∷ o) (omega arith)
-    (octets_cons 0 (1 ∷ 3 ∷ 25 ∷ 1 ∷ enclosure_of place ∷ o) (omega arith)
-    (octets_cons 1 (3 ∷ 25 ∷ 1 ∷ enclosure_of place ∷ o) (omega arith)
-    (octets_cons 3 (25 ∷ 1 ∷ enclosure_of place ∷ o) (omega arith)
-    (octets_cons 25 (1 ∷ enclosure_of place ∷ o) (omega arith)
-    (octets_cons 1 (enclosure_of place ∷ o) (omega arith)
-    (octets_cons (enclosure_of place) o (few place) h))))))
-  where
-    few : (p : Place) → enclosure_of p < 256
-    few First = omega arith
-    few Middle = omega arith
-    few Last = omega arith
-
-pieces_if : (b : Bool) (o x : List ℕ) (os : List (List ℕ)) → IsOctets o → IsOctets x → AllByRecursion IsOctets os →
-    AllByRecursion IsOctets (if b then o ∷ [] else x ∷ os)
-pieces_if true o x os h k l = (h, tt)
-pieces_if false o x os h k l = (k, l)
+part_is place o h = grind (arith, octets_cons)
 
 pieces_are : (fuel size : ℕ) (o : List ℕ) → IsOctets o → AllByRecursion IsOctets (pieces fuel size o)
 pieces_are zero size o h = (h, tt)
-pieces_are (suc fuel) size o h =
-    pieces_if (nat_le (length o) size) o (take size o) (pieces fuel size (drop size o)) h (octets_take size o h)
-    (pieces_are fuel size (drop size o) (octets_drop size o h))
+pieces_are (suc fuel) size o h = grind (arith, octets_take, pieces_are fuel size (drop size o) (octets_drop size o h))
 
 later_octets : (os : List (List ℕ)) → AllByRecursion IsOctets os → AllByRecursion IsOctets (octets_of (later_parts os))
 later_octets [] h = tt
@@ -274,18 +199,13 @@ later_octets (x ∷ []) h = (part_is Last x h.0, tt)
 later_octets (x ∷ y ∷ os) h = (part_is Middle x h.0, later_octets (y ∷ os) h.1)
 
 parts_octets : (os : List (List ℕ)) → AllByRecursion IsOctets os → AllByRecursion IsOctets (octets_of (parts_of os))
-parts_octets [] h = tt
-parts_octets (x ∷ os) h = (part_is First x h.0, later_octets os h.1)
+parts_octets os h = grind (arith, part_is, later_octets)
 
 octets_if : (b : Bool) (m : Meaning) (parts : Words) → IsOctets (written m) → AllByRecursion IsOctets (octets_of parts)
     → AllByRecursion IsOctets (octets_of (if b then says m ∷ [] else parts))
-octets_if true m parts h k = (h, tt)
-octets_if false m parts h k = k
+octets_if b m parts h k = grind arith
 
 -- what is sent is octets, if the message as a whole is
 pub sent_octets : (limit : ℕ) (m : Meaning) → IsInOctets m → IsOctets (written m) → AllByRecursion IsOctets (tsdus_of limit m)
 unfolding words_sent
-sent_octets limit (DT octets) h k =
-    octets_if (is_whole limit octets) (DT octets) (parts_of (all_pieces (limit - 7) octets)) k
-    (parts_octets (all_pieces (limit - 7) octets) (pieces_are (length octets) (limit - 7) octets h))
-sent_octets limit _ h k = (k, tt)
+sent_octets limit m h k = grind (arith, octets_if, all_pieces, parts_octets, pieces_are)

@@ -1,16 +1,16 @@
 -- Data, points and confirmations in the form of the fast path.
-use Rattle.std.proofs.Common.{◌≡◌, ◌∙◌, refl, sym, ap, subst, ◌&&◌, nat_le, nat_lt, take, drop, if◌then◌else◌, ℕ, ◌+◌, ◌/◌, ◌%◌, ◌≤◌, ◌<◌}
-use Rattle.std.proofs.Common.{Bool, true, false, List, [], ◌∷◌, ◌++◌, length, Some, None, Result, Ok, eqb, arith}
+use Rattle.std.proofs.Common.{◌≡◌, ◌∙◌, refl, sym, ap, take, drop, if◌then◌else◌, ℕ, ◌+◌, ◌/◌, ◌%◌, ◌≤◌, ◌<◌, Bool, true, false, List, []}
+use Rattle.std.proofs.Common.{◌∷◌, length, Some, Result, Ok, eqb, arith}
 use Rattle.osi_message.specs.declared.plain.PlainUnit.{PlainUnit}
 use Rattle.osi_message.specs.declared.plain.PlainUnit.TheVariants as plain
 use Rattle.osi_message.proofs.Vocabulary.{list_all, ne_eqb, and_parts, leb-true, ltb-true, take-append-drop, append-nil, Kind}
 use Rattle.osi_message.proofs.Vocabulary.{MinorSyncPoint, MinorSyncAck, Number, number_of, is_group, codes_of, si_of, nothing, put}
-use Rattle.osi_message.proofs.Vocabulary.{significant, six_digits, digits_of, is_digit, is_numeral, decimal_from, decimal, numeral}
-use Rattle.osi_message.proofs.Vocabulary.{written_code, body_octets, unit_octets, tsdu_octets, tsdu_at, SpduFault, Meaning, DT, GT, MIP}
-use Rattle.osi_message.proofs.Vocabulary.{MIA, Place, no_token, says, part, Words, part_head, part_octets, as_message, plain_octets}
-use Rattle.osi_message.proofs.Vocabulary.{plain_said, plain_word, data_octets, point_octets, has_zero_in_front, said_by_units, said_if_read}
-use Rattle.osi_message.proofs.Vocabulary.{said_at, IsSendable, words_of, with_data, unit_with, unit_of, is_second, behind_tokens, spelled}
-use Rattle.osi_message.proofs.Vocabulary.{written, user_data_of}
+use Rattle.osi_message.proofs.Vocabulary.{significant, six_digits, digits_of, is_digit, decimal_from, decimal, numeral, written_code}
+use Rattle.osi_message.proofs.Vocabulary.{body_octets, unit_octets, tsdu_octets, tsdu_at, SpduFault, Meaning, DT, GT, MIP, MIA, Place}
+use Rattle.osi_message.proofs.Vocabulary.{no_token, says, part, Words, part_head, part_octets, as_message, plain_octets, plain_said}
+use Rattle.osi_message.proofs.Vocabulary.{plain_word, data_octets, point_octets, has_zero_in_front, said_by_units, said_if_read, said_at}
+use Rattle.osi_message.proofs.Vocabulary.{IsSendable, words_of, with_data, unit_with, unit_of, is_second, behind_tokens, spelled, written}
+use Rattle.osi_message.proofs.Vocabulary.{user_data_of}
 use Rattle.osi_message.proofs.numbers_are_those_of_points.{six}
 
 -- ---- the digits of a number
@@ -23,41 +23,20 @@ some_there x h = ne_eqb (x % 10 + 48) 48 (λ e. omega arith)
 
 pub digits_1 : (n : ℕ) → n < 10 → digits_of n ≡ (n % 10 + 48) ∷ []
 unfolding digits_of significant
-digits_1 n to =
-    rw (
-      none_there (n / 100000) (omega arith),
-      none_there (n / 10000) (omega arith),
-      none_there (n / 1000) (omega arith),
-      none_there (n / 100) (omega arith),
-      none_there (n / 10) (omega arith),
-    ) refl
+digits_1 n to = grind (arith, none_there)
 
 pub digits_2 : (n : ℕ) → 10 ≤ n → n < 100 → digits_of n ≡ (n / 10 % 10 + 48) ∷ (n % 10 + 48) ∷ []
 unfolding digits_of significant
-digits_2 n from to =
-    rw (
-      none_there (n / 100000) (omega arith),
-      none_there (n / 10000) (omega arith),
-      none_there (n / 1000) (omega arith),
-      none_there (n / 100) (omega arith),
-      some_there (n / 10) (omega arith),
-    ) refl
+digits_2 n from to = grind (arith, none_there, some_there)
 
 pub digits_3 : (n : ℕ) → 100 ≤ n → n < 1000 → digits_of n ≡ (n / 100 % 10 + 48) ∷ (n / 10 % 10 + 48) ∷ (n % 10 + 48) ∷ []
 unfolding digits_of significant
-digits_3 n from to =
-    rw (
-      none_there (n / 100000) (omega arith),
-      none_there (n / 10000) (omega arith),
-      none_there (n / 1000) (omega arith),
-      some_there (n / 100) (omega arith),
-    ) refl
+digits_3 n from to = grind (arith, none_there, some_there)
 
 pub digits_4 : (n : ℕ) → 1000 ≤ n → n < 10000 → digits_of n ≡ (n / 1000 % 10 + 48) ∷ (n / 100 % 10 + 48) ∷ (n / 10 % 10 + 48) ∷
     (n % 10 + 48) ∷ []
 unfolding digits_of significant
-digits_4 n from to = rw (none_there (n / 100000) (omega arith), none_there (n / 10000) (omega arith), some_there (n / 1000) (omega arith))
-    refl
+digits_4 n from to = grind (arith, none_there, some_there)
 
 pub digits_5 : (n : ℕ) → 10000 ≤ n → n < 100000 → digits_of n ≡ (n / 10000 % 10 + 48) ∷ (n / 1000 % 10 + 48) ∷ (n / 100 % 10 + 48) ∷
     (n / 10 % 10 + 48) ∷ (n % 10 + 48) ∷ []
@@ -71,8 +50,7 @@ digits_6 n from to = rw (some_there (n / 100000) (omega arith)) refl
 
 kept_short : (b : Bool) (digits kept : List ℕ) → length kept ≤ length digits → (d : ℕ) →
     length (if b then kept else d ∷ digits) ≤ length (d ∷ digits)
-kept_short true digits kept h d = omega arith
-kept_short false digits kept h d = omega arith
+kept_short b digits kept h d = grind arith
 
 significant_short : (digits : List ℕ) → length (significant digits) ≤ length digits
 unfolding significant
@@ -113,16 +91,7 @@ ack_written n = (points_with (digits_of n) (digits_few n)).1
 six_again : (a b c d e f : ℕ) → list_all is_digit (a ∷ b ∷ c ∷ d ∷ e ∷ f ∷ []) ≡ true →
     six_digits (decimal (a ∷ b ∷ c ∷ d ∷ e ∷ f ∷ [])) ≡ a ∷ b ∷ c ∷ d ∷ e ∷ f ∷ []
 unfolding decimal_from
-six_again a b c d e f all =
-    let s = six a b c d e f all in
-    let n : ℕ = decimal (a ∷ b ∷ c ∷ d ∷ e ∷ f ∷ []) in
-    let ea : n / 100000 % 10 + 48 ≡ a = omega arith in
-    let eb : n / 10000 % 10 + 48 ≡ b = omega arith in
-    let ec : n / 1000 % 10 + 48 ≡ c = omega arith in
-    let ed : n / 100 % 10 + 48 ≡ d = omega arith in
-    let ee : n / 10 % 10 + 48 ≡ e = omega arith in
-    let ef : n % 10 + 48 ≡ f = omega arith in
-    λ i. ea i ∷ eb i ∷ ec i ∷ ed i ∷ ee i ∷ ef i ∷ []
+six_again a b c d e f all = grind (arith, six a b c d e f all)
 
 decimal_again : (digits : List ℕ) → length digits ≤ 6 → list_all is_digit digits ≡ true → 0 < length digits →
     has_zero_in_front digits ≡ false
@@ -143,20 +112,15 @@ read_again digits n h0 h1 = grind (arith, and_parts, decimal_again, leb-true, lt
 -- ---- the parts of a TSDU
 
 pub data_parts : (tsdu head rest : List ℕ) → head ≡ take 4 tsdu → rest ≡ drop 4 tsdu → head ≡ 1 ∷ 0 ∷ 1 ∷ 0 ∷ [] → tsdu ≡ data_octets rest
-data_parts tsdu head rest h r e =
-    sym (take-append-drop 4 tsdu) ∙ (λ i. sym h i ++ sym r i) ∙ ap (λ (x : List ℕ). x ++ rest) e
+data_parts tsdu head rest h r e = grind (arith, take-append-drop)
 
 pub part_parts : (tsdu head rest : List ℕ) (place : Place) → head ≡ take 7 tsdu → rest ≡ drop 7 tsdu → head ≡ part_head place →
     tsdu ≡ part_octets place rest
-part_parts tsdu head rest place h r e =
-    sym (take-append-drop 7 tsdu) ∙ (λ i. sym h i ++ sym r i) ∙ ap (λ (x : List ℕ). x ++ rest) e
+part_parts tsdu head rest place h r e = grind (arith, take-append-drop)
 
 pub point_parts : (si : ℕ) (tsdu head rest digits : List ℕ) → head ≡ take 6 tsdu → rest ≡ drop 6 tsdu
     → head ≡ 1 ∷ 0 ∷ si ∷ (length rest + 2) ∷ 42 ∷ length rest ∷ [] → digits ≡ rest → tsdu ≡ point_octets si digits
-point_parts si tsdu head rest digits h r e d =
-    sym (take-append-drop 6 tsdu) ∙ (λ i. sym h i ++ sym r i) ∙ ap (λ (x : List ℕ). x ++ rest) e
-    ∙ (let two : length rest + 2 ≡ 2 + length rest = omega arith in ap (λ (n : ℕ). 1 ∷ 0 ∷ si ∷ n ∷ 42 ∷ length rest ∷ rest) two)
-    ∙ ap (point_octets si) (sym d)
+point_parts si tsdu head rest digits h r e d = grind (arith, take-append-drop)
 
 -- ---- the words of plain units
 
@@ -187,8 +151,7 @@ pub said_data : ((m : Meaning) → IsSendable m → tsdu_at (written m) ≡ Ok (
     ((m : Meaning) → IsSendable m → said_by_units (spelled m) ≡ words_of m)
     → (octets : List ℕ) → said_at (written (DT octets)) ≡ Ok (says (GT no_token) ∷ says (DT octets) ∷ [])
 unfolding is_second user_data_of
-said_data read said octets =
-    said_whole read said (DT octets) (record { version = refl; numbered = tt; sized = refl; addressed = tt; short = omega arith })
+said_data read said octets = grind (arith, said_whole)
 
 pub data_said : ((m : Meaning) → IsSendable m → tsdu_at (written m) ≡ Ok (spelled m)) →
     ((m : Meaning) → IsSendable m → said_by_units (spelled m) ≡ words_of m)

@@ -1,21 +1,21 @@
 -- What can be sent has a written form.
-use Rattle.std.proofs.Common.{◌≡◌, ◌∙◌, refl, sym, ap, subst, ℕ, ◌+◌, ◌<◌, ◌≤◌, ◌==◌, Bool, true, false, cond, ◌&&◌, List, [], ◌∷◌, length}
+use Rattle.std.proofs.Common.{◌≡◌, ◌∙◌, refl, sym, ap, subst, ℕ, ◌+◌, ◌<◌, ◌≤◌, ◌==◌, Bool, true, false, cond, List, [], ◌∷◌, length}
 use Rattle.std.proofs.Common.{Option, Some, None, option_map, if◌then◌else◌, arith}
 use Rattle.osi_spdu.specs.declared.codes.Code.TheVariants as code
 use Rattle.osi_spdu.specs.declared.kinds.Category.{Category}
-use Rattle.osi_spdu.specs.declared.kinds.Category.TheVariants.{Zero, One, Two}
+use Rattle.osi_spdu.specs.declared.kinds.Category.TheVariants.{Two}
 use Rattle.osi_spdu.proofs.basics.the_steps_of_reading.{same_true}
 use Rattle.osi_message.proofs.Vocabulary.{le-leb, lt-ltb, Code, ConnectAcceptItem, SyncType, TokenItem, TransportDisconnect}
 use Rattle.osi_message.proofs.Vocabulary.{ProtocolOptions, UserRequirements, Version, InitialNumber, Number, Reason, CallingSelector}
-use Rattle.osi_message.proofs.Vocabulary.{CalledSelector, UserData, ExtendedUserData, ResyncType, Restart, Abandon, Set, TsduMaximumSize}
-use Rattle.osi_message.proofs.Vocabulary.{Kind, GiveTokens, Connect, DataTransfer, MinorSyncPoint, TokenSetting, Wish, Asker, Answerer}
-use Rattle.osi_message.proofs.Vocabulary.{Choice, number_of, is_same, category_of, codes_of, members_of, required_of, may_stand, digits_of}
-use Rattle.osi_message.proofs.Vocabulary.{canonical, wish_number, two_octets, size_octets, setting_octets, resync_octet, written_sizes}
-use Rattle.osi_message.proofs.Vocabulary.{Known, Contents, nothing, put, some_octets, HasInformation, EndsTsdu, MayFollow, StandTogether}
-use Rattle.osi_message.proofs.Vocabulary.{IsCanonical, IsFormedUnit, IsFormedTsdu, UnitFits, TsduFits, value_len, free_len, is_formed}
-use Rattle.osi_message.proofs.Vocabulary.{Tokens, token_octet, Meaning, CN, AC, RF, DT, GT, PT, MIP, MIA, MAP, MAA, RS, RA, FN, DN, NF, AB}
-use Rattle.osi_message.proofs.Vocabulary.{AA, IsSmall, IsNumbered, IsAddress, IsAddressed, put_some, with_data, terms, numbered, sync_type}
-use Rattle.osi_message.proofs.Vocabulary.{unit_with, unit_of, is_second, user_data_of, alone_units, behind_tokens, spelled, connect_unit}
+use Rattle.osi_message.proofs.Vocabulary.{CalledSelector, UserData, ExtendedUserData, ResyncType, TsduMaximumSize, Kind, GiveTokens}
+use Rattle.osi_message.proofs.Vocabulary.{MinorSyncPoint, TokenSetting, Wish, number_of, is_same, category_of, codes_of, members_of}
+use Rattle.osi_message.proofs.Vocabulary.{required_of, may_stand, digits_of, canonical, wish_number, two_octets, size_octets}
+use Rattle.osi_message.proofs.Vocabulary.{setting_octets, resync_octet, written_sizes, Known, Contents, nothing, put, some_octets}
+use Rattle.osi_message.proofs.Vocabulary.{HasInformation, EndsTsdu, MayFollow, StandTogether, IsCanonical, IsFormedUnit, IsFormedTsdu}
+use Rattle.osi_message.proofs.Vocabulary.{UnitFits, TsduFits, value_len, free_len, is_formed, Tokens, token_octet, Meaning, CN, AC, RF, GT}
+use Rattle.osi_message.proofs.Vocabulary.{PT, MIP, MIA, MAP, MAA, RS, RA, FN, DN, NF, AB, IsSmall, IsNumbered, IsAddress, IsAddressed}
+use Rattle.osi_message.proofs.Vocabulary.{put_some, with_data, terms, numbered, sync_type, unit_with, unit_of, is_second, user_data_of}
+use Rattle.osi_message.proofs.Vocabulary.{alone_units, behind_tokens, spelled, connect_unit}
 use Rattle.osi_message.proofs.a_field_reads_back.{pairs_again, wish_small}
 use Rattle.osi_message.proofs.what_is_written_means_it.{HaveDigits}
 use Rattle.osi_message.proofs.the_octet_of_a_set_of_tokens.{octet_kept}
@@ -38,8 +38,7 @@ one_good slot value h v e = let same : value ≡ v = cc in subst (λ (x : List �
 
 some_values : (b : Bool) (slot c : Code) (value : Option (List ℕ)) (v : List ℕ) (known : Known) → is_same c slot ≡ b → IsGood slot value
     → (known c ≡ Some v → canonical c v ≡ Some v) → cond b value (known c) ≡ Some v → canonical c v ≡ Some v
-some_values true slot c value v known s good is e = subst (λ (d : Code). canonical d v ≡ Some v) (sym (same_true c slot s)) (good v e)
-some_values false slot c value v known s good is e = is e
+some_values b slot c value v known s good is e = search (arith, same_true)
 
 with_some : (slot : Code) (value : Option (List ℕ)) (known : Known) → IsGood slot value → is_same ExtendedUserData slot ≡ false →
     is_same UserData slot ≡ false
@@ -59,12 +58,10 @@ data_values : (b : Bool) (c : Code) (octets v : List ℕ) (known : Known) → is
     → (known c ≡ Some v → canonical c v ≡ Some v) →
     cond b (some_octets (cond b (Some octets) (known c))) (cond b (Some octets) (known c)) ≡ Some v → canonical c v ≡ Some v
 unfolding canonical
-data_values true c octets v known s is e = subst (λ (d : Code). canonical d v ≡ Some v) (sym (same_true c UserData s)) refl
-data_values false c octets v known s is e = is e
+data_values b c octets v known s is e = search (arith, same_true)
 
 data_there : (octets : List ℕ) → some_octets (Some octets) ≡ Some [] → ⊥
-data_there [] e = cc
-data_there (b ∷ octets) e = cc
+data_there octets e = grind arith
 
 with_user_data : (octets : List ℕ) (known : Known) → IsCanonical known → IsCanonical (with_data octets known)
 unfolding number_of
@@ -78,12 +75,10 @@ number_good digits n small = ap (option_map digits_of) (digits n small)
 
 serial_good : HaveDigits → (serial : Option ℕ) → IsSmall serial → IsGood InitialNumber (option_map digits_of serial)
 unfolding canonical
-serial_good digits None small v e = absurd cc
-serial_good digits (Some n) small v e = one_good InitialNumber (digits_of n) (ap (option_map digits_of) (digits n small)) v e
+serial_good digits serial small v e = grind (arith, one_good)
 
 not_three : (w : Wish) → (wish_number w == 3) ≡ false
-not_three Asker = refl
-not_three _ = refl
+not_three w = grind arith
 
 setting_good : (s : TokenSetting) → canonical code.TokenSetting (setting_octets s) ≡ Some (setting_octets s)
 unfolding canonical
@@ -102,8 +97,7 @@ sizes_good sizes = grind (arith, one_good)
 
 resync_good : (kind : ResyncType) → canonical code.ResyncType (resync_octet kind ∷ []) ≡ Some (resync_octet kind ∷ [])
 unfolding canonical
-resync_good Restart = refl
-resync_good _ = refl
+resync_good kind = grind arith
 
 token_good : (tokens : Tokens) → canonical TokenItem (token_octet tokens ∷ []) ≡ Some (token_octet tokens ∷ [])
 unfolding canonical
@@ -117,15 +111,11 @@ reason_good reason octets = ap (λ (b : Bool). cond b (Some (reason ∷ octets))
 
 calling_good : (selector : Option (List ℕ)) → IsAddress selector → IsGood CallingSelector selector
 unfolding canonical
-calling_good None small v e = absurd cc
-calling_good (Some octets) small v e =
-    one_good CallingSelector octets (ap (λ (b : Bool). cond b (Some octets) None) (le-leb (length octets) 16 small)) v e
+calling_good selector small v e = grind (arith, one_good, cond, le-leb)
 
 called_good : (selector : Option (List ℕ)) → IsAddress selector → IsGood CalledSelector selector
 unfolding canonical
-called_good None small v e = absurd cc
-called_good (Some octets) small v e =
-    one_good CalledSelector octets (ap (λ (b : Bool). cond b (Some octets) None) (le-leb (length octets) 16 small)) v e
+called_good selector small v e = grind (arith, one_good, cond, le-leb)
 
 numbered_good : HaveDigits → (n : ℕ) → n ≤ 999999 → IsCanonical (numbered n)
 unfolding number_of
@@ -158,10 +148,7 @@ connect_good : HaveDigits →
     IsCanonical (connect_unit requirements serial wishes calling called sizes octets).known
 unfolding number_of
 connect_good digits requirements serial wishes calling called sizes octets small from to =
-    with_user_data octets _
-    (with_some CallingSelector calling _ (calling_good calling from) refl refl
-    (with_some CalledSelector called _ (called_good called to) refl refl
-    (terms_good digits serial wishes requirements sizes small)))
+    search (arith, with_user_data, with_some, calling_good, called_good, terms_good)
 
 tokens_good : (tokens : Tokens) → IsCanonical (put TokenItem (token_octet tokens ∷ []) nothing)
 unfolding number_of
@@ -169,9 +156,7 @@ tokens_good tokens = with_one TokenItem (token_octet tokens ∷ []) nothing (tok
 
 refuse_good : (reason : ℕ) (octets : List ℕ) → IsCanonical (put TransportDisconnect (1 ∷ []) (put Reason (reason ∷ octets) nothing))
 unfolding canonical number_of
-refuse_good reason octets =
-    with_one TransportDisconnect (1 ∷ []) _ refl refl refl
-    (with_one Reason (reason ∷ octets) nothing (reason_good reason octets) refl refl no_value)
+refuse_good reason octets = grind (arith, with_one, reason_good, no_value)
 
 abort_good : (bits : ℕ) → IsCanonical (put TransportDisconnect (bits ∷ []) nothing)
 unfolding canonical number_of
@@ -187,10 +172,8 @@ kind_good kind known is = with_one code.ResyncType (resync_octet kind ∷ []) kn
 
 unit_good : HaveDigits → (m : Meaning) → IsNumbered m → IsAddressed m → IsCanonical (unit_of m).known
 unfolding unit_of
-unit_good digits (CN version_2 requirements serial wishes calling called sizes octets) small to =
-    connect_good digits requirements serial wishes calling called sizes octets small to.0 to.1
-unit_good digits (AC version_2 requirements serial sides sizes octets) small to =
-    with_user_data octets _ (terms_good digits serial sides requirements sizes small)
+unit_good digits (CN version_2 requirements serial wishes calling called sizes octets) small to = search (arith, connect_good)
+unit_good digits (AC version_2 requirements serial sides sizes octets) small to = search (arith, with_user_data, terms_good)
 unit_good digits (RF reason octets) small to = refuse_good reason octets
 unit_good digits (GT tokens) small to = tokens_good tokens
 unit_good digits (PT tokens octets) small to = with_user_data octets _ (tokens_good tokens)
@@ -198,8 +181,7 @@ unit_good digits (MIP confirm n octets) small to = with_user_data octets _ (sync
 unit_good digits (MIA n octets) small to = with_user_data octets _ (numbered_good digits n small)
 unit_good digits (MAP n octets) small to = with_user_data octets _ (open_good _ (numbered_good digits n small))
 unit_good digits (MAA n octets) small to = with_user_data octets _ (numbered_good digits n small)
-unit_good digits (RS kind n wishes octets) small to =
-    with_user_data octets _ (set_good wishes _ (kind_good kind _ (numbered_good digits n small)))
+unit_good digits (RS kind n wishes octets) small to = search (arith, with_user_data, set_good, kind_good, numbered_good)
 unit_good digits (RA n sides octets) small to = with_user_data octets _ (set_good sides _ (numbered_good digits n small))
 unit_good digits (FN octets) small to = with_user_data octets _ no_value
 unit_good digits (DN octets) small to = with_user_data octets _ no_value
@@ -212,8 +194,7 @@ unit_good digits _ small to = no_value
 minor_formed : (confirm : Bool) (n : ℕ) (octets : List ℕ) →
     is_formed MinorSyncPoint (with_data octets (sync_type confirm (numbered n))) ≡ true
 unfolding is_formed codes_of members_of required_of number_of
-minor_formed true n octets = refl
-minor_formed false n octets = refl
+minor_formed confirm n octets = grind arith
 
 unit_formed : (m : Meaning) → is_formed (unit_of m).kind (unit_of m).known ≡ true
 unfolding unit_of is_formed codes_of members_of required_of number_of
@@ -222,8 +203,7 @@ unit_formed _ = refl
 
 unit_informed : (m : Meaning) → HasInformation (unit_of m).kind (unit_of m).information
 unfolding unit_of
-unit_informed (DT octets) = tt
-unit_informed _ = refl
+unit_informed m = grind arith
 
 formed : HaveDigits → (m : Meaning) → IsNumbered m → IsAddressed m → IsFormedUnit (unit_of m)
 formed digits m small to = record { canonical_values = unit_good digits m small to; formed = unit_formed m; informed = unit_informed m }
@@ -235,30 +215,15 @@ no_tokens_formed = record { canonical_values = no_value; formed = refl; informed
 -- ---- and has room
 
 data_len : (octets : List ℕ) → value_len (some_octets (Some octets)) ≤ length octets
-data_len [] = omega arith
-data_len (b ∷ octets) = omega arith
+data_len octets = grind arith
 
 minor_len : (confirm : Bool) (n : ℕ) (octets : List ℕ) → free_len (with_data octets (sync_type confirm (numbered n))) ≤ length octets
 unfolding free_len number_of
-minor_len true n octets = let d = data_len octets in omega arith
-minor_len false n octets = let d = data_len octets in omega arith
+minor_len confirm n octets = grind (arith, data_len)
 
 unit_len : (m : Meaning) → free_len (unit_of m).known ≤ 1 + length (user_data_of m)
 unfolding unit_of user_data_of free_len number_of
-unit_len (CN version_2 requirements serial wishes calling called sizes octets) = let d = data_len octets in omega arith
-unit_len (AC version_2 requirements serial sides sizes octets) = let d = data_len octets in omega arith
-unit_len (PT tokens octets) = let d = data_len octets in omega arith
-unit_len (MIP confirm n octets) = let d = minor_len confirm n octets in omega arith
-unit_len (MIA n octets) = let d = data_len octets in omega arith
-unit_len (MAP n octets) = let d = data_len octets in omega arith
-unit_len (MAA n octets) = let d = data_len octets in omega arith
-unit_len (RS kind n wishes octets) = let d = data_len octets in omega arith
-unit_len (RA n sides octets) = let d = data_len octets in omega arith
-unit_len (FN octets) = let d = data_len octets in omega arith
-unit_len (DN octets) = let d = data_len octets in omega arith
-unit_len (NF octets) = let d = data_len octets in omega arith
-unit_len (AB bits octets) = let d = data_len octets in omega arith
-unit_len _ = omega arith
+unit_len m = grind (arith, data_len, minor_len)
 
 fits : HaveRoom → HaveDigits → (m : Meaning) → IsNumbered m → IsAddressed m → length (user_data_of m) < 65000 → UnitFits (unit_of m)
 fits room digits m small to few = room (unit_of m) (unit_good digits m small to) (let l = unit_len m in omega arith)
@@ -278,8 +243,7 @@ unfolding is_second unit_of category_of may_stand
 first_place m h0 = grind arith
 
 ends_none : (kind : Kind) → EndsTsdu kind []
-ends_none DataTransfer = refl
-ends_none _ = tt
+ends_none kind = grind arith
 
 follows_none : (category : Category) → may_stand false category ≡ true → MayFollow category []
 unfolding may_stand

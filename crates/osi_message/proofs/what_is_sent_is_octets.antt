@@ -1,20 +1,18 @@
 -- What is sent is octets.
-use Rattle.std.proofs.Common.{◌≡◌, refl, subst, ℕ, suc, ◌+◌, ◌/◌, ◌%◌, ◌<◌, ◌≤◌, ◌==◌, Bool, true, false, cond, ◌&&◌, List, [], ◌∷◌, ◌++◌}
-use Rattle.std.proofs.Common.{length, length-append, nat_lt, Option, Some, None, option_map, if◌then◌else◌, arith}
+use Rattle.std.proofs.Common.{◌≡◌, subst, ℕ, suc, ◌+◌, ◌/◌, ◌%◌, ◌<◌, ◌≤◌, ◌==◌, Bool, cond, List, [], ◌∷◌, length, length-append, nat_lt}
+use Rattle.std.proofs.Common.{Option, Some, None, option_map, if◌then◌else◌, arith}
 use Rattle.std.proofs.lemmas.Bool.Decides.{nat_tests}
 use Rattle.osi_spdu.specs.declared.codes.Code.TheVariants as code
 use Rattle.osi_message.proofs.Vocabulary.{and_le_r, AllByRecursion, flat_map, IfSome, IsOctets, octets_nil, octets_cons, octets_append}
-use Rattle.osi_message.proofs.Vocabulary.{Code, ConnectionIdentifier, ConnectAcceptItem, SyncType, TokenItem, TransportDisconnect}
-use Rattle.osi_message.proofs.Vocabulary.{ProtocolOptions, UserRequirements, Version, InitialNumber, Number, Reason, CallingSelector}
-use Rattle.osi_message.proofs.Vocabulary.{CalledSelector, UserData, ResyncType, Restart, Abandon, Set, TsduMaximumSize, Kind, GiveTokens}
-use Rattle.osi_message.proofs.Vocabulary.{TokenSetting, Wish, Asker, Answerer, Choice, number_of, is_same, is_group, si_of, codes_of}
-use Rattle.osi_message.proofs.Vocabulary.{members_of, significant, six_digits, digits_of, wish_number, two_octets, size_octets}
-use Rattle.osi_message.proofs.Vocabulary.{setting_octets, resync_octet, written_sizes, Known, Contents, Units, nothing, put, some_octets}
-use Rattle.osi_message.proofs.Vocabulary.{length_octets, written_item, written_code, member_octets, members_octets, group_octets}
-use Rattle.osi_message.proofs.Vocabulary.{value_octets, parameter_octets, body_octets, unit_octets, tsdu_octets, UnitFits, TsduFits, Tokens}
-use Rattle.osi_message.proofs.Vocabulary.{token_octet, IsInOctets, Meaning, CN, AC, RF, DT, GT, PT, MIP, MIA, MAP, MAA, RS, RA, FN, DN, NF}
-use Rattle.osi_message.proofs.Vocabulary.{AB, AA, IsSendable, put_some, with_data, terms, numbered, sync_type, unit_with, unit_of}
-use Rattle.osi_message.proofs.Vocabulary.{is_second, alone_units, behind_tokens, spelled, written}
+use Rattle.osi_message.proofs.Vocabulary.{Code, ConnectAcceptItem, SyncType, TokenItem, TransportDisconnect, ProtocolOptions}
+use Rattle.osi_message.proofs.Vocabulary.{UserRequirements, Version, InitialNumber, Number, ResyncType, TsduMaximumSize, Kind, GiveTokens}
+use Rattle.osi_message.proofs.Vocabulary.{TokenSetting, number_of, is_same, is_group, si_of, significant, six_digits, digits_of, two_octets}
+use Rattle.osi_message.proofs.Vocabulary.{size_octets, setting_octets, resync_octet, written_sizes, Known, Contents, Units, nothing, put}
+use Rattle.osi_message.proofs.Vocabulary.{some_octets, length_octets, written_item, written_code, member_octets, members_octets}
+use Rattle.osi_message.proofs.Vocabulary.{group_octets, value_octets, parameter_octets, body_octets, unit_octets, tsdu_octets, UnitFits}
+use Rattle.osi_message.proofs.Vocabulary.{TsduFits, Tokens, token_octet, IsInOctets, Meaning, CN, AC, RF, GT, PT, MIP, MIA, MAP, MAA, RS}
+use Rattle.osi_message.proofs.Vocabulary.{RA, FN, DN, NF, AB, IsSendable, put_some, with_data, terms, numbered, sync_type, unit_with}
+use Rattle.osi_message.proofs.Vocabulary.{unit_of, alone_units, behind_tokens, spelled, written}
 use Rattle.osi_message.proofs.what_can_be_sent_has_a_written_form.{HaveRoom, spelled_fits}
 use Rattle.osi_message.proofs.what_is_written_means_it.{HaveDigits}
 use Rattle.osi_message.proofs.the_octet_of_a_set_of_tokens.{octet_kept}
@@ -23,29 +21,21 @@ use Rattle.osi_message.proofs.a_field_reads_back.{wish_small}
 -- ---- an item
 
 length_part : (b : Bool) (n : ℕ) → nat_lt 254 n ≡ b → n < 65536 → IsOctets (length_octets b n)
-length_part false n e small = octets_cons n [] (grind (arith, nat_tests)) octets_nil
-length_part true n e small =
-    octets_cons 255 (n / 256 ∷ n % 256 ∷ []) (omega arith)
-    (octets_cons (n / 256) (n % 256 ∷ []) (omega arith) (octets_cons (n % 256) [] (omega arith) octets_nil))
+length_part b n e small = grind (arith, octets_cons, nat_tests, octets_nil)
 
 item_is : (code : ℕ) (value : List ℕ) → code < 256 → length value < 65536 → IsOctets value → IsOctets (written_item code value)
-item_is code value small few h =
-    octets_cons code (length_octets (nat_lt 254 (length value)) (length value) ++ value) small
-    (octets_append (length_octets (nat_lt 254 (length value)) (length value)) value
-    (length_part (nat_lt 254 (length value)) (length value) refl few) h)
+item_is code value small few h = grind (arith, octets_cons, octets_append, length_part)
 
 item_longer : (code : ℕ) (value : List ℕ) → length value ≤ length (written_item code value)
 item_longer code value = let e = length-append (length_octets (nat_lt 254 (length value)) (length value)) value in omega arith
 
 code_small : (c : Code) → number_of c < 256
 unfolding number_of
-code_small ConnectionIdentifier = omega arith
-code_small _ = omega arith
+code_small c = grind arith
 
 si_small : (k : Kind) → si_of k < 256
 unfolding si_of
-si_small GiveTokens = omega arith
-si_small _ = omega arith
+si_small k = grind arith
 
 -- ---- the values of a unit
 
@@ -53,8 +43,7 @@ AreKnown : Known → Type 0
 AreKnown known = (c : Code) (v : List ℕ) → known c ≡ Some v → IsOctets v
 
 known_at : (o : Option (List ℕ)) → ((v : List ℕ) → o ≡ Some v → IsOctets v) → IfSome o IsOctets
-known_at None h = tt
-known_at (Some v) h = h v refl
+known_at o h = grind arith
 
 member_is : (c : Code) (o : Option (List ℕ)) → IfSome o IsOctets → length (member_octets c o) < 65536 → IsOctets (member_octets c o)
 member_is c None h few = octets_nil
@@ -72,8 +61,7 @@ members_are known (c ∷ codes) h few =
 value_is : (b : Bool) (kind : Kind) (known : Known) (c : Code) (value : List ℕ) → AreKnown known → IsOctets value →
     length (if b then group_octets kind known c else value) < 65536 → IsOctets (if b then group_octets kind known c else value)
 unfolding group_octets
-value_is true kind known c value h is few = members_are known (members_of kind c) h few
-value_is false kind known c value h is few = is
+value_is b kind known c value h is few = grind (arith, members_are)
 
 parameter_is : (kind : Kind) (known : Known) (c : Code) (o : Option (List ℕ)) → AreKnown known → IfSome o IsOctets →
     length (parameter_octets kind known c o) < 65536 → IsOctets (parameter_octets kind known c o)
@@ -97,8 +85,7 @@ parameters_are kind known (c ∷ codes) h few =
 
 unit_is : (unit : Contents) → AreKnown unit.known → UnitFits unit → IsOctets (unit_octets unit)
 unfolding unit_octets body_octets
-unit_is unit h fits = item_is (si_of unit.kind) (body_octets unit.kind unit.known) (si_small unit.kind) fits
-    (parameters_are unit.kind unit.known (codes_of unit.kind) h fits)
+unit_is unit h fits = grind (arith, item_is, si_small, parameters_are)
 
 record IsUnit (unit : Contents) : Type 0 where
   known : AreKnown unit.known
@@ -107,9 +94,7 @@ record IsUnit (unit : Contents) : Type 0 where
 tsdu_is : (units : Units) → AllByRecursion IsUnit units → TsduFits units → IsOctets (tsdu_octets units)
 unfolding tsdu_octets
 tsdu_is [] h fits = octets_nil
-tsdu_is (unit ∷ units) h fits =
-    octets_append (unit_octets unit) (unit.information ++ tsdu_octets units) (unit_is unit h.0.known fits.0)
-    (octets_append unit.information (tsdu_octets units) h.0.information (tsdu_is units h.1 fits.1))
+tsdu_is (unit ∷ units) h fits = grind (arith, octets_append, unit_is, tsdu_is units h.1 fits.1)
 
 -- ---- values one by one
 
@@ -119,8 +104,7 @@ none_known c v e = absurd cc
 
 known_by : (b : Bool) (value here : Option (List ℕ)) (v : List ℕ) → IfSome value IsOctets → (here ≡ Some v → IsOctets v) →
     cond b value here ≡ Some v → IsOctets v
-known_by true value here v h is e = subst (λ (o : Option (List ℕ)). IfSome o IsOctets) e h
-known_by false value here v h is e = is e
+known_by b value here v h is e = grind arith
 
 some_known : (slot : Code) (value : Option (List ℕ)) (known : Known) → IfSome value IsOctets → AreKnown known →
     AreKnown (put_some slot value known)
@@ -136,8 +120,7 @@ data_by b o v h0 h1 = grind arith
 
 data_known : (octets : List ℕ) (known : Known) → IsOctets octets → AreKnown known → AreKnown (with_data octets known)
 unfolding AreKnown
-data_known octets known h is c v e = data_by (is_same c UserData) (put UserData octets known c) v (one_known UserData octets known h is c v)
-    e
+data_known octets known h is c v e = grind (arith, data_by, one_known)
 
 octet_is : (n : ℕ) → n < 256 → IsOctets (n ∷ [])
 octet_is n small = octets_cons n [] small octets_nil
@@ -146,8 +129,7 @@ two_are : (n : ℕ) → n < 65536 → IsOctets (two_octets n)
 two_are n small = octets_cons (n / 256) (n % 256 ∷ []) (omega arith) (octet_is (n % 256) (omega arith))
 
 either : (b : Bool) (xs ys : List ℕ) → IsOctets xs → IsOctets ys → IsOctets (if b then xs else ys)
-either true xs ys h k = h
-either false xs ys h k = k
+either b xs ys h k = grind arith
 
 significant_are : (digits : List ℕ) → IsOctets digits → IsOctets (significant digits)
 unfolding significant
@@ -182,12 +164,7 @@ sizes_are : (sizes : TsduMaximumSize) → sizes.from_asker < 65536 → sizes.fro
 sizes_are sizes h0 h1 = grind (arith, octets_cons, two_are)
 
 setting_is : (s : TokenSetting) → IsOctets (setting_octets s)
-setting_is s =
-    let a = wish_small s.data_token in
-    let b = wish_small s.minor in
-    let c = wish_small s.major in
-    let d = wish_small s.release in
-    octet_is _ (omega arith)
+setting_is s = grind (arith, wish_small, octet_is)
 
 resync_is : (kind : ResyncType) → IsOctets (resync_octet kind ∷ [])
 resync_is kind = grind (arith, octet_is)
@@ -199,8 +176,7 @@ type_known : (known : Known) → AreKnown known → AreKnown (put SyncType (1 �
 type_known known is = one_known SyncType (1 ∷ []) known (octet_is 1 (omega arith)) is
 
 sync_known : (confirm : Bool) (known : Known) → AreKnown known → AreKnown (sync_type confirm known)
-sync_known true known is = is
-sync_known false known is = type_known known is
+sync_known confirm known is = grind (arith, type_known)
 
 terms_known : (serial : Option ℕ) (setting : TokenSetting) (requirements : ℕ) (sizes : TsduMaximumSize) → requirements < 65536 →
     sizes.from_asker < 65536
@@ -231,23 +207,16 @@ tokens_known tokens = one_known TokenItem (token_octet tokens ∷ []) nothing (t
 
 unit_known : (m : Meaning) → IsInOctets m → AreKnown (unit_of m).known
 unfolding unit_of
-unit_known (CN version_2 requirements serial wishes calling called sizes octets) h =
-    data_known octets _ h.5
-    (some_known CallingSelector calling _ h.1
-    (some_known CalledSelector called _ h.2 (terms_known serial wishes requirements sizes h.0 h.3 h.4)))
-unit_known (AC version_2 requirements serial sides sizes octets) h =
-    data_known octets _ h.3 (terms_known serial sides requirements sizes h.0 h.1 h.2)
-unit_known (RF reason octets) h =
-    one_known TransportDisconnect (1 ∷ []) _ (octet_is 1 (omega arith))
-    (one_known Reason (reason ∷ octets) nothing (octets_cons reason octets h.0 h.1) none_known)
+unit_known (CN version_2 requirements serial wishes calling called sizes octets) h = search (arith, data_known, some_known, terms_known)
+unit_known (AC version_2 requirements serial sides sizes octets) h = search (arith, data_known, terms_known)
+unit_known (RF reason octets) h = grind (arith, one_known, octet_is, octets_cons, none_known)
 unit_known (GT tokens) h = tokens_known tokens
 unit_known (PT tokens octets) h = data_known octets _ h (tokens_known tokens)
 unit_known (MIP confirm n octets) h = data_known octets _ h (sync_known confirm _ (numbered_known n))
 unit_known (MIA n octets) h = data_known octets _ h (numbered_known n)
 unit_known (MAP n octets) h = data_known octets _ h (type_known _ (numbered_known n))
 unit_known (MAA n octets) h = data_known octets _ h (numbered_known n)
-unit_known (RS kind n wishes octets) h =
-    data_known octets _ h (set_known wishes _ (one_known code.ResyncType (resync_octet kind ∷ []) _ (resync_is kind) (numbered_known n)))
+unit_known (RS kind n wishes octets) h = search (arith, data_known, set_known, one_known, resync_is, numbered_known)
 unit_known (RA n sides octets) h = data_known octets _ h (set_known sides _ (numbered_known n))
 unit_known (FN octets) h = data_known octets _ h none_known
 unit_known (DN octets) h = data_known octets _ h none_known
@@ -257,8 +226,7 @@ unit_known _ h = none_known
 
 unit_information : (m : Meaning) → IsInOctets m → IsOctets (unit_of m).information
 unfolding unit_of
-unit_information (DT octets) h = h
-unit_information _ h = octets_nil
+unit_information m h = grind (arith, octets_nil)
 
 meant : (m : Meaning) → IsInOctets m → IsUnit (unit_of m)
 meant m h = record { known = unit_known m h; information = unit_information m h }
@@ -267,10 +235,8 @@ no_tokens : IsUnit (unit_with GiveTokens nothing)
 no_tokens = record { known = none_known; information = octets_nil }
 
 placed : (b : Bool) (m : Meaning) → IsInOctets m → AllByRecursion IsUnit (if b then behind_tokens (unit_of m) else alone_units (unit_of m))
-placed true m h = (no_tokens, (meant m h, tt))
-placed false m h = (meant m h, tt)
+placed b m h = grind (arith, no_tokens, meant)
 
 pub written_octets : HaveRoom → HaveDigits → (m : Meaning) → IsSendable m → IsInOctets m → IsOctets (written m)
 unfolding spelled
-written_octets room digits m can h =
-    tsdu_is (spelled m) (placed (is_second m) m h) (spelled_fits room digits m can.numbered can.addressed can.short)
+written_octets room digits m can h = grind (arith, tsdu_is, placed, spelled_fits)

@@ -10,9 +10,7 @@ record IsStep {A : Type 0} (f : A → A) (xs : List A) (i : ℕ) (d : A) : Type 
 step_at : {A : Type 0} (f : A → A) (xs : List A) (i : ℕ) (d : A) → i < length xs → IsStep f xs i d
 step_at f [] i d h = absurd (omega arith)
 step_at f (x ∷ xs) zero d h = record { here = refl; next = refl }
-step_at f (x ∷ xs) (suc i) d h =
-    let more = step_at f xs i d (omega arith) in
-    record { here = more.here; next = ap (λ l. f x ∷ l) more.next }
+step_at f (x ∷ xs) (suc i) d h = grind (arith, step_at f xs i d (omega arith))
 
 -- those before it are changed, and then the next is; `d` stands for what is past the end
 pub changed_step : {A : Type 0} (f : A → A) (xs items : List A) (i : ℕ) (d new : A) → i < length xs →

@@ -21,8 +21,7 @@ Parts = List ℕ × List ℕ
 pub header_found : (at : ℕ) (b : List ℕ) (x : Parts) → header_at at b ≡ Ok x →
     (b ≡ length x.0 ∷ x.0 ++ x.1) × (1 ≤ length x.0) × (length x.0 ≤ 254)
 unfolding header_at
-header_found at [] x e = absurd cc
-header_found at (li ∷ os) x e = grind (arith, unless_ok, or_parts, eqb-false, ltb-false, leb-false, length-take, take-append-drop, ok_is)
+header_found at b x e = grind (arith, unless_ok, or_parts, eqb-false, ltb-false, leb-false, length-take, take-append-drop, ok_is)
 
 pub header_again : (at : ℕ) (h t : List ℕ) → 1 ≤ length h → length h ≤ 254 → header_at at (length h ∷ h ++ t) ≡ Ok (h, t)
 unfolding header_at
@@ -50,8 +49,7 @@ two_is : (a b : ℕ) → b < 256 → a ∷ b ∷ [] ≡ two (256 * a + b)
 two_is a b lt = grind (arith, high_of, low_of)
 
 front_four : (h : List ℕ) → IsOctets h → 4 ≤ length h → h ≡ get_or h 0 0 ∷ two (reference_at 1 h) ++ (get_or h 3 0 ∷ drop 4 h)
-front_four (a ∷ b ∷ c ∷ d ∷ h) octets le = ap (λ (t : List ℕ). a ∷ t ++ (d ∷ h)) (two_is b c (octets 2))
-front_four h octets le = absurd (omega arith)
+front_four h octets le = grind (arith, two_is)
 
 front_five : (h : List ℕ) → IsOctets h → length h ≡ 5 → h ≡ get_or h 0 0 ∷ two (reference_at 1 h) ++ two (reference_at 3 h)
 front_five (a ∷ b ∷ c ∷ d ∷ e ∷ []) octets le = let first = two_is b c (octets 2) in let second =
@@ -60,9 +58,7 @@ front_five h octets le = absurd (omega arith)
 
 front_six : (h : List ℕ) → IsOctets h → 6 ≤ length h → h ≡ get_or h 0 0 ∷ two (reference_at 1 h) ++ two (reference_at 3 h) ++
     (get_or h 5 0 ∷ drop 6 h)
-front_six (a ∷ b ∷ c ∷ d ∷ e ∷ f ∷ h) octets le = let first = two_is b c (octets 2) in let second =
-    two_is d e (octets 4) in λ i. a ∷ first i ++ second i ++ (f ∷ h)
-front_six h octets le = absurd (omega arith)
+front_six h octets le = grind (arith, two_is)
 
 first_reference : (header : List ℕ) → IsOctets header → IsReference (reference_at 1 header)
 first_reference header octets = is_reference (get_or header 1 0) (get_or header 2 0) (octets 1) (octets 2)
@@ -74,12 +70,10 @@ bit_above : (o : ℕ) → o < 256 → o ≡ below_bit (leb 128 o) (o % 128)
 bit_above o lt = grind (arith, cases_Bool, leb-true, leb-false)
 
 bit_read : (b : Bool) (n : ℕ) → n < 128 → leb 128 (below_bit b n) ≡ b
-bit_read true n lt = le-leb 128 (128 + n) (omega arith)
-bit_read false n lt = lt-leb 128 n lt
+bit_read b n lt = grind (arith, le-leb, lt-leb)
 
 number_read : (b : Bool) (n : ℕ) → n < 128 → below_bit b n % 128 ≡ n
-number_read true n lt = omega arith
-number_read false n lt = omega arith
+number_read b n lt = grind arith
 
 -- ---- found: what the fields of a unit were read from
 
@@ -199,30 +193,11 @@ data0_found header behind code len octets back =
 
 data2_found : (header behind : List ℕ) → get_or header 0 0 ≡ 0xF0 → length header ≡ 4 → IsOctets header → IsOctets behind
     → IsRead (data2 (reference_at 1 header) (get_or header 3 0 % 128) (leb 128 (get_or header 3 0)) behind) header behind
-data2_found header behind code len octets back =
-    let o3 = get_or header 3 0 in
-    let e3 = bit_above o3 (octets 3) in
-    let none = drop_all 4 header (omega arith) in
-    let pieces : get_or header 0 0 ∷ two (reference_at 1 header) ++ (o3 ∷ drop 4 header) ≡ 0xF0 ∷ [] ++ two (reference_at 1 header) ++
-    (below_bit (leb 128 o3) (o3 % 128) ∷ []) =
-    λ i. code i ∷ two (reference_at 1 header) ++ (e3 i ∷ none i) in
-    record {
-      fields = front_four header octets (omega arith) ∙ pieces;
-      in_range = (first_reference header octets, omega arith, back);
-      user = refl;
-    }
+data2_found header behind code len octets back = grind (arith, drop_all 4 header (omega arith))
 
 transfer_found : (at : ℕ) (header behind : List ℕ) → get_or header 0 0 ≡ 0xF0 → Reading (transfer_of at) header behind
 unfolding transfer_of
-transfer_found at header behind code v octets back e =
-    elim (chosen (eqb (length header) 2) (Ok (data0 (leb 128 (get_or header 1 0)) behind)) _ (Ok v) e) [
-      | inl s ↦ subst (λ (w : Value). IsRead w header behind) (ok_is (data0 (leb 128 (get_or header 1 0)) behind) v s.1)
-          (data0_found header behind code (eqb-true _ _ s.0) octets back)
-      | inr s ↦
-          let made = data2 (reference_at 1 header) (get_or header 3 0 % 128) (leb 128 (get_or header 3 0)) behind in
-          let a = when_ok (eqb (length header) 4) (BadLi at) (Ok made) v s.1 in
-          subst (λ (w : Value). IsRead w header behind) (ok_is made v a.1) (data2_found header behind code (eqb-true _ _ a.0) octets back)
-    ]
+transfer_found at header behind code v octets back e = search (arith, chosen, eqb, leb, ok_is, data0_found, eqb-true, when_ok, data2_found)
 
 acknowledge_found : (at : ℕ) (header behind : List ℕ) → get_or header 0 0 / 16 ≡ 6 → Reading (λ h b. acknowledge_of at h) header behind
 unfolding acknowledge_of
@@ -294,32 +269,13 @@ ok v = Ok v
 connect_only : (at code destination : ℕ) (c : Connect) (items : List Item) → IsConnect c → Means c.parameters items → code % 16 ≡ 0
     → connect_of at (connect_part code destination c ++ flat_map item_octets items) c.user ≡ Ok c
 unfolding connect_of
-connect_only at code destination c items fits means even =
-    let rest = flat_map item_octets items in
-    let long : ltb (length (connect_part code destination c ++ rest)) 6 ≡ false = le-ltb _ _ (omega arith) in
-    let known = known_only (at + 7) items c.parameters fits.parameters means in
-    let credit : (code + c.credit) % 16 ≡ c.credit = omega (arith, fits.credit) in
-    let source = two_again c.source in
-    let class : (16 * c.class + c.options) / 16 ≡ c.class = omega (arith, fits.options) in
-    let options : (16 * c.class + c.options) % 16 ≡ c.options = omega (arith, fits.options) in
-    rw (long, known)
-    (λ i. Ok (record {
-      credit = credit i;
-      source = source i;
-      class = class i;
-      options = options i;
-      parameters = c.parameters;
-      user = c.user;
-    }))
+connect_only at code destination c items fits means even = grind (arith, ltb, le-ltb, known_only, two_again)
 
 request_only : (at : ℕ) (header behind : List ℕ) (destination : ℕ) (c : Connect) (items : List Item) →
     header ≡ connect_part 0xE0 destination c ++ flat_map item_octets items → IsConnect c → Means c.parameters items
     → c.user ≡ behind → value_of at header behind ≡ Ok (request c)
 unfolding value_of request_of
-request_only at header behind destination c items header_is fits means user =
-    let code : (0xE0 + c.credit) / 16 ≡ 14 = omega (arith, fits.credit) in
-    let read = connect_only at 0xE0 destination c items fits means refl in
-    rw (header_is, ← user, code, read) refl
+request_only at header behind destination c items header_is fits means user = grind (arith, connect_only)
 
 confirm_only : (at : ℕ) (header behind : List ℕ) (destination : ℕ) (c : Connect) (items : List Item) →
     header ≡ connect_part 0xD0 destination c ++ flat_map item_octets items → IsConnect c → Means c.parameters items
@@ -349,22 +305,13 @@ data0_only at number end user lt = ap (λ (b : Bool). ok (data0 b user)) (bit_re
 data2_only : (at destination number : ℕ) (end : Bool) (user : List ℕ) → number < 128
     → value_of at (0xF0 ∷ [] ++ two destination ++ (below_bit end number ∷ [])) user ≡ Ok (data2 destination number end user)
 unfolding value_of transfer_of
-data2_only at destination number end user lt =
-    let first = two_again destination in
-    let bit = bit_read end number lt in
-    let low = number_read end number lt in
-    λ i. Ok (data2 (first i) (low i) (bit i) user)
+data2_only at destination number end user lt = grind (arith, two_again, bit_read, number_read)
 
 acknowledge_only : (at credit destination number : ℕ) (ignored : Bool) (behind : List ℕ) → credit < 16 → number < 128
     → value_of at ((0x60 + credit) ∷ [] ++ two destination ++ (below_bit ignored number ∷ [])) behind ≡ Ok
     (acknowledge credit destination number)
 unfolding value_of acknowledge_of
-acknowledge_only at credit destination number ignored behind fits lt =
-    let code : (0x60 + credit) / 16 ≡ 6 = omega arith in
-    let given : (0x60 + credit) % 16 ≡ credit = omega arith in
-    let first = two_again destination in
-    let low = number_read ignored number lt in
-    rw code (λ i. Ok (acknowledge (given i) (first i) (low i)))
+acknowledge_only at credit destination number ignored behind fits lt = search (arith, two_again, number_read)
 
 error_only : (at destination cause : ℕ) (items : List Item) (behind : List ℕ)
     → value_of at (0x70 ∷ [] ++ two destination ++ (cause ∷ []) ++ flat_map item_octets items) behind ≡ Ok (error destination cause)
@@ -396,12 +343,7 @@ value_only at (error destination cause) header behind f r e = ap (λ (h : List �
 -- ---- whole units
 
 header_least : (v : Value) (header : List ℕ) → IsHeader v header → 1 ≤ length header
-header_least (request c) header f = subst (λ (h : List ℕ). 1 ≤ length h) (sym f.3) (omega arith)
-header_least (confirm destination c) header f = subst (λ (h : List ℕ). 1 ≤ length h) (sym f.2) (omega arith)
-header_least (disconnected destination source) header f = subst (λ (h : List ℕ). 1 ≤ length h) (sym f) (omega arith)
-header_least (data0 end user) header f = subst (λ (h : List ℕ). 1 ≤ length h) (sym f.2) (omega arith)
-header_least (data2 destination number end user) header f = subst (λ (h : List ℕ). 1 ≤ length h) (sym f) (omega arith)
-header_least _ header f = subst (λ (h : List ℕ). 1 ≤ length h) (sym f.1) (omega arith)
+header_least v header f = grind arith
 
 abbrev Measured : Type 0
 Measured = Value × ℕ
@@ -439,17 +381,13 @@ unit_found at b x octets e =
     subst (λ (y : Measured). Stands b y) (ok_is (measured q.0 header b) x q.2) there
 
 lead_user : (v : Value) → may_be_followed v ≡ true → user_data v ≡ []
-lead_user (disconnected destination source) e = refl
-lead_user (acknowledge credit destination number) e = refl
-lead_user (error destination cause) e = refl
-lead_user _ e = absurd cc
+lead_user v e = grind arith
 
 read_again : (at : ℕ) (v : Value) (header behind : List ℕ) → IsHeader v header → HasFieldsInRange v → length header ≤ 254 →
     user_data v ≡ cond (may_be_followed v) [] behind
     → unit_at at (length header ∷ header ++ behind) ≡ Ok (measured v header (length header ∷ header ++ behind))
 unfolding unit_at
-read_again at v header behind f r most user =
-    rw (header_again at header behind (header_least v header f) most, value_only at v header behind f r user) refl
+read_again at v header behind f r most user = grind (arith, header_again, header_least, value_only)
 
 only_with : (at : ℕ) (v : Value) (x y : List ℕ) (may : Bool) → may_be_followed v ≡ may → Spells v x → Follows v y →
     unit_at at (x ++ y) ≡ Ok (v, length x)
@@ -483,8 +421,7 @@ pub unit_spelled : (at : ℕ) (v : Value) (x y : List ℕ) → Spells v x → Fo
 unit_spelled at v x y s f = only_with at v x y (may_be_followed v) refl s f
 
 some_or_all : (may : Bool) (n all : ℕ) → 1 ≤ n → n ≤ all → (1 ≤ cond may n all) × (cond may n all ≤ all)
-some_or_all true n all some most = (some, most)
-some_or_all false n all some most = (omega arith, omega arith)
+some_or_all may n all some most = grind arith
 
 -- a unit takes some of the octets
 pub unit_takes : (at : ℕ) (b : List ℕ) (x : Value × ℕ) → unit_at at b ≡ Ok x → (1 ≤ x.1) × (x.1 ≤ length b)
@@ -494,8 +431,7 @@ unit_takes at b x e = grind (arith, bind_ok, header_found, length-append, ok_is,
 -- ---- the laws that a grammar of units asks for
 
 follows_nothing : (v : Value) (may : Bool) → may_be_followed v ≡ may → Follows v []
-follows_nothing v true may = rw may tt
-follows_nothing v false may = rw may refl
+follows_nothing v may may2 = grind arith
 
 -- a unit may be the last of its octets
 pub stands_alone : (v : Value) → Follows v []
@@ -504,21 +440,13 @@ stands_alone v = follows_nothing v (may_be_followed v) refl
 -- at most one unit is at the front of octets
 pub one_reading : (v w : Value) (m n : ℕ) (octets : List ℕ) → IsOctets octets → IsAtFront Spells Follows v m octets →
     IsAtFront Spells Follows w n octets → (v ≡ w) × (m ≡ n)
-one_reading v w m n octets are_octets p q =
-    let first : unit_at 0 octets ≡ Ok (v, m) = unit_only 0 v m octets p in
-    let second : unit_at 0 octets ≡ Ok (w, n) = unit_only 0 w n octets q in
-    let same = ok_is (v, m) (w, n) (sym first ∙ second) in
-    (ap (λ (x : Value × ℕ). x.0) same, ap (λ (x : Value × ℕ). x.1) same)
+one_reading v w m n octets are_octets p q = grind (arith, ok_is, unit_only 0 v m octets p, unit_only 0 w n octets q)
 
 -- what was read is what is at the front
 pub same_front : (octets : List ℕ) (v : Value) (n : ℕ) (x : Value × ℕ) → IsAtFront Spells Follows v n octets → unit_at 0 octets ≡ Ok x →
     (x.0 ≡ v) × (x.1 ≡ n)
-same_front octets v n x stands read =
-    let same = ok_is x (v, n) (sym read ∙ unit_only 0 v n octets stands) in
-    (ap (λ (y : Value × ℕ). y.0) same, ap (λ (y : Value × ℕ). y.1) same)
+same_front octets v n x stands read = grind (arith, ok_is x (v, n) (sym read ∙ unit_only 0 v n octets stands))
 
 -- a unit at the front has no fault
 pub not_bad : (octets : List ℕ) (v : Value) (n : ℕ) (f : TpduFault) → IsAtFront Spells Follows v n octets → unit_at 0 octets ≡ Err f → ⊥
-not_bad octets v n f stands bad =
-    let read = unit_only 0 v n octets stands in
-    cc
+not_bad octets v n f stands bad = grind (arith, unit_only 0 v n octets stands)

@@ -14,10 +14,7 @@ only_unit unit octets e = grind (arith, eq-eqb)
 
 data0_only : (last : ℕ) (user : List ℕ) → units_of (2 ∷ 240 ∷ last ∷ user) ≡ Ok (data0 (leb 128 last) user ∷ [])
 unfolding unit_at value_of transfer_of
-data0_only last user =
-    let header : header_at 0 (2 ∷ 240 ∷ last ∷ user) ≡ Ok (240 ∷ last ∷ [], user) =
-    header_again 0 (240 ∷ last ∷ []) user (omega arith) (omega arith) in
-    only_unit (data0 (leb 128 last) user) (2 ∷ 240 ∷ last ∷ user) (rw header refl)
+data0_only last user = search (arith, only_unit, header_again 0 (240 ∷ last ∷ []) user (omega arith) (omega arith), leb 128 last)
 
 data2_only : (high low last : ℕ) (user : List ℕ) →
     units_of (4 ∷ 240 ∷ high ∷ low ∷ last ∷ user) ≡ Ok (data2 (256 * high + low) (last % 128) (leb 128 last) user ∷ [])
@@ -103,22 +100,16 @@ data0_again end user octets = units_only (written (data0 end user)) (data0 end u
 
 pub data2_spelled : (destination number : ℕ) (end : Bool) (user : List ℕ) → destination < 65536 → number < 128 → IsOctets user →
     Spells (data2 destination number end user) (written (data2 destination number end user))
-data2_spelled destination number end user d n octets =
-    written_spells (data2 destination number end user) (record { in_range = (d, n, octets); counted = omega arith })
+data2_spelled destination number end user d n octets = grind (arith, written_spells)
 
 pub data2_again : (destination number : ℕ) (end : Bool) (user : List ℕ) → destination < 65536 → number < 128 → IsOctets user →
     units_of (written (data2 destination number end user)) ≡ Ok (data2 destination number end user ∷ [])
-data2_again destination number end user d n octets =
-    units_only (written (data2 destination number end user)) (data2 destination number end user ∷ [])
-    (data2_spelled destination number end user d n octets)
+data2_again destination number end user d n octets = search (arith, units_only, data2_spelled)
 
 pub ack_spelled : (credit destination number : ℕ) → credit < 16 → destination < 65536 → number < 128 →
     Spells (acknowledge credit destination number) (written (acknowledge credit destination number))
-ack_spelled credit destination number c d n =
-    written_spells (acknowledge credit destination number) (record { in_range = (c, d, n); counted = omega arith })
+ack_spelled credit destination number c d n = grind (arith, written_spells)
 
 pub ack_again : (credit destination number : ℕ) → credit < 16 → destination < 65536 → number < 128 →
     units_of (written (acknowledge credit destination number)) ≡ Ok (acknowledge credit destination number ∷ [])
-ack_again credit destination number c d n =
-    units_only (written (acknowledge credit destination number)) (acknowledge credit destination number ∷ [])
-    (ack_spelled credit destination number c d n)
+ack_again credit destination number c d n = search (arith, units_only, ack_spelled)

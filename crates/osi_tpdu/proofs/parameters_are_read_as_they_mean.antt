@@ -49,8 +49,7 @@ Gains-other : (code other : ℕ) (value : List ℕ) (o : Option (List ℕ)) → 
 Gains-other code other value o ne = rw ne (append-nil (option_to_list o))
 
 is_none : {A : Type 0} (o : Option A) → is_some o ≡ false → o ≡ None
-is_none None e = refl
-is_none (Some x) e = absurd cc
+is_none o e = grind arith
 
 -- ---- one parameter that was read
 
@@ -59,26 +58,21 @@ Adding code value p m = Adds p (item code value ∷ []) m × AreParameters m
 
 size_adds : (n : ℕ) (value : List ℕ) (p : Parameters) → value ≡ n ∷ [] → p.size ≡ None →
     Adds p (item 0xC0 value ∷ []) (record p { size = Some n })
-size_adds n value p one none Size = rw none (ap (λ (v : List ℕ). v ∷ []) one)
-size_adds n value p one none k = Adds-none p k
+size_adds n value p one none k = grind arith
 
 calling_adds : (value : List ℕ) (p : Parameters) → p.calling ≡ None → Adds p (item 0xC1 value ∷ []) (record p { calling = Some value })
-calling_adds value p none Calling = rw none refl
-calling_adds value p none k = Adds-none p k
+calling_adds value p none k = grind arith
 
 called_adds : (value : List ℕ) (p : Parameters) → p.called ≡ None → Adds p (item 0xC2 value ∷ []) (record p { called = Some value })
-called_adds value p none Called = rw none refl
-called_adds value p none k = Adds-none p k
+called_adds value p none k = grind arith
 
 additional_adds : (n : ℕ) (value : List ℕ) (p : Parameters) → value ≡ n ∷ [] → p.additional ≡ None →
     Adds p (item 0xC6 value ∷ []) (record p { additional = Some n })
-additional_adds n value p one none Additional = rw none (ap (λ (v : List ℕ). v ∷ []) one)
-additional_adds n value p one none k = Adds-none p k
+additional_adds n value p one none k = grind arith
 
 alternative_adds : (value : List ℕ) (p : Parameters) → p.alternative ≡ None →
     Adds p (item 0xC7 value ∷ []) (record p { alternative = Some value })
-alternative_adds value p none Alternative = rw none refl
-alternative_adds value p none k = Adds-none p k
+alternative_adds value p none k = grind arith
 
 -- this holds in either order of the last two tests
 size_found : (at : ℕ) (value : List ℕ) (p m : Parameters) → AreParameters p → IsOctets value → with_size at value p ≡ Ok m →
@@ -111,11 +105,7 @@ alternative_found at value p m fits octets e = grind (arith, unless_ok, ok_is, a
 -- a code that is not in the table is none of these
 pub other_code : (code : ℕ) → eqb code 0xC0 ≡ false → eqb code 0xC1 ≡ false → eqb code 0xC2 ≡ false → eqb code 0xC6 ≡ false →
     eqb code 0xC7 ≡ false → (k : Parameter) → eqb code (code_of k) ≡ false
-other_code code a b c d e Size = a
-other_code code a b c d e Calling = b
-other_code code a b c d e Called = c
-other_code code a b c d e Additional = d
-other_code code a b c d e Alternative = e
+other_code code a b c d e k = grind arith
 
 pub with_found : (at code : ℕ) (value : List ℕ) (p m : Parameters) → AreParameters p → IsOctets value →
     with_parameter at code value p ≡ Ok m → Adding code value p m
@@ -150,8 +140,7 @@ Piece = ℕ × List ℕ × List ℕ
 
 -- a code, a length, the value, and the octets after it
 split_two : (s : List ℕ) → 2 ≤ length s → s ≡ get_or s 0 0 ∷ get_or s 1 0 ∷ drop 2 s
-split_two (a ∷ b ∷ s) le = refl
-split_two _ le = absurd (omega arith)
+split_two s le = grind arith
 
 pub parameter_found : (at : ℕ) (s : List ℕ) (x : Piece) → IsOctets s → parameter_at at s ≡ Ok x
     → (s ≡ item_octets (item x.0 x.1) ++ x.2) × IsOctets x.1 × IsOctets x.2 × (length x.2 < length s)
@@ -188,8 +177,7 @@ spelled_on s i behind items e f = e ∙ ap (λ (t : List ℕ). item_octets i ++ 
 parameters_found : (n at : ℕ) (p : Parameters) (s : List ℕ) (m : Parameters) → length s ≤ n → IsOctets s → AreParameters p →
     parameters_at n at p s ≡ Ok m → Found p s m
 unfolding parameters_at
-parameters_found n at p [] m le octets fits e =
-    subst (λ (m' : Parameters). Found p [] m') (ok_is p m e) (record { items = []; spelled = refl; adds = Adds-none p; fits = fits })
+parameters_found n at p [] m le octets fits e = grind (arith, ok_is)
 parameters_found zero at p (o ∷ s) m le octets fits e = absurd (omega arith)
 parameters_found (suc n) at p (o ∷ s) m le octets fits e =
     let a = bind_ok (parameter_at at (o ∷ s)) _ m e in
@@ -248,31 +236,19 @@ parameter_again at i rest = grind (arith, le-ltb, length-append, take_at, drop_a
 -- the value of the first item with a code is the one value of its slot
 first_value : (o new : Option (List ℕ)) (v : List ℕ) (vs : List (List ℕ)) → option_to_list o ++ (v ∷ vs) ≡ option_to_list new →
     (o ≡ None) × (new ≡ Some v) × (vs ≡ [])
-first_value None None v vs e = absurd cc
-first_value None (Some w) v vs e = (refl, cc, cc)
-first_value (Some x) None v vs e = absurd cc
-first_value (Some x) (Some w) v [] e = absurd cc
-first_value (Some x) (Some w) v (y ∷ vs) e = absurd cc
+first_value o new v vs e = grind arith
 
 single_none : (o : Option ℕ) → single o ≡ None → o ≡ None
-single_none None e = refl
-single_none (Some n) e = absurd cc
+single_none o e = grind arith
 
 single_some : (o : Option ℕ) (v : List ℕ) → single o ≡ Some v → (n : ℕ) × (o ≡ Some n) × (v ≡ n ∷ [])
-single_some None v e = absurd cc
-single_some (Some n) v e = (n, refl, cc)
+single_some o v e = grind arith
 
 Gains-same : (code : ℕ) (o new : Option (List ℕ)) → Gains code o [] new → o ≡ new
-Gains-same code None None e = refl
-Gains-same code None (Some w) e = absurd cc
-Gains-same code (Some v) None e = absurd cc
-Gains-same code (Some v) (Some w) e = cc
+Gains-same code o new e = grind arith
 
 single-injective : (a b : Option ℕ) → single a ≡ single b → a ≡ b
-single-injective None None e = refl
-single-injective None (Some n) e = absurd cc
-single-injective (Some n) None e = absurd cc
-single-injective (Some m) (Some n) e = cc
+single-injective a b e = grind arith
 
 same_parameters : (p m : Parameters) → Adds p [] m → p ≡ m
 same_parameters p m a =
@@ -299,39 +275,31 @@ pub record TakesItem (at : ℕ) (i : Item) (items : List Item) (p m : Parameters
   pub adds : Adds more items m
 
 size_value : (o : Option ℕ) (n : ℕ) → IfSome o (λ code. (7 ≤ code) × (code ≤ 13)) → o ≡ Some n → (7 ≤ n) × (n ≤ 13)
-size_value None n h e = absurd cc
-size_value (Some k) n h e = grind arith
+size_value o n h e = grind arith
 
 short_value : (o : Option (List ℕ)) (v : List ℕ) → IfSome o (λ s. (length s ≤ 32) × IsOctets s) → o ≡ Some v → length v ≤ 32
-short_value None v h e = absurd cc
-short_value (Some w) v h e = grind arith
+short_value o v h e = grind arith
 
 -- the result of reading an item with a code of the table, and what the other items add to it
 size_left : (n : ℕ) (value : List ℕ) (items : List Item) (p m : Parameters) → value ≡ n ∷ [] → p.size ≡ None →
     Adds p (item 0xC0 value ∷ items) m → Adds (record p { size = Some n }) items m
-size_left n value items p m one none a Size = ap (λ (v : List ℕ). v ∷ values_of 0xC0 items) (sym one) ∙ rw none at (a Size)
-size_left n value items p m one none a k = a k
+size_left n value items p m one none a k = grind arith
 
 calling_left : (value : List ℕ) (items : List Item) (p m : Parameters) → p.calling ≡ None → Adds p (item 0xC1 value ∷ items) m →
     Adds (record p { calling = Some value }) items m
-calling_left value items p m none a Calling = rw none at (a Calling)
-calling_left value items p m none a k = a k
+calling_left value items p m none a k = grind arith
 
 called_left : (value : List ℕ) (items : List Item) (p m : Parameters) → p.called ≡ None → Adds p (item 0xC2 value ∷ items) m →
     Adds (record p { called = Some value }) items m
-called_left value items p m none a Called = rw none at (a Called)
-called_left value items p m none a k = a k
+called_left value items p m none a k = grind arith
 
 additional_left : (n : ℕ) (value : List ℕ) (items : List Item) (p m : Parameters) → value ≡ n ∷ [] → p.additional ≡ None →
     Adds p (item 0xC6 value ∷ items) m → Adds (record p { additional = Some n }) items m
-additional_left n value items p m one none a Additional = ap (λ (v : List ℕ). v ∷ values_of 0xC6 items) (sym one) ∙
-    rw none at (a Additional)
-additional_left n value items p m one none a k = a k
+additional_left n value items p m one none a k = grind arith
 
 alternative_left : (value : List ℕ) (items : List Item) (p m : Parameters) → p.alternative ≡ None → Adds p (item 0xC7 value ∷ items) m →
     Adds (record p { alternative = Some value }) items m
-alternative_left value items p m none a Alternative = rw none at (a Alternative)
-alternative_left value items p m none a k = a k
+alternative_left value items p m none a k = grind arith
 
 size_read : (at n : ℕ) (value : List ℕ) (p : Parameters) → value ≡ n ∷ [] → p.size ≡ None → (7 ≤ n) × (n ≤ 13) →
     with_parameter at 0xC0 value p ≡ Ok (record p { size = Some n })
@@ -429,11 +397,7 @@ parameters_only (suc n) at p (i ∷ items) m le fits a =
     rw (parameter_again at i rest, t.read) others
 
 meant : (items : List Item) (m : Parameters) → Means m items → Adds no_parameters items m
-meant items m means Size = means.size
-meant items m means Calling = means.calling
-meant items m means Called = means.called
-meant items m means Additional = means.additional
-meant items m means Alternative = means.alternative
+meant items m means h = grind arith
 
 -- once items were read, their meaning is known
 pub known_only : (at : ℕ) (items : List Item) (m : Parameters) → AreParameters m → Means m items →

@@ -8,7 +8,7 @@ use Rattle.osi_tpdu.proofs.Vocabulary.{may_be_followed, header_at, reference_at,
 use Rattle.osi_tpdu.proofs.Vocabulary.{confirm_of, disconnect_of, disconnected_of, transfer_of, acknowledge_of, error_of, value_of, unit_at}
 use Rattle.osi_tpdu.proofs.Vocabulary.{Kind, Request, Confirm, Disconnect, Disconnected, Transfer, Acknowledge, Report, HasCode, MayCount}
 use Rattle.osi_tpdu.proofs.Vocabulary.{HasParametersBehind, LooksAtParameters, HasParameterFault, HasHeader, HasNoHeader, BeginsUnit}
-use Rattle.osi_tpdu.proofs.Vocabulary.{HasBadIndicator, HasUnknownCode, HasFault, StandsBefore, IsFirst, IsUnitFault}
+use Rattle.osi_tpdu.proofs.Vocabulary.{HasBadIndicator, HasUnknownCode, HasFault, IsFirst, IsUnitFault}
 use Rattle.osi_tpdu.proofs.the_steps_of_reading.{chosen, ok_is, IsOctets-rest}
 use Rattle.osi_tpdu.proofs.one_unit_is_read.{header_found, header_again}
 use Rattle.osi_tpdu.proofs.the_first_fault_of_the_parameters.{Judges, judges_same, judges_bind, judges_map, judges_cond, parameters_judged}
@@ -20,10 +20,7 @@ Parts = List ℕ × List ℕ
 -- ---- one header, one kind
 
 same_header : (b h t g u : List ℕ) → HasHeader b h t → HasHeader b g u → h ≡ g
-same_header b h t g u x y =
-    let first : header_at 0 b ≡ Ok (h, t) = ap (header_at 0) x.whole ∙ header_again 0 h t x.at_least x.at_most in
-    let second : header_at 0 b ≡ Ok (g, u) = ap (header_at 0) y.whole ∙ header_again 0 g u y.at_least y.at_most in
-    ap (λ (p : Parts). p.0) (ok_is (h, t) (g, u) (sym first ∙ second))
+same_header b h t g u x y = grind (arith, ok_is, header_again 0 h t x.at_least x.at_most, header_again 0 g u y.at_least y.at_most)
 
 abbrev kind_named : ℕ → Option Kind
 kind_named code =
@@ -32,10 +29,7 @@ kind_named code =
     (cond (eqb code 0xC0) (Some Disconnected) (cond (eqb code 0xF0) (Some Transfer) (cond (eqb code 0x70) (Some Report) None))))))
 
 named_kind : (kind : Kind) (code : ℕ) → HasCode kind code → kind_named code ≡ Some kind
-named_kind Request code h = (let half : code / 16 ≡ 14 = omega (arith, h.1, h.2) in rw half refl)
-named_kind Confirm code h = (let half : code / 16 ≡ 13 = omega (arith, h.1, h.2) in rw half refl)
-named_kind Acknowledge code h = (let half : code / 16 ≡ 6 = omega (arith, h.1, h.2) in rw half refl)
-named_kind _ code h = ap kind_named h
+named_kind kind code h = search arith
 
 some_is : (k j : Kind) → (let o : Option Kind = Some k in o) ≡ Some j → k ≡ j
 some_is k j e = cc
@@ -45,16 +39,10 @@ same_kind k j code a b = some_is k j (sym (named_kind k code a) ∙ named_kind j
 
 -- a statement about the unit at the front of the octets, for two names of the same kind
 same_unit : (P : Kind → List ℕ → Type 0) (k j : Kind) (b h g : List ℕ) → BeginsUnit k b h → BeginsUnit j b g → P k h → P j g
-same_unit P k j b h g x y p =
-    let headers : h ≡ g = same_header b h x.behind g y.behind x.there y.there in
-    let code : HasCode k (get_or g 0 0) = subst (λ (o : List ℕ). HasCode k (get_or o 0 0)) headers x.code in
-    subst (λ (o : List ℕ). P j o) headers (subst (λ (q : Kind). P q h) (same_kind k j (get_or g 0 0) code y.code) p)
+same_unit P k j b h g x y p = grind (arith, same_kind, same_header b h x.behind g y.behind x.there y.there)
 
 behind_one : (kind : Kind) (m n : ℕ) → HasParametersBehind kind m → HasParametersBehind kind n → m ≡ n
-behind_one Disconnected m n a b = absurd a
-behind_one Transfer m n a b = absurd a
-behind_one Acknowledge m n a b = absurd a
-behind_one _ m n a b = a ∙ sym b
+behind_one kind m n a b = grind arith
 
 -- ---- a bad length indicator
 
@@ -69,9 +57,7 @@ no_li b header kind u counts h =
     ]
 
 no_code : (b header : List ℕ) (kind : Kind) → BeginsUnit kind b header → HasUnknownCode b → ⊥
-no_code b header kind u h =
-    let headers : header ≡ h.0 = same_header b header u.behind h.0 h.1 u.there h.2 in
-    h.3 kind (subst (λ (o : List ℕ). HasCode kind (get_or o 0 0)) headers u.code)
+no_code b header kind u h = grind (arith, same_header b header u.behind h.0 h.1 u.there h.2)
 
 -- ---- units without parameters
 
@@ -233,13 +219,7 @@ transfer_judged at b header user u =
 unnamed : (kind : Kind) (code : ℕ) → eqb (code / 16) 0xE ≡ false → eqb (code / 16) 0xD ≡ false → eqb (code / 16) 0x6 ≡ false →
     eqb code 0x80 ≡ false → eqb code 0xC0 ≡ false → eqb code 0xF0 ≡ false → eqb code 0x70 ≡ false
     → HasCode kind code → ⊥
-unnamed Request code a b c d e f g h = eqb-false (code / 16) 0xE a (omega (arith, h.1, h.2))
-unnamed Confirm code a b c d e f g h = eqb-false (code / 16) 0xD b (omega (arith, h.1, h.2))
-unnamed Acknowledge code a b c d e f g h = eqb-false (code / 16) 0x6 c (omega (arith, h.1, h.2))
-unnamed Disconnect code a b c d e f g h = eqb-false code 0x80 d h
-unnamed Disconnected code a b c d e f g h = eqb-false code 0xC0 e h
-unnamed Transfer code a b c d e f g h = eqb-false code 0xF0 f h
-unnamed Report code a b c d e f g h = eqb-false code 0x70 g h
+unnamed kind code a b c d e f g h = grind (arith, eqb-false)
 
 code_first : (at : ℕ) (b header behind : List ℕ) → HasHeader b header behind → ((kind : Kind) → HasCode kind (get_or header 0 0) → ⊥) →
     IsFirst (HasFault at b) (UnknownCode (at + 1))
@@ -318,8 +298,7 @@ abbrev Read : Type 0
 Read = Result (Value × ℕ) TpduFault
 
 fault_by : (at : ℕ) (b : List ℕ) (f : TpduFault) (r : Read) → r ≡ Err f → Judges (HasFault at b) r → IsUnitFault at b f
-fault_by at b f (Ok x) e j = absurd cc
-fault_by at b f (Err g) e j = grind arith
+fault_by at b f r e j = grind arith
 
 -- the fault returned is the first
 pub unit_fault_found : (at : ℕ) (b : List ℕ) (f : TpduFault) → IsOctets b → unit_at at b ≡ Err f → IsUnitFault at b f
@@ -327,27 +306,7 @@ unit_fault_found at b f octets e = fault_by at b f (unit_at at b) e (unit_judged
 
 -- there is one first
 pub one_first : (Has : TpduFault → Type 0) (f g : TpduFault) → IsFirst Has f → IsFirst Has g → f ≡ g
-one_first Has f g a b =
-    elim (b.first f a.there) [
-      | inl same ↦ same
-      | inr behind ↦ elim (a.first g b.there) [
-        | inl same ↦ sym same
-        | inr before ↦ absurd (not_both f g behind before)
-      ]
-    ]
-  where
-    not_both : (f g : TpduFault) → StandsBefore g f → StandsBefore f g → ⊥
-    not_both f g x y =
-        elim x [
-          | inl p ↦ elim y [
-            | inl q ↦ omega arith
-            | inr q ↦ omega (arith, q.0)
-          ]
-          | inr p ↦ elim y [
-            | inl q ↦ omega (arith, p.0)
-            | inr q ↦ omega (arith, p.1, q.1)
-          ]
-        ]
+one_first Has f g a b = grind arith
 
 only_by : (at : ℕ) (b : List ℕ) (f : TpduFault) (r : Read) → IsUnitFault at b f → Judges (HasFault at b) r → r ≡ Err f
 only_by at b f (Ok x) first j = absurd (j f first.there)

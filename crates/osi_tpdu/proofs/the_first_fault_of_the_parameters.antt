@@ -22,30 +22,24 @@ Judges Has (Err f) = IsFirst Has f
 
 pub judges_same : {A : Type 0} (P Q : TpduFault → Type 0) (r : Result A TpduFault) → ((f : TpduFault) → P f → Q f) →
     ((f : TpduFault) → Q f → P f) → Judges P r → Judges Q r
-judges_same P Q (Ok x) to back j = λ f q. j f (back f q)
-judges_same P Q (Err g) to back j = record { there = to g j.there; first = λ f q. j.first f (back f q) }
+judges_same P Q r to back j = grind arith
 
 pub judges_bind : {A B : Type 0} (P : TpduFault → Type 0) (r : Result A TpduFault) (k : A → Result B TpduFault) →
     ((f : TpduFault) → r ≡ Err f → IsFirst P f) → ((x : A) → r ≡ Ok x → Judges P (k x)) → Judges P (r >>= k)
-judges_bind P (Ok x) k bad good = good x refl
-judges_bind P (Err f) k bad good = bad f refl
+judges_bind P r k bad good = grind arith
 
 pub judges_map : {A B : Type 0} (P : TpduFault → Type 0) (r : Result A TpduFault) (g : A → B) → Judges P r → Judges P (r >>= λ x. Ok (g x))
-judges_map P (Ok x) g j = j
-judges_map P (Err f) g j = j
+judges_map P r g j = grind arith
 
 pub judges_cond : {A : Type 0} (P : TpduFault → Type 0) (b : Bool) (x y : Result A TpduFault) → (b ≡ true → Judges P x) →
     (b ≡ false → Judges P y) → Judges P (cond b x y)
-judges_cond P true x y t f = t refl
-judges_cond P false x y t f = f refl
+judges_cond P b x y t f = grind arith
 
 pub judges_err : {A : Type 0} (P : TpduFault → Type 0) (r : Result A TpduFault) (f : TpduFault) → r ≡ Err f → Judges P r → IsFirst P f
-judges_err P (Ok x) f e j = absurd cc
-judges_err P (Err g) f e j = grind arith
+judges_err P r f e j = grind arith
 
 pub judges_ok : {A : Type 0} (P : TpduFault → Type 0) (r : Result A TpduFault) (x : A) → r ≡ Ok x → Judges P r → (f : TpduFault) → P f → ⊥
-judges_ok P (Ok y) x e j = j
-judges_ok P (Err g) x e j = absurd cc
+judges_ok P r x e j = grind arith
 
 -- ---- the item at the front
 
@@ -61,10 +55,7 @@ pub record SameItem (i j : Item) (x y : List ℕ) : Type 0 where
   pub behind : x ≡ y
 
 pub same_item : (i j : Item) (x y : List ℕ) → item_octets i ++ x ≡ item_octets j ++ y → SameItem i j x y
-same_item i j x y e =
-    let same = ok_is (i.code, i.value, x) (j.code, j.value, y) (sym (parameter_again 0 i x) ∙ ap (parameter_at 0) e ∙ parameter_again 0 j y)
-    in
-    record { code = ap (λ (t : Taken). t.0) same; value = ap (λ (t : Taken). t.1) same; behind = ap (λ (t : Taken). t.2) same }
+same_item i j x y e = grind (arith, ok_is, parameter_again 0 i x, parameter_again 0 j y)
 
 abbrev named : ℕ → Option Parameter
 named code =
@@ -72,22 +63,10 @@ named code =
     (cond (eqb code 0xC1) (Some Calling)
     (cond (eqb code 0xC2) (Some Called) (cond (eqb code 0xC6) (Some Additional) (cond (eqb code 0xC7) (Some Alternative) None))))
 
-named_again : (k : Parameter) → named (code_of k) ≡ Some k
-named_again Size = refl
-named_again _ = refl
-
-some_is : (k j : Parameter) → (let o : Option Parameter = Some k in o) ≡ Some j → k ≡ j
-some_is k j e = cc
-
-same_parameter : (k j : Parameter) → code_of k ≡ code_of j → k ≡ j
-same_parameter k j e = some_is k j (sym (named_again k) ∙ ap named e ∙ named_again j)
-
 -- a statement about the parameter at the front, for two names of the same parameter
 same_front : (P : Parameter → List ℕ → Type 0) (kind : Kind) (k j : Parameter) (v w s : List ℕ) → BeginsWith kind k v s →
     BeginsWith kind j w s → P k v → P j w
-same_front P kind k j v w s b c p =
-    let same = same_item (item (code_of k) v) (item (code_of j) w) b.rest c.rest (sym b.whole ∙ c.whole) in
-    subst (λ (x : List ℕ). P j x) same.value (subst (λ (q : Parameter). P q v) (same_parameter k j same.code) p)
+same_front P kind k j v w s b c p = grind (arith, same_item (item (code_of k) v) (item (code_of j) w) b.rest c.rest (sym b.whole ∙ c.whole))
 
 -- ---- the faults of one item
 
@@ -110,10 +89,7 @@ no_length kind k value s b long h =
 
 not_twice : (kind : Kind) (before : List Item) (k : Parameter) (value s : List ℕ) → BeginsWith kind k value s →
     length (values_of (code_of k) before) ≡ 0 → IsRepeated kind before s → ⊥
-not_twice kind before k value s b once h =
-    let none : length (values_of (code_of h.0) before) ≡ 0 =
-    same_front (λ q v. length (values_of (code_of q) before) ≡ 0) kind k h.0 value h.1 s b h.2 once in
-    omega (arith, none, h.3)
+not_twice kind before k value s b once h = grind (arith, same_front)
 
 not_bad : (kind : Kind) (k : Parameter) (value s : List ℕ) → BeginsWith kind k value s → MayHold k value → HasBadValue kind s → ⊥
 not_bad kind k value s b holds h = h.3 (same_front (λ q v. MayHold q v) kind k h.0 value h.1 s b h.2 holds)
@@ -165,16 +141,13 @@ fine kind at before k value s b long once holds f h =
 -- ---- what is known of an item, one code after the other
 
 full : {A : Type 0} (o : Option A) (xs : List A) → xs ≡ option_to_list o → is_some o ≡ true → 1 ≤ length xs
-full None xs e h = absurd cc
-full (Some x) xs e h = rw e (omega arith)
+full o xs e h = grind arith
 
 empty : {A : Type 0} (o : Option A) (xs : List A) → xs ≡ option_to_list o → is_some o ≡ false → length xs ≡ 0
-empty None xs e h = rw e refl
-empty (Some x) xs e h = absurd cc
+empty o xs e h = grind arith
 
 single_there : (o : Option ℕ) → is_some (single o) ≡ is_some o
-single_there None = refl
-single_there (Some n) = refl
+single_there o = grind arith
 
 not_one : (n : ℕ) → not (eqb n 1) ≡ true → n ≡ 1 → ⊥
 not_one n e one = grind (arith, eq-eqb, false≢true)
@@ -306,8 +279,7 @@ pub record HasLater (kind : Kind) (at : ℕ) (before : List Item) (octets : List
 
 moved : (kind : Kind) (at to : ℕ) (before others : List Item) (s : List ℕ) (f : TpduFault) → at ≡ to → before ≡ others →
     HasItemFault kind at before s f → HasItemFault kind to others s f
-moved kind at to before others s f e same h =
-    subst (λ (is : List Item). HasItemFault kind to is s f) same (subst (λ (n : ℕ). HasItemFault kind n before s f) e h)
+moved kind at to before others s f e same h = grind arith
 
 here : (kind : Kind) (at : ℕ) (before : List Item) (s : List ℕ) (f : TpduFault) → 1 ≤ length s → HasItemFault kind at before s f →
     HasLater kind at before s f
@@ -390,10 +362,7 @@ cut_by : (kind : Kind) (at : ℕ) (before : List Item) (s : List ℕ) (f : TpduF
     s ≡ flat_map item_octets items ++ rest
     → HasItemFault kind (at + length (flat_map item_octets items)) (before ++ items) rest f →
     (f ≡ BadParameterLength at) ⊎ StandsBefore (BadParameterLength at) f
-cut_by kind at before s f [] rest none whole bad =
-    length_first kind at before rest f (moved kind (at + 0) at (before ++ []) before rest f (add-zero at) (append-nil before) bad)
-cut_by kind at before s f (j ∷ items) rest none whole bad =
-    absurd (none j (flat_map item_octets items ++ rest) (whole ∙ append_assoc (item_octets j) (flat_map item_octets items) rest))
+cut_by kind at before s f items rest none whole bad = grind arith
 
 -- no complete item is there
 cut_first : (kind : Kind) (at : ℕ) (before : List Item) (s : List ℕ) (f : TpduFault) → 1 ≤ length s → parameter_at at s ≡ Err f →

@@ -1,28 +1,24 @@
 -- Steps of reading that did not fail, and lists of octets.
-use Rattle.std.proofs.Common.{◌≡◌, ℕ, zero, suc, ◌+◌, ◌<◌, Bool, true, false, cond, List, [], ◌∷◌, length, get_or, take, drop, Result}
-use Rattle.std.proofs.Common.{Ok, Err, refl, sym, arith, inl, inr, ◌⊎◌}
+use Rattle.std.proofs.Common.{◌≡◌, ℕ, suc, ◌+◌, ◌<◌, Bool, true, false, cond, List, [], ◌∷◌, length, get_or, take, drop, Result, Ok, Err}
+use Rattle.std.proofs.Common.{refl, sym, arith, ◌⊎◌}
 use Rattle.osi_tpdu.proofs.Vocabulary.{IsOctets, IsOk, TpduFault, ◌>>=◌}
 use Rattle.osi_tpdu.proofs.Vocabulary.{drop-drop, drop-take, false≢true}
 
 pub bind_ok : {A B : Type 0} (r : Result A TpduFault) (f : A → Result B TpduFault) (y : B) → (r >>= f) ≡ Ok y →
     (x : A) × (r ≡ Ok x) × (f x ≡ Ok y)
-bind_ok (Ok x) f y e = (x, refl, e)
-bind_ok (Err d) f y e = absurd cc
+bind_ok r f y e = grind arith
 
 -- a test that did not fail
 pub unless_ok : {A : Type 0} (b : Bool) (d : TpduFault) (r : Result A TpduFault) (y : A) → cond b (Err d) r ≡ Ok y →
     (b ≡ false) × (r ≡ Ok y)
-unless_ok true d r y e = absurd cc
-unless_ok false d r y e = (refl, e)
+unless_ok b d r y e = grind arith
 
 pub when_ok : {A : Type 0} (b : Bool) (d : TpduFault) (r : Result A TpduFault) (y : A) → cond b r (Err d) ≡ Ok y → (b ≡ true) × (r ≡ Ok y)
-when_ok true d r y e = (refl, e)
-when_ok false d r y e = absurd cc
+when_ok b d r y e = grind arith
 
 -- which way a test went
 pub chosen : {A : Type 0} (b : Bool) (x y z : A) → cond b x y ≡ z → ((b ≡ true) × (x ≡ z)) ⊎ ((b ≡ false) × (y ≡ z))
-chosen true x y z e = inl (refl, e)
-chosen false x y z e = inr (refl, e)
+chosen b x y z e = grind arith
 
 abbrev done : {A : Type 0} → A → Result A TpduFault
 done x = Ok x
@@ -32,17 +28,14 @@ ok_is x y e = cc
 
 -- the same for the readers of a unit that is known to be there: a step of reading that is known not to fail
 pub bound_known : {A B : Type 0} (r : Result A TpduFault) (f : A → Result B TpduFault) → IsOk (r >>= f) → IsOk r
-bound_known (Ok x) f known = refl
-bound_known (Err d) f known = absurd (false≢true known)
+bound_known r f known = grind (arith, false≢true)
 
 -- what is read before and then left out can't change the result
 pub skipped_known : {A B : Type 0} (r : Result A TpduFault) (y : B) → IsOk (r >>= λ (x : A). done y) → (r >>= λ (x : A). done y) ≡ Ok y
-skipped_known (Ok x) y known = refl
-skipped_known (Err d) y known = absurd (false≢true known)
+skipped_known r y known = grind (arith, false≢true)
 
 pub IsOctets-cons : (o : ℕ) (s : List ℕ) → o < 256 → IsOctets s → IsOctets (o ∷ s)
-IsOctets-cons o s lt h zero = lt
-IsOctets-cons o s lt h (suc i) = h i
+IsOctets-cons o s lt h h2 = grind arith
 
 pub IsOctets-rest : (o : ℕ) (s : List ℕ) → IsOctets (o ∷ s) → IsOctets s
 IsOctets-rest o s h i = h (suc i)

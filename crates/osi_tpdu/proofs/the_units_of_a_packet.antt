@@ -2,8 +2,8 @@
 use Rattle.std.proofs.Common.{◌≡◌, ℕ, zero, suc, ◌+◌, ◌<◌, ◌≤◌, Bool, true, false, cond, eqb, List, [], ◌∷◌, ◌++◌, length, take, drop}
 use Rattle.std.proofs.Common.{Result, Ok, Err, refl, sym, ap, subst, ◌∙◌, append_assoc, arith, inl, inr, add-zero, zero-add}
 use Rattle.std.specs.Result.{result_unwrap_or}
-use Rattle.osi_tpdu.proofs.Vocabulary.{is_ok, IsTrue, IsOk, OnFalse, AllByRecursion, false≢true, eqb-true, eqb-false, eq-eqb, ne_eqb}
-use Rattle.osi_tpdu.proofs.Vocabulary.{cases_Bool, append-nil, take_all, drop_all, drop_at, length-append, take-append-drop, length-drop}
+use Rattle.osi_tpdu.proofs.Vocabulary.{is_ok, IsTrue, IsOk, AllByRecursion, false≢true, eqb-true, eqb-false, eq-eqb, ne_eqb, cases_Bool}
+use Rattle.osi_tpdu.proofs.Vocabulary.{append-nil, take_all, drop_all, drop_at, length-append, take-append-drop, length-drop}
 use Rattle.osi_tpdu.proofs.Vocabulary.{length-take-le, IsOctets, octets_right, octets_drop, TpduFault, Value, may_be_followed, Spells}
 use Rattle.osi_tpdu.proofs.Vocabulary.{◌>>=◌, header_at, value_of, unit_at, AreUnits, AreLeads, IsFirstFault, Follows, units_at, units_of}
 use Rattle.osi_tpdu.proofs.Vocabulary.{Fits, can_be_read, rest_at}
@@ -31,15 +31,11 @@ with_first v others = others >>= λ vs. Ok (v ∷ vs)
 
 lead_by_rest : (v : Value) (rest : List ℕ) (may : Bool) → may_be_followed v ≡ may → 1 ≤ length rest → Follows v rest →
     IsTrue (may_be_followed v)
-lead_by_rest v rest true may some f = may
-lead_by_rest v rest false may some f =
-    let none : rest ≡ [] = let g : OnFalse false (rest ≡ []) = rw may at f in g in
-    absurd (omega (arith, ap length none))
+lead_by_rest v rest may may2 some f = grind arith
 
 cons_units : (v : Value) (vs : List Value) (x y : List ℕ) (b : List ℕ) → b ≡ x ++ y → IsTrue (may_be_followed v) → Spells v x →
     AreUnits vs y → AreUnits (v ∷ vs) b
-cons_units v [] x y b e lead s us = absurd us
-cons_units v (w ∷ vs) x y b e lead s us = (lead, x, y, e, s, us)
+cons_units v vs x y b e lead s us = grind arith
 
 units_at_found : (n at : ℕ) (b : List ℕ) (vs : List Value) → IsOctets b → units_at n at b ≡ Ok vs → AreUnits vs b
 unfolding units_at
@@ -75,21 +71,17 @@ spelling_least v x s = subst (λ (y : List ℕ). 1 ≤ length y) (sym s.whole) (
 units_least : (vs : List Value) (b : List ℕ) → AreUnits vs b → 1 ≤ length b
 units_least [] b us = absurd us
 units_least (v ∷ []) b us = spelling_least v b us
-units_least (v ∷ w ∷ vs) b us =
-    subst (λ (y : List ℕ). 1 ≤ length y) (sym us.3) (omega (arith, length-append us.1 us.2, spelling_least v us.1 us.4))
+units_least (v ∷ w ∷ vs) b us = grind (arith, length-append, spelling_least)
 
 follows_lead : (v : Value) (y : List ℕ) → IsTrue (may_be_followed v) → (may : Bool) → may_be_followed v ≡ may → Follows v y
-follows_lead v y lead true may = rw may tt
-follows_lead v y lead false may = absurd (false≢true (sym may ∙ lead))
+follows_lead v y lead may may2 = grind (arith, false≢true)
 
 units_at_only : (n at : ℕ) (vs : List Value) (b : List ℕ) → length b < n → AreUnits vs b → units_at n at b ≡ Ok vs
 unfolding units_at
 units_at_only zero at vs b le us = absurd (omega arith)
 units_at_only (suc n) at [] b le us = absurd us
 units_at_only (suc n) at (v ∷ []) b le us =
-    let read = unit_spelled at v b [] us (stands_alone v) in
-    let read' : unit_at at b ≡ Ok (v, length b) = ap (unit_at at) (sym (append-nil b)) ∙ read in
-    rw (read', eq-eqb (length b) (length b) refl) refl
+    grind (arith, unit_spelled at v b [] us (stands_alone v), stands_alone v, append-nil b, eq-eqb (length b) (length b) refl)
 units_at_only (suc n) at (v ∷ w ∷ vs) b le us =
     let x = us.1 in
     let y = us.2 in
@@ -113,8 +105,7 @@ enough_by : (n m at : ℕ) (b : List ℕ) (first : Result (Value × ℕ) TpduFau
     → ((k : ℕ) → 1 ≤ k → k ≤ length b → units_at n (at + k) (drop k b) ≡ units_at m (at + k) (drop k b)) →
     units_at (suc n) at b ≡ units_at (suc m) at b
 unfolding units_at
-enough_by n m at b (Err f) e ln lm same = rw e refl
-enough_by n m at b (Ok x) e ln lm same = grind (arith, unit_takes)
+enough_by n m at b first e ln lm same = grind (arith, unit_takes)
 
 pub units_enough : (n m at : ℕ) (b : List ℕ) → length b < n → length b < m → units_at n at b ≡ units_at m at b
 units_enough zero m at b ln lm = absurd (omega arith)
@@ -137,16 +128,14 @@ pub record Ends (at : ℕ) (rest : List ℕ) (whole : Read) : Type 0 where
   pub same : SameEnd (units_at fuel at rest) whole
 
 SameEnd-refl : (r : Read) → SameEnd r r
-SameEnd-refl (Ok vs) = refl
-SameEnd-refl (Err f) = refl
+SameEnd-refl r = grind arith
 
 pub Ends-first : (b : List ℕ) → Ends 0 b (units_of b)
 unfolding units_of
 Ends-first b = record { fuel = suc (length b); enough = omega arith; same = SameEnd-refl (units_at (suc (length b)) 0 b) }
 
 SameEnd-others : (v : Value) (others whole : Read) → SameEnd (with_first v others) whole → SameEnd others whole
-SameEnd-others v (Ok vs) whole s = s
-SameEnd-others v (Err f) whole s = s
+SameEnd-others v others whole s = grind arith
 
 Ends-more-with : (n at : ℕ) (rest : List ℕ) (whole : Read) (x : Value × ℕ) → length rest < n → SameEnd (units_at n at rest) whole →
     unit_at at rest ≡ Ok x → x.1 < length rest → 1 ≤ x.1
@@ -168,8 +157,7 @@ Ends-more at rest whole x s read more some = Ends-more-with s.fuel at rest whole
 Ends-bad-with : (n at : ℕ) (rest : List ℕ) (whole : Read) (f : TpduFault) → length rest < n → SameEnd (units_at n at rest) whole →
     unit_at at rest ≡ Err f → whole ≡ Err f
 unfolding units_at
-Ends-bad-with zero at rest whole f enough same read = absurd (omega arith)
-Ends-bad-with (suc n) at rest whole f enough same read = rw read at same
+Ends-bad-with n at rest whole f enough same read = grind arith
 
 pub Ends-bad : (at : ℕ) (rest : List ℕ) (whole : Read) (f : TpduFault) → Ends at rest whole → unit_at at rest ≡ Err f → whole ≡ Err f
 Ends-bad at rest whole f s read = Ends-bad-with s.fuel at rest whole f s.enough s.same read
@@ -177,8 +165,7 @@ Ends-bad at rest whole f s read = Ends-bad-with s.fuel at rest whole f s.enough 
 Ends-last-with : (n at : ℕ) (rest : List ℕ) (whole : Read) (x : Value × ℕ) → length rest < n → SameEnd (units_at n at rest) whole →
     unit_at at rest ≡ Ok x → x.1 ≡ length rest → IsOk whole
 unfolding units_at
-Ends-last-with zero at rest whole x enough same read all = absurd (omega arith)
-Ends-last-with (suc n) at rest whole x enough same read all = rw (read, eq-eqb x.1 (length rest) all) at same
+Ends-last-with n at rest whole x enough same read all = grind (arith, eq-eqb)
 
 pub Ends-last : (at : ℕ) (rest : List ℕ) (whole : Read) (x : Value × ℕ) → Ends at rest whole → unit_at at rest ≡ Ok x → x.1 ≡ length rest →
     IsOk whole
@@ -198,13 +185,11 @@ nothing_left at rest e = (ap (can_be_read at) e, ap (rest_at at) e)
 some_left : (at : ℕ) (rest : List ℕ) → 1 ≤ length rest → (can_be_read at rest ≡ is_ok (units_at (suc (length rest)) at rest)) ×
     (rest_at at rest ≡ result_unwrap_or (units_at (suc (length rest)) at rest) [])
 unfolding can_be_read rest_at
-some_left at [] some = absurd (omega arith)
-some_left at (o ∷ rest) some = (refl, refl)
+some_left at rest some = grind arith
 
 others_left : (v : Value) (others : Read) → is_ok (with_first v others) ≡ true →
     (is_ok others ≡ true) × (result_unwrap_or (with_first v others) [] ≡ v ∷ result_unwrap_or others [])
-others_left v (Ok vs) e = (refl, refl)
-others_left v (Err f) e = absurd cc
+others_left v others e = grind arith
 
 abbrev is_ok_read : Read → Bool
 is_ok_read r = is_ok r
@@ -272,10 +257,7 @@ one_reading b vs ws read us =
 units_behind : (leads : List Value) (front x : List ℕ) (v : Value) → AreLeads leads front → Spells v x →
     AreUnits (leads ++ v ∷ []) (front ++ x)
 units_behind [] front x v none s = subst (λ (f : List ℕ). Spells v (f ++ x)) (sym none) s
-units_behind (w ∷ leads) front x v l s =
-    let others = units_behind leads l.2 x v l.5 s in
-    let whole : front ++ x ≡ l.1 ++ (l.2 ++ x) = ap (λ (f : List ℕ). f ++ x) l.3 ∙ append_assoc l.1 l.2 x in
-    cons_units w (leads ++ v ∷ []) l.1 (l.2 ++ x) (front ++ x) whole l.0 l.4 others
+units_behind (w ∷ leads) front x v l s = grind (arith, append_assoc, cons_units, units_behind leads l.2 x v l.5 s)
 
 -- a spelling is read, whatever units come before it
 pub behind_read : (leads : List Value) (front x : List ℕ) (v : Value) → AreLeads leads front → Spells v x →
@@ -321,8 +303,7 @@ ok_no_fault : (vs : List Value) (f : TpduFault) → ok vs ≡ Err f → ⊥
 ok_no_fault vs f e = cc
 
 others_bad : (v : Value) (others : Read) (f : TpduFault) → with_first v others ≡ Err f → others ≡ Err f
-others_bad v (Ok vs) f e = absurd cc
-others_bad v (Err g) f e = cc
+others_bad v others f e = grind arith
 
 stops_here : (at : ℕ) (b : List ℕ) (f : TpduFault) → unit_at at b ≡ Err f → Stops at b f
 stops_here at b f e = grind (arith, add-zero)
@@ -348,9 +329,7 @@ stop_by : (n at : ℕ) (b : List ℕ) (f : TpduFault) (first : Result (Value × 
     IsOctets b → units_at (suc n) at b ≡ Err f
     → ((at' : ℕ) (c : List ℕ) → length c < n → IsOctets c → units_at n at' c ≡ Err f → Stops at' c f) → Stops at b f
 unfolding units_at
-stop_by n at b f (Err g) e enough octets failed later =
-    let same : units_bad g ≡ units_bad f = rw e at failed in
-    stops_here at b f (e ∙ bad_is g f same)
+stop_by n at b f (Err g) e enough octets failed later = grind (arith, stops_here, bad_is)
 stop_by n at b f (Ok x) e enough octets bad later =
     let v = x.0 in
     let k = x.1 in
@@ -392,11 +371,7 @@ units_at_bad : (n at : ℕ) (leads : List Value) (front rest : List ℕ) (f : Tp
     → unit_at (at + length front) rest ≡ Err f → units_at n at (front ++ rest) ≡ Err f
 unfolding units_at
 units_at_bad zero at leads front rest f enough are some bad = absurd (omega arith)
-units_at_bad (suc n) at [] front rest f enough are some bad =
-    let here : unit_at at (front ++ rest) ≡ Err f =
-    ap (λ (t : List ℕ). unit_at at (t ++ rest)) are ∙
-    ap (λ (k : ℕ). unit_at k rest) (sym (add-zero at) ∙ ap (λ (t : List ℕ). at + length t) (sym are)) ∙ bad in
-    rw here refl
+units_at_bad (suc n) at [] front rest f enough are some bad = grind (arith, add-zero)
 units_at_bad (suc n) at (v ∷ leads) front rest f enough are some bad =
     let x = are.1 in
     let y = are.2 in

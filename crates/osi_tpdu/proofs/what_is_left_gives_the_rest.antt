@@ -1,5 +1,5 @@
 -- The loops over parameters and units: what has been read and what is left give the result of reading the whole.
-use Rattle.std.proofs.Common.{◌≡◌, ℕ, zero, suc, ◌+◌, ◌<◌, ◌≤◌, List, [], ◌∷◌, length, Result, Ok, Err, refl, sym, arith}
+use Rattle.std.proofs.Common.{◌≡◌, ℕ, ◌+◌, ◌<◌, ◌≤◌, List, length, Result, Ok, Err, refl, arith}
 use Rattle.osi_tpdu.proofs.Vocabulary.{IsOk, false≢true, TpduFault, Parameters, parameter_at, with_parameter, parameters_at, skipped_at}
 
 -- the parameters from here on, beside those known, are those of the whole
@@ -16,10 +16,7 @@ Reads-with : (n at : ℕ) (p : Parameters) (rest : List ℕ) (whole : Result Par
     → parameter_at at rest ≡ Ok item → with_parameter at item.0 item.1 p ≡ Ok more → length item.2 < length rest →
     Reads (at + (2 + length item.1)) more item.2 whole
 unfolding parameters_at
-Reads-with n at p [] whole item more some enough same took added shorter = absurd (omega arith)
-Reads-with zero at p (o ∷ rest) whole item more some enough same took added shorter = absurd (omega arith)
-Reads-with (suc n) at p (o ∷ rest) whole item more some enough same took added shorter =
-    record { fuel = n; enough = omega arith; same = rw (took, added) at same }
+Reads-with n at p rest whole item more some enough same took added shorter = grind arith
 
 pub Reads-more : (at : ℕ) (p : Parameters) (rest : List ℕ) (whole : Result Parameters TpduFault) (item : Item) (more : Parameters) →
     Reads at p rest whole → 1 ≤ length rest
@@ -32,9 +29,7 @@ Reads-cut-with : (n at : ℕ) (p : Parameters) (rest : List ℕ) (whole : Result
     length rest ≤ n → parameters_at n at p rest ≡ whole
     → parameter_at at rest ≡ Err f → whole ≡ Err f
 unfolding parameters_at
-Reads-cut-with n at p [] whole f some enough same cut = absurd (omega arith)
-Reads-cut-with zero at p (o ∷ rest) whole f some enough same cut = absurd (omega arith)
-Reads-cut-with (suc n) at p (o ∷ rest) whole f some enough same cut = sym (rw cut at same)
+Reads-cut-with n at p rest whole f some enough same cut = grind arith
 
 pub Reads-cut : (at : ℕ) (p : Parameters) (rest : List ℕ) (whole : Result Parameters TpduFault) (f : TpduFault) → Reads at p rest whole →
     1 ≤ length rest → parameter_at at rest ≡ Err f → whole ≡ Err f
@@ -44,9 +39,7 @@ Reads-refused-with : (n at : ℕ) (p : Parameters) (rest : List ℕ) (whole : Re
     1 ≤ length rest → length rest ≤ n → parameters_at n at p rest ≡ whole
     → parameter_at at rest ≡ Ok item → with_parameter at item.0 item.1 p ≡ Err f → whole ≡ Err f
 unfolding parameters_at
-Reads-refused-with n at p [] whole item f some enough same took refused = absurd (omega arith)
-Reads-refused-with zero at p (o ∷ rest) whole item f some enough same took refused = absurd (omega arith)
-Reads-refused-with (suc n) at p (o ∷ rest) whole item f some enough same took refused = sym (rw (took, refused) at same)
+Reads-refused-with n at p rest whole item f some enough same took refused = grind arith
 
 pub Reads-refused : (at : ℕ) (p : Parameters) (rest : List ℕ) (whole : Result Parameters TpduFault) (item : Item) (f : TpduFault) →
     Reads at p rest whole → 1 ≤ length rest
@@ -57,8 +50,7 @@ Reads-refused at p rest whole item f r some took refused =
 Reads-all-with : (n at : ℕ) (p : Parameters) (rest : List ℕ) (whole : Result Parameters TpduFault) → length rest ≡ 0 →
     parameters_at n at p rest ≡ whole → whole ≡ Ok p
 unfolding parameters_at
-Reads-all-with n at p [] whole none same = sym same
-Reads-all-with n at p (o ∷ rest) whole none same = absurd (omega arith)
+Reads-all-with n at p rest whole none same = grind arith
 
 pub Reads-all : (at : ℕ) (p : Parameters) (rest : List ℕ) (whole : Result Parameters TpduFault) → Reads at p rest whole → length rest ≡ 0 →
     whole ≡ Ok p
@@ -100,10 +92,7 @@ Skips-with : (n at : ℕ) (rest : List ℕ) (whole : Result (Unit {0}) TpduFault
     skipped_at n at rest ≡ whole
     → parameter_at at rest ≡ Ok item → length item.2 < length rest → Skips (at + (2 + length item.1)) item.2 whole
 unfolding skipped_at
-Skips-with n at [] whole item some enough same took shorter = absurd (omega arith)
-Skips-with zero at (o ∷ rest) whole item some enough same took shorter = absurd (omega arith)
-Skips-with (suc n) at (o ∷ rest) whole item some enough same took shorter =
-    record { fuel = n; enough = omega arith; same = rw took at same }
+Skips-with n at rest whole item some enough same took shorter = grind arith
 
 pub Skips-more : (at : ℕ) (rest : List ℕ) (whole : Result (Unit {0}) TpduFault) (item : Item) → Skips at rest whole → 1 ≤ length rest
     → parameter_at at rest ≡ Ok item → length item.2 < length rest → Skips (at + (2 + length item.1)) item.2 whole
@@ -113,9 +102,7 @@ Skips-cut-with : (n at : ℕ) (rest : List ℕ) (whole : Result (Unit {0}) TpduF
     skipped_at n at rest ≡ whole
     → parameter_at at rest ≡ Err f → whole ≡ Err f
 unfolding skipped_at
-Skips-cut-with n at [] whole f some enough same cut = absurd (omega arith)
-Skips-cut-with zero at (o ∷ rest) whole f some enough same cut = absurd (omega arith)
-Skips-cut-with (suc n) at (o ∷ rest) whole f some enough same cut = sym (rw cut at same)
+Skips-cut-with n at rest whole f some enough same cut = grind arith
 
 pub Skips-cut : (at : ℕ) (rest : List ℕ) (whole : Result (Unit {0}) TpduFault) (f : TpduFault) → Skips at rest whole → 1 ≤ length rest →
     parameter_at at rest ≡ Err f → whole ≡ Err f
@@ -124,8 +111,7 @@ Skips-cut at rest whole f r some cut = Skips-cut-with r.fuel at rest whole f som
 Skips-all-with : (n at : ℕ) (rest : List ℕ) (whole : Result (Unit {0}) TpduFault) → length rest ≡ 0 → skipped_at n at rest ≡ whole →
     whole ≡ Ok tt
 unfolding skipped_at
-Skips-all-with n at [] whole none same = sym same
-Skips-all-with n at (o ∷ rest) whole none same = absurd (omega arith)
+Skips-all-with n at rest whole none same = grind arith
 
 pub Skips-all : (at : ℕ) (rest : List ℕ) (whole : Result (Unit {0}) TpduFault) → Skips at rest whole → length rest ≡ 0 → whole ≡ Ok tt
 Skips-all at rest whole r none = Skips-all-with r.fuel at rest whole none r.same

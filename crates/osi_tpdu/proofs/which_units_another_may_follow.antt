@@ -47,9 +47,8 @@ lead_code : (at : ℕ) (header behind : List ℕ) (v : Value) → value_of at he
     may_be_followed v ≡ is_lead_code (get_or header 0 0)
 unfolding value_of is_lead_code
 lead_code at header behind v e =
-    grind (
+    search (
       arith,
-      get_or,
       chosen,
       eqb-true,
       request_leads,

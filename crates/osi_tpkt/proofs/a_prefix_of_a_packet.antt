@@ -1,31 +1,21 @@
 -- Prefixes of packets: a full one is a packet, a short one a proper prefix, and the converse.
-use Rattle.std.proofs.Common.{Result, Ok, Err, IfOk, OnOk, not, Option, Some, None, IfNone, Bool, true, false, MatchBool, ◌≡◌, ℕ, ◌+◌, ◌-◌}
-use Rattle.std.proofs.Common.{◌*◌, ◌<◌, ◌≤◌, ◌⊎◌, inl, inr, List, [], ◌∷◌, ◌++◌, length, get_or, take, drop, replicate, refl, sym, ◌∙◌, ap}
-use Rattle.std.proofs.Common.{subst, arith}
+use Rattle.std.proofs.Common.{Result, IfOk, OnOk, not, Option, IfNone, Bool, true, false, MatchBool, ◌≡◌, ℕ, ◌+◌, ◌-◌, ◌*◌, ◌<◌, ◌≤◌, ◌⊎◌}
+use Rattle.std.proofs.Common.{inl, inr, List, [], ◌∷◌, ◌++◌, length, get_or, take, drop, replicate, sym, ◌∙◌, ap, subst, arith}
 use Rattle.osi_tpkt.proofs.Vocabulary.{cases_lt, append_assoc, get_or_append_left, length-append, length-replicate, length-take-le}
 use Rattle.osi_tpkt.proofs.Vocabulary.{take-append-drop, append-nil, drop_all, take_all, drop-take, IsOctets, IsPacket, IsOnePacket}
-use Rattle.osi_tpkt.proofs.Vocabulary.{IsPartial, IsBadVersion, IsBadLength, IsFaultOf, packet_of, stated_length, TpktFault, BadVersion}
-use Rattle.osi_tpkt.proofs.Vocabulary.{BadLength, OutOfMemory, IsFront, IsFull, IsUnfinished, Held, Belongs, Fed, HeaderFault}
-use Rattle.osi_tpkt.proofs.no_packet_is_a_prefix_of_another.{stated_length-append, packet_front, written_packet}
+use Rattle.osi_tpkt.proofs.Vocabulary.{IsPartial, IsBadVersion, IsBadLength, IsFaultOf, packet_of, stated_length, TpktFault, IsFront}
+use Rattle.osi_tpkt.proofs.Vocabulary.{IsFull, IsUnfinished, Held, Belongs, Fed, HeaderFault}
+use Rattle.osi_tpkt.proofs.no_packet_is_a_prefix_of_another.{stated_length-append, packet_front}
 use Rattle.osi_tpkt.proofs.lists_of_octets_stay_octets.{octets_nil, octets_cons, octets_append, octets_left, octets_right, octets_zeros}
 
 -- the first octets of a piece with a good header, up to the length that it states
 pub front_part : (r more : List ℕ) → IsOctets (r ++ more) → get_or (r ++ more) 0 0 ≡ 3 → 7 ≤ stated_length (r ++ more) →
     length r ≤ stated_length (r ++ more) → IsFront r
-front_part r more octets version least within =
-    record {
-      octets = octets_left r more octets;
-      version = λ h. sym (get_or_append_left r more 0 0 h) ∙ version;
-      at_least = λ h. let e = stated_length-append r more h in omega arith;
-      within = λ h. let e = stated_length-append r more h in omega arith;
-    }
+front_part r more octets version least within = grind (arith, get_or_append_left, stated_length-append, octets_left r more octets)
 
 -- no more octets are held than the header states, whether it arrived as a whole or in pieces
 pub front_within : (held piece : List ℕ) → IsFront held → 7 ≤ stated_length (held ++ piece) → length held ≤ stated_length (held ++ piece)
-front_within held piece front least = elim (cases_lt (length held) 4) [
-  | inl less ↦ omega arith
-  | inr long ↦ let e = stated_length-append held piece long in let h = front.within long in omega arith
-]
+front_within held piece front least = grind (arith, cases_lt, stated_length-append)
 
 -- a header in the part that was taken states what the header states
 stated_taken : (held piece : List ℕ) (n : ℕ) → 4 ≤ length (held ++ take n piece) →
@@ -57,30 +47,11 @@ front_prefix r more f =
     }
 
 pub partial_front : (r : List ℕ) → IsPartial r → IsFront r × IsUnfinished r
-partial_front r p =
-    let whole = packet_front _ _ p.completes.1 in
-    let total = length-append r p.more in
-    let front : IsFront r = front_prefix r p.more whole.0 in
-    (front, λ h. let e = stated_length-append r p.more h in let g = whole.1.1 in omega arith)
+partial_front r p = grind (arith, packet_front, front_prefix, stated_length-append, length-append r p.more)
 
 -- a full front is a packet
 pub full_packet : (b : List ℕ) → IsFront b → IsFull b → IsPacket (drop 4 b) b
-full_packet (a ∷ b ∷ c ∷ d ∷ u) f g =
-    let least = f.at_least g.0 in
-    let counted = g.1 in
-    let high = f.octets 2 in
-    let low = f.octets 3 in
-    record {
-      reserved = b;
-      high = c;
-      low = d;
-      spelled = ap (λ x. x ∷ b ∷ c ∷ d ∷ u) (f.version (omega arith));
-      octets = f.octets;
-      counted = omega arith;
-      at_least = omega arith;
-      at_most = omega arith;
-    }
-full_packet _ f g = absurd (omega (arith, g.0))
+full_packet b f g = grind arith
 
 -- four octets or more: zeros complete it
 long_partial : (r : List ℕ) → IsFront r → IsUnfinished r → 4 ≤ length r → IsPartial r
@@ -109,38 +80,19 @@ completed_partial r header p = grind (arith, length-append, append_assoc)
 
 -- the four octets of a header that states at least 7
 header_partial : (b c d : ℕ) → b < 256 → c < 256 → d < 256 → 7 ≤ 256 * c + d → IsPartial (3 ∷ b ∷ c ∷ d ∷ [])
-header_partial b c d hb hc hd h =
-    long_partial (3 ∷ b ∷ c ∷ d ∷ [])
-    (record {
-      octets = octets_cons 3 (b ∷ c ∷ d ∷ []) (omega arith)
-          (octets_cons b (c ∷ d ∷ []) hb (octets_cons c (d ∷ []) hc (octets_cons d [] hd octets_nil)));
-      version = λ _. refl;
-      at_least =
-          λ _. h;
-      within = λ _. omega arith;
-    })
-    (λ _. omega arith) (omega arith)
+header_partial b c d hb hc hd h = grind (arith, long_partial, octets_cons, octets_nil)
 
 pub short_partial : (r : List ℕ) → IsFront r → IsUnfinished r → IsPartial r
 short_partial [] f g =
     completed_partial [] (3 ∷ 0 ∷ 0 ∷ 7 ∷ []) (header_partial 0 0 7 (omega arith) (omega arith) (omega arith) (omega arith))
-short_partial (a ∷ []) f g =
-    subst (λ x. IsPartial (x ∷ [])) (sym (f.version (omega arith)))
-    (completed_partial (3 ∷ []) (0 ∷ 0 ∷ 7 ∷ []) (header_partial 0 0 7 (omega arith) (omega arith) (omega arith) (omega arith)))
-short_partial (a ∷ b ∷ []) f g =
-    subst (λ x. IsPartial (x ∷ b ∷ [])) (sym (f.version (omega arith)))
-    (completed_partial (3 ∷ b ∷ []) (0 ∷ 7 ∷ []) (header_partial b 0 7 (f.octets 1) (omega arith) (omega arith) (omega arith)))
-short_partial (a ∷ b ∷ c ∷ []) f g =
-    subst (λ x. IsPartial (x ∷ b ∷ c ∷ [])) (sym (f.version (omega arith)))
-    (completed_partial (3 ∷ b ∷ c ∷ []) (7 ∷ []) (header_partial b c 7 (f.octets 1) (f.octets 2) (omega arith) (omega arith)))
+short_partial (a ∷ []) f g = grind (arith, header_partial 0 0 7 (omega arith) (omega arith) (omega arith) (omega arith))
+short_partial (a ∷ b ∷ []) f g = grind (arith, header_partial b 0 7 (f.octets 1) (omega arith) (omega arith) (omega arith))
+short_partial (a ∷ b ∷ c ∷ []) f g = grind (arith, header_partial b c 7 (f.octets 1) (f.octets 2) (omega arith) (omega arith))
 short_partial (a ∷ b ∷ c ∷ d ∷ u) f g = long_partial (a ∷ b ∷ c ∷ d ∷ u) f g (omega arith)
 
 -- a packet is no proper prefix of one
 pub partial_not_whole : (r : List ℕ) → IsPartial r → IsOnePacket r → ⊥
-partial_not_whole r p w =
-    let full = (packet_front _ _ w.1).1 in
-    let less = (partial_front r p).1 full.0 in
-    let count = full.1 in omega arith
+partial_not_whole r p w = grind (arith, packet_front, partial_front r p)
 
 -- octets that begin with a front have no bad version
 pub front_version : (h t : List ℕ) → 0 < length h → IsFront h → IsBadVersion (h ++ t) → ⊥
@@ -151,20 +103,13 @@ pub front_length : (h t : List ℕ) → 4 ≤ length h → IsFront h → IsBadLe
 front_length h t some f bad = omega (arith, stated_length-append)
 
 bad_version : (r more : List ℕ) → IsFront r → (4 ≤ length r) ⊎ (more ≡ []) → IsBadVersion (r ++ more) → ⊥
-bad_version r more front (inl long) bad = front_version r more (omega arith) front bad
-bad_version r more front (inr none) bad = grind (arith, append-nil)
+bad_version r more front h bad = grind (arith, front_version, append-nil)
 
 bad_length : (r more : List ℕ) → IsFront r → (4 ≤ length r) ⊎ (more ≡ []) → IsBadLength (r ++ more) → ⊥
-bad_length r more front (inl long) bad = front_length r more long front bad
-bad_length r more front (inr none) bad =
-    let here : IsBadLength r = subst IsBadLength (ap (λ x. r ++ x) none ∙ append-nil r) bad in
-    let least = front.at_least here.0 in
-    let low = here.2 in omega arith
+bad_length r more front h bad = grind (arith, front_length, append-nil)
 
 pub fault_behind : (r more : List ℕ) (at : ℕ) (f : TpktFault) → IsFront r → (4 ≤ length r) ⊎ (more ≡ []) → IsFaultOf at (r ++ more) f → ⊥
-fault_behind r more at (BadVersion o) front enough bad = bad_version r more front enough bad.0
-fault_behind r more at (BadLength o) front enough bad = bad_length r more front enough bad.0
-fault_behind r more at OutOfMemory front enough bad = bad
+fault_behind r more at f front enough bad = grind (arith, bad_version, bad_length)
 
 -- if a complete packet or all of the piece was taken, its octets have no fault
 pub no_fault : (held piece : List ℕ) (n at : ℕ) (f : TpktFault) → IsFront (held ++ take n piece) →
@@ -180,23 +125,16 @@ no_fault held piece n at f front enough fault =
 
 -- octets have at most one fault
 pub one_fault : (at : ℕ) (s : List ℕ) (f g : TpktFault) → IsFaultOf at s f → IsFaultOf at s g → f ≡ g
-one_fault at s (BadVersion a) (BadVersion b) h k = ap BadVersion (h.1 ∙ sym k.1)
-one_fault at s (BadVersion a) (BadLength b) h k = absurd (h.0.1 k.0.1)
-one_fault at s (BadLength a) (BadVersion b) h k = absurd (k.0.1 h.0.1)
-one_fault at s (BadLength a) (BadLength b) h k = ap BadLength (h.1 ∙ sym k.1)
-one_fault at s OutOfMemory g h k = absurd h
-one_fault at s _ OutOfMemory h k = absurd k
+one_fault at s f g h k = grind arith
 
 -- a statement about a prefix and its header, as one about packets
 pub stood : (whole : Bool) (x : List ℕ) (P : Type 0) → IsFront x → MatchBool whole (IsFull x) (IsUnfinished x × P) →
     MatchBool whole (IsOnePacket x) (IsPartial x × P)
-stood true x P f g = (drop 4 x, full_packet x f g)
-stood false x P f g = (short_partial x f g.0, g.1)
+stood whole x P f g = grind (arith, full_packet, short_partial)
 
 -- the same if no complete packet was found
 pub none_partial : {A : Type 0} (o : Option A) (s : List ℕ) → IsFront s → IfNone o (IsUnfinished s) → IfNone o (IsPartial s)
-none_partial None s f h = short_partial s f h
-none_partial (Some x) s f h = h
+none_partial o s f h = grind (arith, short_partial)
 
 -- the packet at the front of octets, its unit as it is sliced from them
 pub front_packet : (octets : List ℕ) (used : ℕ) → used ≤ length octets → IsFront (take used octets) → IsFull (take used octets) →
@@ -205,19 +143,15 @@ front_packet octets used within front full = grind (arith, length-take-le, drop-
 
 -- what holds if a packet is complete, and what if it is not
 pub where_whole : (P Q : Type 0) (whole : Bool) → not whole ≡ false → MatchBool whole P Q → P
-where_whole P Q true e h = h
-where_whole P Q false e h = absurd (cc)
+where_whole P Q whole e h = grind arith
 
 pub where_short : (P Q : Type 0) (whole : Bool) → not whole ≡ true → MatchBool whole P Q → Q
-where_short P Q true e h = absurd (cc)
-where_short P Q false e h = h
+where_short P Q whole e h = grind arith
 
 -- a piece all of which was used
 pub short_whole_piece : (octets : List ℕ) (used : ℕ) → IsFront (take used octets) →
     IsUnfinished (take used octets) × (used ≡ length octets) → IsPartial octets
-short_whole_piece octets used front short =
-    let all : take used octets ≡ octets = ap (λ k. take k octets) short.1 ∙ take_all (length octets) octets (omega arith) in
-    subst IsPartial all (short_partial (take used octets) front short.0)
+short_whole_piece octets used front short = grind (arith, take_all, short_partial)
 
 pub empty_partial : IsPartial []
 empty_partial = completed_partial [] (3 ∷ 0 ∷ 0 ∷ 7 ∷ []) (header_partial 0 0 7 (omega arith) (omega arith) (omega arith) (omega arith))
@@ -226,9 +160,7 @@ empty_partial = completed_partial [] (3 ∷ 0 ∷ 0 ∷ 7 ∷ []) (header_partia
 pub surveyed : (held octets piece : List ℕ) (fed : Fed) → held ≡ octets → fed.used ≤ length piece → IsFront (held ++ take fed.used piece) →
     MatchBool fed.whole (IsFull (held ++ take fed.used piece)) (IsUnfinished (held ++ take fed.used piece) × (fed.used ≡ length piece)) →
     Belongs octets piece fed
-surveyed held octets piece fed same within front whole =
-    subst (λ x. Belongs x piece fed) same
-    (record { within = within; whole = stood fed.whole (held ++ take fed.used piece) (fed.used ≡ length piece) front whole })
+surveyed held octets piece fed same within front whole = grind (arith, stood)
 
 long_or_all : (whole : Bool) (x : List ℕ) (P : Type 0) → MatchBool whole (IsOnePacket x) (IsPartial x × P) →
     IsFront x × ((4 ≤ length x) ⊎ P)
@@ -238,9 +170,7 @@ long_or_all false x P h = ((partial_front x h.0).0, inr h.1)
 -- if some of a piece belongs to the packet, the octets have no fault
 pub belonging_no_fault : (octets piece : List ℕ) (fed : Fed) (at : ℕ) (f : TpktFault) → Belongs octets piece fed →
     IsFaultOf at (octets ++ piece) f → ⊥
-belonging_no_fault octets piece fed at f h fault =
-    let front = long_or_all fed.whole (octets ++ take fed.used piece) (fed.used ≡ length piece) h.whole in
-    no_fault octets piece fed.used at f front.0 front.1 fault
+belonging_no_fault octets piece fed at f h fault = grind (arith, long_or_all, no_fault)
 
 abbrev pub holding : ℕ → Option TpktFault → List ℕ → ℕ → Held
 holding offset fault octets room = record { offset = offset; octets = octets; fault = fault; room = room }
@@ -252,15 +182,13 @@ same_held offset fault xs ys m n e f = ap (λ x. holding offset fault x m) e ∙
 
 counted : (whole : Bool) (held used stated piece : ℕ) → MatchBool whole (held + used ≡ stated) ((held + piece < stated) × (used ≡ piece)) →
     held + used ≤ stated
-counted true held used stated piece h = omega arith
-counted false held used stated piece h = omega (arith, h.0, h.1)
+counted whole held used stated piece h = grind arith
 
 whole_part : (whole : Bool) (held piece : List ℕ) (used : ℕ) → 7 ≤ stated_length (held ++ piece) → used ≤ length piece →
     MatchBool whole (length held + used ≡ stated_length (held ++ piece))
     ((length held + length piece < stated_length (held ++ piece)) × (used ≡ length piece)) →
     MatchBool whole (IsFull (held ++ take used piece)) (IsUnfinished (held ++ take used piece) × (used ≡ length piece))
-whole_part true held piece used least some h = omega (arith, length-append {A = ℕ}, length-take-le {A = ℕ}, stated_taken)
-whole_part false held piece used least some h = omega (arith, length-append {A = ℕ}, length-take-le {A = ℕ}, stated_taken)
+whole_part whole held piece used least some h = grind (arith, length-append, length-take-le, stated_taken)
 
 -- what `part_of` ensures about lengths, as a statement about the octets themselves
 pub part_front : (r : Result Fed HeaderFault) (held piece : List ℕ) → IsFront held → get_or (held ++ piece) 0 0 ≡ 3 → IsOctets piece →
@@ -269,10 +197,7 @@ pub part_front : (r : Result Fed HeaderFault) (held piece : List ℕ) → IsFron
     IfOk r (λ fed. MatchBool fed.whole (length held + fed.used ≡ stated_length (held ++ piece))
     ((length held + length piece < stated_length (held ++ piece)) × (fed.used ≡ length piece))) →
     IfOk r (λ fed. IsFront (held ++ take fed.used piece))
-part_front (Err e) held piece front version octets long least used part = tt
-part_front (Ok fed) held piece front version octets long least used part =
-    front_taken held piece fed.used front.octets octets version least used
-    (counted fed.whole (length held) fed.used (stated_length (held ++ piece)) (length piece) part)
+part_front r held piece front version octets long least used part = grind (arith, front_taken, counted)
 
 pub part_whole : (r : Result Fed HeaderFault) (held piece : List ℕ) → IsFront held → 4 ≤ length (held ++ piece) →
     OnOk r (7 ≤ stated_length (held ++ piece)) → IfOk r (λ fed. fed.used ≤ length piece) →
@@ -280,21 +205,16 @@ pub part_whole : (r : Result Fed HeaderFault) (held piece : List ℕ) → IsFron
     ((length held + length piece < stated_length (held ++ piece)) × (fed.used ≡ length piece))) →
     IfOk r (λ fed. MatchBool fed.whole (IsFull (held ++ take fed.used piece))
     (IsUnfinished (held ++ take fed.used piece) × (fed.used ≡ length piece)))
-part_whole (Err e) held piece front long least used part = tt
-part_whole (Ok fed) held piece front long least used part =
-    whole_part fed.whole held piece fed.used least used part
+part_whole r held piece front long least used part = grind (arith, whole_part)
 
 -- what is written after other octets and a header is a packet
 pub packet_behind : (before unit octets : List ℕ) → octets ≡ before ++ packet_of unit → IsOctets octets → 3 ≤ length unit →
     length unit ≤ 65531 →
     IsPacket unit (packet_of unit)
-packet_behind before unit octets same known least most =
-    let packet : IsOctets (packet_of unit) = octets_right before (packet_of unit) (subst IsOctets same known) in
-    written_packet unit (record { at_least = least; at_most = most; octets = octets_right (take 4 (packet_of unit)) unit packet })
+packet_behind before unit octets same known least most = grind (arith, octets_right before (packet_of unit) (subst IsOctets same known))
 
 whole_where : (P Q : Type 0) (whole : Bool) → whole ≡ true → MatchBool whole P Q → P
-whole_where P Q true e h = h
-whole_where P Q false e h = absurd (cc)
+whole_where P Q whole e h = grind arith
 
 -- a packet that becomes ready needed some of the piece
 pub belonging_some : (octets piece : List ℕ) (fed : Fed) → IsPartial octets → Belongs octets piece fed → fed.whole ≡ true → 0 < fed.used

@@ -1,10 +1,9 @@
 -- A stream is cut into packets in one way.
-use Rattle.std.proofs.Common.{◌≡◌, ℕ, zero, suc, ◌+◌, ◌-◌, ◌<◌, ◌≤◌, ◌⊎◌, inl, inr, List, [], ◌∷◌, ◌++◌, length, get_or, take, drop, refl}
-use Rattle.std.proofs.Common.{sym, ◌∙◌, ap, subst, arith, Result, Err}
+use Rattle.std.proofs.Common.{◌≡◌, ℕ, zero, suc, ◌+◌, ◌-◌, ◌≤◌, ◌⊎◌, inl, inr, List, [], ◌∷◌, ◌++◌, length, get_or, take, drop, refl, sym}
+use Rattle.std.proofs.Common.{◌∙◌, ap, subst, arith, Result, Err}
 use Rattle.osi_tpkt.proofs.Vocabulary.{cases_lt, cases_eq, append_cancel_left, length-append, length-take-le, take-append-drop, append-nil}
 use Rattle.osi_tpkt.proofs.Vocabulary.{IsOctets, IsPacket, IsPartial, IsBadVersion, IsBadLength, IsFaultOf, stated_length, IsFront}
 use Rattle.osi_tpkt.proofs.Vocabulary.{ArePackets, EndsAt, Cuts, offset_of, Ending, Fed, HeaderFault, TpktFault, BadVersion, BadLength}
-use Rattle.osi_tpkt.proofs.Vocabulary.{OutOfMemory}
 use Rattle.osi_tpkt.proofs.lists_of_octets_stay_octets.{octets_right}
 use Rattle.osi_tpkt.proofs.no_packet_is_a_prefix_of_another.{packet_front, one_packet, stated_length-append}
 use Rattle.osi_tpkt.specs.Stream.Ending.{Faulty, Rest}
@@ -17,27 +16,13 @@ abbrev NoPacket : List ℕ → Type 0
 NoPacket r = (u b t : List ℕ) → IsPacket u b → r ≡ b ++ t → ⊥
 
 pub fault_no_packet : (at : ℕ) (r : List ℕ) (f : TpktFault) → IsFaultOf at r f → (u b t : List ℕ) → IsPacket u b → r ≡ b ++ t → ⊥
-fault_no_packet at r (BadVersion o) h u b t p e =
-    let f = packet_front u b p in
-    front_version b t (omega arith) f.0 (subst IsBadVersion e h.0)
-fault_no_packet at r (BadLength o) h u b t p e =
-    let f = packet_front u b p in
-    front_length b t f.1.0 f.0 (subst IsBadLength e h.0)
-fault_no_packet at r OutOfMemory h u b t p e = h
+fault_no_packet at r f h u b t p e = grind (arith, packet_front, front_version, front_length)
 
 pub partial_no_packet : (r : List ℕ) → IsPartial r → (u b t : List ℕ) → IsPacket u b → r ≡ b ++ t → ⊥
-partial_no_packet r h u b t p e =
-    let full = (packet_front u b p).1 in
-    let long : 4 ≤ length b = full.0 in
-    let sizes : length r ≡ length b + length t = ap length e ∙ length-append b t in
-    let stated : stated_length r ≡ stated_length b = ap stated_length e ∙ stated_length-append b t long in
-    let short : length r < stated_length r = (partial_front r h).1 (omega arith) in
-    omega arith
+partial_no_packet r h u b t p e = grind (arith, packet_front, length-append, stated_length-append, partial_front)
 
 pub partial_no_fault : (at : ℕ) (r : List ℕ) (f : TpktFault) → IsPartial r → IsFaultOf at r f → ⊥
-partial_no_fault at r f h k =
-    let front = (partial_front r h).0 in
-    fault_behind r [] at f front (inr refl) (subst (λ x. IsFaultOf at x f) (sym (append-nil r)) k)
+partial_no_fault at r f h k = grind (arith, fault_behind, partial_front r h, append-nil r)
 
 pub end_no_packet : (at : ℕ) (r : List ℕ) (e : Ending) → EndsAt at r e → (u b t : List ℕ) → IsPacket u b → r ≡ b ++ t → ⊥
 end_no_packet at r (Faulty f) h = fault_no_packet at r f h
@@ -62,10 +47,7 @@ one_list s r q us vs left right h k = one_reading us vs s r q (partial_no_packet
 
 -- octets end a stream in at most one way
 one_end : (at : ℕ) (r : List ℕ) (e f : Ending) → EndsAt at r e → EndsAt at r f → e ≡ f
-one_end at r (Faulty f) (Faulty g) h k = ap Faulty (one_fault at r f g h k)
-one_end at r (Faulty f) (Rest n) h k = absurd (partial_no_fault at r f k.0 h)
-one_end at r (Rest m) (Faulty f) h k = absurd (partial_no_fault at r f h.0 k)
-one_end at r (Rest m) (Rest n) h k = ap Rest (h.1 ∙ sym k.1)
+one_end at r e f h k = search (arith, one_fault, partial_no_fault)
 
 pub one_cut : (s : List ℕ) (us vs : List (List ℕ)) (e f : Ending) → Cuts s us e → Cuts s vs f → (us ≡ vs) × (e ≡ f)
 one_cut s us vs e f h k =
@@ -91,15 +73,7 @@ front_whole s octets version long least enough =
     (drop 4 b, b, drop n s, full_packet b front (omega arith, omega arith), same)
 
 front_of : (s : List ℕ) → IsOctets s → Front s
-front_of [] octets =
-    inr (inr (inr
-    (short_partial []
-    (record {
-      octets = octets;
-      version = λ h. absurd (omega arith);
-      at_least = λ h. absurd (omega arith);
-      within = λ h. absurd (omega arith);
-    }) (λ h. absurd (omega arith)))))
+front_of [] octets = search (arith, short_partial)
 front_of (a ∷ s) octets = elim (cases_eq a 3) [
   | inr other ↦ inr (inl (omega arith, other))
   | inl version ↦ elim (cases_lt (length (a ∷ s)) 4) [
@@ -127,10 +101,7 @@ some_end at s (inr (inr partial)) = (Rest (length s), (partial, refl))
 -- the packets at the front of octets, of which there are at most this many, and what is left
 some_packets : (fuel : ℕ) (s : List ℕ) → length s ≤ fuel → IsOctets s →
     (us : List (List ℕ)) × (r : List ℕ) × ArePackets us s r × (IsBadVersion r ⊎ (IsBadLength r ⊎ IsPartial r))
-some_packets zero s few octets = elim (front_of s octets) [
-  | inl h ↦ let long = (packet_front h.0 h.1 h.3).1 in let size = ap length h.4 ∙ length-append h.1 h.2 in absurd (omega (arith, long.0))
-  | inr end ↦ ([], s, refl, end)
-]
+some_packets zero s few octets = grind (arith, front_of, packet_front, length-append)
 some_packets (suc fuel) s few octets = elim (front_of s octets) [
   | inl h ↦
       let long = (packet_front h.0 h.1 h.3).1 in
@@ -150,5 +121,4 @@ some_cut s octets =
 pub refused_no_packet : (s : List ℕ) (r : Result Fed HeaderFault) (e : HeaderFault) → r ≡ Err e → (r ≡ Err Version → IsBadVersion s) →
     (r ≡ Err Length → IsBadLength s) →
     (u b t : List ℕ) → IsPacket u b → s ≡ b ++ t → ⊥
-refused_no_packet s r Version is version length u b t p same = fault_no_packet 0 s (BadVersion 0) (version is, refl) u b t p same
-refused_no_packet s r Length is version length u b t p same = fault_no_packet 0 s (BadLength 0) (length is, refl) u b t p same
+refused_no_packet s r e is version h u b t p same = grind (arith, fault_no_packet)

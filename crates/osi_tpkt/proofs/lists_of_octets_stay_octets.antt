@@ -6,8 +6,7 @@ pub octets_nil : IsOctets []
 octets_nil i = omega arith
 
 pub octets_cons : (x : ℕ) (xs : List ℕ) → x < 256 → IsOctets xs → IsOctets (x ∷ xs)
-octets_cons x xs h hs zero = h
-octets_cons x xs h hs (suc i) = hs i
+octets_cons x xs h hs h2 = grind arith
 
 pub octets_append : (xs ys : List ℕ) → IsOctets xs → IsOctets ys → IsOctets (xs ++ ys)
 octets_append [] ys h k = k

@@ -1,25 +1,18 @@
 -- Laws of packets: what a header states, that no packet is a prefix of another, and that the written form is a packet.
-use Rattle.std.proofs.Common.{◌≡◌, ℕ, ◌+◌, ◌*◌, ◌/◌, ◌%◌, ◌≤◌, List, ◌∷◌, ◌++◌, length, get_or, take, drop, refl, sym, ◌∙◌, ap}
-use Rattle.std.proofs.Common.{arith}
-use Rattle.osi_tpkt.proofs.Vocabulary.{get_or_append_left, length-take-le, take_at, take-append-drop, IsOctets, IsPacket, IsUnit, packet_of}
-use Rattle.osi_tpkt.proofs.Vocabulary.{stated_length, IsFront, IsFull}
+use Rattle.std.proofs.Common.{◌≡◌, ℕ, ◌+◌, ◌*◌, ◌≤◌, List, ◌∷◌, ◌++◌, length, take, drop, refl, sym, ◌∙◌, ap, arith}
+use Rattle.osi_tpkt.proofs.Vocabulary.{get_or_append_left, length-take-le, take_at, IsOctets, IsPacket, IsUnit, packet_of, stated_length}
+use Rattle.osi_tpkt.proofs.Vocabulary.{IsFront, IsFull}
 use Rattle.osi_tpkt.proofs.lists_of_octets_stay_octets.{octets_cons}
 use Rattle.osi_tpkt.specs.PacketValue.{Anything}
 use Rattle.osi_tpkt.specs.Unit.{IsAtFront}
 
 -- what the header states is in its four octets, whatever follows
 pub stated_length-append : (r more : List ℕ) → 4 ≤ length r → stated_length (r ++ more) ≡ stated_length r
-stated_length-append r more h =
-    let a : get_or (r ++ more) 2 0 ≡ get_or r 2 0 = get_or_append_left r more 0 2 (omega arith) in
-    let b : get_or (r ++ more) 3 0 ≡ get_or r 3 0 = get_or_append_left r more 0 3 (omega arith) in
-    omega arith
+stated_length-append r more h = grind (arith, get_or_append_left)
 
 spelled_front : (r h l : ℕ) (u : List ℕ) → IsOctets (3 ∷ r ∷ h ∷ l ∷ u) → 256 * h + l ≡ length u + 4 → 3 ≤ length u →
     IsFront (3 ∷ r ∷ h ∷ l ∷ u) × IsFull (3 ∷ r ∷ h ∷ l ∷ u)
-spelled_front r h l u o e m = (
-  record { octets = o; version = λ _. refl; at_least = λ _. omega arith; within = λ _. omega arith },
-  (omega arith, omega arith),
-)
+spelled_front r h l u o e m = grind arith
 
 pub packet_front : (u b : List ℕ) → IsPacket u b → IsFront b × IsFull b
 packet_front u b p = grind (arith, spelled_front)
@@ -42,27 +35,11 @@ one_packet u v b c x y p q e =
 -- two packets at the front of the same octets are the same
 pub one_front : (octets u v : List ℕ) (m n : ℕ) → m ≤ length octets → n ≤ length octets →
     IsPacket u (take m octets) → IsPacket v (take n octets) → (u ≡ v) × (m ≡ n)
-one_front octets u v m n hm hn p q =
-    let one = one_packet u v (take m octets) (take n octets) (drop m octets) (drop n octets) p q
-    (take-append-drop m octets ∙ sym (take-append-drop n octets)) in
-    (one.1, sym (length-take-le m octets hm) ∙ ap length one.0 ∙ length-take-le n octets hn)
+one_front octets u v m n hm hn p q = grind (arith, length-take-le m octets hm, length-take-le n octets hn)
 
 -- what is written is a packet
 pub written_packet : (u : List ℕ) → IsUnit u → IsPacket u (packet_of u)
-written_packet u h =
-    record {
-      reserved = 0;
-      high = (length u + 4) / 256;
-      low = (length u + 4) % 256;
-      spelled = refl;
-      octets = octets_cons 3 (0 ∷ ((length u + 4) / 256) ∷ ((length u + 4) % 256) ∷ u) (omega arith)
-          (octets_cons 0 (((length u + 4) / 256) ∷ ((length u + 4) % 256) ∷ u) (omega arith)
-          (octets_cons ((length u + 4) / 256) (((length u + 4) % 256) ∷ u) (omega arith)
-          (octets_cons ((length u + 4) % 256) u (omega arith) h.octets)));
-      counted = omega arith;
-      at_least = h.at_least;
-      at_most = h.at_most;
-    }
+written_packet u h = grind (arith, octets_cons)
 
 pub packet_reading : (v w : List ℕ) (m n : ℕ) (octets : List ℕ) → IsOctets octets →
     IsAtFront IsPacket Anything v m octets → IsAtFront IsPacket Anything w n octets → (v ≡ w) × (m ≡ n)

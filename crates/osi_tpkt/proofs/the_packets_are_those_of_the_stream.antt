@@ -1,6 +1,6 @@
 -- Over every run of calls, a cutter's packets are those of the stream that was used.
-use Rattle.std.proofs.Common.{◌≡◌, ℕ, ◌+◌, ◌-◌, ◌≤◌, inl, inr, List, [], ◌∷◌, ◌++◌, length, take, refl, sym, ◌∙◌, ap, subst, arith, true}
-use Rattle.std.proofs.Common.{Some, None, Result, Ok, Err, Contains}
+use Rattle.std.proofs.Common.{◌≡◌, ℕ, ◌+◌, ◌-◌, ◌≤◌, inl, inr, List, [], ◌∷◌, ◌++◌, length, refl, sym, ◌∙◌, ap, subst, arith, true, Some}
+use Rattle.std.proofs.Common.{None, Result, Ok, Err, Contains}
 use Rattle.std.proofs.lemmas.List.Concat.{flat_map-append}
 use Rattle.std.proofs.lemmas.List.Elements.{Contains-append_left, Contains-append_right}
 use Rattle.osi_tpkt.proofs.Vocabulary.{append_assoc, append-nil, length-append, none-some, IsPacket, IsPartial, IsFaultOf, ArePackets}
@@ -12,8 +12,7 @@ use Rattle.osi_tpkt.proofs.what_a_cutter_holds.{none_or_some, feeds_sound, fresh
 
 packets-append : (us : List (List ℕ)) (s r more : List ℕ) → ArePackets us s r → ArePackets us (s ++ more) (r ++ more)
 packets-append [] s r more h = ap (λ x. x ++ more) h
-packets-append (u ∷ us) s r more h =
-    (h.0, h.1 ++ more, h.2, ap (λ x. x ++ more) h.3 ∙ append_assoc h.0 h.1 more, packets-append us h.1 r more h.4)
+packets-append (u ∷ us) s r more h = search (arith, append_assoc, packets-append us h.1 r more h.4)
 
 packets-push : (us : List (List ℕ)) (s r u : List ℕ) → ArePackets us s r → IsPacket u r → ArePackets (us ++ u ∷ []) s []
 packets-push [] s r u h p = (r, [], p, h ∙ sym (append-nil r), refl)
@@ -21,16 +20,13 @@ packets-push (v ∷ us) s r u h p = (h.0, h.1, h.2, h.3, packets-push us h.1 r u
 
 packets_rest : (us : List (List ℕ)) (s r : List ℕ) → ArePackets us s r → length r ≤ length s
 packets_rest [] s r h = let e = ap length h in omega arith
-packets_rest (u ∷ us) s r h =
-    let e = ap length h.3 ∙ length-append h.0 h.1 in
-    let more = packets_rest us h.1 r h.4 in omega arith
+packets_rest (u ∷ us) s r h = grind (arith, length-append, packets_rest us h.1 r h.4)
 
 -- two runs of packets that follow one another are one
 pub packets_joined : (us vs : List (List ℕ)) (s m t r : List ℕ) → ArePackets us s m → ArePackets vs (m ++ t) r →
     ArePackets (us ++ vs) (s ++ t) r
 packets_joined [] vs s m t r h k = subst (λ x. ArePackets vs (x ++ t) r) (sym h) k
-packets_joined (u ∷ us) vs s m t r h k =
-    (h.0, h.1 ++ t, h.2, ap (λ x. x ++ t) h.3 ∙ append_assoc h.0 h.1 t, packets_joined us vs h.1 m t r h.4 k)
+packets_joined (u ∷ us) vs s m t r h k = search (arith, append_assoc, packets_joined us vs h.1 m t r h.4 k)
 
 pub packets_parted : (us vs : List (List ℕ)) (s r : List ℕ) → ArePackets (us ++ vs) s r →
     (m : List ℕ) × ArePackets us s m × ArePackets vs m r
@@ -63,25 +59,13 @@ taken : (start : Held) (made : List CutterCall) (us : List (List ℕ)) (old new 
     Feeds old piece (Ok fed) new → TakesPiece old piece (Ok fed) new → CutterReadsOn start made us old →
     CutterReadsOn start (made ++ Feed piece (Ok fed) ∷ []) us new
 taken start made us old new piece fed unfaulted h t k =
-    let s : List ℕ = start.octets ++ stream_of made in
-    let more : List ℕ = take fed.used piece in
-    let stream : start.octets ++ stream_of (made ++ Feed piece (Ok fed) ∷ []) ≡ s ++ more =
-    used-push start.octets made (Feed piece (Ok fed)) in
-    let octets : new.octets ≡ old.octets ++ more = ap (λ (h : Held). h.octets) t.1.octets in
-    let fault : new.fault ≡ None = ap (λ (h : Held). h.fault) t.1.octets ∙ unfaulted in
-    let offset : new.offset ≡ old.offset = ap (λ (h : Held). h.offset) t.1.octets in
-    let within = packets_rest us s old.octets k.packets in
-    let left : start.offset + (length (s ++ more) - length (old.octets ++ more)) ≡ start.offset + (length s - length old.octets) =
-    omega (arith, length-append s more, length-append old.octets more) in
-    record {
-      packets = subst (λ x. ArePackets us x new.octets) (sym stream)
-          (subst (λ r. ArePackets us (s ++ more) r) (sym octets) (packets-append us s old.octets more k.packets));
-      offset = offset ∙ k.offset ∙ ap offset_of (sym left) ∙ ap (λ r. offset_of (start.offset + (length (s ++ more) - length r)))
-          (sym octets)
-          ∙ ap (λ x. offset_of (start.offset + (length x - length new.octets))) (sym stream);
-      sound = feeds_sound old piece (Ok fed) new k.sound h;
-      faulty = λ f e. absurd (none-some f (sym fault ∙ e));
-    }
+    grind (
+      arith,
+      length-append,
+      packets-append,
+      used-push start.octets made (Feed piece (Ok fed)),
+      feeds_sound old piece (Ok fed) new k.sound h,
+    )
 
 -- a fault that is kept
 refused : (start : Held) (made : List CutterCall) (us : List (List ℕ)) (old new : Held) (piece : List ℕ) (g : TpktFault) →
@@ -109,12 +93,9 @@ fed : (start : Held) (made : List CutterCall) (us : List (List ℕ)) (old new : 
     CutterReadsOn start made us old →
     CutterReadsOn start (made ++ Feed piece result ∷ []) us new
 fed start made us old new piece (Ok f) unfaulted partial h t k = taken start made us old new piece f unfaulted h t k
-fed start made us old new piece (Err (BadVersion at)) unfaulted partial h t k =
-    refused start made us old new piece (BadVersion at) partial t.0 t.1 k
-fed start made us old new piece (Err (BadLength at)) unfaulted partial h t k =
-    refused start made us old new piece (BadLength at) partial t.0 t.1 k
-fed start made us old new piece (Err OutOfMemory) unfaulted partial h t k =
-    unchanged start made us old new (Feed piece (Err OutOfMemory)) refl t.3 k
+fed start made us old new piece (Err (BadVersion at)) unfaulted partial h t k = search (arith, refused)
+fed start made us old new piece (Err (BadLength at)) unfaulted partial h t k = search (arith, refused)
+fed start made us old new piece (Err OutOfMemory) unfaulted partial h t k = grind (arith, unchanged)
 
 used_none : (piece : List ℕ) (result : Result Fed TpktFault) → result ≡ Ok (record { used = 0; whole = true }) →
     used_by (Feed piece result) ≡ []
@@ -142,23 +123,13 @@ dropped : (start : Held) (made : List CutterCall) (us : List (List ℕ)) (old ne
     Advances old new →
     CutterReadsOn start made us old → CutterReadsOn start (made ++ Advance ∷ []) (us ++ u ∷ []) new
 dropped start made us old new u p h k =
-    let s : List ℕ = start.octets ++ stream_of made in
-    let stream = used-none start.octets made Advance refl in
-    let within = packets_rest us s old.octets k.packets in
-    let next : offset_of (old.offset + length old.octets) ≡ offset_of (start.offset + (length s - 0)) = omega arith in
-    subst (λ x. CutterReadsOn start (made ++ Advance ∷ []) (us ++ u ∷ []) x) (sym (h.whole u p)) (record {
-      packets = subst (λ x. ArePackets (us ++ u ∷ []) x []) (sym stream) (packets-push us s old.octets u k.packets p);
-      offset = next ∙ ap (λ x. offset_of (start.offset + (length x - 0))) (sym stream);
-      sound = record { offset = omega arith; octets = inl empty_partial };
-      faulty = λ f e. absurd (none-some f e);
-    })
+    grind (arith, packets_rest, packets-push, empty_partial, used-none start.octets made Advance refl, h.whole u p)
 
 stepping : (start : Held) (made : List CutterCall) (us : List (List ℕ)) (old : Held) (call : CutterCall) (given : List (List ℕ))
     (new : Held) →
     CutterStep old call given new → CutterReadsOn start made us old → CutterReadsOn start (made ++ call ∷ []) (us ++ given) new
 stepping start made us old (Feed piece result) given new h k =
-    subst (λ x. CutterReadsOn start (made ++ Feed piece result ∷ []) x new) (sym (ap (λ x. us ++ x) h.1 ∙ append-nil us))
-    (feeding start made us old new piece result h.0 k)
+    grind (arith, append-nil us, feeding start made us old new piece result h.0 k)
 stepping start made us old Advance given new h k = elim h.1 [
   | inl packet ↦
       subst (λ x. CutterReadsOn start (made ++ Advance ∷ []) (us ++ x) new) (sym packet.2)
@@ -170,10 +141,7 @@ stepping start made us old Advance given new h k = elim h.1 [
 
 running : (start : Held) (calls made : List CutterCall) (us units : List (List ℕ)) (old new : Held) → CutterRun old calls units new →
     CutterReadsOn start made us old → CutterReadsOn start (made ++ calls) (us ++ units) new
-running start [] made us units old new h k =
-    subst (λ x. CutterReadsOn start x (us ++ units) new) (sym (append-nil made))
-    (subst (λ x. CutterReadsOn start made x new) (sym (ap (λ x. us ++ x) h.0 ∙ append-nil us))
-    (subst (λ x. CutterReadsOn start made us x) (sym h.1) k))
+running start [] made us units old new h k = grind (arith, append-nil)
 running start (call ∷ calls) made us units old new h k =
     let step = stepping start made us old call h.1 h.0 h.3 k in
     let rest = running start calls (made ++ call ∷ []) (us ++ h.1) h.2 h.0 new h.4 step in
@@ -182,14 +150,7 @@ running start (call ∷ calls) made us units old new h k =
 
 -- before any call
 no_call : (start : Held) → IsHolding start → CutterReadsOn start [] [] start
-no_call start h =
-    let all = ap length (append-nil start.octets) in
-    record {
-      packets = append-nil start.octets;
-      offset = omega arith;
-      sound = h;
-      faulty = λ f e. inl e;
-    }
+no_call start h = grind (arith, append-nil)
 
 -- whatever a cutter holds
 pub any_run_on : (old new : Held) (calls : List CutterCall) (units : List (List ℕ)) → IsHolding old → CutterRun old calls units new →

@@ -3,7 +3,7 @@ use Rattle.std.proofs.Common.{◌≡◌, ℕ, ◌+◌, ◌-◌, ◌<◌, ◌≤�
 use Rattle.std.proofs.Common.{subst, arith, Bool, true, false, Option, Some, None, Result, Ok, Err, IfOk, MatchBool}
 use Rattle.osi_tpkt.specs.declared.cutting.Progress.{Progress}
 use Rattle.osi_tpkt.specs.declared.cutting.Progress.TheVariants.{Awaited, Partial, Stopped}
-use Rattle.osi_tpkt.specs.declared.cutting.Stop.TheVariants.{Whole, Version, Length}
+use Rattle.osi_tpkt.specs.declared.cutting.Stop.TheVariants.{Whole}
 use Rattle.osi_tpkt.proofs.Vocabulary.{length-take-le, none-some, IsPacket, IsOnePacket, IsPartial, IsFaultOf, offset_of, IsFront, IsFull}
 use Rattle.osi_tpkt.proofs.Vocabulary.{IsUnfinished, Held, IsHolding, fresh, Gains, TakesPiece, Feeds, Passes, Advances, CutterRun, Feed}
 use Rattle.osi_tpkt.proofs.Vocabulary.{Advance, fault_of, FitsProgress, IsKept, TpktFault, BadVersion, BadLength, OutOfMemory, Fed}
@@ -14,8 +14,7 @@ use Rattle.osi_tpkt.proofs.a_prefix_of_a_packet.{belonging_no_fault, surveyed, o
 pub holding_sound : (offset : ℕ) (octets : List ℕ) (progress : Progress) (room : ℕ) → IsKept offset octets progress →
     IsHolding (holding offset (fault_of offset progress) octets room)
 holding_sound offset octets Awaited room h = record { offset = h.offset; octets = inl (subst IsPartial (sym h.progress) empty_partial) }
-holding_sound offset octets (Stopped Whole) room h =
-    record { offset = h.offset; octets = inr ((drop 4 octets, full_packet octets h.progress.0 h.progress.1), refl) }
+holding_sound offset octets (Stopped Whole) room h = search (arith, full_packet)
 holding_sound offset octets _ room h = record { offset = h.offset; octets = inl (short_partial octets h.progress.0 h.progress.1) }
 
 -- the same of its value
@@ -27,8 +26,7 @@ kept_sound offset octets progress room now h same = subst IsHolding same (holdin
 goes_on : (offset : ℕ) (octets : List ℕ) (progress : Progress) → (progress ≡ Awaited) ⊎ (progress ≡ Partial) →
     IsKept offset octets progress →
     (fault_of offset progress ≡ None) × IsPartial octets
-goes_on offset octets progress (inl is) fits =
-    (ap (λ p. fault_of offset p) is, subst IsPartial (sym (subst (λ p. FitsProgress octets p) is fits.progress)) empty_partial)
+goes_on offset octets progress (inl is) fits = grind (arith, empty_partial)
 goes_on offset octets progress (inr is) fits =
     let front : IsFront octets × IsUnfinished octets × (0 < length octets) = subst (λ p. FitsProgress octets p) is fits.progress in
     (ap (λ p. fault_of offset p) is, short_partial octets front.0 front.1)
@@ -36,9 +34,7 @@ goes_on offset octets progress (inr is) fits =
 pub going_on : (offset : ℕ) (octets : List ℕ) (progress : Progress) (room : ℕ) (now : Held) → (progress ≡ Awaited) ⊎ (progress ≡ Partial) →
     IsKept offset octets progress →
     holding offset (fault_of offset progress) octets room ≡ now → (now.fault ≡ None) × IsPartial now.octets
-going_on offset octets progress room now is fits same =
-    let on = goes_on offset octets progress is fits in
-    (sym (ap (λ (h : Held). h.fault) same) ∙ on.0, subst (λ (h : Held). IsPartial h.octets) same on.1)
+going_on offset octets progress room now is fits same = grind (arith, goes_on)
 
 -- a cutter that awaits a packet holds nothing
 pub awaiting : (offset : ℕ) (octets : List ℕ) (progress : Progress) → progress ≡ Awaited → IsKept offset octets progress → octets ≡ []
@@ -48,20 +44,11 @@ awaiting offset octets progress is fits = subst (λ p. FitsProgress octets p) is
 taken_used : (old : Held) (piece : List ℕ) (result : Result Fed TpktFault) (new : Held) → IsPartial old.octets →
     TakesPiece old piece result new →
     IfOk result (λ fed. fed.used ≤ length piece) × IfOk result (λ fed. fed.whole ≡ true → 0 < fed.used)
-taken_used old piece (Ok fed) new partial t = (t.0.within, belonging_some old.octets piece fed partial t.0)
-taken_used old piece (Err f) new partial t = (tt, tt)
+taken_used old piece result new partial t = grind (arith, belonging_some)
 
 pub taken_feeds : (old : Held) (piece : List ℕ) (result : Result Fed TpktFault) (new : Held) → old.fault ≡ None → IsPartial old.octets →
     TakesPiece old piece result new → Feeds old piece result new
-taken_feeds old piece result new unfaulted partial t =
-    let used = taken_used old piece result new partial t in
-    record {
-      used = used.0;
-      progress = λ _ _. used.1;
-      standing = λ whole. absurd (partial_not_whole old.octets partial whole);
-      again = λ f e. absurd (none-some f (sym unfaulted ∙ e));
-      taken = λ _ _. t;
-    }
+taken_feeds old piece result new unfaulted partial t = grind (arith, taken_used, partial_not_whole, none-some)
 
 pub none_or_some : (o : Option TpktFault) → (o ≡ None) ⊎ ((f : TpktFault) × (o ≡ Some f))
 none_or_some None = inl refl
@@ -106,26 +93,18 @@ fresh_holding = record { offset = omega arith; octets = inl empty_partial }
 
 -- a cutter that begins at an offset
 pub begins : (at room : ℕ) (octets : List ℕ) → octets ≡ [] → at < 2 ^ 64 → IsHolding (holding at None octets room)
-begins at room octets none fits =
-    subst (λ x. IsHolding (holding at None x room)) (sym none) (record { offset = fits; octets = inl empty_partial })
+begins at room octets none fits = grind (arith, holding, empty_partial)
 
 -- if a piece was refused, its fault was returned, and `OutOfMemory` is not kept
 pub taken_refused : (old : Held) (piece : List ℕ) (result : Result Fed TpktFault) (new : Held) (f : TpktFault) →
     TakesPiece old piece result new →
     IsFaultOf old.offset (old.octets ++ piece) f → result ≡ Err f
-taken_refused old piece (Ok fed) new f t fault = absurd (belonging_no_fault old.octets piece fed old.offset f t.0 fault)
-taken_refused old piece (Err (BadVersion at)) new f t fault =
-    ap Err (one_fault old.offset (old.octets ++ piece) (BadVersion at) f t.0 fault)
-taken_refused old piece (Err (BadLength at)) new f t fault = ap Err (one_fault old.offset (old.octets ++ piece) (BadLength at) f t.0 fault)
-taken_refused old piece (Err OutOfMemory) new f t fault = absurd (belonging_no_fault old.octets piece t.0 old.offset f t.1 fault)
+taken_refused old piece result new f t fault = grind (arith, belonging_no_fault, one_fault)
 
 pub taken_lasting : (old : Held) (piece : List ℕ) (result : Result Fed TpktFault) (new : Held) → old.fault ≡ None →
     TakesPiece old piece result new →
     new.fault ≡ Some OutOfMemory → ⊥
-taken_lasting old piece (Ok fed) new unfaulted t e = none-some OutOfMemory (sym unfaulted ∙ sym (ap (λ (h : Held). h.fault) t.1.octets) ∙ e)
-taken_lasting old piece (Err OutOfMemory) new unfaulted t e =
-    none-some OutOfMemory (sym unfaulted ∙ sym (ap (λ (h : Held). h.fault) t.3) ∙ e)
-taken_lasting old piece _ new unfaulted t e = absurd (let f = ap (λ (h : Held). h.fault) t.1 in cc)
+taken_lasting old piece result new unfaulted t e = grind (arith, none-some)
 
 -- ---- what the storage holds
 
@@ -167,8 +146,7 @@ pub passed_sound : (offset sum room : ℕ) (octets : List ℕ) (progress : Progr
     sum < 2 ^ 64 →
     IsHolding (holding sum (fault_of sum progress) octets room)
 passed_sound offset sum room octets progress is kept fits =
-    subst (λ f. IsHolding (holding sum f octets room)) (sym (ap (fault_of sum) is))
-    (begins sum room octets (awaiting offset octets progress is kept) fits)
+    grind (arith, begins sum room octets (awaiting offset octets progress is kept) fits)
 
 passing_feeds : (old new : Held) (unit piece : List ℕ) → Passes old unit piece new →
     Feeds old piece (Ok (record { used = 4 + length unit; whole = true })) (record old { octets = take (4 + length unit) piece })
@@ -210,14 +188,4 @@ passing_runs old new unit piece p = (
 pub awaits : (offset : ℕ) (octets : List ℕ) (progress : Progress) (room : ℕ) (now : Held) → (progress ≡ Awaited → ⊥) →
     IsKept offset octets progress →
     holding offset (fault_of offset progress) octets room ≡ now → now.octets ≡ [] → now.fault ≡ None → ⊥
-awaits offset octets Awaited room now other fits same none unfaulted = other refl
-awaits offset octets Partial room now other fits same none unfaulted =
-    let empty : length octets ≡ 0 = ap length (ap (λ (h : Held). h.octets) same ∙ none) in
-    let some = fits.progress.2 in absurd (omega arith)
-awaits offset octets (Stopped Whole) room now other fits same none unfaulted =
-    let empty : length octets ≡ 0 = ap length (ap (λ (h : Held). h.octets) same ∙ none) in
-    let long = fits.progress.1.0 in absurd (omega arith)
-awaits offset octets (Stopped Version) room now other fits same none unfaulted =
-    none-some (BadVersion offset) (sym unfaulted ∙ sym (ap (λ (h : Held). h.fault) same))
-awaits offset octets (Stopped Length) room now other fits same none unfaulted =
-    none-some (BadLength offset) (sym unfaulted ∙ sym (ap (λ (h : Held). h.fault) same))
+awaits offset octets progress room now other fits same none unfaulted = grind (arith, none-some)

@@ -5,15 +5,14 @@ use Rattle.std.proofs.Common.{if◌then◌else◌}
 use Rattle.osi_carrier.specs.declared.faults.OpenError.{OpenError}
 use Rattle.osi_carrier.specs.declared.faults.OpenError.TheVariants.{NotCaller, Ended, TooMany, ReferencesUsedUp}
 use Rattle.osi_carrier.proofs.Vocabulary.{nat_tests, append-nil, AllByRecursion, units_of, TpduFault, Value, Connect, request, confirm}
-use Rattle.osi_carrier.proofs.Vocabulary.{disconnect, disconnected, data0, error, Standing, taken, Selection, accept, refuse, selected_by}
-use Rattle.osi_carrier.proofs.Vocabulary.{LinkFault, Class, Zero, Two, Local, Happening, refused, confirmed, fresh_state, class_error}
-use Rattle.osi_carrier.proofs.Vocabulary.{or_else, room_error, may_connect, asks, sent_on, open_link, sent, closes, closed_on, closed_with}
-use Rattle.osi_carrier.proofs.Vocabulary.{ended_by, RiseFrom, AreUpTo, only_of, connection_by, connection_of, told_of, IsOrderly}
-use Rattle.osi_carrier.proofs.Vocabulary.{ChangesOne, acts_by, after_packet, denies, answers, is_full, has_peer, answers_request}
-use Rattle.osi_carrier.proofs.Vocabulary.{to_unknown, opens, to_asked, tells_of, taking, breaks, leaves, to_linked, to_closing}
-use Rattle.osi_carrier.proofs.Vocabulary.{to_connection, to_reference, before_class, to_only, in_zero, in_two, in_class, react, react_by}
-use Rattle.osi_carrier.proofs.Vocabulary.{reacts, Rows, value_at, put, without, Connection, asked, closing, State, drops, ends, EndReason}
-use Rattle.osi_carrier.proofs.Vocabulary.{AreNamed, sent_all}
+use Rattle.osi_carrier.proofs.Vocabulary.{disconnect, data0, error, Standing, Selection, accept, refuse, selected_by, LinkFault, Class}
+use Rattle.osi_carrier.proofs.Vocabulary.{Zero, Two, Local, Happening, refused, confirmed, fresh_state, class_error, or_else, room_error}
+use Rattle.osi_carrier.proofs.Vocabulary.{may_connect, asks, sent_on, open_link, sent, closes, closed_on, closed_with, ended_by, RiseFrom}
+use Rattle.osi_carrier.proofs.Vocabulary.{AreUpTo, only_of, connection_by, connection_of, told_of, IsOrderly, ChangesOne, acts_by}
+use Rattle.osi_carrier.proofs.Vocabulary.{after_packet, denies, answers, answers_request, to_unknown, opens, to_asked, tells_of, taking}
+use Rattle.osi_carrier.proofs.Vocabulary.{breaks, leaves, to_linked, to_closing, to_connection, to_reference, before_class, to_only}
+use Rattle.osi_carrier.proofs.Vocabulary.{in_zero, in_two, in_class, react, react_by, reacts, Rows, value_at, put, without, Connection}
+use Rattle.osi_carrier.proofs.Vocabulary.{asked, closing, State, drops, ends, EndReason, AreNamed, sent_all}
 use Rattle.osi_carrier.proofs.references.rows_after_a_change.{put_other, without_other, push_other, put_none, without_none, put_rise}
 use Rattle.osi_carrier.proofs.references.rows_after_a_change.{without_rise, push_rise, put_up, without_up, push_up, put_length}
 use Rattle.osi_carrier.proofs.references.rows_after_a_change.{without_length}
@@ -100,16 +99,12 @@ answers_by c s false true room = effect_denies (s.given + 1) 1 c.source s
 answers_by c s false false room = effect_answers c (selected_by c s.local) s.class s (room refl).0 (room refl).1
 
 effect_request : (c : Connect) (s : State) → Effect (s.given + 1) s (answers_request c s)
-effect_request c s =
-    answers_by c s (has_peer c.source s.live) (is_full s)
-    (λ h. has_room (length s.live) s.given (nat_le 64 (length s.live)) (nat_le 65535 s.given) refl refl h)
+effect_request c s = search (arith, answers_by, has_room)
 
 -- ---- a unit for a connection
 
 effect_unknown : (r : ℕ) (unit : Value) (s : State) → Effect r s (to_unknown unit s)
-effect_unknown r (disconnect destination source reason user) s = grind (arith, silent, still)
-effect_unknown r (disconnected destination source) s = effect_none r s
-effect_unknown r unit s = effect_end r _ s
+effect_unknown r unit s = search (arith, silent, still, effect_none, effect_end)
 
 effect_opens : (r : ℕ) (c : Connect) (class : Option Class) (s : State) → Effect r s (opens r c class s)
 effect_opens r c class s = grind (arith, effect_end, telling)
@@ -117,13 +112,11 @@ effect_opens r c class s = grind (arith, effect_end, telling)
 effect_refused : (r reason : ℕ) (s t : State) → t.given ≡ s.given → t.ended ≡ s.ended → t.live ≡ without r s.live →
     t.events ≡ s.events ++ refused r reason ∷ [] →
     Effect r s t
-effect_refused r reason s t given ended live events =
-    telling r s t (refused r reason) refl events (inl (record { given = given; ended = ended; live = inr (inr live) }))
+effect_refused r reason s t given ended live events = grind (arith, telling)
 
 effect_asked : (r : ℕ) (unit : Value) (s : State) → Effect r s (to_asked r unit s)
 effect_asked r (confirm destination c) s = effect_opens r c (confirmed c s.local s.class) s
-effect_asked r (disconnect destination source reason user) s =
-    effect_refused r reason s (to_asked r (disconnect destination source reason user) s) refl refl refl refl
+effect_asked r (disconnect destination source reason user) s = grind (arith, effect_refused)
 effect_asked r (error destination cause) s = effect_refused r 0 s (to_asked r (error destination cause) s) refl refl refl refl
 effect_asked r unit s = effect_unknown r unit s
 
@@ -143,16 +136,13 @@ effect_leaves : (r peer reason : ℕ) (held : Option Class) (s : State) → Effe
 effect_leaves r peer reason held s = grind (arith, telling)
 
 effect_linked : (r peer : ℕ) (link : Standing) (unit : Value) (s : State) → Effect r s (to_linked r peer link unit s)
-effect_linked r peer link (disconnect destination source reason user) s = effect_leaves r peer reason s.class s
-effect_linked r peer link unit s = effect_taking r peer (taken link unit) s
+effect_linked r peer link unit s = search (arith, effect_leaves, effect_taking)
 
 effect_dropped : (r : ℕ) (s : State) → Effect r s (drops r s)
 effect_dropped r s = silent r s (drops r s) refl (inl (record { given = refl; ended = refl; live = inr (inr refl) }))
 
 effect_closing : (r : ℕ) (unit : Value) (s : State) → Effect r s (to_closing r unit s)
-effect_closing r (disconnected destination source) s = effect_dropped r s
-effect_closing r (disconnect destination source reason user) s = effect_dropped r s
-effect_closing r unit s = effect_none r s
+effect_closing r unit s = search (arith, effect_dropped, effect_none)
 
 effect_connection : (r : ℕ) (o : Option Connection) (unit : Value) (s : State) → Effect r s (to_connection r o unit s)
 effect_connection r o unit s = grind (arith, effect_unknown, effect_asked, effect_linked, effect_closing)
@@ -164,8 +154,7 @@ effect_reference r unit s = effect_connection r (value_at r s.live) unit s
 
 effect_before : (is_caller : Bool) (unit : Value) (s : State) → Effect (connection_by None unit s) s (before_class is_caller unit s)
 effect_before true (confirm destination c) s = effect_reference destination (confirm destination c) s
-effect_before true (disconnect destination source reason user) s =
-    effect_reference destination (disconnect destination source reason user) s
+effect_before true (disconnect destination source reason user) s = grind (arith, effect_reference)
 effect_before true (error destination cause) s = effect_reference destination (error destination cause) s
 effect_before false (request c) s = effect_request c s
 effect_before is_caller unit s = effect_end _ _ s
@@ -175,8 +164,7 @@ only_by [] unit s = effect_none 0 s
 only_by ((r, connection) ∷ rows) unit s = effect_connection r (Some connection) unit s
 
 effect_zero : (is_caller : Bool) (unit : Value) (s : State) → Effect (only_of s.live) s (in_zero is_caller unit s)
-effect_zero true (request c) s = effect_end _ _ s
-effect_zero is_caller unit s = only_by s.live unit s
+effect_zero is_caller unit s = search (arith, effect_end, only_by)
 
 effect_two : (is_caller : Bool) (unit : Value) (s : State) → Effect (connection_by (Some Two) unit s) s (in_two is_caller unit s)
 effect_two true (request c) s = effect_end _ _ s
@@ -185,9 +173,7 @@ effect_two is_caller (data0 end user) s = effect_end _ _ s
 effect_two is_caller unit s = effect_reference (connection_by (Some Two) unit s) unit s
 
 effect_class : (held : Option Class) (unit : Value) (s : State) → Effect (connection_by held unit s) s (in_class held unit s)
-effect_class None unit s = effect_before s.is_caller unit s
-effect_class (Some Zero) unit s = effect_zero s.is_caller unit s
-effect_class (Some Two) unit s = effect_two s.is_caller unit s
+effect_class held unit s = search (arith, effect_before, effect_zero, effect_two)
 
 effect_by : (over : Bool) (unit : Value) (s : State) → Effect (connection_of unit s) s (react_by over unit s)
 effect_by over unit s = grind (arith, effect_none, effect_class)
@@ -205,8 +191,7 @@ touched_other q r old new other h = grind (arith, put_other, without_other)
 how_other : (q r : ℕ) (old new : State) → q ≢ r → new.ended ≡ None → How r old new → value_at q new.live ≡ value_at q old.live
 how_other q r old new other lasts (inl kept) = touched_other q r old.live new.live other kept.live
 how_other q r old new other lasts (inr (inl joined)) = grind (arith, push_other)
-how_other q r old new other lasts (inr (inr over)) = let ended = over.ended in let e : is_some new.ended ≡ false =
-    ap is_some lasts in absurd cc
+how_other q r old new other lasts (inr (inr over)) = grind arith
 
 pub changes_one : (unit : Value) (s : State) → (react unit s).ended ≡ None → ChangesOne (connection_of unit s) s (react unit s)
 changes_one unit s lasts =
@@ -220,9 +205,7 @@ changes_one unit s lasts =
     }
 
 touched_none : (q r : ℕ) (old new : Rows Connection) → value_at q old ≡ None → Touched r old new → value_at q new ≡ None
-touched_none q r old new none (inl same) = ap (value_at q) same ∙ none
-touched_none q r old new none (inr (inl (c, same))) = ap (value_at q) same ∙ put_none q r c old none
-touched_none q r old new none (inr (inr same)) = ap (value_at q) same ∙ without_none q r old none
+touched_none q r old new none h = grind (arith, put_none, without_none)
 
 how_gone : (q r : ℕ) (old new : State) → q ≤ old.given → value_at q old.live ≡ None → How r old new → value_at q new.live ≡ None
 how_gone q r old new up none (inl kept) = touched_none q r old.live new.live none kept.live
@@ -244,9 +227,7 @@ rows_of : (s : State) → IsOrderly s → AreOrderly s.given s.live
 rows_of s h = record { rise = h.rise; up_to = h.up_to; live = h.live }
 
 touched_orderly : (given r : ℕ) (old new : Rows Connection) → AreOrderly given old → Touched r old new → AreOrderly given new
-touched_orderly given r old new h (inl same) = subst (AreOrderly given) (sym same) h
-touched_orderly given r old new h (inr (inl (c, same))) = grind (arith, put_length, put_rise, put_up)
-touched_orderly given r old new h (inr (inr same)) = grind (arith, without_length, without_rise, without_up)
+touched_orderly given r old new h h2 = grind (arith, put_length, put_rise, put_up, without_length, without_rise, without_up)
 
 joined_orderly : (given : ℕ) (c : Connection) (old : Rows Connection) → AreOrderly given old → length old < 64 →
     AreOrderly (given + 1) (old ++ (given + 1, c) ∷ [])
@@ -255,21 +236,11 @@ joined_orderly given c old h room = grind (arith, length-append, push_rise, push
 orderly_of : (s : State) → AreOrderly s.given s.live → s.given ≤ 65535 → (IsSome s.ended → s.live ≡ []) → AreNamed s → IsOrderly s
 orderly_of s h given over named = record { rise = h.rise; up_to = h.up_to; given = given; live = h.live; over = over; named = named }
 
-none_over : {A B : Type 0} (o : Option A) → is_some o ≡ false → IsSome o → B
-none_over o e h = grind arith
-
 -- of a carrier that has not ended
 how_orderly : (r : ℕ) (old new : State) → IsOrderly old → is_some old.ended ≡ false → How r old new → AreNamed new → IsOrderly new
-how_orderly r old new h lasts (inl kept) names =
-    orderly_of new
-    (subst (λ n. AreOrderly n new.live) (sym kept.given) (touched_orderly old.given r old.live new.live (rows_of old h) kept.live))
-    (let g = h.given in let e = kept.given in omega arith)
-    (λ some. none_over old.ended lasts (subst IsSome kept.ended some)) names
+how_orderly r old new h lasts (inl kept) names = grind (arith, touched_orderly old.given r old.live new.live (rows_of old h) kept.live)
 how_orderly r old new h lasts (inr (inl joined)) names =
-    orderly_of new (subst (λ n. AreOrderly n new.live) (sym joined.given) (subst (AreOrderly (old.given + 1)) (sym joined.live)
-    (joined_orderly old.given joined.connection old.live (rows_of old h) joined.room)))
-    (let left = joined.left in let e = joined.given in omega arith)
-    (λ some. none_over old.ended lasts (subst IsSome joined.ended some)) names
+    grind (arith, joined_orderly old.given joined.connection old.live (rows_of old h) joined.room)
 how_orderly r old new h lasts (inr (inr over)) names = grind (arith, orderly_of)
 
 orderly_by : (unit : Value) (s : State) (b : Bool) → is_some s.ended ≡ b → IsOrderly s → IsOrderly (react unit s)
@@ -332,11 +303,7 @@ orderly_asks calling called s may h =
 put_over : (r : ℕ) (c : Connection) (s t : State) → t.given ≡ s.given → t.ended ≡ s.ended → t.live ≡ put r c s.live → Naming s t →
     IsOrderly s → IsOrderly t
 put_over r c s t given ended live names h =
-    orderly_of t (subst (λ n. AreOrderly n t.live) (sym given)
-    (touched_orderly s.given r s.live t.live (rows_of s h) (inr (inl (c, live)))))
-    (let g = h.given in omega arith)
-    (λ some. live ∙ ap (put r c) (h.over (subst IsSome ended some)))
-    (named s t names h.named)
+    grind (arith, touched_orderly s.given r s.live t.live (rows_of s h) (inr (inl (c, live))), named s t names h.named)
 
 sent_by : (r : ℕ) (octets : List ℕ) (link : Option (ℕ × Standing)) (s : State) → IsOrderly s → IsOrderly (sent_on r octets link s)
 sent_by r octets None s h = h

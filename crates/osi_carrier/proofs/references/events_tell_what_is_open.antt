@@ -4,13 +4,13 @@ use Rattle.std.proofs.Common.{Result, Ok, Err, is_some, refl, sym, ap, subst, �
 use Rattle.std.proofs.Common.{eq-eqb}
 use Rattle.osi_carrier.specs.Told.{is_open, open_after, TellsOpen}
 use Rattle.osi_carrier.proofs.Vocabulary.{connection_by, eqb-true, append-nil, units_of, Value, Connect, request, confirm, disconnect}
-use Rattle.osi_carrier.proofs.Vocabulary.{disconnected, data0, error, TpduFault, Standing, taken, Selection, accept, refuse, selected_by}
-use Rattle.osi_carrier.proofs.Vocabulary.{LinkFault, Class, Zero, Two, asks, link_of, open_link, sent_on, sent, closes, closed_on}
-use Rattle.osi_carrier.proofs.Vocabulary.{closed_with, Happening, opened, refused, closed, faulted, confirmed, RiseFrom, AreUpTo, IsOrderly}
-use Rattle.osi_carrier.proofs.Vocabulary.{acts_by, after_packet, denies, answers, is_full, has_peer, answers_request, to_unknown, opens}
-use Rattle.osi_carrier.proofs.Vocabulary.{to_asked, tells_of, taking, breaks, leaves, to_linked, to_closing, to_connection, to_reference}
-use Rattle.osi_carrier.proofs.Vocabulary.{before_class, to_only, in_zero, in_two, in_class, react, react_by, reacts, Rows, value_at, put}
-use Rattle.osi_carrier.proofs.Vocabulary.{without, Connection, asked, linked, closing, State, ends, EndReason, sent_all}
+use Rattle.osi_carrier.proofs.Vocabulary.{data0, error, TpduFault, Standing, Selection, accept, refuse, selected_by, LinkFault, Class, Zero}
+use Rattle.osi_carrier.proofs.Vocabulary.{Two, asks, link_of, open_link, sent_on, sent, closes, closed_on, closed_with, Happening, opened}
+use Rattle.osi_carrier.proofs.Vocabulary.{refused, closed, faulted, confirmed, RiseFrom, AreUpTo, IsOrderly, acts_by, after_packet, denies}
+use Rattle.osi_carrier.proofs.Vocabulary.{answers, is_full, has_peer, answers_request, to_unknown, opens, to_asked, tells_of, taking}
+use Rattle.osi_carrier.proofs.Vocabulary.{breaks, leaves, to_linked, to_closing, to_connection, to_reference, before_class, to_only}
+use Rattle.osi_carrier.proofs.Vocabulary.{in_zero, in_two, in_class, react, react_by, reacts, Rows, value_at, put, without, Connection}
+use Rattle.osi_carrier.proofs.Vocabulary.{asked, linked, closing, State, ends, EndReason, sent_all}
 use Rattle.osi_carrier.proofs.references.what_a_change_leaves_there.{put_here, without_here, push_here, beyond}
 use Rattle.osi_carrier.proofs.references.rows_after_a_change.{put_other, without_other, push_other}
 use Rattle.osi_carrier.proofs.effects.a_unit_touches_one_connection.{orderly_unit}
@@ -34,8 +34,7 @@ is_link c = is_some (link_of (Some c))
 
 open_put : (r q : ℕ) (x y : Connection) (rows : Rows Connection) (b : Bool) → (q == r) ≡ b → value_at q rows ≡ Some y →
     open_in r (put q x rows) ≡ (if b then is_link x else open_in r rows)
-open_put r q x y rows true e h = grind (arith, is_some, eqb-true, put_here)
-open_put r q x y rows false e h = ap (λ o. is_some (link_of o)) (put_other r q x rows (other_than q r e))
+open_put r q x y rows b e h = search (arith, eqb-true, put_here, put_other, other_than)
 
 open_without : (r q : ℕ) (rows : Rows Connection) (b : Bool) → (q == r) ≡ b → RiseFrom 0 rows →
     open_in r (without q rows) ≡ (if b then false else open_in r rows)
@@ -107,9 +106,7 @@ answers_told r c (accept class size) held s up = accepts_told r class size c s u
 
 request_by : (r : ℕ) (c : Connect) (s : State) (in_use full : Bool) → AreUpTo s.given s.live →
     Told r s (if in_use then denies 131 c.source s else (if full then denies 1 c.source s else answers c (selected_by c s.local) s.class s))
-request_by r c s true full up = same_told r s (denies 131 c.source s) refl refl
-request_by r c s false true up = same_told r s (denies 1 c.source s) refl refl
-request_by r c s false false up = answers_told r c (selected_by c s.local) s.class s up
+request_by r c s in_use full up = search (arith, same_told, answers_told)
 
 request_told : (r : ℕ) (c : Connect) (s : State) → AreUpTo s.given s.live → Told r s (answers_request c s)
 request_told r c s up = request_by r c s (has_peer c.source s.live) (is_full s) up
@@ -121,9 +118,7 @@ unknown_told r unit s h = grind (arith, same_told, still_told, over_told)
 
 confirm_told : (r q : ℕ) (c : Connect) (class : Option Class) (s : State) → value_at q s.live ≡ Some asked →
     (opens q c class s).ended ≡ None → Told r s (opens q c class s)
-confirm_told r q c None s here h = over_told _ s h
-confirm_told r q c (Some class) s here h =
-    opens_told r q (q == r) s (opens q c (Some class) s) refl refl (open_put r q _ asked s.live (q == r) refl here)
+confirm_told r q c class s here h = search (arith, over_told, opens_told, open_put)
 
 -- one that was not open is dropped
 dropped_told : (r q : ℕ) (y : Connection) (s : State) → RiseFrom 0 s.live → value_at q s.live ≡ Some y → is_link y ≡ false →
@@ -132,14 +127,12 @@ dropped_told r q y s rise here none = grind (arith, stays_told, open_was, open_w
 
 refused_told : (r q reason : ℕ) (s t : State) → RiseFrom 0 s.live → value_at q s.live ≡ Some asked → t.live ≡ without q s.live →
     t.events ≡ s.events ++ refused q reason ∷ [] → Told r s t
-refused_told r q reason s t rise here live events =
-    record { told = refused q reason ∷ []; events = events; is = ap (open_in r) live ∙ dropped_told r q asked s rise here refl }
+refused_told r q reason s t rise here live events = search (arith, dropped_told)
 
 asked_told : (r q : ℕ) (unit : Value) (s : State) → RiseFrom 0 s.live → value_at q s.live ≡ Some asked → (to_asked q unit s).ended ≡ None →
     Told r s (to_asked q unit s)
 asked_told r q (confirm destination c) s rise here h = confirm_told r q c (confirmed c s.local s.class) s here h
-asked_told r q (disconnect destination source reason user) s rise here h =
-    refused_told r q reason s (to_asked q (disconnect destination source reason user) s) rise here refl refl
+asked_told r q (disconnect destination source reason user) s rise here h = grind (arith, refused_told)
 asked_told r q (error destination cause) s rise here h = refused_told r q 0 s (to_asked q (error destination cause) s) rise here refl refl
 asked_told r q unit s rise here h = unknown_told r unit s h
 
@@ -155,17 +148,12 @@ settles_told r q whole s t is events = grind (arith, same_told, append-nil)
 breaks_told : (r q peer : ℕ) (link : Standing) (fault : LinkFault) (held : Option Class) (s : State) →
     value_at q s.live ≡ Some (linked peer link) →
     (breaks q peer fault held s).ended ≡ None → Told r s (breaks q peer fault held s)
-breaks_told r q peer link fault (Some Two) s here h =
-    leaves_told r q (q == r) s (breaks q peer fault (Some Two) s) (faulted q fault) refl refl (λ was. refl)
-    (open_put r q (closing peer) (linked peer link) s.live (q == r) refl here)
-breaks_told r q peer link fault held s here h = over_told _ s h
+breaks_told r q peer link fault held s here h = search (arith, leaves_told, open_put, over_told)
 
 taking_told : (r q peer : ℕ) (link : Standing) (result : Result Standing LinkFault) (s : State) →
     value_at q s.live ≡ Some (linked peer link) →
     (taking q peer result s).ended ≡ None → Told r s (taking q peer result s)
-taking_told r q peer link (Ok after) s here h =
-    settles_told r q after.ends.joining.whole s _ (kept_open r q peer peer link _ s.live here) refl
-taking_told r q peer link (Err fault) s here h = breaks_told r q peer link fault s.class s here h
+taking_told r q peer link result s here h = search (arith, settles_told, kept_open, breaks_told)
 
 leaving_told : (r q peer reason : ℕ) (link : Standing) (held : Option Class) (s : State) → RiseFrom 0 s.live →
     (leaves q peer reason held s).ended ≡ None → Told r s (leaves q peer reason held s)
@@ -174,23 +162,15 @@ leaving_told r q peer reason link held s rise h = grind (arith, leaves_told, ope
 linked_told : (r q peer : ℕ) (link : Standing) (unit : Value) (s : State) → RiseFrom 0 s.live →
     value_at q s.live ≡ Some (linked peer link) →
     (to_linked q peer link unit s).ended ≡ None → Told r s (to_linked q peer link unit s)
-linked_told r q peer link (disconnect destination source reason user) s rise here h = leaving_told r q peer reason link s.class s rise h
-linked_told r q peer link unit s rise here h = taking_told r q peer link (taken link unit) s here h
+linked_told r q peer link unit s rise here h = search (arith, leaving_told, taking_told)
 
 closing_told : (r q peer : ℕ) (unit : Value) (s : State) → RiseFrom 0 s.live → value_at q s.live ≡ Some (closing peer) →
     Told r s (to_closing q unit s)
-closing_told r q peer (disconnected destination source) s rise here =
-    same_told r s _ refl (dropped_told r q (closing peer) s rise here refl)
-closing_told r q peer (disconnect destination source reason user) s rise here =
-    same_told r s _ refl (dropped_told r q (closing peer) s rise here refl)
-closing_told r q peer unit s rise here = still_told r s
+closing_told r q peer unit s rise here = search (arith, same_told, dropped_told, still_told)
 
 connection_told : (r q : ℕ) (o : Option Connection) (unit : Value) (s : State) → RiseFrom 0 s.live → value_at q s.live ≡ o →
     (to_connection q o unit s).ended ≡ None → Told r s (to_connection q o unit s)
-connection_told r q None unit s rise here h = unknown_told r unit s h
-connection_told r q (Some asked) unit s rise here h = asked_told r q unit s rise here h
-connection_told r q (Some (linked peer link)) unit s rise here h = linked_told r q peer link unit s rise here h
-connection_told r q (Some (closing peer)) unit s rise here h = closing_told r q peer unit s rise here
+connection_told r q o unit s rise here h = search (arith, unknown_told, asked_told, linked_told, closing_told)
 
 reference_told : (r q : ℕ) (unit : Value) (s : State) → RiseFrom 0 s.live → (to_reference q unit s).ended ≡ None →
     Told r s (to_reference q unit s)
@@ -201,8 +181,7 @@ reference_told r q unit s rise h = connection_told r q (value_at q s.live) unit 
 before_told : (r : ℕ) (is_caller : Bool) (unit : Value) (s : State) → IsOrderly s → (before_class is_caller unit s).ended ≡ None →
     Told r s (before_class is_caller unit s)
 before_told r true (confirm destination c) s o h = reference_told r destination (confirm destination c) s o.rise h
-before_told r true (disconnect destination source reason user) s o h =
-    reference_told r destination (disconnect destination source reason user) s o.rise h
+before_told r true (disconnect destination source reason user) s o h = grind (arith, reference_told)
 before_told r true (error destination cause) s o h = reference_told r destination (error destination cause) s o.rise h
 before_told r false (request c) s o h = request_told r c s o.up_to
 before_told r is_caller unit s o h = over_told _ s h
@@ -217,8 +196,7 @@ only_told r ((q, c) ∷ rows) unit s e rise h =
 
 zero_told : (r : ℕ) (is_caller : Bool) (unit : Value) (s : State) → RiseFrom 0 s.live → (in_zero is_caller unit s).ended ≡ None →
     Told r s (in_zero is_caller unit s)
-zero_told r true (request c) s rise h = over_told _ s h
-zero_told r is_caller unit s rise h = only_told r s.live unit s refl rise h
+zero_told r is_caller unit s rise h = search (arith, over_told, only_told)
 
 two_told : (r : ℕ) (is_caller : Bool) (unit : Value) (s : State) → IsOrderly s → (in_two is_caller unit s).ended ≡ None →
     Told r s (in_two is_caller unit s)
@@ -229,9 +207,7 @@ two_told r is_caller unit s o h = reference_told r (connection_by (Some Two) uni
 
 class_told : (r : ℕ) (held : Option Class) (unit : Value) (s : State) → IsOrderly s → (in_class held unit s).ended ≡ None →
     Told r s (in_class held unit s)
-class_told r None unit s o h = before_told r s.is_caller unit s o h
-class_told r (Some Zero) unit s o h = zero_told r s.is_caller unit s o.rise h
-class_told r (Some Two) unit s o h = two_told r s.is_caller unit s o h
+class_told r held unit s o h = search (arith, before_told, zero_told, two_told)
 
 by_told : (r : ℕ) (over : Bool) (unit : Value) (s : State) → IsOrderly s → (react_by over unit s).ended ≡ None →
     Told r s (react_by over unit s)
@@ -251,11 +227,7 @@ after_joined r was (faulted q fault ∷ xs) ys = after_joined r (was && not (q =
 after_joined r was (event ∷ xs) ys = after_joined r was xs ys
 
 told_joined : (r : ℕ) (old mid new : State) → Told r old mid → Told r mid new → Told r old new
-told_joined r old mid new a b = record {
-  told = a.told ++ b.told;
-  events = b.events ∙ ap (λ l. l ++ b.told) a.events ∙ append_assoc old.events a.told b.told;
-  is = b.is ∙ ap (λ was. open_after r was b.told) a.is ∙ sym (after_joined r (open_in r old.live) a.told b.told);
-}
+told_joined r old mid new a b = grind (arith, append_assoc, after_joined)
 
 -- what has not ended had not before
 units_last : (units : List Value) (s : State) (over : Bool) → is_some s.ended ≡ over → (reacts units s).ended ≡ None → s.ended ≡ None
@@ -270,8 +242,7 @@ units_told r (unit ∷ units) s o h =
 
 acts_told : (r : ℕ) (units : Result (List Value) TpduFault) (s : State) → IsOrderly s → (acts_by units s).ended ≡ None →
     Told r s (acts_by units s)
-acts_told r (Ok units) s o h = units_told r units s o h
-acts_told r (Err fault) s o h = over_told _ s h
+acts_told r units s o h = grind (arith, units_told, over_told)
 
 packet_told : (r : ℕ) (packet : List ℕ) (s : State) → IsOrderly s → (after_packet s packet).ended ≡ None → Told r s (after_packet s packet)
 unfolding after_packet
@@ -335,8 +306,7 @@ closing_by b was = grind arith
 closes_by : (r q peer reason : ℕ) (link : Standing) (held : Option Class) (s : State) → value_at q s.live ≡ Some (linked peer link) →
     s.ended ≡ None →
     (closes q peer reason held s).ended ≡ None → is_open r (closes q peer reason held s) ≡ (is_open r s && not (q == r))
-closes_by r q peer reason link (Some Zero) s here lasts h = over_told _ s h
-closes_by r q peer reason link held s here lasts h = grind (arith, open_lasts, open_put, closing_by, not)
+closes_by r q peer reason link held s here lasts h = search (arith, over_told, open_lasts, open_put, closing_by)
 
 not_open : (r q : ℕ) (s : State) (b : Bool) → (q == r) ≡ b → open_link q s ≡ None → is_open r s ≡ (is_open r s && not b)
 not_open r q s b e h = grind (arith, is_some, eqb-true, and_false, and_true)

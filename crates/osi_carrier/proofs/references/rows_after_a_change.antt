@@ -1,5 +1,5 @@
 -- Rows after a change at one reference.
-use Rattle.std.proofs.Common.{◌≡◌, ◌≢◌, ℕ, ◌+◌, ◌<◌, ◌≤◌, ◌==◌, Bool, true, false, [], ◌∷◌, ◌++◌, length, None, refl, arith}
+use Rattle.std.proofs.Common.{◌≡◌, ◌≢◌, ℕ, ◌+◌, ◌<◌, ◌≤◌, ◌==◌, Bool, false, [], ◌∷◌, ◌++◌, length, None, refl, arith}
 use Rattle.osi_carrier.proofs.Vocabulary.{eqb-true, RiseFrom, AreUpTo, Rows, value_at, put, without}
 
 -- ---- the value at another reference
@@ -76,8 +76,7 @@ put_rise n r x ((p, y) ∷ rows) h = put_rise_by n r p x y rows (p == r) refl h.
 without_rise_by : {X : Type 0} (n r p : ℕ) (y : X) (rows : Rows X) (b : Bool) → (p == r) ≡ b → n < p → RiseFrom p rows →
     RiseFrom p (without r rows) →
     RiseFrom n (without r ((p, y) ∷ rows))
-without_rise_by n r p y rows true e above h more = rw e (rise_lower n p rows (omega arith) h)
-without_rise_by n r p y rows false e above h more = rw e (above, more)
+without_rise_by n r p y rows b e above h more = grind (arith, rise_lower)
 
 pub without_rise : {X : Type 0} (n r : ℕ) (rows : Rows X) → RiseFrom n rows → RiseFrom n (without r rows)
 without_rise n r [] h = tt

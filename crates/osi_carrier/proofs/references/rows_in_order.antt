@@ -1,12 +1,12 @@
 -- Rows that rise by a key, such as a reference: each key has one place, and what preserves the order.
 use Rattle.std.proofs.Common.{◌≡◌, ℕ, Bool, zero, suc, ◌<◌, ◌≤◌, ◌==◌, true, false, List, [], ◌∷◌, ◌++◌, length, get_or, set, Some, Result}
-use Rattle.std.proofs.Common.{Ok, Err, refl, sym, ap, subst, ◌∙◌, arith, None, inl, inr}
+use Rattle.std.proofs.Common.{Ok, Err, refl, sym, arith, None, inl, inr}
 use Rattle.std.specs.List.Sorted.{IsSearchInRange, IsBinarySearchResult, IsNonDecreasingBy}
 use Rattle.std.specs.Ordering.{nat_cmp, ordering_index}
 use Rattle.std.specs.Result.{result_ok}
 use Rattle.std.proofs.lemmas.Cmp.{ranked}
 use Rattle.osi_carrier.proofs.Vocabulary.{remove, position_or_len, eqb-true, eq-eqb, cases_lt, nat_tests, IsNonDecreasingBy-from_default}
-use Rattle.osi_carrier.proofs.Vocabulary.{position_or_len_is, common_steps, length-set, RiseFrom, Rows, place_of, without}
+use Rattle.osi_carrier.proofs.Vocabulary.{position_or_len_is, common_steps, length-set, RiseFrom, Rows, place_of}
 use Rattle.osi_carrier.proofs.references.rows_after_a_change.{without_rise, without_length}
 use Rattle.osi_carrier.proofs.references.the_row_at_a_place.{placed}
 use Rattle.osi_carrier.specs.Rising.{RiseBy, place_by}
@@ -28,8 +28,7 @@ before_at key n (y ∷ rows) (suc i) (suc k) d h within less = before_at key (ke
 before_at key n rows i k d h within less = absurd (omega arith)
 
 other_by : (q r : ℕ) (b : Bool) → (q == r) ≡ b → q < r → b ≡ false
-other_by q r true e less = let same = eqb-true q r e in absurd (omega arith)
-other_by q r false e less = refl
+other_by q r b e less = grind (arith, eqb-true)
 
 pub place_here : {X : Type 0} (key : X → ℕ) (r : ℕ) (rows : List X) (i : ℕ) (d : X) → RiseBy key 0 rows → i < length rows →
     key (get_or rows i d) ≡ r → place_by key r rows ≡ Some i
@@ -59,8 +58,7 @@ comparisons_rise key r rows d rise =
     (λ i j before within. let lower = up_to_at key 0 rows j i d rise within before in grind (arith, nat_tests))
 
 over_by : (q r : ℕ) (b : Bool) → (q == r) ≡ b → r < q → b ≡ false
-over_by q r true e less = let same = eqb-true q r e in absurd (omega arith)
-over_by q r false e less = refl
+over_by q r b e less = grind (arith, eqb-true)
 
 -- rows before a place are below a key, and those from it on above
 nowhere : {X : Type 0} (key : X → ℕ) (r : ℕ) (rows : List X) (i : ℕ) (d : X) → i ≤ length rows →
@@ -105,9 +103,7 @@ rise_last key n x rows i d e less h = absurd (omega arith)
 pub set_rise : {X : Type 0} (n : ℕ) (rows : Rows X) (i : ℕ) (row new : ℕ × X) → row ≡ get_or rows i row → new.0 ≡ row.0 → RiseFrom n rows →
     RiseFrom n (set rows i new)
 set_rise n [] i row new here same h = tt
-set_rise n ((p, y) ∷ rows) zero row new here same h =
-    let named : p ≡ new.0 = sym (same ∙ ap (λ (v : ℕ × _). v.0) here) in
-    subst (λ (q : ℕ). (n < q) × RiseFrom q rows) named h
+set_rise n ((p, y) ∷ rows) zero row new here same h = grind arith
 set_rise n ((p, y) ∷ rows) (suc i) row new here same h = (h.0, set_rise p rows i row new here same h.1)
 
 -- the rows of a table: at most 64, with rising numbers if `rises` is set
@@ -117,16 +113,9 @@ AreKept rises rows = (length rows ≤ 64) × (rises ≡ true → RiseFrom 0 rows
 pub set_kept : {X : Type 0} (rises : Bool) (rows : Rows X) (i : ℕ) (row new : ℕ × X) → row ≡ get_or rows i row → new.0 ≡ row.0 →
     AreKept rises rows →
     AreKept rises (set rows i new)
-set_kept rises rows i row new here same kept =
-    let few = kept.0 in
-    let size = length-set rows i new in
-    (omega arith, λ e. set_rise 0 rows i row new here same (kept.1 e))
+set_kept rises rows i row new here same kept = grind (arith, length-set, set_rise)
 
 pub without_kept : {X : Type 0} (rises : Bool) (r : ℕ) (rows left : Rows X) (i : ℕ) (d : ℕ × X) → place_of r rows ≡ Some i →
     left ≡ remove rows i → AreKept rises rows →
     AreKept rises left
-without_kept rises r rows left i d e is kept =
-    let gone : without r rows ≡ left = (placed r rows i d e).without_is ∙ sym is in
-    let few = kept.0 in
-    let size = without_length r rows in
-    (subst (λ l. length l ≤ 64) gone (omega arith), λ h. subst (λ l. RiseFrom 0 l) gone (without_rise 0 r rows (kept.1 h)))
+without_kept rises r rows left i d e is kept = grind (arith, without_rise, placed r rows i d e, without_length r rows)

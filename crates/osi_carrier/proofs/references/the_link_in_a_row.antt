@@ -1,7 +1,7 @@
 -- The row of an open connection has its link, and a write to the link is a write to the row. For the calls that hand
 -- TSDUs in.
-use Rattle.std.proofs.Common.{◌≡◌, ℕ, Bool, true, false, List, length, nat_lt, get_or, Option, Some, None, Result, Ok, Err, OnOk, is_some}
-use Rattle.std.proofs.Common.{refl, ap, sym, subst, arith, ◌∙◌}
+use Rattle.std.proofs.Common.{◌≡◌, ℕ, Bool, true, false, List, length, nat_lt, get_or, Option, Some, None, Result, OnOk, is_some, refl, sym}
+use Rattle.std.proofs.Common.{arith, ◌∙◌}
 use Rattle.osi_class.specs.declared.either.AnyLink.{AnyLink}
 use Rattle.osi_carrier.specs.Calls.{length_error}
 use Rattle.osi_carrier.specs.declared.faults.SendError.TheVariants.{TooLong}
@@ -14,41 +14,33 @@ use Rattle.osi_carrier.proofs.references.the_row_at_a_place.{here_is}
 -- the phase of an open connection
 pub linked_phase : (p : Phase) (peer : ℕ) → peer_in (Some (connection p)) ≡ Some peer →
     ((q : ℕ) (link : AnyLink) → p ≡ Linked q link → ⊥) → ⊥
-linked_phase (Linked q link) peer e other = other q link refl
-linked_phase phase peer e other = cc
+linked_phase p peer e other = grind arith
 
 -- the link in the row of an open connection is the link of it
 pub found_at : (r peer i n q : ℕ) (rows items : Rows Connection) (row : ℕ × Connection) (p : Phase) (link : AnyLink) →
     place_of r rows ≡ Some i → row ≡ get_or items i row → items ≡ rows →
     ◌≡◌ {A = ℕ × Connection} (n, connection p) row → p ≡ Linked q link → peer_in (value_at r rows) ≡ Some peer →
     (any_standing link ≡ link_in (value_at r rows)) × (q ≡ peer)
-found_at r peer i n q rows items row p link e here same view is opened =
-    let at = here_is r rows items i row e here same ∙ ap (λ (x : ℕ × Connection). Some x.1) (sym view) ∙
-    ap (λ (p : Phase). Some (connection p)) is in
-    let named : Some q ≡ Some peer = sym (ap peer_in at) ∙ opened in (sym (ap link_in at), cc)
+found_at r peer i n q rows items row p link e here same view is opened = grind (arith, here_is)
 
 pub open_row : (r i n q : ℕ) (rows items : Rows Connection) (row : ℕ × Connection) (p : Phase) (link : AnyLink) →
     place_of r rows ≡ Some i → row ≡ get_or items i row → items ≡ rows →
     ◌≡◌ {A = ℕ × Connection} (n, connection p) row → p ≡ Linked q link → value_at r rows ≡ Some (linked q (any_standing link))
-open_row r i n q rows items row p link e here same view is =
-    here_is r rows items i row e here same ∙ ap (λ (x : ℕ × Connection). Some x.1) (sym view) ∙ ap (λ (p : Phase). Some (connection p)) is
+open_row r i n q rows items row p link e here same view is = grind (arith, here_is)
 
 -- a row that is not open
 pub not_linked : (p : Phase) → ((q : ℕ) (link : AnyLink) → p ≡ Linked q link → ⊥) → link_of (Some (connection p)) ≡ None
-not_linked (Linked q link) other = absurd (other q link refl)
-not_linked phase other = cc
+not_linked p other = grind arith
 
 pub not_known : (p : Phase) → ((q : ℕ) (link : AnyLink) → p ≡ Linked q link → ⊥) → peer_in (Some (connection p)) ≡ None
-not_known (Linked q link) other = absurd (other q link refl)
-not_known phase other = cc
+not_known p other = grind arith
 
 -- an open connection has one reference of its peer
 pub same_peer : (peer : Option ℕ) (q p : ℕ) → peer ≡ Some q → peer ≡ Some p → q ≡ p
 same_peer peer q p a b = let same : Some q ≡ Some p = sym a ∙ b in cc
 
 pub with_peer : {P : Type 0} (peer : Option ℕ) → is_some peer ≡ true → ((p : ℕ) → peer ≡ Some p → P) → P
-with_peer (Some p) h f = f p refl
-with_peer None h f = cc
+with_peer peer h f = grind arith
 
 pub none_known : {P : Type 0} (peer : Option ℕ) (p : ℕ) → peer ≡ None → peer ≡ Some p → P
 none_known peer p a b = cc
@@ -56,8 +48,7 @@ none_known peer p a b = cc
 -- the place that a search has found
 pub sought_place : (r : ℕ) (rises : Bool) (rows now slice : Rows Connection) (found : Option ℕ) → slice ≡ rows → rows ≡ now →
     AreKept rises rows → ((rises ≡ true → RiseFrom 0 slice) → found ≡ place_of r slice) → place_of r now ≡ found
-sought_place r rises rows now slice found a b kept is =
-    ap (place_of r) (sym (a ∙ b)) ∙ sym (is (λ t. subst (λ (l : Rows Connection). RiseFrom 0 l) (sym a) (kept.1 t)))
+sought_place r rises rows now slice found a b kept is = grind arith
 
 -- the row with its next link
 pub row_linked : (n m q peer : ℕ) (t u : Standing) → n ≡ m → q ≡ peer → t ≡ u → ◌≡◌ {A = ℕ × Connection} (n, linked q t) (m, linked peer u)
@@ -65,8 +56,7 @@ row_linked n m q peer t u a b e = first_of (cc, grind arith)
 
 -- what follows from a result that is not an error
 pub ok_then : {A E P Q : Type 0} (result : Result A E) → (P → Q) → OnOk result P → OnOk result Q
-ok_then (Ok a) f p = f p
-ok_then (Err e) f p = tt
+ok_then result f p = grind arith
 
 -- whether a TSDU is too long
 pub too_long : (tsdu : List ℕ) → nat_lt 1048576 (length tsdu) ≡ true → length_error tsdu ≡ Some TooLong

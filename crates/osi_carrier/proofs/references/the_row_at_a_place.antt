@@ -1,6 +1,6 @@
 -- The row at the place of a reference, and the effect of a write there; no place, no value.
-use Rattle.std.proofs.Common.{◌≡◌, ℕ, Bool, zero, suc, ◌+◌, ◌<◌, ◌≤◌, ◌==◌, true, false, [], ◌∷◌, length, get_or, set, Option, Some, None}
-use Rattle.std.proofs.Common.{is_some, Result, Ok, Err, OnOk, refl, sym, ap, ◌∙◌, arith}
+use Rattle.std.proofs.Common.{◌≡◌, ℕ, Bool, zero, suc, ◌<◌, ◌≤◌, ◌==◌, true, false, [], ◌∷◌, length, get_or, set, Option, Some, None}
+use Rattle.std.proofs.Common.{is_some, Result, OnOk, refl, sym, ap, arith}
 use Rattle.std.proofs.lemmas.List.Quantifiers.{position-Some}
 use Rattle.osi_carrier.proofs.Vocabulary.{common_steps, position_or_len, remove, eqb-true, Connection, asked, Rows, value_at, place_of, put}
 use Rattle.osi_carrier.proofs.Vocabulary.{without}
@@ -44,29 +44,23 @@ placed r rows i d e =
 -- the row at the place of a reference has its value, if the rows are held under another name
 pub here_is : {X : Type 0} (r : ℕ) (rows items : Rows X) (i : ℕ) (row : ℕ × X) → place_of r rows ≡ Some i → row ≡ get_or items i row →
     items ≡ rows → value_at r rows ≡ Some row.1
-here_is r rows items i row e here same =
-    (placed r rows i row e).there ∙ ap (λ (x : ℕ × _). Some x.1) (sym (here ∙ ap (λ l. get_or l i row) same))
+here_is r rows items i row e here same = grind (arith, placed)
 
 -- a write at that place
 pub put_row : {X : Type 0} (r : ℕ) (rows items : Rows X) (i : ℕ) (row new : ℕ × X) (x : X) → place_of r rows ≡ Some i →
     row ≡ get_or items i row → items ≡ rows → new ≡ (row.0, x) → set items i new ≡ put r x rows
-put_row r rows items i row new x e here same h =
-    let p = placed r rows i row e in
-    let named = ap (λ (y : ℕ × _). y.0) (here ∙ ap (λ l. get_or l i row) same) ∙ p.named in
-    ap (λ l. set l i new) same ∙ ap (λ y. set rows i y) (h ∙ ap (λ n. (n, x)) named) ∙ sym (p.put_is x)
+put_row r rows items i row new x e here same h = grind (arith, set, placed r rows i row e)
 
 pub stepped_rows : {X A E : Type 0} (result : Result A E) (r : ℕ) (rows items : Rows X) (i : ℕ) (row new : ℕ × X) (x : X) →
     place_of r rows ≡ Some i →
     row ≡ get_or items i row → items ≡ rows → OnOk result (new ≡ (row.0, x)) → OnOk result (set items i new ≡ put r x rows)
-stepped_rows (Ok a) r rows items i row new x e here same h = put_row r rows items i row new x e here same h
-stepped_rows (Err f) r rows items i row new x e here same h = tt
+stepped_rows result r rows items i row new x e here same h = grind (arith, put_row)
 
 -- a value that a reference has is put there with no change
 put_same_by : {X : Type 0} (r q : ℕ) (y x : X) (rows : Rows X) (b : Bool) → (q == r) ≡ b →
     (value_at r rows ≡ Some x → put r x rows ≡ rows) →
     value_at r ((q, y) ∷ rows) ≡ Some x → put r x ((q, y) ∷ rows) ≡ (q, y) ∷ rows
-put_same_by r q y x rows true t more h = let same : Some y ≡ Some x = rw t at h in rw t (ap (λ z. (q, z) ∷ rows) (let e : x ≡ y = cc in e))
-put_same_by r q y x rows false t more h = let behind : value_at r rows ≡ Some x = rw t at h in rw t (ap (λ l. (q, y) ∷ l) (more behind))
+put_same_by r q y x rows b t more h = grind arith
 
 pub put_same : {X : Type 0} (r : ℕ) (x : X) (rows : Rows X) → value_at r rows ≡ Some x → put r x rows ≡ rows
 put_same r x [] h = refl
@@ -76,10 +70,7 @@ put_same r x ((q, y) ∷ rows) h = put_same_by r q y x rows (q == r) refl (put_s
 nowhere_by : {X : Type 0} (r q : ℕ) (y : X) (rows : Rows X) (b : Bool) → (q == r) ≡ b →
     (length rows ≤ position_or_len (λ row. row.0 == r) rows → value_at r rows ≡ None) →
     length ((q, y) ∷ rows) ≤ position_or_len (λ row. row.0 == r) ((q, y) ∷ rows) → value_at r ((q, y) ∷ rows) ≡ None
-nowhere_by r q y rows true t more h = let none : suc (length rows) ≤ 0 = rw t at h in absurd (omega arith)
-nowhere_by r q y rows false t more h =
-    let behind : suc (length rows) ≤ 1 + position_or_len (λ row. row.0 == r) rows = rw t at h in
-    rw t (more (omega arith))
+nowhere_by r q y rows b t more h = grind arith
 
 nowhere_at : {X : Type 0} (r : ℕ) (rows : Rows X) → length rows ≤ position_or_len (λ row. row.0 == r) rows → value_at r rows ≡ None
 nowhere_at r [] h = refl

@@ -45,8 +45,7 @@ absent m n ((q, y) ∷ rows) le h = absent_by m n q y rows (q == m) refl le h.0 
 
 without_above : {X : Type 0} (n r : ℕ) (rows : Rows X) → RiseFrom n rows → value_at r (without r rows) ≡ None
 without_above n r [] h = refl
-without_above n r ((q, y) ∷ rows) h = without_here_by r q y rows (q == r) refl (absent q q rows (omega arith) h.1)
-    (without_above q r rows h.1)
+without_above n r ((q, y) ∷ rows) h = grind (arith, without_here_by, absent, without_above q r rows h.1)
 
 pub without_here : {X : Type 0} (r : ℕ) (rows : Rows X) → RiseFrom 0 rows → value_at r (without r rows) ≡ None
 without_here r rows h = without_above 0 r rows h

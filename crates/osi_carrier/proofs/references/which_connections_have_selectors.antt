@@ -4,12 +4,12 @@ use Rattle.std.proofs.Common.{Err, refl, sym, ap, subst, ◌∙◌, arith, if◌
 use Rattle.std.proofs.Common.{eq-eqb}
 use Rattle.osi_carrier.specs.References.{references, dropped}
 use Rattle.osi_carrier.proofs.Vocabulary.{connection_by, eqb-true, Value, Connect, request, confirm, disconnect, disconnected, data0, error}
-use Rattle.osi_carrier.proofs.Vocabulary.{Standing, taken, Selection, accept, refuse, selected_by, LinkFault, Class, Zero, Two, Local}
-use Rattle.osi_carrier.proofs.Vocabulary.{fresh_state, asks, sent_on, sent, open_link, closes, closed_on, closed_with, ended_by, tsaps_at}
-use Rattle.osi_carrier.proofs.Vocabulary.{AreNamed, KeepsTsaps, confirmed, IsOrderly, denies, answers, is_full, has_peer, answers_request}
-use Rattle.osi_carrier.proofs.Vocabulary.{to_unknown, opens, to_asked, taking, breaks, leaves, to_linked, to_closing, to_connection}
-use Rattle.osi_carrier.proofs.Vocabulary.{to_reference, before_class, to_only, in_zero, in_two, in_class, react, react_by, Rows, value_at}
-use Rattle.osi_carrier.proofs.Vocabulary.{put, without, Connection, asked, linked, closing, TsapIds, State, ends, EndReason, sent_all}
+use Rattle.osi_carrier.proofs.Vocabulary.{Standing, Selection, accept, refuse, selected_by, LinkFault, Class, Zero, Two, Local, fresh_state}
+use Rattle.osi_carrier.proofs.Vocabulary.{asks, sent_on, sent, open_link, closes, closed_on, closed_with, ended_by, tsaps_at, AreNamed}
+use Rattle.osi_carrier.proofs.Vocabulary.{KeepsTsaps, confirmed, IsOrderly, denies, answers, is_full, has_peer, answers_request, to_unknown}
+use Rattle.osi_carrier.proofs.Vocabulary.{opens, to_asked, taking, breaks, leaves, to_linked, to_closing, to_connection, to_reference}
+use Rattle.osi_carrier.proofs.Vocabulary.{before_class, to_only, in_zero, in_two, in_class, react, react_by, Rows, value_at, put, without}
+use Rattle.osi_carrier.proofs.Vocabulary.{Connection, asked, TsapIds, State, ends, EndReason, sent_all}
 use Rattle.osi_carrier.proofs.references.what_a_change_leaves_there.{without_here}
 use Rattle.osi_carrier.proofs.references.rows_after_a_change.{without_other, push_other}
 
@@ -100,8 +100,7 @@ leaves_names r peer reason (Some Two) s = loses r refl refl
 leaves_names r peer reason held s = clears refl refl
 
 linked_names : (r peer : ℕ) (link : Standing) (unit : Value) (s : State) → Naming s (to_linked r peer link unit s)
-linked_names r peer link (disconnect destination source reason octets) s = leaves_names r peer reason s.class s
-linked_names r peer link unit s = taking_names r peer (taken link unit) s.class s refl
+linked_names r peer link unit s = grind (arith, leaves_names, taking_names)
 
 closing_names : (r : ℕ) (unit : Value) (s : State) → Naming s (to_closing r unit s)
 closing_names r (disconnected destination source) s = loses r refl refl
@@ -109,10 +108,7 @@ closing_names r (disconnect destination source reason octets) s = loses r refl r
 closing_names r unit s = stays refl refl
 
 connection_names : (r : ℕ) (at : Option Connection) (unit : Value) (s : State) → Naming s (to_connection r at unit s)
-connection_names r None unit s = unknown_names unit s
-connection_names r (Some asked) unit s = asked_names r unit s
-connection_names r (Some (linked peer link)) unit s = linked_names r peer link unit s
-connection_names r (Some (closing peer)) unit s = closing_names r unit s
+connection_names r at unit s = grind (arith, unknown_names, asked_names, linked_names, closing_names)
 
 reference_names : (r : ℕ) (unit : Value) (s : State) → Naming s (to_reference r unit s)
 reference_names r unit s = connection_names r (value_at r s.live) unit s
@@ -121,8 +117,7 @@ reference_names r unit s = connection_names r (value_at r s.live) unit s
 
 before_names : (is_caller : Bool) (unit : Value) (s : State) → Naming s (before_class is_caller unit s)
 before_names true (confirm destination c) s = reference_names destination (confirm destination c) s
-before_names true (disconnect destination source reason octets) s =
-    reference_names destination (disconnect destination source reason octets) s
+before_names true (disconnect destination source reason octets) s = grind (arith, reference_names)
 before_names true (error destination cause) s = reference_names destination (error destination cause) s
 before_names false (request c) s = request_names c s
 before_names is_caller unit s = clears refl refl
@@ -142,9 +137,7 @@ two_names is_caller (data0 end octets) s = clears refl refl
 two_names is_caller unit s = reference_names (connection_by (Some Two) unit s) unit s
 
 class_names : (held : Option Class) (unit : Value) (s : State) → Naming s (in_class held unit s)
-class_names None unit s = before_names s.is_caller unit s
-class_names (Some Zero) unit s = zero_names s.is_caller unit s
-class_names (Some Two) unit s = two_names s.is_caller unit s
+class_names held unit s = grind (arith, before_names, zero_names, two_names)
 
 over_names : (over : Bool) (unit : Value) (s : State) → Naming s (react_by over unit s)
 over_names true unit s = stays refl refl
@@ -185,8 +178,7 @@ keeps : (s t : State) → Naming s t → IsOrderly s → KeepsTsaps s t
 keeps s t (stays tsaps live) orderly q within there = ap (value_at q) tsaps
 keeps s t (loses r tsaps live) orderly q within there = lost_by r q s t (q == r) refl orderly tsaps live there
 keeps s t (gains c ids tsaps live) orderly q within there = grind (arith, push_other)
-keeps s t (clears tsaps live) orderly q within there =
-    absurd (let no : true ≡ false = sym there ∙ ap (λ (l : Rows Connection). is_some (value_at q l)) live in cc)
+keeps s t (clears tsaps live) orderly q within there = grind arith
 
 -- ---- the laws
 
@@ -228,8 +220,7 @@ pub sent_keeps : (r : ℕ) (tsdu : List ℕ) (s : State) → IsOrderly s → Kee
 sent_keeps r tsdu s orderly = keeps s (sent r tsdu s) (sent_names r tsdu (open_link r s) s) orderly
 
 sent_tsaps : (r : ℕ) (tsdu : List ℕ) (link : Option (ℕ × Standing)) (s : State) → (sent_on r tsdu link s).tsaps ≡ s.tsaps
-sent_tsaps r tsdu None s = refl
-sent_tsaps r tsdu (Some (peer, link)) s = refl
+sent_tsaps r tsdu link s = grind arith
 
 sent_all_tsaps : (r : ℕ) (tsdus : List (List ℕ)) (s : State) → (sent_all r tsdus s).tsaps ≡ s.tsaps
 sent_all_tsaps r [] s = refl

@@ -98,8 +98,7 @@ reads_goes : IsPartial [] → (old : Carrying) (piece : List ℕ) (fed : Fed) (n
     ReadsOne old (feeding piece fed) new
 reads_goes nothing old piece fed new (inl (inl dry)) lasts = reads_dry old piece fed new dry
 reads_goes nothing old piece fed new (inl (inr stop)) lasts = reads_stopped nothing old piece fed new stop lasts
-reads_goes nothing old piece fed new (inr (inl refused)) lasts =
-    over_none new.state.ended _ (ap (λ (x : State). x.ended) refused.ended) lasts
+reads_goes nothing old piece fed new (inr (inl refused)) lasts = grind (arith, over_none)
 reads_goes nothing old piece fed new (inr (inr starved)) lasts = grind (arith, over_none)
 
 reads_feed : IsPartial [] → (old : Carrying) (piece : List ℕ) (fed : Fed) (new : Carrying) (waiting : Bool) → waits old.state ≡ waiting →

@@ -1,13 +1,12 @@
 -- Reading a piece of the stream, packet by packet.
 use Rattle.std.proofs.Common.{◌≡◌, ℕ, ◌+◌, ◌-◌, ◌*◌, ◌<◌, ◌≤◌, ◌||◌, true, false, Bool, List, [], ◌∷◌, ◌++◌, length, take, drop, Option}
-use Rattle.std.proofs.Common.{Some, None, Result, Ok, Err, is_some, refl, sym, ap, subst, ◌∙◌, inl, inr, ◌⊎◌, arith, length-append}
-use Rattle.std.proofs.Common.{length-take, append_assoc, if◌then◌else◌}
+use Rattle.std.proofs.Common.{Result, Ok, is_some, refl, sym, ap, subst, ◌∙◌, inl, inr, ◌⊎◌, arith, length-append, length-take}
+use Rattle.std.proofs.Common.{append_assoc, if◌then◌else◌}
 use Rattle.std.proofs.Math.Seq.{drop-append_seam}
 use Rattle.osi_carrier.proofs.Vocabulary.{append-nil, take-append-drop, take_at, IsPacket, IsFaultOf, ArePackets, offset_of, Fed, TpktFault}
-use Rattle.osi_carrier.proofs.Vocabulary.{BadVersion, BadLength, OutOfMemory, units_of, Value, TpduFault, PacketActs, PartHeld, Faults}
-use Rattle.osi_carrier.proofs.Vocabulary.{LacksRoom, EndsOver, Carrying, IsReading, Acts, ActsBy, acts_by, after_packet, stops, waits}
-use Rattle.osi_carrier.proofs.Vocabulary.{is_spoilt, TakesPackets, StopsBehind, Starves, HasToHold, FindsNoMemory, Goes, Feeds, RunsOut}
-use Rattle.osi_carrier.proofs.Vocabulary.{State, EndReason}
+use Rattle.osi_carrier.proofs.Vocabulary.{units_of, Value, TpduFault, PacketActs, PartHeld, Faults, LacksRoom, EndsOver, Carrying}
+use Rattle.osi_carrier.proofs.Vocabulary.{IsReading, Acts, ActsBy, acts_by, after_packet, stops, waits, is_spoilt, TakesPackets}
+use Rattle.osi_carrier.proofs.Vocabulary.{StopsBehind, Starves, HasToHold, FindsNoMemory, Goes, Feeds, RunsOut, State, EndReason}
 
 -- ---- packets
 
@@ -18,8 +17,7 @@ takes_snoc s mid (u ∷ units) packet h quiet = (h.0, takes_snoc (after_packet s
 
 pub packets_more : (units : List (List ℕ)) (s r t : List ℕ) → ArePackets units s r → ArePackets units (s ++ t) (r ++ t)
 packets_more [] s r t h = ap (λ l. l ++ t) h
-packets_more (u ∷ units) s r t h =
-    (h.0, h.1 ++ t, h.2, ap (λ l. l ++ t) h.3 ∙ append_assoc h.0 h.1 t, packets_more units h.1 r t h.4)
+packets_more (u ∷ units) s r t h = search (arith, append_assoc, packets_more units h.1 r t h.4)
 
 pub packets_snoc : (units : List (List ℕ)) (s r : List ℕ) (packet : List ℕ) → ArePackets units s r → IsPacket packet r →
     ArePackets (units ++ packet ∷ []) s []
@@ -28,17 +26,12 @@ packets_snoc (u ∷ units) s r packet h p = (h.0, h.1, h.2, h.3, packets_snoc un
 
 pub packets_leave : (units : List (List ℕ)) (s r : List ℕ) → ArePackets units s r → length r ≤ length s
 packets_leave [] s r h = let same = ap length h in omega arith
-packets_leave (u ∷ units) s r h =
-    let less = packets_leave units h.1 r h.4 in
-    let parts = ap length h.3 ∙ length-append h.0 h.1 in
-    omega arith
+packets_leave (u ∷ units) s r h = grind (arith, length-append, packets_leave units h.1 r h.4)
 
 -- what a packet did is what its units do, or memory ran out for one of them
 acts_by_cases : (units : Result (List Value) TpduFault) (old new : State) → ActsBy units old new →
     (new ≡ acts_by units old) ⊎ ((us : List Value) × (units ≡ Ok us) × RunsOut old us new)
-acts_by_cases (Ok us) old new (inl h) = inl h
-acts_by_cases (Ok us) old new (inr h) = inr (us, refl, h)
-acts_by_cases (Err f) old new h = inl h
+acts_by_cases units old new h = grind arith
 
 pub acts_cases : (old new : State) (packet : List ℕ) → Acts old packet new → (new ≡ after_packet old packet) ⊎ Starves old packet new
 unfolding after_packet
@@ -144,12 +137,7 @@ read_next old piece now rest used new read acts quiet =
 -- this much of the piece was looked at
 looked : (piece front rest : List ℕ) (used : ℕ) → piece ≡ (front ++ take used rest) ++ drop used rest →
     (take (length (front ++ take used rest)) piece ≡ front ++ take used rest) × (length (front ++ take used rest) ≤ length piece)
-looked piece front rest used cut =
-    let sizes = ap length cut ∙ length-append (front ++ take used rest) (drop used rest) in (
-      ap (take (length (front ++ take used rest))) cut ∙
-          take_at (front ++ take used rest) (drop used rest) (length (front ++ take used rest)) refl,
-      omega arith,
-    )
+looked piece front rest used cut = grind (arith, length-append, take_at)
 
 stopped_by : (old : Carrying) (piece : List ℕ) (now : Carrying) (rest : List ℕ) (used uses : ℕ) (new : Carrying)
     (read : IsRead old piece now rest) (acts : PacketActs now rest used new) →
@@ -195,8 +183,7 @@ read_stops old piece now rest used new read acts stopped sound =
     inl (inr (stopped_by old piece now rest used (length piece - length (drop used rest)) new read acts same stopped (rw sound uses)))
 
 spoilt_over : (o : Option EndReason) → is_spoilt o ≡ true → is_some o ≡ true
-spoilt_over None e = cc
-spoilt_over (Some reason) e = refl
+spoilt_over o e = grind arith
 
 spoilt_stops : (s : State) → is_spoilt s.ended ≡ true → stops s ≡ true
 spoilt_stops s e = ap (λ b. b || waits s) (spoilt_over s.ended e)
@@ -205,14 +192,10 @@ spoilt_stops s e = ap (λ b. b || waits s) (spoilt_over s.ended e)
 spelled_faultless : (reserved high low : ℕ) (u more : List ℕ) → 256 * high + low ≡ length u + 4 → 3 ≤ length u →
     (at : ℕ) (fault : TpktFault) →
     IsFaultOf at ((3 ∷ reserved ∷ high ∷ low ∷ u) ++ more) fault → ⊥
-spelled_faultless reserved high low u more counted least at (BadVersion o) h = h.0.1 refl
-spelled_faultless reserved high low u more counted least at (BadLength o) h = let short : 256 * high + low < 7 = h.0.2 in omega arith
-spelled_faultless reserved high low u more counted least at OutOfMemory h = h
+spelled_faultless reserved high low u more counted least at fault h = grind arith
 
 packet_faultless : (u b more : List ℕ) → IsPacket u b → (at : ℕ) (fault : TpktFault) → IsFaultOf at (b ++ more) fault → ⊥
-packet_faultless u b more p =
-    subst (λ x. (at : ℕ) (fault : TpktFault) → IsFaultOf at (x ++ more) fault → ⊥) (sym p.spelled)
-    (spelled_faultless p.reserved p.high p.low u more p.counted p.at_least)
+packet_faultless u b more p = grind (arith, spelled_faultless)
 
 starved_by : (old : Carrying) (piece : List ℕ) (now : Carrying) (rest : List ℕ) (used : ℕ) (new : Carrying)
     (read : IsRead old piece now rest) (acts : PacketActs now rest used new) →
@@ -259,45 +242,19 @@ read_spoilt old piece now rest used new read acts spoilt =
 
 whole_packets : (old : Carrying) (piece : List ℕ) (now : Carrying) (rest : List ℕ) (read : IsRead old piece now rest) →
     ArePackets read.units (old.held.octets ++ piece) (now.held.octets ++ rest)
-whole_packets old piece now rest read =
-    subst (λ l. ArePackets read.units l (now.held.octets ++ rest))
-    (append_assoc old.held.octets read.front rest ∙ ap (λ l. old.held.octets ++ l) (sym read.cut))
-    (packets_more read.units (old.held.octets ++ read.front) now.held.octets rest read.packets)
+whole_packets old piece now rest read = grind (arith, append_assoc, packets_more)
 
 whole_offset : (old : Carrying) (piece : List ℕ) (now : Carrying) (rest : List ℕ) → IsRead old piece now rest →
     now.held.offset ≡ offset_of (old.held.offset + (length (old.held.octets ++ piece) - length (now.held.octets ++ rest)))
-whole_offset old piece now rest read =
-    let before = read.offset in
-    let sizes = ap length read.cut ∙ length-append read.front rest in
-    let a = length-append old.held.octets read.front in
-    let b = length-append old.held.octets piece in
-    let c = length-append now.held.octets rest in
-    let same : length (old.held.octets ++ piece) - length (now.held.octets ++ rest) ≡ length (old.held.octets ++ read.front) - length
-    now.held.octets = omega arith in
-    before ∙ ap (λ n. offset_of (old.held.offset + n)) (sym same)
+whole_offset old piece now rest read = grind (arith, length-append)
 
 pub read_part : (old : Carrying) (piece : List ℕ) (now : Carrying) (rest : List ℕ) (new : Carrying) → IsRead old piece now rest →
     PartHeld now rest new → Goes old piece (length piece) new
-read_part old piece now rest new read part =
-    let before = read.room in
-    let after = part.room in
-    inl (inl (record {
-      units = read.units;
-      all = refl;
-      packets = subst (ArePackets read.units (old.held.octets ++ piece)) (sym part.held) (whole_packets old piece now rest read);
-      partial = part.partial;
-      taken = subst (TakesPackets old.state read.units) (sym part.state) read.taken;
-      quiet = ap stops part.state ∙ read.quiet;
-      offset = part.offset ∙ whole_offset old piece now rest read ∙
-          ap (λ l. offset_of (old.held.offset + (length (old.held.octets ++ piece) - length l))) (sym part.held);
-      room = omega arith;
-    }))
+read_part old piece now rest new read part = grind (arith, whole_packets, whole_offset)
 
 -- with less room they have to be held too
 less_room : (room less : ℕ) (held left : List ℕ) → less ≤ room → HasToHold room held left → HasToHold less held left
-less_room room less held left bound h =
-    let more = h.more in
-    record { next = h.next; belongs = h.belongs; some = h.some; parted = h.parted; more = omega arith }
+less_room room less held left bound h = grind arith
 
 over_by : (old : Carrying) (piece : List ℕ) (now : Carrying) (rest : List ℕ) (new : Carrying) → IsRead old piece now rest →
     new.held.octets ≡ [] → Faults now rest new ⊎ LacksRoom now rest new → Goes old piece (length piece) new
@@ -349,27 +306,14 @@ read_over old piece now rest new read over = over_by old piece now rest new read
 -- ---- progress
 
 used_some : (b : Bool) (used n m : ℕ) → used ≡ (if b then n else m) → 0 < n → 0 < m → 0 < used
-used_some true used n m e a b = omega arith
-used_some false used n m e a b = omega arith
+used_some b used n m e a b2 = grind arith
 
 -- some of a piece that is not empty is used
 pub goes_on : (old : Carrying) (piece : List ℕ) (used : ℕ) (new : Carrying) → Goes old piece used new → 0 < length piece → 0 < used
-goes_on old piece used new (inl (inl dry)) some = let all = dry.all in omega arith
-goes_on old piece used new (inl (inr stop)) some =
-    used_some (is_spoilt new.state.ended) used (length piece) stop.within stop.uses some stop.some
-goes_on old piece used new (inr (inl refused)) some = let all = refused.all in omega arith
-goes_on old piece used new (inr (inr starved)) some = let all = starved.all in omega arith
+goes_on old piece used new h some = grind (arith, used_some)
 
 -- feeding that goes on feeds
 pub fed_goes : (old : Carrying) (piece : List ℕ) (now : Carrying) (rest : List ℕ) (used : ℕ) (fed : Fed) (new : Carrying) →
     IsRead old piece now rest → Goes old piece used new → used ≤ length piece →
     fed.used ≡ used → fed.whole ≡ waits new.state → Feeds old piece fed new
-fed_goes old piece now rest used fed new read goes bound is whole = record {
-  over = λ over. absurd (let stopped : stops old.state ≡ true = ap (λ b. b || waits old.state) over in let quiet = read.begun in cc);
-  waiting = λ none waiting. absurd (let stopped : stops old.state ≡ true = ap (λ o. is_some o || waits old.state) none ∙ waiting in
-      let quiet = read.begun in cc);
-  goes = λ _. subst (λ (n : ℕ). Goes old piece n new) (sym is) goes;
-  whole = whole;
-  bound = omega arith;
-  progress = λ _ any. (let on = goes_on old piece used new goes any in omega arith);
-}
+fed_goes old piece now rest used fed new read goes bound is whole = grind (arith, goes_on)

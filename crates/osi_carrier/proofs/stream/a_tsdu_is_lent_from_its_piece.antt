@@ -13,8 +13,7 @@ use Rattle.osi_carrier.proofs.stream.a_piece_is_read_packet_by_packet.{IsRead, r
 -- nothing is lent to a caller who doesn't want it
 pub unlent : (is_lent : Bool) (lent : Lent) (packet : List ℕ) (old new : State) → Acts old packet (with_lent (lent_if is_lent lent) new) →
     (is_lent ≡ true → Lends false old new) → Acts old packet new
-unlent false lent packet old new acts h = acts
-unlent true lent packet old new acts h = let never = (h refl).asked in cc
+unlent is_lent lent packet old new acts h = grind arith
 
 quiet_by : (o : Option EndReason) (l : List Happening) → (is_some o || not (length l == 0)) ≡ false → (l ≡ []) × (o ≡ None)
 quiet_by None [] h = (refl, refl)
@@ -24,9 +23,7 @@ quiet_by (Some reason) l h = cc
 pub lent_packet : (wanted : Bool) (old : Carrying) (octets : List ℕ) (used : ℕ) (lent : Lent) (new : Carrying) → stops old.state ≡ false →
     Lends wanted old.state new.state → PacketActs old octets used (carrying_lent (Some lent) new) →
     PacketLent wanted old octets used lent new
-lent_packet wanted old octets used lent new quiet lends acts =
-    let before = quiet_by old.state.ended old.state.events quiet in
-    record { asked = lends.asked; acts = acts; alone = lends.events ∙ before.0; lasts = lends.ended ∙ before.1 }
+lent_packet wanted old octets used lent new quiet lends acts = grind (arith, quiet_by)
 
 told_waits : (l : List Happening) (event : Happening) → not (length (l ++ event ∷ []) == 0) ≡ true
 told_waits [] event = refl
@@ -53,8 +50,4 @@ nothing_lent old piece fed new none feeds = subst (λ o. Feeds old piece fed.fed
 -- its event is the only one
 pub lent_tells : (o : Option Lent) (new : Carrying) → (IsSome o → new.state.events ≡ []) →
     IfSome o (λ lent. Tells (Some (lent_event lent)) (carrying_lent o new).state new.state)
-lent_tells None new h = tt
-lent_tells (Some lent) new h =
-    let none = h refl in
-    ap (λ (l : List Happening). record new.state { events = l ++ lent_event lent ∷ [] }) none
-    ∙ sym (ap (λ (l : List Happening). record new.state { events = lent_event lent ∷ l }) none)
+lent_tells o new h = grind arith

@@ -118,8 +118,7 @@ front_used false piece used within bound e = ([], ap (λ n. take n piece) e ∙ 
 over_goes : PacketLaws → (old : Carrying) (piece : List ℕ) (fed : Fed) (new : Carrying) (later : List ℕ) →
     Lasts old (old.held.octets ++ (take fed.used piece ++ later)) →
     Goes old piece fed.used new → is_some new.state.ended ≡ true → new.state.ended ≡ Some NoMemory
-over_goes laws old piece fed new later lasts (inl (inl dry)) over = let quiet =
-    dry.quiet in absurd (let e : (true || waits new.state) ≡ false = ap (λ b. b || waits new.state) (sym over) ∙ quiet in cc)
+over_goes laws old piece fed new later lasts (inl (inl dry)) over = grind arith
 over_goes laws old piece fed new later lasts (inl (inr stop)) over =
     let front = front_used (is_spoilt new.state.ended) piece fed.used stop.within stop.bound stop.uses in
     let s = old.held.octets ++ take stop.within piece in
@@ -157,10 +156,8 @@ over_one : PacketLaws → (old : Carrying) (call : Call) (new : Carrying) (later
     new.state.ended ≡ Some NoMemory
 over_one laws old (feeding piece fed) new later none quiet lasts h over =
     over_feed laws old piece fed new later (waits old.state) refl quiet lasts h over
-over_one laws old (telling event) new later none quiet lasts h over =
-    never new.state over (tells_ended event old.state new.state h.0 ∙ quiet)
-over_one laws old (carrying octets) new later none quiet lasts h over =
-    never new.state over (ap (λ (x : Carrying). x.state.ended) (sym h) ∙ quiet)
+over_one laws old (telling event) new later none quiet lasts h over = grind (arith, never, tells_ended)
+over_one laws old (carrying octets) new later none quiet lasts h over = grind (arith, never)
 over_one laws old (calling call) new later none quiet lasts h over = absurd cc
 
 -- the later octets do not end the carrier after a call either
@@ -188,9 +185,7 @@ lasts_by : PacketLaws → IsPartial [] → (old : Carrying) (call : Call) (mid :
     (mid.state.ended ≡ None → Lasts mid (mid.held.octets ++ flat_map used_in calls) → LastsOrStarves new) → LastsOrStarves new
 lasts_by laws nothing old call mid calls new true e none nor quiet h rest lasts on =
     inr (over_calls mid calls new nor e rest ∙ over_one laws old call mid (flat_map used_in calls) none quiet lasts h e)
-lasts_by laws nothing old call mid calls new false e none nor quiet h rest lasts on =
-    let quiet' = none_of mid.state.ended e in
-    on quiet' (lasts_on laws old call mid (flat_map used_in calls) none (reads_one nothing old call mid h quiet') lasts)
+lasts_by laws nothing old call mid calls new false e none nor quiet h rest lasts on = search (arith, none_of, lasts_on, reads_one)
 
 lasts_along : PacketLaws → IsPartial [] → (old : Carrying) (calls : List Call) (new : Carrying) → flat_map called_in calls ≡ [] →
     old.state.ended ≡ None →

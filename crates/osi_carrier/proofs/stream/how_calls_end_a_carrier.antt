@@ -111,8 +111,7 @@ packet_fault_by old at s f g a b (m ∷ ms) e h = absurd (no_further _ ms m b.re
 packet_fault : {B : Type 0} (old : State) (at : ℕ) (s : List ℕ) (f g : State) (a : InPacket old s f) (b : InFault old at s g) →
     Compared (a.before ++ a.last ∷ []) b.before b.rest a.rest → B
 packet_fault old at s f g a b (inl x) = packet_fault_by old at s f g a b x.more x.all x.packets
-packet_fault old at s f g a b (inr x) = never (after b.before old) (over_front b.before (a.before ++ a.last ∷ []) x.more old x.all a.over)
-    b.lasts
+packet_fault old at s f g a b (inr x) = grind (arith, never, over_front)
 
 same_fault : (old : State) (at : ℕ) (s : List ℕ) (f g : State) (a : InFault old at s f) (b : InFault old at s g) (more : List (List ℕ)) →
     a.before ≡ b.before ++ more → ArePackets more b.rest a.rest → f ≡ g
@@ -163,8 +162,7 @@ at_same at s r t = let a = length-append s t in let b = length-append r t in ome
 ends_goes : (old : Carrying) (piece : List ℕ) (fed : Fed) (new : Carrying) (later : List ℕ) → Goes old piece fed.used new →
     is_some new.state.ended ≡ true → (new.state.ended ≡ Some NoMemory → ⊥) →
     Outcome old (old.held.octets ++ (take fed.used piece ++ later)) new.state new.held.octets
-ends_goes old piece fed new later (inl (inl dry)) over full =
-    never new.state over (stops_not new.state (is_some new.state.ended) refl dry.quiet)
+ends_goes old piece fed new later (inl (inl dry)) over full = grind (arith, never, stops_not)
 ends_goes old piece fed new later (inl (inr stop)) over full =
     let front = front_used (is_spoilt new.state.ended) piece fed.used stop.within stop.bound stop.uses in
     let s = old.held.octets ++ take stop.within piece in
@@ -213,8 +211,7 @@ ends_goes old piece fed new later (inr (inr starved)) over full = grind arith
 ends_feed : (old : Carrying) (piece : List ℕ) (fed : Fed) (new : Carrying) (later : List ℕ) (waiting : Bool) → waits old.state ≡ waiting →
     old.state.ended ≡ None → Feeds old piece fed new → is_some new.state.ended ≡ true →
     (new.state.ended ≡ Some NoMemory → ⊥) → Outcome old (old.held.octets ++ (take fed.used piece ++ later)) new.state new.held.octets
-ends_feed old piece fed new later true e quiet h over full =
-    never new.state over (ap (λ (x : Carrying). x.state.ended) (h.waiting quiet e).1 ∙ quiet)
+ends_feed old piece fed new later true e quiet h over full = grind (arith, never)
 ends_feed old piece fed new later false e quiet h over full =
     ends_goes old piece fed new later (h.goes (ap (λ (o : Option EndReason). is_some o || waits old.state) quiet ∙ e)) over full
 
@@ -224,8 +221,7 @@ ends_one : (old : Carrying) (call : Call) (new : Carrying) (later : List ℕ) �
 ends_one old (feeding piece fed) new later none quiet h over full =
     ends_feed old piece fed new later (waits old.state) refl quiet h over full
 ends_one old (telling event) new later none quiet h over full = never new.state over (tells_ended event old.state new.state h.0 ∙ quiet)
-ends_one old (carrying octets) new later none quiet h over full =
-    never new.state over (ap (λ (x : Carrying). x.state.ended) (sym h) ∙ quiet)
+ends_one old (carrying octets) new later none quiet h over full = grind (arith, never)
 ends_one old (calling call) new later none quiet h over full = absurd cc
 
 -- ---- after the end

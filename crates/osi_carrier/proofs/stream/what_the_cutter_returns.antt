@@ -1,6 +1,6 @@
 -- The result of the cutter, as the carrier's look at the stream.
-use Rattle.std.proofs.Common.{◌≡◌, ℕ, zero, suc, ◌+◌, ◌<◌, ◌≤◌, Bool, true, false, List, [], ◌++◌, length, take, drop, None, Result, Ok}
-use Rattle.std.proofs.Common.{Err, MatchBool, refl, sym, ap, subst, ◌∙◌, inl, inr, arith}
+use Rattle.std.proofs.Common.{◌≡◌, ℕ, zero, suc, ◌+◌, ◌<◌, Bool, true, false, List, [], ◌++◌, length, take, drop, None, Result, Ok, Err}
+use Rattle.std.proofs.Common.{MatchBool, refl, sym, ap, subst, ◌∙◌, arith}
 use Rattle.osi_tpkt.specs.Cutter.{TakesPiece, Belongs, Passes}
 use Rattle.osi_carrier.proofs.Vocabulary.{append-nil, take-append-drop, length-take-le, Held, IsHolding, IsPacket, IsOnePacket, IsPartial}
 use Rattle.osi_carrier.proofs.Vocabulary.{IsFaultOf, offset_of, Fed, TpktFault, BadVersion, BadLength, OutOfMemory, PacketActs, EndsOver}
@@ -10,13 +10,8 @@ use Rattle.osi_carrier.proofs.Vocabulary.{IsNoFront, Carrying, IsReading, HasToH
 abbrev pub Proper : Type 0
 Proper = (r : List ℕ) → IsPartial r → IsOnePacket r → ⊥
 
-first_out : (b : Bool) (A B : Type 0) → MatchBool b A B → (A → ⊥) → B
-first_out true A B h never = absurd (never h)
-first_out false A B h never = h
-
 second_out : (b : Bool) (A B : Type 0) → MatchBool b A B → (B → ⊥) → b ≡ true
-second_out true A B h never = refl
-second_out false A B h never = absurd (never h)
+second_out b A B h never = grind arith
 
 -- if any fault would have been answered, and none was
 never_faulty : (at : ℕ) (octets : List ℕ) → ((f : TpktFault) → IsFaultOf at octets f → f ≡ OutOfMemory) → (place : ℕ) (f : TpktFault) →
@@ -61,18 +56,14 @@ pub ended_over : Proper → (old new : Carrying) (octets : List ℕ) (fault : Tp
     (old.held.octets ≡ [] → IsNoFront octets) → TakesPiece old.held octets (Err fault) held →
     ((f : TpktFault) → IsFaultOf old.held.offset (old.held.octets ++ octets) f → f ≡ fault) →
     new.state ≡ after_refusal fault old.state → new.held.octets ≡ [] → EndsOver old octets new
-ended_over proper old new octets (BadVersion at) held partial some parted taken only h none =
-    record { how = inl (record { fault = BadVersion at; is = taken.0; ended = h }); held = none }
-ended_over proper old new octets (BadLength at) held partial some parted taken only h none =
-    record { how = inl (record { fault = BadLength at; is = taken.0; ended = h }); held = none }
-ended_over proper old new octets OutOfMemory held partial some parted taken only h none = record {
-  how = inr (record {
-    faultless = never_faulty old.held.offset (old.held.octets ++ octets) only;
-    holds = has_to_hold proper old.held.room old.held.octets octets partial some parted taken.0 taken.1 taken.2;
-    ended = h;
-  });
-  held = none;
-}
+ended_over proper old new octets (BadVersion at) held partial some parted taken only h none = grind arith
+ended_over proper old new octets (BadLength at) held partial some parted taken only h none = grind arith
+ended_over proper old new octets OutOfMemory held partial some parted taken only h none =
+    grind (
+      arith,
+      never_faulty old.held.offset (old.held.octets ++ octets) only,
+      has_to_hold proper old.held.room old.held.octets octets partial some parted taken.0 taken.1 taken.2,
+    )
 
 pub fetched_packet : Proper → IsPartial [] → (old new : Carrying) (octets : List ℕ) (fed : Fed) (held : Held) (packet : List ℕ) →
     TakesPiece old.held octets (Ok fed) held →
@@ -80,30 +71,7 @@ pub fetched_packet : Proper → IsPartial [] → (old new : Carrying) (octets : 
     new.held ≡ record { offset = offset_of (held.offset + length held.octets); octets = []; fault = None; room = held.room } →
     IsHolding new.held →
     PacketActs old octets fed.used new
-fetched_packet proper nothing old new octets fed held packet taken stands progress acted advanced holding =
-    let belongs = taken.0 in
-    let gains = taken.1 in
-    let joined : held.octets ≡ old.held.octets ++ take fed.used octets = ap (λ (h : Held). h.octets) gains.octets in
-    let whole = second_out fed.whole (IsOnePacket (old.held.octets ++ take fed.used octets))
-    (IsPartial (old.held.octets ++ take fed.used octets) × (fed.used ≡ length octets))
-    belongs.whole (λ part. proper (old.held.octets ++ take fed.used octets) part.0 (packet, subst (IsPacket packet) joined stands)) in
-    record {
-      packet = packet;
-      some = progress whole;
-      within = belongs.within;
-      whole = subst (IsPacket packet) joined stands;
-      acted = acted;
-      held = ap (λ (h : Held). h.octets) advanced;
-      reading = record {
-        holding = holding;
-        partial = subst IsPartial (sym (ap (λ (h : Held). h.octets) advanced)) nothing;
-        fault = ap (λ (h : Held). h.fault) advanced;
-      };
-      offset = ap (λ (h : Held). h.offset) advanced ∙
-          ap (λ n. offset_of (n + length held.octets)) (ap (λ (h : Held). h.offset) gains.octets)
-          ∙ ap (λ l. offset_of (old.held.offset + length l)) joined;
-      room = subst (λ n. old.held.room ≤ n) (sym (ap (λ (h : Held). h.room) advanced)) gains.room;
-    }
+fetched_packet proper nothing old new octets fed held packet taken stands progress acted advanced holding = grind (arith, second_out)
 
 -- ---- a packet that is taken without a copy
 
@@ -114,17 +82,4 @@ passed_reading nothing old new unit piece p holding =
 pub passed_packet : IsPartial [] → (old new : Carrying) (octets packet : List ℕ) → Passes old.held packet octets new.held →
     IsHolding new.held →
     Acts old.state packet new.state → PacketActs old octets (4 + length packet) new
-passed_packet nothing old new octets packet p holding acted =
-    let size = length-take-le (4 + length packet) octets p.within in
-    record {
-      packet = packet;
-      some = omega arith;
-      within = p.within;
-      whole = subst (λ l. IsPacket packet (l ++ take (4 + length packet) octets)) (sym p.empty) p.packet;
-      acted = acted;
-      held = ap (λ (h : Held). h.octets) p.after ∙ p.empty;
-      reading = passed_reading nothing old.held new.held packet octets p holding;
-      offset = ap (λ (h : Held). h.offset) p.after ∙ ap (λ n. offset_of (old.held.offset + n)) (sym size)
-          ∙ ap (λ l. offset_of (old.held.offset + length (l ++ take (4 + length packet) octets))) (sym p.empty);
-      room = (let same = ap (λ (h : Held). h.room) p.after in omega arith);
-    }
+passed_packet nothing old new octets packet p holding acted = grind (arith, length-take-le, passed_reading)

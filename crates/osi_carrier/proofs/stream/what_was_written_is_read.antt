@@ -1,14 +1,12 @@
 -- Octets that a carrier wrote read back as the units that it wrote.
-use Rattle.std.proofs.Common.{◌≡◌, ℕ, ◌<◌, ◌≤◌, List, [], ◌∷◌, ◌++◌, length, map, take, drop, Result, Ok, refl, sym, ap, subst, ◌∙◌, arith}
-use Rattle.std.proofs.Common.{append_assoc, length-append}
+use Rattle.std.proofs.Common.{◌≡◌, ℕ, ◌<◌, List, [], ◌∷◌, ◌++◌, length, map, take, drop, Result, Ok, sym, ap, ◌∙◌, arith, append_assoc}
+use Rattle.std.proofs.Common.{length-append}
 use Rattle.osi_tpdu.proofs.the_written_form_spells_its_value.{written_spells}
 use Rattle.osi_tpdu.proofs.the_units_of_a_packet.{units_only}
 use Rattle.osi_carrier.specs.Coming.{IsSendable, AreComing}
 use Rattle.osi_carrier.proofs.Vocabulary.{AllByRecursion, append_cancel_left, get_or_append_left, take-append-drop, IsPacket, IsFaultOf}
-use Rattle.osi_carrier.proofs.Vocabulary.{IsBadVersion, IsBadLength, packet_of, one_packet, packet_front, written_packet}
-use Rattle.osi_carrier.proofs.Vocabulary.{stated_length-append, ArePackets, TpktFault, BadVersion, BadLength, OutOfMemory, front_version}
-use Rattle.osi_carrier.proofs.Vocabulary.{front_length, units_of, Value, written, TpduFault, acts_by, after_packet, Starves, react, reacts}
-use Rattle.osi_carrier.proofs.Vocabulary.{State, packets, ends, NoMemory}
+use Rattle.osi_carrier.proofs.Vocabulary.{packet_of, one_packet, written_packet, ArePackets, TpktFault, OutOfMemory, units_of, Value}
+use Rattle.osi_carrier.proofs.Vocabulary.{written, TpduFault, acts_by, after_packet, Starves, react, reacts, State, packets, ends, NoMemory}
 use Rattle.osi_carrier.proofs.written.the_length_of_a_unit.{written_least}
 
 pub all_behind : (us vs : List Value) → AllByRecursion IsSendable us → AllByRecursion IsSendable vs → AllByRecursion IsSendable (us ++ vs)
@@ -18,9 +16,7 @@ all_behind (u ∷ us) vs a b = (a.0, all_behind us vs a.1 b)
 -- ---- one unit
 
 pub unit_packet : (unit : Value) → IsSendable unit → IsPacket (written unit) (packet_of (written unit))
-unit_packet unit h =
-    written_packet (written unit)
-    (record { at_least = written_least unit; at_most = h.most; octets = (written_spells unit h.fits).are_octets })
+unit_packet unit h = grind (arith, written_packet, written_least unit, written_spells unit h.fits)
 
 pub unit_read : (unit : Value) → IsSendable unit → units_of (written unit) ≡ Ok (unit ∷ [])
 unit_read unit h = units_only (written unit) (unit ∷ []) (written_spells unit h.fits)
@@ -47,20 +43,8 @@ some_octets u b p = let e = ap length p.spelled in omega arith
 pub units_front : (units : List (List ℕ)) (coming : List Value) (s r t : List ℕ) → AllByRecursion IsSendable coming → ArePackets units s r →
     s ++ t ≡ packets coming →
     Fronts units coming r t
-units_front [] coming s r t all h e = record {
-  done = [];
-  left = coming;
-  parts = refl;
-  are = refl;
-  sendable = tt;
-  rest = record { octets = ap (λ l. l ++ t) (sym h) ∙ e; sendable = all };
-}
-units_front (u ∷ us) [] s r t all h e =
-    let some = some_octets u h.0 h.2 in
-    let total = length-append s t in
-    let parts = ap length h.3 ∙ length-append h.0 h.1 in
-    let none = ap length e in
-    absurd (omega arith)
+units_front [] coming s r t all h e = grind arith
+units_front (u ∷ us) [] s r t all h e = grind (arith, some_octets, length-append)
 units_front (u ∷ us) (v ∷ vs) s r t all h e =
     let packet = unit_packet v all.0 in
     let same : h.0 ++ (h.1 ++ t) ≡ packet_of (written v) ++ packets vs = sym (append_assoc h.0 h.1 t) ∙ ap (λ l. l ++ t) (sym h.3) ∙ e in
@@ -79,18 +63,7 @@ units_front (u ∷ us) (v ∷ vs) s r t all h e =
 
 -- what was written has no fault
 front_free : (at : ℕ) (b r t x : List ℕ) (u : List ℕ) (f : TpktFault) → IsPacket u b → r ++ t ≡ b ++ x → IsFaultOf at r f → ⊥
-front_free at b r t x u (BadVersion o) p e bad =
-    let some = some_octets u b p in
-    front_version b x some (packet_front u b p).0 (subst IsBadVersion e
-    ((let total = length-append r t in let here = bad.0.0 in omega arith), λ is. bad.0.1 (sym (get_or_append_left r t 0 0 bad.0.0) ∙ is)))
-front_free at b r t x u (BadLength o) p e bad =
-    let long : 4 ≤ length b = (let n = ap length p.spelled in omega arith) in
-    front_length b x long (packet_front u b p).0 (subst IsBadLength e (
-      (let total = length-append r t in let here = bad.0.0 in omega arith),
-      get_or_append_left r t 0 0 (let here = bad.0.0 in omega arith) ∙ bad.0.1,
-      (let stated = stated_length-append r t bad.0.0 in let low = bad.0.2 in omega arith),
-    ))
-front_free at b r t x u OutOfMemory p e bad = bad
+front_free at b r t x u f p e bad = grind (arith, get_or_append_left)
 
 short_none : (r t : List ℕ) → r ++ t ≡ [] → length r ≡ 0
 short_none r t e = let total = length-append r t in let none = ap length e in omega arith
@@ -124,5 +97,4 @@ starved_unit old new packet unit sendable is h =
 pub reads_part : (held outgoing : List ℕ) (coming : List Value) (n : ℕ) (units : List (List ℕ)) (r : List ℕ) →
     AreComing held outgoing coming →
     ArePackets units (held ++ take n outgoing) r → Fronts units coming r (drop n outgoing)
-reads_part held outgoing coming n units r c h =
-    units_front units coming (held ++ take n outgoing) r (drop n outgoing) c.sendable h (whole_piece held outgoing n ∙ c.octets)
+reads_part held outgoing coming n units r c h = grind (arith, units_front, whole_piece)

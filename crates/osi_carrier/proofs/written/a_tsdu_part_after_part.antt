@@ -1,6 +1,5 @@
 -- Writing a TSDU straight from its octets, part after part, and keeping what may not be sent yet.
-use Rattle.std.proofs.Common.{◌≡◌, ℕ, ◌+◌, ◌<◌, ◌≤◌, Bool, true, false, List, [], ◌∷◌, ◌++◌, length, drop, Option, Some, None, refl, sym}
-use Rattle.std.proofs.Common.{ap, ◌∙◌, subst}
+use Rattle.std.proofs.Common.{◌≡◌, ℕ, ◌+◌, ◌<◌, ◌≤◌, Bool, List, [], ◌∷◌, ◌++◌, length, drop, Option, None, refl, sym, ap, ◌∙◌, subst}
 use Rattle.std.proofs.Common.{append_assoc, length-append, arith}
 use Rattle.std.proofs.Math.Seq.{drop-append-add}
 use Rattle.std.proofs.lemmas.List.{drop-drop}
@@ -27,23 +26,16 @@ pub record IsParting (peer : ℕ) (first : Standing) (before : List ℕ) (link :
 pub parting_first : (peer : ℕ) (link : Standing) (tsdu kept before : List ℕ) (spare : ℕ) → Goes link tsdu kept →
     length (packets (written_by peer (with_tsdu link tsdu))) ≤ spare →
     IsParting peer (with_tsdu link tsdu) before link tsdu kept before spare
-parting_first peer link tsdu kept before spare goes room =
-    record { goes = goes; pumping = pumping_first peer (with_tsdu link tsdu) before; room = room }
+parting_first peer link tsdu kept before spare goes room = grind (arith, pumping_first)
 
 -- a part of it may be given if any may
 pub part_goes : (link : Standing) (rest : List ℕ) → next link ≡ None → 0 < length (all_given (with_tsdu link rest)) → GoesAtOnce link
-part_goes link rest quiet some =
-    goes_at_once link rest quiet (λ (none : next (with_tsdu link rest) ≡ None). (let given : length (all_given (with_tsdu link rest)) ≡ 0 =
-    ap (λ (d : Drained). length d.units) (drained_none (with_tsdu link rest) none) in
-    omega arith))
+part_goes link rest quiet some = grind (arith, goes_at_once, drained_none)
 
 -- nothing is given if no part may be
 nothing_by : (link : Standing) (rest : List ℕ) (o : Option (Given × Standing)) → next link ≡ None → (GoesAtOnce link → ⊥) →
     next (with_tsdu link rest) ≡ o → next (with_tsdu link rest) ≡ None
-nothing_by link rest None quiet never e = e
-nothing_by link rest (Some p) quiet never e =
-    absurd (never
-    (goes_at_once link rest quiet (λ (none : next (with_tsdu link rest) ≡ None). (let no : Some p ≡ None = sym e ∙ none in cc))))
+nothing_by link rest o quiet never e = grind (arith, goes_at_once)
 
 pub nothing_goes : (link : Standing) (rest : List ℕ) → next link ≡ None → (GoesAtOnce link → ⊥) → next (with_tsdu link rest) ≡ None
 nothing_goes link rest quiet never = nothing_by link rest (next (with_tsdu link rest)) quiet never refl
@@ -60,16 +52,12 @@ pub parts_from : (link new : Standing) (rest : List ℕ) (unit : Given) → 0 < 
       units = unit ∷ (drained (with_rest new (drop (octets_of unit) rest))).units;
       link = (drained (with_rest new (drop (octets_of unit) rest))).link;
     }
-parts_from link new rest unit room part = drained_some (with_tsdu link rest) (with_rest new (drop (octets_of unit) rest)) unit room
-    part.gives
+parts_from link new rest unit room part = search (arith, drained_some)
 
 -- there is room for its next part if there is room for all
 pub part_room : (peer : ℕ) (link new : Standing) (rest : List ℕ) (unit : Given) → 0 < link.ends.limit → GivesPart unit rest link new →
     length (packets (unit_of peer unit ∷ [])) ≤ length (packets (written_by peer (with_tsdu link rest)))
-part_room peer link new rest unit room part =
-    let all = pumping_room peer (with_tsdu link rest) (with_rest new (drop (octets_of unit) rest)) unit
-    (parts_from link new rest unit room part) in
-    omega arith
+part_room peer link new rest unit room part = grind (arith, pumping_room, parts_from link new rest unit room part)
 
 pub empty_list : (l : List ℕ) → length l ≡ 0 → l ≡ []
 empty_list [] h = refl
@@ -83,17 +71,7 @@ put_length octets after unit e = ap length e ∙ length-append octets unit
 pub rest_goes : (link new : Standing) (rest kept : List ℕ) (unit : Given) → Goes link rest kept → 0 < link.ends.limit →
     GivesPart unit rest link new →
     new.ends.unsent ≡ [] → 0 < length (drop (octets_of unit) rest) → Goes new (drop (octets_of unit) rest) kept
-rest_goes link new rest kept unit goes room part alone some =
-    let behind = drop (octets_of unit) rest in
-    let all = ap (λ (d : Drained). octets_in d.units) (parts_from link new rest unit room part) in
-    let after = ap (λ (s : Standing). octets_in (all_given s)) (some_rest new behind some) in
-    record {
-      quiet = part.last;
-      alone = alone;
-      left = goes.left ∙ ap (λ (n : ℕ). drop n rest) all ∙
-          sym (drop-drop (octets_in (all_given (with_rest new behind))) (octets_of unit) rest)
-          ∙ ap (λ (n : ℕ). drop n behind) after;
-    }
+rest_goes link new rest kept unit goes room part alone some = grind (arith, parts_from, some_rest, drop-drop)
 
 -- the part was written
 pub parting_next : (peer : ℕ) (first link new : Standing) (before rest kept octets after : List ℕ) (unit : Given) (spare left : ℕ) →
@@ -101,17 +79,13 @@ pub parting_next : (peer : ℕ) (first link new : Standing) (before rest kept oc
     after ≡ octets ++ packets (unit_of peer unit ∷ []) → spare ≤ left + length (packets (unit_of peer unit ∷ [])) →
     0 < length (drop (octets_of unit) rest) → IsParting peer first before new (drop (octets_of unit) rest) kept after left
 parting_next peer first link new before rest kept octets after unit spare left h room part alone put took some =
-    let behind = drop (octets_of unit) rest in
-    let step = parts_from link new rest unit room part in
-    let more = pumping_next peer first (with_tsdu link rest) (with_rest new behind) before octets after unit h.pumping step put in
-    let less = pumping_room peer (with_tsdu link rest) (with_rest new behind) unit step in
-    let enough = h.room in
-    let fits : length (packets (written_by peer (with_rest new behind))) ≤ left = omega arith in
-    record {
-      goes = rest_goes link new rest kept unit h.goes room part alone some;
-      pumping = subst (λ (s : Standing). IsPumping peer first before s after) (some_rest new behind some) more;
-      room = subst (λ (s : Standing). length (packets (written_by peer s)) ≤ left) (some_rest new behind some) fits;
-    }
+    grind (
+      arith,
+      pumping_next,
+      pumping_room,
+      parts_from link new rest unit room part,
+      rest_goes link new rest kept unit h.goes room part alone some,
+    )
 
 -- the last part was written
 pub record IsWhole (peer : ℕ) (first : Standing) (before : List ℕ) (now : Standing) (octets : List ℕ) : Type 0 where
@@ -171,20 +145,13 @@ pub parting_all : (peer : ℕ) (first link last : Standing) (before rest kept oc
     IsParting peer first before link rest kept octets spare →
     last ≡ pumped (with_tsdu link rest) → after ≡ octets ++ packets (written_by peer (with_tsdu link rest)) →
     IsWhole peer first before last after
-parting_all peer first link last before rest kept octets after spare h e put =
-    let others = packets (written_by peer (with_tsdu link rest)) in
-    record {
-      link = e ∙ h.pumping.link;
-      written = put ∙ ap (λ (l : List ℕ). l ++ others) h.pumping.is ∙ append_assoc before h.pumping.more others ∙
-          ap (λ (l : List ℕ). before ++ l) h.pumping.all;
-    }
+parting_all peer first link last before rest kept octets after spare h e put = grind (arith, append_assoc)
 
 -- what is left after the others is left after all
 pub leaves_behind : (b : Bool) (old then new : Standing) (tsdu rest : List ℕ) →
     pumped (with_tsdu then rest) ≡ pumped (with_tsdu old tsdu) →
     left_of old tsdu ≡ left_of then rest → LeavesRest b then rest new → LeavesRest b old tsdu new
-leaves_behind true old then new tsdu rest link left h = h ∙ link
-leaves_behind false old then new tsdu rest link left h = ap (with_tsdu new) left ∙ h ∙ link
+leaves_behind b old then new tsdu rest link left h = grind arith
 
 not_empty : (xs : List (List ℕ)) (x : List ℕ) → xs ++ x ∷ [] ≡ [] → ⊥
 not_empty [] x e = cc
@@ -193,6 +160,4 @@ not_empty (y ∷ ys) x e = cc
 -- nothing is left to be handed in if the link keeps nothing
 pub leaves_nothing : (b : Bool) (old new : Standing) (tsdu : List ℕ) → LeavesRest b old tsdu new →
     (pumped (with_tsdu old tsdu)).ends.unsent ≡ [] → new ≡ pumped (with_tsdu old tsdu)
-leaves_nothing true old new tsdu h none = h
-leaves_nothing false old new tsdu h none =
-    absurd (not_empty new.ends.unsent (left_of old tsdu) (ap (λ (s : Standing). s.ends.unsent) h ∙ none))
+leaves_nothing b old new tsdu h none = grind (arith, not_empty)

@@ -1,13 +1,12 @@
 -- Writing all that a link gives, one unit after the other.
 use Rattle.std.proofs.Common.{◌≡◌, ℕ, ◌+◌, ◌*◌, ◌<◌, ◌≤◌, List, [], ◌∷◌, ◌++◌, length, take, map, refl, sym, ap, ◌∙◌, append_assoc}
-use Rattle.std.proofs.Common.{length-append, arith, inl, inr}
+use Rattle.std.proofs.Common.{length-append, arith}
 use Rattle.osi_carrier.proofs.Vocabulary.{cases_lt, append-nil, take_at, packet_of, Value, written, Drained, drained, octets_of, octets_in}
-use Rattle.osi_carrier.proofs.Vocabulary.{Standing, Given, part0, unit_of, next, pumped, written_by, packets}
+use Rattle.osi_carrier.proofs.Vocabulary.{Standing, Given, unit_of, next, pumped, written_by, packets}
 
 pub packets_join : (us vs : List Value) → packets (us ++ vs) ≡ packets us ++ packets vs
 packets_join [] vs = refl
-packets_join (u ∷ us) vs = ap (λ l. packet_of (written u) ++ l) (packets_join us vs) ∙
-    sym (append_assoc (packet_of (written u)) (packets us) (packets vs))
+packets_join (u ∷ us) vs = grind (arith, append_assoc, packets_join us vs)
 
 -- some units of a link were written, and this is the link after them
 pub record IsPumping (peer : ℕ) (first : Standing) (before : List ℕ) (now : Standing) (octets : List ℕ) : Type 0 where
@@ -24,23 +23,11 @@ pub pumping_next : (peer : ℕ) (first now next : Standing) (before octets after
     drained now ≡ record { units = unit ∷ (drained next).units; link = (drained next).link } →
     after ≡ octets ++ packets (unit_of peer unit ∷ []) →
     IsPumping peer first before next after
-pumping_next peer first now next before octets after unit h e put =
-    let one = packets (unit_of peer unit ∷ []) in
-    let given : written_by peer now ≡ unit_of peer unit ∷ written_by peer next = ap (λ (d : Drained). map (unit_of peer) d.units) e in
-    record {
-      more = h.more ++ one;
-      is = put ∙ ap (λ l. l ++ one) h.is ∙ append_assoc before h.more one;
-      all = append_assoc h.more one (packets (written_by peer next)) ∙
-          ap (λ l. h.more ++ l) (sym (packets_join (unit_of peer unit ∷ []) (written_by peer next)))
-          ∙ ap (λ us. h.more ++ packets us) (sym given) ∙ h.all;
-      link = sym (ap (λ (d : Drained). d.link) e) ∙ h.link;
-    }
+pumping_next peer first now next before octets after unit h e put = grind (arith, append_assoc, packets_join)
 
 pub pumping_octets : (peer : ℕ) (first now : Standing) (before octets : List ℕ) → IsPumping peer first before now octets →
     drained now ≡ record { units = []; link = now } → octets ≡ before ++ packets (written_by peer first)
-pumping_octets peer first now before octets h e =
-    let none : written_by peer now ≡ [] = ap (λ (d : Drained). map (unit_of peer) d.units) e in
-    h.is ∙ ap (λ l. before ++ l) (sym (append-nil h.more) ∙ ap (λ us. h.more ++ packets us) (sym none) ∙ h.all)
+pumping_octets peer first now before octets h e = grind (arith, append-nil)
 
 pub pumping_link : (peer : ℕ) (first now : Standing) (before octets : List ℕ) → IsPumping peer first before now octets →
     drained now ≡ record { units = []; link = now } → now ≡ pumped first
@@ -48,42 +35,28 @@ pumping_link peer first now before octets h e = sym (ap (λ (d : Drained). d.lin
 
 pub pumping_full : (peer : ℕ) (first now : Standing) (before octets after : List ℕ) → IsPumping peer first before now octets →
     after ≡ octets → take (length before) after ≡ before
-pumping_full peer first now before octets after h same = ap (take (length before)) (same ∙ h.is) ∙
-    take_at before h.more (length before) refl
+pumping_full peer first now before octets after h same = grind (arith, take_at)
 
 -- the room that is left is enough for the units after it
 pub pumping_room : (peer : ℕ) (now next : Standing) (unit : Given) →
     drained now ≡ record { units = unit ∷ (drained next).units; link = (drained next).link } →
     length (packets (written_by peer now)) ≡ length (packets (unit_of peer unit ∷ [])) + length (packets (written_by peer next))
-pumping_room peer now next unit e =
-    let given : written_by peer now ≡ unit_of peer unit ∷ written_by peer next = ap (λ (d : Drained). map (unit_of peer) d.units) e in
-    ap (λ us. length (packets us)) given ∙ ap length (packets_join (unit_of peer unit ∷ []) (written_by peer next))
-    ∙ length-append (packets (unit_of peer unit ∷ [])) (packets (written_by peer next))
+pumping_room peer now next unit e = grind (arith, packets_join, length-append)
 
 -- if there is no room for the next unit, there was not room for all
 pub pumping_short : (peer : ℕ) (first now then : Standing) (unit : Given) (room left : ℕ) →
     drained now ≡ record { units = unit ∷ (drained then).units; link = (drained then).link } →
     (length (packets (written_by peer first)) ≤ room → length (packets (written_by peer now)) ≤ left) →
     left < length (packets (unit_of peer unit ∷ [])) → room < length (packets (written_by peer first))
-pumping_short peer first now then unit room left e more full =
-    let less = pumping_room peer now then unit e in
-    elim (cases_lt room (length (packets (written_by peer first)))) [
-      | inl h ↦ h
-      | inr h ↦ (let enough = more h in absurd (omega arith))
-    ]
+pumping_short peer first now then unit room left e more full = grind (arith, pumping_room, cases_lt)
 
 unit_most : (peer : ℕ) (unit : Given) → length (packet_of (written (unit_of peer unit))) ≤ octets_of unit + 9
-unit_most peer (part0 end octets) = omega arith
-unit_most peer given = omega arith
+unit_most peer unit = grind arith
 
 -- a unit takes at most 9 octets more than its part
 pub packets_most : (peer : ℕ) (units : List Given) → length (packets (map (unit_of peer) units)) ≤ octets_in units + 9 * length units
 packets_most peer [] = omega arith
-packets_most peer (u ∷ units) =
-    let first = unit_most peer u in
-    let more = packets_most peer units in
-    let joined = length-append (packet_of (written (unit_of peer u))) (packets (map (unit_of peer) units)) in
-    omega arith
+packets_most peer (u ∷ units) = grind (arith, unit_most, length-append, packets_most peer units)
 
 -- if a link gives one unit and then none, the link after it
 pub whole_link : (s new : Standing) (unit : Given) → drained s ≡ record { units = unit ∷ (drained new).units; link = (drained new).link } →
@@ -94,5 +67,4 @@ whole_link s new unit first last = sym (ap (λ (d : Drained). d.link) first ∙ 
 pub whole_written : (peer : ℕ) (s new : Standing) (unit : Given) →
     drained s ≡ record { units = unit ∷ (drained new).units; link = (drained new).link } →
     drained new ≡ record { units = []; link = new } → unit_of peer unit ∷ [] ≡ written_by peer s
-whole_written peer s new unit first last =
-    sym (ap (λ (d : Drained). map (unit_of peer) d.units) first ∙ ap (λ (d : Drained). unit_of peer unit ∷ map (unit_of peer) d.units) last)
+whole_written peer s new unit first last = grind arith

@@ -1,9 +1,7 @@
 -- Octets that are cut into pieces, each behind its head: the TSDUs one after the other.
 -- For `room` and `copies` of pieces, `write_some` of links, and `send_pieces_open` of the switch.
-use Rattle.std.proofs.Common.{◌≡◌, ◌∙◌, refl, sym, ap, ℕ, zero, suc, ◌+◌, ◌^◌, ◌<◌, ◌≤◌, Bool, true, false, nat_le}
-use Rattle.std.proofs.Common.{List, [], ◌∷◌, ◌++◌}
-use Rattle.std.proofs.Common.{length, take, drop, arith, length-append, length-drop, if◌then◌else◌, nat_lt, ◌||◌}
-use Rattle.std.proofs.Common.{Option, Some, None, IfSome, IsSome}
+use Rattle.std.proofs.Common.{◌≡◌, refl, ℕ, zero, suc, ◌+◌, ◌^◌, ◌<◌, ◌≤◌, Bool, true, false, nat_le, List, [], ◌∷◌, ◌++◌, length, take}
+use Rattle.std.proofs.Common.{drop, arith, length-append, length-drop, if◌then◌else◌, nat_lt, ◌||◌, Option, Some, None, IfSome, IsSome}
 use Rattle.std.proofs.lemmas.Bool.{lt-leb, le-ltb}
 use Rattle.std.proofs.lemmas.List.{length-take}
 use Rattle.osi_class.proofs.giving.all_that_may_go_is_given.{more_units}
@@ -13,25 +11,20 @@ use Rattle.osi_class.specs.Tsdus.{octets_of_tsdus}
 use Rattle.osi_class.specs.declared.units.Room.{Room}
 use Rattle.osi_carrier.proofs.Vocabulary.{le-leb, leb-true, leb-false, length-take-le, sum_by-cons, list_any, lengths_error}
 use Rattle.osi_carrier.specs.Pieces.{headed, tsdus_from, tsdus_in, FitsTsdu, FitTsdus}
-use Rattle.osi_carrier.specs.declared.faults.SendError.{SendError}
-use Rattle.osi_carrier.specs.declared.faults.SendError.TheVariants.{TooLong}
 use Rattle.osi_carrier.specs.declared.pieces.Pieces.{Pieces}
 
 -- ---- the next TSDU
 
 same_if : (b : Bool) (alone first : List ℕ) (xs ys : List (List ℕ)) → (b ≡ false → xs ≡ ys) →
     (if b then alone ∷ [] else first ∷ xs) ≡ (if b then alone ∷ [] else first ∷ ys)
-same_if true alone first xs ys e = refl
-same_if false alone first xs ys e = ap (λ r. first ∷ r) (e refl)
+same_if b alone first xs ys e = grind arith
 
 -- fuel beyond the number of octets makes no difference
 same_headed : (f g : ℕ) (h m l : List ℕ) (size : ℕ) (o : List ℕ) → 0 < size → length o ≤ f → length o ≤ g →
     headed f h m l size o ≡ headed g h m l size o
 same_headed zero zero h m l size o some a b = refl
-same_headed zero (suc g) h m l size o some a b =
-    let e : nat_le (length o) size ≡ true = le-leb (length o) size (omega arith) in rw e refl
-same_headed (suc f) zero h m l size o some a b =
-    let e : nat_le (length o) size ≡ true = le-leb (length o) size (omega arith) in rw e refl
+same_headed zero (suc g) h m l size o some a b = grind (arith, le-leb)
+same_headed (suc f) zero h m l size o some a b = grind (arith, le-leb)
 same_headed (suc f) (suc g) h m l size o some a b =
     same_if (nat_le (length o) size) (l ++ o) (h ++ take size o) (headed f m m l size (drop size o)) (headed g m m l size (drop size o))
     (λ no. let long : size < length o = leb-false (length o) size no in let d = length-drop size o in
@@ -39,23 +32,15 @@ same_headed (suc f) (suc g) h m l size o some a b =
 
 step_of : (n : ℕ) (h m l : List ℕ) (size : ℕ) (o : List ℕ) → length o ≡ n → 0 < size → size < length o →
     headed n h m l size o ≡ (h ++ take size o) ∷ headed (length (drop size o)) m m l size (drop size o)
-step_of zero h m l size o e some long = absurd (omega arith)
-step_of (suc n) h m l size o e some long =
-    let no : nat_le (length o) size ≡ false = lt-leb (length o) size long in let d = length-drop size o in
-    rw no (ap (λ r. (h ++ take size o) ∷ r)
-    (same_headed n (length (drop size o)) m m l size (drop size o) some (omega arith) (omega arith)))
+step_of n h m l size o e some long = grind (arith, lt-leb, length-drop, same_headed)
 
 -- the next of several
 pub cut_next : (p : Pieces) (head rest piece behind : List ℕ) → 0 < p.size → p.size < length rest → piece ≡ take p.size rest →
     behind ≡ drop p.size rest → tsdus_from p head rest ≡ (head ++ piece) ∷ tsdus_from p p.middle.now behind
-cut_next p head rest piece behind some long first after =
-    step_of (length rest) head p.middle.now p.last.now p.size rest refl some long
-    ∙ ap (λ (x : List ℕ). (head ++ x) ∷ tsdus_from p p.middle.now (drop p.size rest)) (sym first)
-    ∙ ap (λ (x : List ℕ). (head ++ piece) ∷ tsdus_from p p.middle.now x) (sym after)
+cut_next p head rest piece behind some long first after = grind (arith, step_of)
 
 end_of : (n : ℕ) (h m l : List ℕ) (size : ℕ) (o : List ℕ) → length o ≤ size → headed n h m l size o ≡ (l ++ o) ∷ []
-end_of zero h m l size o short = refl
-end_of (suc n) h m l size o short = let yes : nat_le (length o) size ≡ true = le-leb (length o) size short in rw yes refl
+end_of n h m l size o short = grind (arith, le-leb)
 
 -- the last
 pub cut_last : (p : Pieces) (head rest : List ℕ) → length rest ≤ p.size → tsdus_from p head rest ≡ (p.last.now ++ rest) ∷ []
@@ -79,21 +64,7 @@ pub counting_next : (p : Pieces) (limit u o v q : ℕ) (head rest behind : List 
     p.size < length rest → behind ≡ drop p.size rest → v ≡ u + parts_needed limit (length head + p.size) → q ≡ o + (length head + p.size)
     → IsCounted p limit v q p.middle.now behind
 counting_next p limit u o v q head rest behind fit h long after units octets =
-    let piece = take p.size rest in
-    let others = tsdus_from p p.middle.now behind in
-    let cut = cut_next p head rest piece behind fit.some long refl after in
-    let size : length (head ++ piece) ≡ length head + p.size =
-    length-append head piece ∙ ap (λ (n : ℕ). length head + n) (length-take-le p.size rest (omega arith)) in
-    let first = ap (parts_needed limit) size in
-    let some = ap (units_needed limit) cut ∙ more_units limit (head ++ piece) others in
-    let many = ap octets_of_tsdus cut ∙ more_octets (head ++ piece) others in
-    let all_units = h.units_are in
-    let all_octets = h.octets_are in
-    record {
-      fits = fit.middle;
-      units_are = omega (arith, units, first, some, all_units);
-      octets_are = omega (arith, octets, size, many, all_octets);
-    }
+    grind (arith, cut_next, length-append, length-take-le, more_units, more_octets)
 
 pub record AreCounted (p : Pieces) (limit units octets : ℕ) : Type 0 where
   pub units_are : units ≡ units_needed limit (tsdus_in p)
@@ -101,21 +72,7 @@ pub record AreCounted (p : Pieces) (limit units octets : ℕ) : Type 0 where
 
 pub counting_last : (p : Pieces) (limit u o v q : ℕ) (head rest : List ℕ) → IsCounted p limit u o head rest → length rest ≤ p.size →
     v ≡ u + parts_needed limit (length p.last.now + length rest) → q ≡ o + (length p.last.now + length rest) → AreCounted p limit v q
-counting_last p limit u o v q head rest h short units octets =
-    let tsdu = p.last.now ++ rest in
-    let cut = cut_last p head rest short in
-    let size = length-append p.last.now rest in
-    let last = ap (parts_needed limit) size in
-    let some = ap (units_needed limit) cut ∙ more_units limit tsdu [] in
-    let many = ap octets_of_tsdus cut ∙ more_octets tsdu [] in
-    let no_units : units_needed limit [] ≡ 0 = refl in
-    let no_octets : octets_of_tsdus [] ≡ 0 = refl in
-    let all_units = h.units_are in
-    let all_octets = h.octets_are in
-    record {
-      units_are = omega (arith, units, last, some, all_units, no_units);
-      octets_are = omega (arith, octets, size, many, all_octets, no_octets);
-    }
+counting_last p limit u o v q head rest h short units octets = grind (arith, cut_last, length-append, more_units, more_octets)
 
 -- what is counted, if it fits a usize
 pub counted_units : (p : Pieces) (limit u o : ℕ) (head rest : List ℕ) (r : Option Room) → IsCounted p limit u o head rest →
@@ -135,8 +92,7 @@ counted_octets p limit u o head rest (Some room) h short octets =
 
 pub counted_some : (limit u octets : ℕ) (r : Option Room) → IfSome r (λ x. x.units ≡ u + parts_needed limit octets) →
     IfSome r (λ x. 0 < x.units)
-counted_some limit u octets None units = tt
-counted_some limit u octets (Some room) units = let some = parts_some limit octets in omega (arith, some, units)
+counted_some limit u octets r units = grind (arith, parts_some)
 
 -- of a TSDU before the last, if what is counted fits a usize
 pub fits_next : (p : Pieces) (limit u o : ℕ) (head rest : List ℕ) (r : Option Room) → FitTsdus p → IsCounted p limit u o head rest →
@@ -166,23 +122,19 @@ fits_last p limit u o head rest r h short fits units octets =
 
 any_if : (b : Bool) (ts : List (List ℕ)) → b ≡ false → list_any (λ (t : List ℕ). nat_lt 1048576 (length t)) ts ≡ false →
     (b || list_any (λ (t : List ℕ). nat_lt 1048576 (length t)) ts) ≡ false
-any_if true ts e h = absurd (cc)
-any_if false ts e h = h
+any_if b ts e h = grind arith
 
 not_long : (head piece : List ℕ) (size : ℕ) → FitsTsdu size head → length piece ≤ size → nat_lt 1048576 (length (head ++ piece)) ≡ false
-not_long head piece size fits few =
-    let all = length-append head piece in let most = fits.1 in le-ltb 1048576 (length (head ++ piece)) (omega arith)
+not_long head piece size fits few = grind (arith, length-append, le-ltb)
 
 long_if : (b : Bool) (last first : List ℕ) (ts : List (List ℕ)) → (b ≡ true → nat_lt 1048576 (length last) ≡ false) →
     (b ≡ false → nat_lt 1048576 (length first) ≡ false) → list_any (λ (t : List ℕ). nat_lt 1048576 (length t)) ts ≡ false →
     list_any (λ (t : List ℕ). nat_lt 1048576 (length t)) (if b then last ∷ [] else first ∷ ts) ≡ false
-long_if true last first ts one other more = any_if (nat_lt 1048576 (length last)) [] (one refl) refl
-long_if false last first ts one other more = any_if (nat_lt 1048576 (length first)) ts (other refl) more
+long_if b last first ts one other more = grind (arith, any_if)
 
 none_long : (n : ℕ) (h m l : List ℕ) (size : ℕ) (o : List ℕ) → length o ≤ n → 0 < size → FitsTsdu size h → FitsTsdu size m →
     FitsTsdu size l → list_any (λ (t : List ℕ). nat_lt 1048576 (length t)) (headed n h m l size o) ≡ false
-none_long zero h m l size o within some first middle last =
-    any_if (nat_lt 1048576 (length (l ++ o))) [] (not_long l o size last (omega arith)) refl
+none_long zero h m l size o within some first middle last = grind (arith, any_if, not_long)
 none_long (suc n) h m l size o within some first middle last =
     let d = length-drop size o in
     let t = length-take size o in
@@ -193,7 +145,4 @@ none_long (suc n) h m l size o within some first middle last =
 
 -- none of them is too long
 pub all_fit : (p : Pieces) → FitTsdus p → lengths_error (tsdus_in p) ≡ None
-all_fit p fit =
-    ap (λ (b : Bool). if◌then◌else◌ {A = Option SendError} b (Some TooLong) None)
-    (none_long (length p.octets.now) p.first.now p.middle.now p.last.now p.size p.octets.now (omega arith) fit.some fit.first fit.middle
-    fit.last)
+all_fit p fit = grind (arith, none_long)

@@ -1,17 +1,17 @@
 -- TSDUs that are cut from octets are written straight from their heads and pieces, as far as their units may go now.
 -- For `write_some` and `write_pieces` of links.
-use Rattle.std.proofs.Common.{◌≡◌, ◌∙◌, refl, sym, ap, subst, ℕ, ◌+◌, ◌<◌, ◌≤◌, Bool, true, false, List, [], ◌∷◌, ◌++◌, length, take, drop}
-use Rattle.std.proofs.Common.{arith, append_assoc, length-append, map, Option, Some, None, inl, inr}
+use Rattle.std.proofs.Common.{◌≡◌, ◌∙◌, ap, ℕ, ◌+◌, ◌<◌, ◌≤◌, Bool, true, false, List, [], ◌∷◌, ◌++◌, length, take, drop, arith}
+use Rattle.std.proofs.Common.{append_assoc, length-append, Option, None}
 use Rattle.osi_class.proofs.giving.a_link_gives_finitely_many_units.{drained_ends}
 use Rattle.osi_class.proofs.giving.when_nothing_is_given.{class_0, class_2}
 use Rattle.osi_class.specs.Ends.{Ends}
 use Rattle.osi_class.specs.Flow.{Flow}
-use Rattle.osi_carrier.proofs.Vocabulary.{append-nil, Drained, drained_leaves, drained_none, given_one_by_one, one_by_one, Standing, Given}
-use Rattle.osi_carrier.proofs.Vocabulary.{next, unit_of, with_tsdu, with_tsdus, pumped, written_by, written_for, packets}
+use Rattle.osi_carrier.proofs.Vocabulary.{append-nil, Drained, drained_leaves, drained_none, given_one_by_one, one_by_one, Standing, next}
+use Rattle.osi_carrier.proofs.Vocabulary.{with_tsdu, with_tsdus, pumped, written_by, written_for, packets}
 use Rattle.osi_carrier.proofs.written.octets_are_cut_into_tsdus.{cut_next, cut_last}
 use Rattle.osi_carrier.proofs.written.tsdus_are_written_straight.{first_room, first_written}
 use Rattle.osi_carrier.specs.Pieces.{tsdus_from, FitTsdus}
-use Rattle.osi_carrier.specs.Pump.{left_of, LeavesRest}
+use Rattle.osi_carrier.specs.Pump.{LeavesRest}
 use Rattle.osi_carrier.specs.declared.pieces.Pieces.{Pieces}
 
 -- Some TSDUs were written whole behind the octets `before`. This is the link after them, and `rest` are the others. The
@@ -30,16 +30,7 @@ pub record IsSending (peer : ℕ) (end : Standing) (target before : List ℕ) (l
 pub sending_first : (peer : ℕ) (link : Standing) (tsdus : List (List ℕ)) (before : List ℕ) (spare : ℕ) →
     next link ≡ None → link.ends.unsent ≡ [] → 0 < link.ends.limit → length (packets (written_for peer link tsdus)) ≤ spare →
     IsSending peer (one_by_one link tsdus) (packets (written_for peer link tsdus)) before link tsdus before spare
-sending_first peer link tsdus before spare quiet alone limit room = record {
-  quiet = quiet;
-  alone = alone;
-  limit = limit;
-  leads = refl;
-  more = [];
-  is = sym (append-nil before);
-  all = refl;
-  room = room;
-}
+sending_first peer link tsdus before spare quiet alone limit room = grind (arith, append-nil)
 
 -- the next of several is the next to be written
 pub next_of_several : (p : Pieces) (peer : ℕ) (end : Standing) (target before : List ℕ) (link : Standing)
@@ -47,25 +38,19 @@ pub next_of_several : (p : Pieces) (peer : ℕ) (end : Standing) (target before 
     behind ≡ drop p.size rest →
     IsSending peer end target before link (tsdus_from p head rest) octets spare →
     IsSending peer end target before link ((head ++ piece) ∷ tsdus_from p p.middle.now behind) octets spare
-next_of_several p peer end target before link head rest piece behind octets spare fit long first after h =
-    subst (λ (ts : List (List ℕ)). IsSending peer end target before link ts octets spare)
-    (cut_next p head rest piece behind fit.some long first after) h
+next_of_several p peer end target before link head rest piece behind octets spare fit long first after h = grind (arith, cut_next)
 
 -- and so is the last
 pub last_of_all : (p : Pieces) (peer : ℕ) (end : Standing) (target before : List ℕ) (link : Standing) (head rest octets : List ℕ)
     (spare : ℕ) → length rest ≤ p.size → IsSending peer end target before link (tsdus_from p head rest) octets spare →
     IsSending peer end target before link ((p.last.now ++ rest) ∷ []) octets spare
-last_of_all p peer end target before link head rest octets spare short h =
-    subst (λ (ts : List (List ℕ)). IsSending peer end target before link ts octets spare) (cut_last p head rest short) h
+last_of_all p peer end target before link head rest octets spare short h = grind (arith, cut_last)
 
 -- there is room for its units
 pub next_room : (peer : ℕ) (end : Standing) (target before : List ℕ) (link : Standing) (tsdu : List ℕ) (rest : List (List ℕ))
     (octets : List ℕ) (spare : ℕ) → IsSending peer end target before link (tsdu ∷ rest) octets spare →
     length (packets (written_by peer (with_tsdu link tsdu))) ≤ spare
-next_room peer end target before link tsdu rest octets spare h =
-    let enough = h.room in
-    let sum = first_room peer link tsdu rest in
-    omega (arith, enough, sum)
+next_room peer end target before link tsdu rest octets spare h = search (arith, first_room)
 
 -- ---- it was written whole
 
@@ -75,45 +60,20 @@ whole_then : (peer : ℕ) (end : Standing) (target before : List ℕ) (link : St
     after ≡ octets ++ packets (written_by peer (with_tsdu link tsdu)) → length octets + spare ≤ length after + left →
     IsSending peer end target before (pumped (with_tsdu link tsdu)) rest after left
 whole_then peer end target before link tsdu rest octets after spare left h quiet alone put kept =
-    let one = packets (written_by peer (with_tsdu link tsdu)) in
-    let others = packets (written_for peer (pumped (with_tsdu link tsdu)) rest) in
-    let enough = h.room in
-    let room = first_room peer link tsdu rest in
-    let longer = ap length put ∙ length-append octets one in
-    let same = (drained_leaves (with_tsdu link tsdu)).0 in
-    let some = h.limit in
-    record {
-      quiet = quiet;
-      alone = alone;
-      limit = omega (arith, same, some);
-      leads = h.leads;
-      more = h.more ++ one;
-      is = put ∙ ap (λ l. l ++ one) h.is ∙ append_assoc before h.more one;
-      all = append_assoc h.more one others ∙ ap (λ l. h.more ++ l) (sym (first_written peer link tsdu rest)) ∙ h.all;
-      room = omega (arith, enough, room, longer, kept);
-    }
+    grind (arith, length-append, append_assoc, drained_leaves (with_tsdu link tsdu), first_written peer link tsdu rest)
 
 pub sending_next : (peer : ℕ) (end : Standing) (target before : List ℕ) (link now : Standing) (tsdu : List ℕ) (rest : List (List ℕ))
     (octets after : List ℕ) (spare left : ℕ) → IsSending peer end target before link (tsdu ∷ rest) octets spare →
     LeavesRest true link tsdu now → next now ≡ None → now.ends.unsent ≡ [] →
     after ≡ octets ++ packets (written_by peer (with_tsdu link tsdu)) → length octets + spare ≤ length after + left →
     IsSending peer end target before now rest after left
-sending_next peer end target before link now tsdu rest octets after spare left h is quiet alone put kept =
-    subst (λ (l : Standing). IsSending peer end target before l rest after left) (sym is)
-    (whole_then peer end target before link tsdu rest octets after spare left h (sym (ap next is) ∙ quiet)
-    (sym (ap (λ (l : Standing). l.ends.unsent) is) ∙ alone) put kept)
+sending_next peer end target before link now tsdu rest octets after spare left h is quiet alone put kept = grind (arith, whole_then)
 
 -- ---- what waits keeps the others waiting
 
 stays_by : (e : Ends) (flow : Option Flow) (t : List ℕ) → next (record { ends = e; flow = flow }) ≡ None → (e.unsent ≡ [] → ⊥) →
     next (with_tsdu (record { ends = e; flow = flow }) t) ≡ None
-stays_by e None t quiet some = absurd (some ((class_0 e).0 quiet))
-stays_by e (Some f) t quiet some =
-    let both = (class_2 e f).0 quiet in
-    elim both.1 as (λ _. next (with_tsdu (record { ends = e; flow = Some f }) t) ≡ None) [
-      | inl alone ↦ absurd (some alone)
-      | inr closed ↦ (class_2 (record e { unsent = e.unsent ++ t ∷ [] }) f).1 (both.0, inr closed)
-    ]
+stays_by e flow t quiet some = grind (arith, class_0, class_2)
 
 not_empty : (xs : List (List ℕ)) (x : List ℕ) → xs ++ x ∷ [] ≡ [] → ⊥
 not_empty [] x e = cc
@@ -125,10 +85,7 @@ pub record AllStay (link : Standing) (ts : List (List ℕ)) : Type 0 where
   pub none : given_one_by_one link ts ≡ []
 
 all_stay : (link : Standing) (ts : List (List ℕ)) → next link ≡ None → (link.ends.unsent ≡ [] → ⊥) → AllStay link ts
-all_stay link [] quiet some = record {
-  kept = ap (λ (u : List (List ℕ)). record link { ends = record link.ends { unsent = u } }) (sym (append-nil link.ends.unsent));
-  none = refl;
-}
+all_stay link [] quiet some = grind (arith, append-nil)
 all_stay link (t ∷ ts) quiet some =
     let then = with_tsdu link t in
     let still = stays_by link.ends link.flow t quiet some in
@@ -150,8 +107,7 @@ pub record AreSent (end : Standing) (target before : List ℕ) (link : Standing)
 -- a link at which nothing waits, and what it would keep
 kept_is : (now : Standing) (ts : List (List ℕ)) → now.ends.unsent ≡ [] →
     with_tsdus now (with_tsdus now ts).ends.unsent ≡ with_tsdus now ts
-kept_is now ts alone =
-    ap (λ (u : List (List ℕ)). record now { ends = record now.ends { unsent = u ++ (now.ends.unsent ++ ts) } }) alone
+kept_is now ts alone = grind arith
 
 -- not all units of the next may go
 pub sending_stops : (peer : ℕ) (end : Standing) (target before : List ℕ) (link now : Standing) (tsdu : List ℕ) (rest : List (List ℕ))
@@ -159,33 +115,11 @@ pub sending_stops : (peer : ℕ) (end : Standing) (target before : List ℕ) (li
     LeavesRest false link tsdu now → now.ends.unsent ≡ [] →
     after ≡ octets ++ packets (written_by peer (with_tsdu link tsdu)) → AreSent end target before now after
 sending_stops peer end target before link now tsdu rest octets after spare h is alone put =
-    let one = packets (written_by peer (with_tsdu link tsdu)) in
-    let then = pumped (with_tsdu link tsdu) in
-    let left = left_of link tsdu in
-    let quiet : next (with_tsdu now left) ≡ None = ap next is ∙ drained_ends (with_tsdu link tsdu) h.limit in
-    let stay = subst (λ (l : Standing). AllStay l rest) is (all_stay (with_tsdu now left) rest quiet (not_empty now.ends.unsent left)) in
-    let ends : end ≡ with_tsdus now (left ∷ rest) =
-    sym h.leads ∙ stay.kept ∙ ap (λ (l : Standing). with_tsdus l rest) (sym is)
-    ∙ ap (λ (u : List (List ℕ)). record now { ends = record now.ends { unsent = u } }) (append_assoc now.ends.unsent (left ∷ []) rest) in
-    let others : packets (written_for peer then rest) ≡ [] = ap (λ (us : List Given). packets (map (unit_of peer) us)) stay.none in
-    let last : one ≡ packets (written_for peer link (tsdu ∷ rest)) =
-    sym (append-nil one) ∙ ap (λ (l : List ℕ). one ++ l) (sym others) ∙ sym (first_written peer link tsdu rest) in
-    record {
-      link_is = subst (λ (s : Standing). with_tsdus now s.ends.unsent ≡ s) (sym ends) (kept_is now (left ∷ rest) alone);
-      written = put ∙ ap (λ (l : List ℕ). l ++ one) h.is ∙ append_assoc before h.more one
-          ∙ ap (λ (l : List ℕ). before ++ l) (ap (λ (l : List ℕ). h.more ++ l) last ∙ h.all);
-    }
+    grind (arith, drained_ends, all_stay, append_assoc, append-nil)
 
 sent_all : (peer : ℕ) (end : Standing) (target before : List ℕ) (link : Standing) (octets : List ℕ) (spare : ℕ) →
     IsSending peer end target before link [] octets spare → AreSent end target before link octets
-sent_all peer end target before link octets spare h =
-    let none : with_tsdus link [] ≡ link =
-    ap (λ (u : List (List ℕ)). record link { ends = record link.ends { unsent = u } }) (append-nil link.ends.unsent) in
-    let ends : end ≡ with_tsdus link [] = sym h.leads ∙ sym none in
-    record {
-      link_is = subst (λ (s : Standing). with_tsdus link s.ends.unsent ≡ s) (sym ends) (kept_is link [] h.alone);
-      written = h.is ∙ ap (λ (l : List ℕ). before ++ l) (sym (append-nil h.more) ∙ h.all);
-    }
+sent_all peer end target before link octets spare h = grind (arith, append-nil, kept_is)
 
 -- the last was written, or as much of it as may go
 pub sending_last : (b : Bool) (peer : ℕ) (end : Standing) (target before : List ℕ) (link now : Standing) (tsdu : List ℕ)
@@ -196,11 +130,8 @@ pub sending_last : (b : Bool) (peer : ℕ) (end : Standing) (target before : Lis
 sending_last true peer end target before link now tsdu octets after spare left h is quiet alone put kept =
     sent_all peer end target before now after left
     (sending_next peer end target before link now tsdu [] octets after spare left h is quiet alone put kept)
-sending_last false peer end target before link now tsdu octets after spare left h is quiet alone put kept =
-    sending_stops peer end target before link now tsdu [] octets after spare h is alone put
+sending_last false peer end target before link now tsdu octets after spare left h is quiet alone put kept = search (arith, sending_stops)
 
 -- a link that keeps nothing is at the end
 pub none_kept : (now end : Standing) → now.ends.unsent ≡ [] → end.ends.unsent ≡ [] → with_tsdus now end.ends.unsent ≡ end → now ≡ end
-none_kept now end alone none is =
-    sym (ap (λ (u : List (List ℕ)). record now { ends = record now.ends { unsent = u } }) (append-nil now.ends.unsent))
-    ∙ ap (with_tsdus now) (sym none) ∙ is
+none_kept now end alone none is = grind (arith, append-nil)

@@ -1,7 +1,7 @@
 -- How many units of TSDUs may go now if not all may, by the units that a link gives for one TSDU that fills as many.
 -- For `some_at_once`, `send_parts`, `send_some` and `write_pieces` of links.
-use Rattle.std.proofs.Common.{◌≡◌, ◌∙◌, refl, sym, ap, ℕ, ◌+◌, ◌-◌, ◌*◌, ◌^◌, ◌<◌, ◌≤◌, List, [], ◌∷◌, ◌++◌, length, map, arith}
-use Rattle.std.proofs.Common.{Option, Some, None, inl, inr}
+use Rattle.std.proofs.Common.{◌≡◌, ◌∙◌, sym, ap, ℕ, ◌+◌, ◌-◌, ◌*◌, ◌^◌, ◌<◌, ◌≤◌, List, [], ◌∷◌, ◌++◌, length, map, arith, Option, Some}
+use Rattle.std.proofs.Common.{None, inl, inr}
 use Rattle.std.proofs.Math.Nat.{div-lt_iff_lt-mul}
 use Rattle.std.proofs.lemmas.Nat.{mul-le}
 use Rattle.osi_class.proofs.giving.a_link_gives_finitely_many_units.{drained_ends}
@@ -26,30 +26,12 @@ use Rattle.osi_carrier.specs.Pieces.{left_after, SomeGo}
 
 -- so many units of a TSDU are enough for all of its octets
 few_parts : (limit octets credit : ℕ) → 0 < limit → 0 < credit → octets ≤ credit * limit → parts_needed limit octets ≤ credit
-few_parts limit octets credit room some fits =
-    let most : octets - 1 < credit * limit = before octets (credit * limit) (positive credit limit some room) fits in
-    let less = (div-lt_iff_lt-mul room).1 most in
-    omega (arith, less)
-  where
-    before : (n m : ℕ) → 0 < m → n ≤ m → n - 1 < m
-    before n m some few = omega arith
-
-    positive : (n m : ℕ) → 0 < n → 0 < m → 0 < n * m
-    positive n m some room = let least = mul-le 1 1 n m some room in omega (arith, least)
+few_parts limit octets credit room some fits = grind (arith, div-lt_iff_lt-mul, mul-le)
 
 goes_by : (e : Ends) (flow : Option Flow) (t : List ℕ) → 0 < e.limit → next (record { ends = e; flow = flow }) ≡ None →
     e.unsent ≡ [] → 0 < length (all_given (with_tsdu (record { ends = e; flow = flow }) t)) →
     octets_in (all_given (with_tsdu (record { ends = e; flow = flow }) t)) ≡ length t → MayGoAll (units_needed e.limit (t ∷ [])) flow
-goes_by e None t room quiet alone some all = tt
-goes_by e (Some f) t room quiet alone some all =
-    let both = (class_2 e f).0 quiet in
-    let given = room_of_class_2 e f t room quiet in
-    let units = given.0 in
-    let octets = given.1 in
-    let one = more_units e.limit t [] in
-    let none : units_needed e.limit [] ≡ 0 = refl in
-    let few = few_parts e.limit (length t) f.sender.credit room (omega (arith, some, units)) (omega (arith, octets, all)) in
-    (both.0, omega (arith, one, none, few))
+goes_by e flow t room quiet alone some all = grind (arith, class_2, room_of_class_2, more_units, few_parts)
 
 -- nothing is left if all octets are given in some units
 pub whole_goes : (s : Standing) (t : List ℕ) → 0 < s.ends.limit → next s ≡ None → s.ends.unsent ≡ [] →
@@ -80,10 +62,7 @@ part_by : (e : Ends) (flow : Option Flow) (t : List ℕ) (ts : List (List ℕ)) 
     next (record { ends = e; flow = flow }) ≡ None → 0 < units_needed e.limit ts → length t ≡ units_needed e.limit ts * e.limit →
     n ≡ length (all_given (with_tsdu (record { ends = e; flow = flow }) t)) → 0 < n → (n ≡ units_needed e.limit ts → ⊥) →
     octets_of_tsdus ts < 2 ^ 64 → GoInPart (record { ends = e; flow = flow }) n ts
-part_by e None t ts n room quiet needs size given some not_all counted =
-    let units = (room_of_class_0 e t room quiet).0 in
-    let parts = ap (parts_needed e.limit) size ∙ fills e.limit (units_needed e.limit ts) room needs in
-    absurd (not_all (given ∙ units ∙ parts))
+part_by e None t ts n room quiet needs size given some not_all counted = grind (arith, room_of_class_0, fills)
 part_by e (Some f) t ts n room quiet needs size given some not_all counted =
     let s : Standing = record { ends = e; flow = Some f } in
     let credit = f.sender.credit in

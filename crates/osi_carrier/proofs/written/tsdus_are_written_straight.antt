@@ -1,10 +1,10 @@
 -- TSDUs whose units may all go now are written straight from their octets, one after the other.
 -- For `write_all` of links.
-use Rattle.std.proofs.Common.{◌≡◌, ℕ, ◌+◌, ◌<◌, ◌≤◌, List, [], ◌∷◌, ◌++◌, length, drop, get_or, map, None, refl, sym, ap, ◌∙◌, subst}
-use Rattle.std.proofs.Common.{append_assoc, length-append, arith}
+use Rattle.std.proofs.Common.{◌≡◌, ℕ, ◌+◌, ◌<◌, ◌≤◌, List, [], ◌∷◌, ◌++◌, length, drop, get_or, map, None, append_assoc, length-append}
+use Rattle.std.proofs.Common.{arith}
 use Rattle.std.proofs.lemmas.List.{drop_more}
-use Rattle.osi_carrier.proofs.Vocabulary.{append-nil, map-append, drained_leaves, AllGoAtOnce, GoesWhole, all_given, given_one_by_one}
-use Rattle.osi_carrier.proofs.Vocabulary.{one_by_one, Standing, next, unit_of, with_tsdu, pumped, written_by, written_for, packets}
+use Rattle.osi_carrier.proofs.Vocabulary.{append-nil, map-append, drained_leaves, AllGoAtOnce, GoesWhole, one_by_one, Standing, next}
+use Rattle.osi_carrier.proofs.Vocabulary.{with_tsdu, pumped, written_by, written_for, packets}
 use Rattle.osi_carrier.proofs.written.all_that_a_link_gives.{packets_join}
 
 -- Some TSDUs were written behind the octets `before`. This is the link after them, and `rest` are the others. The end is
@@ -24,32 +24,25 @@ pub writing_first : (peer : ℕ) (link : Standing) (tsdus : List (List ℕ)) (be
     AllGoAtOnce link tsdus → next link ≡ None → 0 < link.ends.limit →
     length (packets (written_for peer link tsdus)) ≤ spare →
     IsWriting peer (one_by_one link tsdus) (packets (written_for peer link tsdus)) before link tsdus before spare
-writing_first peer link tsdus before spare go quiet limit room =
-    record { go = go; quiet = quiet; limit = limit; leads = refl; more = []; is = sym (append-nil before); all = refl; room = room }
+writing_first peer link tsdus before spare go quiet limit room = grind (arith, append-nil)
 
 -- one TSDU of a list, and those after it
 pub rest_from : {V : Type 0} (items : V → List ℕ) (vs : List V) (i : ℕ) (v : V) (octets : List ℕ) →
     i < length vs → v ≡ get_or vs i v → octets ≡ items v →
     map items (drop i vs) ≡ octets ∷ map items (drop (i + 1) vs)
-rest_from items vs i v octets within is same =
-    ap (map items) (drop_more vs i v within) ∙ ap (λ (l : List ℕ). l ∷ map items (drop (i + 1) vs)) (ap items (sym is) ∙ sym same)
+rest_from items vs i v octets within is same = grind (arith, drop_more)
 
 -- the units of the first TSDU, and then those of the others
 pub first_written : (peer : ℕ) (link : Standing) (tsdu : List ℕ) (rest : List (List ℕ)) →
     packets (written_for peer link (tsdu ∷ rest))
     ≡ packets (written_by peer (with_tsdu link tsdu)) ++ packets (written_for peer (pumped (with_tsdu link tsdu)) rest)
-first_written peer link tsdu rest =
-    let first = with_tsdu link tsdu in
-    ap packets (map-append (unit_of peer) (all_given first) (given_one_by_one (pumped first) rest))
-    ∙ packets_join (written_by peer first) (written_for peer (pumped first) rest)
+first_written peer link tsdu rest = grind (arith, map-append, packets_join)
 
 -- there is room for the first where there is for all
 pub first_room : (peer : ℕ) (link : Standing) (tsdu : List ℕ) (rest : List (List ℕ)) →
     length (packets (written_for peer link (tsdu ∷ rest)))
     ≡ length (packets (written_by peer (with_tsdu link tsdu))) + length (packets (written_for peer (pumped (with_tsdu link tsdu)) rest))
-first_room peer link tsdu rest =
-    ap length (first_written peer link tsdu rest)
-    ∙ length-append (packets (written_by peer (with_tsdu link tsdu))) (packets (written_for peer (pumped (with_tsdu link tsdu)) rest))
+first_room peer link tsdu rest = grind (arith, length-append, first_written peer link tsdu rest)
 
 writing_then : (peer : ℕ) (end : Standing) (target before : List ℕ) (link : Standing) (tsdu : List ℕ) (rest : List (List ℕ))
     (octets after : List ℕ) (spare left : ℕ) →
@@ -58,23 +51,7 @@ writing_then : (peer : ℕ) (end : Standing) (target before : List ℕ) (link : 
     after ≡ octets ++ packets (written_by peer (with_tsdu link tsdu)) → length octets + spare ≤ length after + left →
     IsWriting peer end target before (pumped (with_tsdu link tsdu)) rest after left
 writing_then peer end target before link tsdu rest octets after spare left h goes quiet put kept =
-    let one = packets (written_by peer (with_tsdu link tsdu)) in
-    let others = packets (written_for peer (pumped (with_tsdu link tsdu)) rest) in
-    let enough = h.room in
-    let room = first_room peer link tsdu rest in
-    let longer = ap length put ∙ length-append octets one in
-    let same = (drained_leaves (with_tsdu link tsdu)).0 in
-    let some = h.limit in
-    record {
-      go = goes.others;
-      quiet = quiet;
-      limit = omega (arith, same, some);
-      leads = h.leads;
-      more = h.more ++ one;
-      is = put ∙ ap (λ l. l ++ one) h.is ∙ append_assoc before h.more one;
-      all = append_assoc h.more one others ∙ ap (λ l. h.more ++ l) (sym (first_written peer link tsdu rest)) ∙ h.all;
-      room = omega (arith, enough, room, longer, kept);
-    }
+    grind (arith, length-append, append_assoc, drained_leaves (with_tsdu link tsdu), first_written peer link tsdu rest)
 
 -- the first of them was written
 pub writing_next : (peer : ℕ) (end : Standing) (target before : List ℕ) (link now : Standing) (tsdu : List ℕ) (rest : List (List ℕ))
@@ -83,9 +60,7 @@ pub writing_next : (peer : ℕ) (end : Standing) (target before : List ℕ) (lin
     next now ≡ None →
     after ≡ octets ++ packets (written_by peer (with_tsdu link tsdu)) → length octets + spare ≤ length after + left →
     IsWriting peer end target before now rest after left
-writing_next peer end target before link now tsdu rest octets after spare left h goes is quiet put kept =
-    subst (λ (l : Standing). IsWriting peer end target before l rest after left) (sym is)
-    (writing_then peer end target before link tsdu rest octets after spare left h goes (sym (ap next is) ∙ quiet) put kept)
+writing_next peer end target before link now tsdu rest octets after spare left h goes is quiet put kept = grind (arith, writing_then)
 
 -- all were written
 pub record AreWritten (end : Standing) (target before : List ℕ) (link : Standing) (octets : List ℕ) : Type 0 where
@@ -95,5 +70,4 @@ pub record AreWritten (end : Standing) (target before : List ℕ) (link : Standi
 
 pub writing_last : (peer : ℕ) (end : Standing) (target before : List ℕ) (link : Standing) (octets : List ℕ) (spare : ℕ) →
     IsWriting peer end target before link [] octets spare → AreWritten end target before link octets
-writing_last peer end target before link octets spare h =
-    record { link_is = h.leads; written = h.is ∙ ap (λ l. before ++ l) (sym (append-nil h.more) ∙ h.all); pumped = h.quiet }
+writing_last peer end target before link octets spare h = grind (arith, append-nil)

@@ -1,11 +1,11 @@
 -- TSDUs that are sent together.
-use Rattle.std.proofs.Common.{◌≡◌, ℕ, ◌==◌, Bool, true, false, ◌||◌, List, [], ◌∷◌, ◌++◌, length, map, nat_lt, Option, Some, None, is_some}
-use Rattle.std.proofs.Common.{refl, sym, ap, ◌∙◌, append_assoc, arith, if◌then◌else◌}
+use Rattle.std.proofs.Common.{◌≡◌, ℕ, ◌==◌, Bool, ◌||◌, List, [], ◌∷◌, ◌++◌, length, map, nat_lt, Option, Some, None, refl, sym, ap, ◌∙◌}
+use Rattle.std.proofs.Common.{append_assoc, arith, if◌then◌else◌}
 use Rattle.osi_carrier.specs.declared.faults.SendError.{SendError}
 use Rattle.osi_carrier.specs.declared.faults.SendError.TheVariants.{TooLong}
-use Rattle.osi_carrier.proofs.Vocabulary.{list_any, append-nil, map-append, all_given, given_one_by_one, one_by_one, Standing, unit_of}
-use Rattle.osi_carrier.proofs.Vocabulary.{with_tsdu, link_of, open_link, lengths_error, sent_on, sent_all, pumps_all, pumped, written_by}
-use Rattle.osi_carrier.proofs.Vocabulary.{written_for, pumps, Rows, value_at, put, peer_in, link_in, linked, State, packets, EndReason}
+use Rattle.osi_carrier.proofs.Vocabulary.{list_any, append-nil, map-append, one_by_one, Standing, with_tsdu, open_link, lengths_error}
+use Rattle.osi_carrier.proofs.Vocabulary.{sent_on, sent_all, pumps_all, pumped, written_by, written_for, pumps, Rows, value_at, put}
+use Rattle.osi_carrier.proofs.Vocabulary.{peer_in, link_in, linked, State, packets}
 use Rattle.osi_carrier.proofs.references.what_a_change_leaves_there.{put_here}
 use Rattle.osi_carrier.proofs.references.what_is_open.{open_is}
 use Rattle.osi_carrier.proofs.references.the_row_at_a_place.{put_same}
@@ -33,8 +33,7 @@ no_items items (v ∷ vs) h = absurd (omega arith)
 -- the value there is the one that was put last
 put_twice_by : {X : Type 0} (r q : ℕ) (x y z : X) (rows : Rows X) (b : Bool) → (q == r) ≡ b → put r x (put r y rows) ≡ put r x rows →
     put r x (put r y ((q, z) ∷ rows)) ≡ put r x ((q, z) ∷ rows)
-put_twice_by r q x y z rows true e more = rw e (rw e refl)
-put_twice_by r q x y z rows false e more = rw e (rw e (ap (λ l. (q, z) ∷ l) more))
+put_twice_by r q x y z rows b e more = grind arith
 
 put_twice : {X : Type 0} (r : ℕ) (x y : X) (rows : Rows X) → put r x (put r y rows) ≡ put r x rows
 put_twice r x y [] = refl
@@ -42,8 +41,7 @@ put_twice r x y ((q, z) ∷ rows) = put_twice_by r q x y z rows (q == r) refl (p
 
 opened : (r peer : ℕ) (link : Standing) (s : State) → s.ended ≡ None → value_at r s.live ≡ Some (linked peer link) →
     open_link r s ≡ Some (peer, link)
-opened r peer link s alive at =
-    ap (λ (e : Option EndReason). if is_some e then None else link_of (value_at r s.live)) alive ∙ ap link_of at
+opened r peer link s alive at = grind arith
 
 pub open_here : (r peer : ℕ) (s : State) → s.ended ≡ None → peer_in (value_at r s.live) ≡ Some peer →
     open_link r s ≡ Some (peer, link_in (value_at r s.live))
@@ -53,16 +51,10 @@ open_here r peer s alive e = opened r peer (link_in (value_at r s.live)) s alive
 written_then : (peer : ℕ) (link : Standing) (t : List ℕ) (ts : List (List ℕ)) (before : List ℕ) →
     (before ++ packets (written_by peer (with_tsdu link t))) ++ packets (written_for peer (pumped (with_tsdu link t)) ts)
     ≡ before ++ packets (written_for peer link (t ∷ ts))
-written_then peer link t ts before =
-    append_assoc before (packets (written_by peer (with_tsdu link t))) (packets (written_for peer (pumped (with_tsdu link t)) ts))
-    ∙ ap (λ o. before ++ o) (sym (packets_join (written_by peer (with_tsdu link t)) (written_for peer (pumped (with_tsdu link t)) ts))
-    ∙ ap packets (sym (map-append (unit_of peer) (all_given (with_tsdu link t)) (given_one_by_one (pumped (with_tsdu link t)) ts))))
+written_then peer link t ts before = grind (arith, append_assoc, packets_join, map-append)
 
 none_written : (r peer : ℕ) (link : Standing) (s : State) → value_at r s.live ≡ Some (linked peer link) → s ≡ pumps_all r peer link [] s
-none_written r peer link s at = λ i. record s {
-  live = (sym (put_same r (linked peer link) s.live at)) i;
-  outgoing = (sym (append-nil s.outgoing)) i;
-}
+none_written r peer link s at = grind (arith, put_same, append-nil)
 
 all_sent : (r peer : ℕ) (link : Standing) (ts : List (List ℕ)) (s : State) → s.ended ≡ None → value_at r s.live ≡ Some (linked peer link) →
     sent_all r ts s ≡ pumps_all r peer link ts s
@@ -82,6 +74,4 @@ sent_open r peer ts s alive e = sym (all_sent r peer (link_in (value_at r s.live
 -- nothing is sent if there is nothing
 pub sends_none : (r peer : ℕ) (ts : List (List ℕ)) (s : State) → ts ≡ [] → peer_in (value_at r s.live) ≡ Some peer →
     s ≡ pumps_all r peer (link_in (value_at r s.live)) ts s
-sends_none r peer ts s none e =
-    none_written r peer (link_in (value_at r s.live)) s (open_is (value_at r s.live) peer e)
-    ∙ ap (λ (l : List (List ℕ)). pumps_all r peer (link_in (value_at r s.live)) l s) (sym none)
+sends_none r peer ts s none e = grind (arith, none_written, open_is)

@@ -1,8 +1,7 @@
 -- What is left of TSDUs after some of their units, TSDU by TSDU, and that a link keeps this.
 -- For `put_rest` and `copies` of pieces, and `some_at_once` and `send_some` of links.
-use Rattle.std.proofs.Common.{◌≡◌, ◌∙◌, refl, sym, ap, subst, ℕ, zero, suc, ◌+◌, ◌-◌, ◌*◌, ◌%◌, ◌<◌, ◌≤◌, Bool, true, false, nat_lt}
-use Rattle.std.proofs.Common.{List, [], ◌∷◌, ◌++◌, length, take, drop, arith, append_assoc, length-drop, if◌then◌else◌, Option, Some}
-use Rattle.std.proofs.Common.{None, inr}
+use Rattle.std.proofs.Common.{◌≡◌, ◌∙◌, refl, sym, ap, subst, ℕ, zero, suc, ◌+◌, ◌-◌, ◌*◌, ◌%◌, ◌<◌, ◌≤◌, Bool, true, false, nat_lt, List}
+use Rattle.std.proofs.Common.{[], ◌∷◌, ◌++◌, length, take, drop, arith, append_assoc, length-drop, if◌then◌else◌, Option, Some, None}
 use Rattle.std.proofs.lemmas.Bool.{ltb-false}
 use Rattle.std.proofs.lemmas.List.{drop-drop}
 use Rattle.std.proofs.lemmas.Nat.{mul-le}
@@ -44,8 +43,7 @@ left_whole (suc n) limit t ts room enough =
 -- not all of it is sent
 pub left_part : (n limit : ℕ) (t : List ℕ) (ts : List (List ℕ)) → 0 < limit → n < parts_needed limit (length t) →
     left_after n limit (t ∷ ts) ≡ drop (n * limit) t ∷ ts
-left_part zero limit t ts room few =
-    let none : 0 ≡ 0 * limit = omega arith in ap (λ (m : ℕ). drop m t ∷ ts) none
+left_part zero limit t ts room few = grind arith
 left_part (suc n) limit t ts room few =
     elim (nat_lt limit (length t)) as (λ b. nat_lt limit (length t) ≡ b →
     left_by (t ∷ ts) (if b then Some ((false, take limit t), drop limit t ∷ ts) else Some ((true, t), ts)) (left_after n limit)
@@ -64,8 +62,7 @@ left_part (suc n) limit t ts room few =
 
 -- after the last nothing is left
 pub left_of_none : (n limit : ℕ) → left_after n limit [] ≡ []
-left_of_none zero limit = refl
-left_of_none (suc n) limit = refl
+left_of_none n limit = grind arith
 
 -- so many full units have fewer octets than a TSDU that goes in more
 pub full_units : (n limit octets : ℕ) → 0 < limit → n < parts_needed limit octets → n * limit ≤ octets - 1
@@ -80,41 +77,27 @@ pub left_octets : (n limit : ℕ) (ts : List (List ℕ)) → octets_of_tsdus (le
 left_octets zero limit ts = omega arith
 left_octets (suc n) limit [] = omega arith
 left_octets (suc n) limit (t ∷ ts) =
-    let all = more_octets t ts in
-    elim (nat_lt limit (length t)) as (λ b.
-    octets_of_tsdus
-    (left_by (t ∷ ts) (if b then Some ((false, take limit t), drop limit t ∷ ts) else Some ((true, t), ts)) (left_after n limit))
-    ≤ octets_of_tsdus (t ∷ ts)) [
-      | true ↦ let fewer = left_octets n limit (drop limit t ∷ ts) in
-          let rest = more_octets (drop limit t) ts in
-          let shorter = length-drop limit t in
-          omega (arith, all, fewer, rest, shorter)
-      | false ↦ let fewer = left_octets n limit ts in omega (arith, all, fewer)
-    ]
+    grind (arith, more_octets, length-drop, left_octets n limit (drop limit t ∷ ts), left_octets n limit ts)
 
 -- ---- one TSDU more in the list of copies
 
 -- all of it is copied
 pub copied_whole : (limit : ℕ) (old new : List (List ℕ)) (t : List ℕ) (others : List (List ℕ)) → new ≡ old ++ t ∷ [] →
     new ++ left_after 0 limit others ≡ old ++ left_after 0 limit (t ∷ others)
-copied_whole limit old new t others put =
-    ap (λ (ts : List (List ℕ)). ts ++ others) put ∙ append_assoc old (t ∷ []) others
+copied_whole limit old new t others put = grind (arith, append_assoc)
 
 -- some of it is
 pub copied_part : (n limit : ℕ) (old new : List (List ℕ)) (t rest : List ℕ) (others : List (List ℕ)) → 0 < limit →
     n < parts_needed limit (length t) → rest ≡ drop (n * limit) t → new ≡ old ++ rest ∷ [] →
     new ++ left_after 0 limit others ≡ old ++ left_after n limit (t ∷ others)
 copied_part n limit old new t rest others room few is put =
-    copied_whole limit old new rest others put
-    ∙ ap (λ (r : List ℕ). old ++ r ∷ others) is ∙ ap (λ (ts : List (List ℕ)). old ++ ts) (sym (left_part n limit t others room few))
+    grind (arith, copied_whole limit old new rest others put, left_part n limit t others room few)
 
 -- none of it is
 pub copied_none : (n limit parts : ℕ) (old : List (List ℕ)) (t : List ℕ) (others : List (List ℕ)) → 0 < limit →
     parts ≡ parts_needed limit (length t) → parts ≤ n →
     old ++ left_after (n - parts) limit others ≡ old ++ left_after n limit (t ∷ others)
-copied_none n limit parts old t others room is enough =
-    ap (λ (ts : List (List ℕ)). old ++ ts) (ap (λ (m : ℕ). left_after (n - m) limit others) is ∙ left_whole n limit t others room
-    (omega (arith, is, enough)))
+copied_none n limit parts old t others room is enough = grind (arith, left_whole)
 
 -- ---- what a link of class 2 keeps
 
@@ -128,13 +111,8 @@ gave limit t ts b = if b then Some ((false, take limit t), drop limit t ∷ ts) 
 two_left : (n limit a u c w x : ℕ) (j : Joining) (ts : List (List ℕ)) → 0 < limit → c ≡ n →
     (drained (two_standing (record { limit = limit; unsent = ts; joining = j }) (two_flow a u c w x))).link.ends.unsent
     ≡ left_after n limit ts
-two_left zero limit a u c w x j ts room is =
-    let e : Ends = record { limit = limit; unsent = ts; joining = j } in
-    let f : Flow = two_flow a u c w x in
-    ap (λ (d : Drained). d.link.ends.unsent) (drained_none (two_standing e f) ((class_2 e f).1 (refl, inr is)))
-two_left (suc n) limit a u c w x j [] room is =
-    let e : Ends = record { limit = limit; unsent = []; joining = j } in
-    ap (λ (d : Drained). d.link.ends.unsent) (drained_none (two_standing e (two_flow a u c w x)) (no_tsdus limit j a u c w x))
+two_left zero limit a u c w x j ts room is = grind (arith, two_flow, drained_none, class_2)
+two_left (suc n) limit a u c w x j [] room is = grind (arith, drained_none, two_flow, no_tsdus)
 two_left (suc n) limit a u c w x j (t ∷ ts) room is =
     let e : Ends = record { limit = limit; unsent = t ∷ ts; joining = j } in
     let f : Flow = two_flow a u c w x in

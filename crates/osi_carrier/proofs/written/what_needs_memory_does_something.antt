@@ -1,20 +1,19 @@
 -- What needs memory writes, reports or keeps something.
-use Rattle.std.proofs.Common.{◌≡◌, ℕ, ◌+◌, ◌<◌, ◌≤◌, ◌⊎◌, inl, inr, Bool, true, false, List, [], ◌∷◌, ◌++◌, length, take, drop, Option}
-use Rattle.std.proofs.Common.{Some, None, Result, Ok, Err, IfOk, IsOk, OnErr, ◌==◌, map, refl, sym, ap, subst, ◌∙◌, nat_lt, if◌then◌else◌}
-use Rattle.std.proofs.Common.{length-append, arith}
-use Rattle.osi_class.specs.Flow.{Flow, is_awaited}
-use Rattle.osi_class.specs.Joining.{Joining, joined, with_part}
-use Rattle.osi_class.specs.Limits.{longest_tsdu}
+use Rattle.std.proofs.Common.{◌≡◌, ℕ, ◌+◌, ◌<◌, ◌≤◌, ◌⊎◌, inl, inr, Bool, true, false, List, [], ◌∷◌, ◌++◌, length, take, Option, Some}
+use Rattle.std.proofs.Common.{Result, Ok, Err, IfOk, IsOk, OnErr, ◌==◌, map, refl, sym, ap, subst, nat_lt, if◌then◌else◌, length-append}
+use Rattle.std.proofs.Common.{arith}
+use Rattle.osi_class.specs.Flow.{Flow}
+use Rattle.osi_class.specs.Joining.{with_part}
 use Rattle.osi_class.specs.Taking.{TakesUnit}
-use Rattle.osi_class.specs.declared.faults.LinkFault.TheVariants.{OutOfSequence, TsduTooLong, OutOfMemory}
+use Rattle.osi_class.specs.declared.faults.LinkFault.TheVariants.{TsduTooLong, OutOfMemory}
 use Rattle.osi_class.proofs.between.parts_stay_in_order.{choose_ok}
 pub use Rattle.std.proofs.lemmas.Bool.{or_cases}
 use Rattle.osi_carrier.proofs.Vocabulary.{or_left, or_right, lt-ltb, ltb-true, sum_by-cons, packet_of, Value, Connect, disconnect}
-use Rattle.osi_carrier.proofs.Vocabulary.{disconnected, data0, data2, written, Standing, Hands, taken, taken_by, taken_flow, with_joined}
-use Rattle.osi_carrier.proofs.Vocabulary.{needs_memory, part_needs_memory, LinkFault, Class, Two, drained_leaves, begun_by, kept_in, grows}
-use Rattle.osi_carrier.proofs.Vocabulary.{Happening, tsdu, pumped, written_by, accepts, breaks, denies, handed_out, leaves, opens, taking}
-use Rattle.osi_carrier.proofs.Vocabulary.{to_unknown, Rows, value_at, put, peer_in, link_in, Connection, linked, State, packets, drops}
-use Rattle.osi_carrier.proofs.Vocabulary.{tells, link_grows, units_after, whole_after, link_after}
+use Rattle.osi_carrier.proofs.Vocabulary.{disconnected, written, Standing, Hands, taken, taken_by, with_joined, needs_memory}
+use Rattle.osi_carrier.proofs.Vocabulary.{part_needs_memory, LinkFault, Class, Two, drained_leaves, begun_by, kept_in, grows, Happening}
+use Rattle.osi_carrier.proofs.Vocabulary.{tsdu, pumped, written_by, accepts, breaks, denies, handed_out, leaves, opens, taking, to_unknown}
+use Rattle.osi_carrier.proofs.Vocabulary.{Rows, value_at, put, peer_in, link_in, Connection, linked, State, packets, drops, tells}
+use Rattle.osi_carrier.proofs.Vocabulary.{link_grows, units_after, whole_after, link_after}
 use Rattle.osi_carrier.proofs.references.what_is_open.{open_is}
 
 -- ---- at a link
@@ -29,17 +28,7 @@ whole_some (first ∷ whole) octets = omega arith
 part_grows : (peer : ℕ) (s : Standing) (flow : Option Flow) (end : Bool) (octets : List ℕ) → part_needs_memory end octets ≡ true →
     Grown peer s (record { ends = record s.ends { joining = with_part s.ends.joining end octets }; flow = flow })
 unfolding link_grows
-part_grows peer s flow true octets needs =
-    or_right _ _ (or_left _ _
-    (lt-ltb 0 (length (take 1 (s.ends.joining.whole ++ (s.ends.joining.begun ++ octets) ∷ [])))
-    (whole_some s.ends.joining.whole (s.ends.joining.begun ++ octets))))
-part_grows peer s flow false octets needs =
-    let t : Standing = record { ends = record s.ends { joining = with_part s.ends.joining false octets }; flow = flow } in
-    let kept : (pumped (handed_out t)).ends.joining.begun ≡ s.ends.joining.begun ++ octets =
-    ap (λ (j : Joining). j.begun) (drained_leaves (handed_out t)).1 in
-    let some = ltb-true 0 (length octets) needs in
-    let size = ap length kept ∙ length-append s.ends.joining.begun octets in
-    or_right _ _ (or_right _ _ (lt-ltb (length s.ends.joining.begun) (length (pumped (handed_out t)).ends.joining.begun) (omega arith)))
+part_grows peer s flow end octets needs = grind (arith, or_right, or_left, lt-ltb, whole_some, drained_leaves, ltb-true, length-append)
 
 joined_grows : (peer : ℕ) (s : Standing) (flow : Option Flow) (end : Bool) (octets : List ℕ) (long : Bool) →
     part_needs_memory end octets ≡ true →
@@ -49,20 +38,10 @@ joined_grows peer s flow end octets false needs = part_grows peer s flow end oct
 
 taken_by_grows : (peer : ℕ) (s : Standing) (flow : Option Flow) (unit : Value) → needs_memory unit ≡ true →
     IfOk (taken_by s.ends flow unit) (Grown peer s)
-taken_by_grows peer s None (data0 end octets) needs =
-    joined_grows peer s None end octets (nat_lt longest_tsdu (length s.ends.joining.begun + length octets)) needs
-taken_by_grows peer s (Some f) (data0 end octets) needs = tt
-taken_by_grows peer s None (data2 d number end octets) needs = tt
-taken_by_grows peer s (Some f) (data2 d number end octets) needs =
-    choose_ok (Grown peer s) (is_awaited f.receiver number) (with_joined s.ends (Some (taken_flow f)) (joined s.ends.joining end octets))
-    (Err OutOfSequence)
-    (λ _. joined_grows peer s (Some (taken_flow f)) end octets (nat_lt longest_tsdu (length s.ends.joining.begun + length octets)) needs)
-    (λ _. tt)
-taken_by_grows peer s flow unit needs = cc
+taken_by_grows peer s flow unit needs = grind (arith, joined_grows, choose_ok)
 
 grown_of : (peer : ℕ) (s : Standing) (r : Result Standing LinkFault) → IfOk r (Grown peer s) → IsOk r → link_grows peer s r ≡ true
-grown_of peer s (Ok t) h ok = h
-grown_of peer s (Err fault) h ok = cc
+grown_of peer s r h ok = grind arith
 
 -- a unit that the link would take if there were memory
 pub taken_grows : (peer : ℕ) (s : Standing) (unit : Value) → needs_memory unit ≡ true → IsOk (taken s unit) →
@@ -73,14 +52,10 @@ taken_grows peer s unit needs ok = grown_of peer s (taken s unit) (taken_by_grow
 pub want_taken : {A : Type 0} (r : Result A LinkFault) (f : LinkFault) (needs : Bool) (t : Result Standing LinkFault) (old new : Standing) →
     r ≡ Err f → f ≡ OutOfMemory →
     TakesUnit r needs t old new → (needs ≡ true) × IsOk t
-want_taken (Err OutOfMemory) f needs t old new e g h = (h.0, h.1)
-want_taken r f needs t old new e g h = cc
+want_taken r f needs t old new e g h = grind arith
 
 pub handed_is : (o : Option (List ℕ)) (old new : Standing) → Hands o old new → new ≡ handed_out old
-handed_is None old new h =
-    h.1 ∙ ap (λ (w : List (List ℕ)). record old { ends = record old.ends { joining = record old.ends.joining { whole = w } } })
-    (h.0 ∙ sym (ap (drop 1) h.0))
-handed_is (Some octets) old new h = sym (ap handed_out h)
+handed_is o old new h = grind arith
 
 given_grows : (peer : ℕ) (s t : Standing) → nat_lt 0 (length (written_by peer (handed_out t))) ≡ true → Grown peer s t
 unfolding link_grows
@@ -106,16 +81,11 @@ octets_some (u ∷ us) some = let size = length-append (packet_of (written u)) (
 
 pub written_grows : (old new : State) (us : List Value) → 0 < length us → new.outgoing ≡ old.outgoing ++ packets us → grows old new ≡ true
 unfolding grows
-written_grows old new us some e =
-    let more = octets_some us some in
-    let size = ap length e ∙ length-append old.outgoing (packets us) in
-    or_left _ _ (lt-ltb (length old.outgoing) (length new.outgoing) (omega arith))
+written_grows old new us some e = grind (arith, octets_some, length-append, or_left, lt-ltb)
 
 pub told_grows : (old new : State) (events : List Happening) → 0 < length events → new.events ≡ old.events ++ events → grows old new ≡ true
 unfolding grows
-told_grows old new events some e =
-    let size = ap length e ∙ length-append old.events events in
-    or_right _ _ (or_left _ _ (lt-ltb (length old.events) (length new.events) (omega arith)))
+told_grows old new events some e = grind (arith, length-append, or_right, or_left, lt-ltb)
 
 pub kept_grows : (old new : State) → kept_in old.live < kept_in new.live → grows old new ≡ true
 unfolding grows
@@ -147,18 +117,15 @@ pub opens_grows : (r : ℕ) (c : Connect) (class : Class) (s : State) → grows 
 opens_grows r c class s = tells_grows s (opens r c (Some class) s) _ refl
 
 pub leaves_grows : (r peer reason : ℕ) (held : Option Class) (s : State) → grows s (leaves r peer reason held s) ≡ true
-leaves_grows r peer reason (Some Two) s = tells_grows s (leaves r peer reason (Some Two) s) _ refl
-leaves_grows r peer reason held s = tells_grows s (leaves r peer reason held s) _ refl
+leaves_grows r peer reason held s = grind (arith, tells_grows)
 
 pub breaks_grows : (r peer : ℕ) (fault : LinkFault) (held : Option Class) (s : State) → held ≡ Some Two →
     grows s (breaks r peer fault held s) ≡ true
-breaks_grows r peer fault held s e =
-    subst (λ (h : Option Class). grows s (breaks r peer fault h s) ≡ true) (sym e) (tells_grows s (breaks r peer fault (Some Two) s) _ refl)
+breaks_grows r peer fault held s e = grind (arith, tells_grows)
 
 -- a unit for which memory ran out
 pub on_want : {A E P : Type 0} (result : Result A E) → P → OnErr result P
-on_want (Ok a) p = tt
-on_want (Err e) p = p
+on_want result p = grind arith
 
 -- ---- what a link adds is added to the carrier
 
@@ -193,13 +160,7 @@ LinkGrows peer old t =
 
 link_cases : (peer : ℕ) (old : Standing) (t : Result Standing LinkFault) → link_grows peer old t ≡ true → LinkGrows peer old t
 unfolding link_grows
-link_cases peer old t h = elim (or_cases _ _ h) [
-  | inl units ↦ inl (ltb-true 0 (length (units_after peer t)) units)
-  | inr more ↦ elim (or_cases _ _ more) [
-    | inl whole ↦ inr (inl (ltb-true 0 (length (whole_after t)) whole))
-    | inr kept ↦ inr (inr (ltb-true (length old.ends.joining.begun) (length (link_after old t).ends.joining.begun) kept))
-  ]
-]
+link_cases peer old t h = grind (arith, or_cases, ltb-true)
 
 length_told : (r : ℕ) (whole : List (List ℕ)) → length (map (tsdu r) whole) ≡ length whole
 length_told r [] = refl
@@ -235,6 +196,4 @@ took_grows r peer s (Err fault) whole ok e some = cc
 
 pub broke_grows : (r peer : ℕ) (s mid : State) (t : Result Standing LinkFault) (fault : LinkFault) → t ≡ Err fault → mid ≡ s →
     grows mid (breaks r peer fault mid.class mid) ≡ true → grows s (taking r peer t s) ≡ true
-broke_grows r peer s mid t fault e same h =
-    subst (λ (u : Result Standing LinkFault). grows s (taking r peer u s) ≡ true) (sym e)
-    (subst (λ (x : State). grows x (breaks r peer fault x.class x) ≡ true) same h)
+broke_grows r peer s mid t fault e same h = grind arith

@@ -1,8 +1,7 @@
 -- Whether all units of TSDUs may go now, by the units that a link gives for one TSDU that fills as many.
 -- For `may_send`, `room_at_once` and `some_at_once` of links.
-use Rattle.std.proofs.Common.{◌≡◌, ◌∙◌, refl, sym, ap, ℕ, zero, suc, ◌+◌, ◌-◌, ◌*◌, ◌^◌, ◌<◌, ◌≤◌, List, [], ◌∷◌, ◌++◌}
-use Rattle.std.proofs.Common.{length, Option, Some, None}
-use Rattle.std.proofs.Common.{arith, inl, inr, subst, map, IfSome, IsSome, SomeIff}
+use Rattle.std.proofs.Common.{◌≡◌, ◌∙◌, refl, ap, ℕ, zero, suc, ◌+◌, ◌-◌, ◌*◌, ◌^◌, ◌<◌, ◌≤◌, List, [], ◌∷◌, ◌++◌, length, Option, Some}
+use Rattle.std.proofs.Common.{None, arith, subst, map, IfSome, IsSome, SomeIff}
 use Rattle.std.proofs.Math.Nat.{suc-mul}
 use Rattle.std.proofs.lemmas.Nat.{mul-le}
 use Rattle.osi_class.proofs.giving.all_that_may_go_is_given.{goes_whole, more_units}
@@ -21,11 +20,7 @@ use Rattle.osi_carrier.proofs.written.all_that_a_link_gives.{packets_most}
 -- ---- one TSDU that fills the units
 
 fewer : (units credit limit : ℕ) → 0 < limit → min (units * limit) (credit * limit) ≡ units * limit → units ≤ credit
-fewer units credit limit room e =
-    elim (cases_lt credit units) [
-      | inl more ↦ let one = mul-le (credit + 1) limit units limit (omega arith) (omega arith) in absurd (omega (arith, one, e))
-      | inr few ↦ omega arith
-    ]
+fewer units credit limit room e = grind (arith, cases_lt, mul-le)
 
 none_goes : (units credit limit : ℕ) → 0 < units → 0 < limit → credit ≡ 0 → min (units * limit) (credit * limit) ≡ units * limit → ⊥
 none_goes units credit limit some room closed e = let few = fewer units credit limit room e in omega arith
@@ -34,23 +29,13 @@ filled_by : (e : Ends) (flow : Option Flow) (t : List ℕ) (units : ℕ) → 0 <
     0 < units → length t ≡ units * e.limit →
     octets_in (all_given (with_tsdu (record { ends = e; flow = flow }) t)) ≡ units * e.limit → (e.unsent ≡ []) × MayGoAll units flow
 filled_by e None t units room quiet some size all = ((class_0 e).0 quiet, tt)
-filled_by e (Some f) t units room quiet some size all =
-    let both = (class_2 e f).0 quiet in
-    let given = (room_of_class_2 e f t room quiet).1 in
-    let is : min (units * e.limit) (f.sender.credit * e.limit) ≡ units * e.limit =
-    ap (λ (n : ℕ). min n (f.sender.credit * e.limit)) (sym size) ∙ sym given ∙ all in
-    elim both.1 as (λ _. (e.unsent ≡ []) × MayGoAll units (Some f)) [
-      | inl unsent ↦ (unsent, (both.0, fewer units f.sender.credit e.limit room is))
-      | inr closed ↦ absurd (none_goes units f.sender.credit e.limit some room closed is)
-    ]
+filled_by e (Some f) t units room quiet some size all = grind (arith, fewer, none_goes, class_2 e f, room_of_class_2 e f t room quiet)
 
 -- they may go if the link gives such a TSDU whole
 pub all_may_go : (s : Standing) (t : List ℕ) (units : ℕ) (tsdus : List (List ℕ)) → 0 < s.ends.limit → next s ≡ None → 0 < units →
     length t ≡ units * s.ends.limit → octets_in (all_given (with_tsdu s t)) ≡ units * s.ends.limit →
     units ≡ units_needed s.ends.limit tsdus → AllGoAtOnce s tsdus
-all_may_go s t units tsdus room quiet some size all is =
-    let h = filled_by s.ends s.flow t units room quiet some size all in
-    record { alone = h.0; may = subst (λ (n : ℕ). MayGoAll n s.flow) is h.1 }
+all_may_go s t units tsdus room quiet some size all is = grind (arith, filled_by s.ends s.flow t units room quiet some size all)
 
 -- ---- such a TSDU is given whole if they may go
 
@@ -94,15 +79,7 @@ none_waits waiting headers e = ap (λ (n : ℕ). n * headers) e ∙ (let z : 0 *
 most_if : (headers : ℕ) (e : Ends) (flow : Option Flow) (tsdus : List (List ℕ)) → e.unsent ≡ [] →
     MayGoAll (units_needed e.limit tsdus) flow →
     most_by headers (record e { unsent = e.unsent ++ tsdus }) flow ≤ octets_of_tsdus tsdus + units_needed e.limit tsdus * headers
-most_if headers e None tsdus alone may =
-    let all = ap (λ (u : List (List ℕ)). octets_in_parts headers e.limit (u ++ tsdus)) alone in
-    let sum = in_parts headers e.limit tsdus in
-    omega (arith, all, sum)
-most_if headers e (Some f) tsdus alone may =
-    let all = ap (λ (u : List (List ℕ)). octets_in_parts headers e.limit (u ++ tsdus)) alone in
-    let sum = in_parts headers e.limit tsdus in
-    let acks = none_waits f.receiver.waiting headers may.0 in
-    omega (arith, all, sum, acks)
+most_if headers e flow tsdus alone may = grind (arith, in_parts, none_waits)
 
 pub most_of_all : (headers : ℕ) (s : Standing) (tsdus : List (List ℕ)) → AllGoAtOnce s tsdus →
     most_given headers (with_tsdus s tsdus) ≤ octets_of_tsdus tsdus + units_needed s.ends.limit tsdus * headers
@@ -122,52 +99,37 @@ enough_room peer s tsdus units octets headers room some quiet go count size prod
     omega (arith, all, each, most, few, same, size, product, sum)
 
 if_some : {A : Type 0} (o : Option A) (P : A → Type 0) → ((a : A) → o ≡ Some a → P a) → IfSome o P
-if_some None P h = tt
-if_some (Some a) P h = h a refl
+if_some o P h = grind arith
 
 sum_is : (o : Option ℕ) (P : Type 0) (v a : ℕ) → SomeIff o P v → o ≡ Some a → a ≡ v
-sum_is None P v a h e = cc
-sum_is (Some x) P v a h e = let same : x ≡ a = cc in sym same ∙ h.1
+sum_is o P v a h e = grind arith
 
 -- of a sum that fits a usize
 pub room_of_all : (s : Standing) (tsdus : List (List ℕ)) (units octets headers : ℕ) (o : Option ℕ) (P : Type 0) → 0 < s.ends.limit →
     next s ≡ None → AllGoAtOnce s tsdus → units ≡ units_needed s.ends.limit tsdus → octets ≡ octets_of_tsdus tsdus →
     headers ≡ units * 9 → SomeIff o P (octets + headers) →
     IfSome o (λ room. (peer : ℕ) → length (packets (written_for peer s tsdus)) ≤ room)
-room_of_all s tsdus units octets headers o P some quiet go count size product sum =
-    if_some o (λ room. (peer : ℕ) → length (packets (written_for peer s tsdus)) ≤ room)
-    (λ room e peer. enough_room peer s tsdus units octets headers room some quiet go count size product
-    (sum_is o P (octets + headers) room sum e))
+room_of_all s tsdus units octets headers o P some quiet go count size product sum = search (arith, if_some, enough_room, sum_is)
 
 -- their sum
 pub exact_room : (s : Standing) (tsdus : List (List ℕ)) (units octets headers : ℕ) (o : Option ℕ) (P : Type 0) →
     units ≡ units_needed s.ends.limit tsdus → octets ≡ octets_of_tsdus tsdus → headers ≡ units * 9 → SomeIff o P (octets + headers) →
     IfSome o (λ room. room ≡ octets_in_parts 9 s.ends.limit tsdus)
-exact_room s tsdus units octets headers o P count size product sum =
-    let all = in_parts 9 s.ends.limit tsdus in
-    let same = ap (λ (n : ℕ). n * 9) count in
-    if_some o (λ room. room ≡ octets_in_parts 9 s.ends.limit tsdus)
-    (λ room e. let is = sum_is o P (octets + headers) room sum e in omega (arith, all, same, size, product, is))
+exact_room s tsdus units octets headers o P count size product sum = grind (arith, in_parts, if_some, sum_is)
 
 some_sum : (o : Option ℕ) (P : Type 0) (v : ℕ) → SomeIff o P v → P → IsSome o
-some_sum None P v h p = absurd (h p)
-some_sum (Some x) P v h p = refl
+some_sum o P v h p = grind arith
 
 -- which is there if it fits a usize
 pub some_room : (s : Standing) (tsdus : List (List ℕ)) (units octets headers : ℕ) (o : Option ℕ) →
     units ≡ units_needed s.ends.limit tsdus → octets ≡ octets_of_tsdus tsdus → headers ≡ units * 9 →
     SomeIff o (octets + headers < 2 ^ 64) (octets + headers) → octets_in_parts 9 s.ends.limit tsdus < 2 ^ 64 → IsSome o
-some_room s tsdus units octets headers o count size product sum fits =
-    let all = in_parts 9 s.ends.limit tsdus in
-    let same = ap (λ (n : ℕ). n * 9) count in
-    some_sum o (octets + headers < 2 ^ 64) (octets + headers) sum (omega (arith, all, same, size, product, fits))
+some_room s tsdus units octets headers o count size product sum fits = grind (arith, in_parts, some_sum)
 
 -- and so do their numbers
 pub counts_fit : (limit : ℕ) (tsdus : List (List ℕ)) → octets_in_parts 9 limit tsdus < 2 ^ 64 →
     (units_needed limit tsdus * 9 < 2 ^ 64) × (octets_of_tsdus tsdus < 2 ^ 64)
-counts_fit limit tsdus fits =
-    let all = in_parts 9 limit tsdus in
-    (omega (arith, all, fits), omega (arith, all, fits))
+counts_fit limit tsdus fits = grind (arith, in_parts)
 
 pub go_of_all : (s : Standing) (tsdus : List (List ℕ)) (o : Option ℕ) → AllGoAtOnce s tsdus → IfSome o (λ _. AllGoAtOnce s tsdus)
 go_of_all s tsdus o go = if_some o (λ _. AllGoAtOnce s tsdus) (λ _ _. go)

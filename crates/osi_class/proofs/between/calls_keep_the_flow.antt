@@ -1,14 +1,14 @@
 -- The effect of calls of links of class 2 on the flow control between them.
 use Rattle.std.proofs.Common.{◌≡◌, ℕ, ◌<◌, ◌≤◌, Bool, true, List, [], ◌∷◌, ◌++◌, Option, Some, None, Result, Ok, Err, inl, inr, refl, sym}
 use Rattle.std.proofs.Common.{◌∙◌, ap, subst, nat_lt, is_some, if◌then◌else◌, IfSome, IfOk}
-use Rattle.osi_class.proofs.Vocabulary.{flat_map, ltb-true, flat_map-append, Value, request, confirm, disconnect, disconnected, data0}
-use Rattle.osi_class.proofs.Vocabulary.{data2, acknowledge, error, LinkFault, OutOfSequence, LinkPair, swapped, Comes, LeftMoves, Turn}
-use Rattle.osi_class.proofs.Vocabulary.{at_left, at_right, Turns, TurnsAlong, opened_pair, Direction, InStep, write_unit, take_unit}
-use Rattle.osi_class.proofs.Vocabulary.{write_ack, take_ack, known_after, opened, owed, unit_numbers, ack_numbers, direction, HaveFlows}
-use Rattle.osi_class.proofs.Vocabulary.{StepsOrStays, TurnSteps, Agree, Ends, Flow, Sender, Receiver, acknowledged, is_awaited, ack_number}
-use Rattle.osi_class.proofs.Vocabulary.{after_acked, after_taken, after_sent, fresh_sender, fresh_receiver, Joining, joined, Standing}
-use Rattle.osi_class.proofs.Vocabulary.{Given, part0, part2, ack, given_part, next_by, with_joined, with_sender, taken_by, taken}
-use Rattle.osi_class.proofs.Vocabulary.{taken_flow, sent_flow, two_standing, Move, hand_in, give_out, take_in, hand_out, Moves, Part, give}
+use Rattle.osi_class.proofs.Vocabulary.{flat_map, ltb-true, flat_map-append, Value, data2, acknowledge, LinkFault, OutOfSequence, LinkPair}
+use Rattle.osi_class.proofs.Vocabulary.{swapped, Comes, LeftMoves, Turn, at_left, at_right, Turns, TurnsAlong, opened_pair, Direction}
+use Rattle.osi_class.proofs.Vocabulary.{InStep, write_unit, take_unit, write_ack, take_ack, known_after, opened, owed, unit_numbers}
+use Rattle.osi_class.proofs.Vocabulary.{ack_numbers, direction, HaveFlows, StepsOrStays, TurnSteps, Agree, Ends, Flow, Sender, Receiver}
+use Rattle.osi_class.proofs.Vocabulary.{acknowledged, is_awaited, ack_number, after_acked, after_sent, fresh_sender, fresh_receiver}
+use Rattle.osi_class.proofs.Vocabulary.{Joining, joined, Standing, Given, part0, part2, ack, given_part, next_by, with_joined, with_sender}
+use Rattle.osi_class.proofs.Vocabulary.{taken_by, taken, taken_flow, sent_flow, two_standing, Move, hand_in, give_out, take_in, hand_out}
+use Rattle.osi_class.proofs.Vocabulary.{Moves, Part, give}
 use Rattle.osi_class.proofs.between.units_are_of_one_class.{class_turn}
 use Rattle.osi_class.proofs.between.parts_stay_in_order.{append_nil, choose_some, choose_ok, at_some, at_ok}
 use Rattle.osi_class.proofs.between.owed_acks_keep_the_counts.{step_keeps, step_window, begins}

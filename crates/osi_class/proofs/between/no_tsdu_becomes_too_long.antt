@@ -1,9 +1,9 @@
 -- No TSDU between two links becomes too long to be taken.
-use Rattle.std.proofs.Common.{◌≡◌, ℕ, ◌+◌, ◌≤◌, Bool, true, false, List, [], ◌∷◌, ◌++◌, length, Ok, sym, ◌∙◌, ap, subst, arith, nat_lt}
-use Rattle.std.proofs.Common.{length-append, append_assoc}
-use Rattle.osi_class.proofs.Vocabulary.{flat_map, AllByRecursion, le-ltb, append_cancel_left, map-append, longest_tsdu, LinkPair, Turn}
-use Rattle.osi_class.proofs.Vocabulary.{TurnsAlong, left_in, right_out, parts_under_way, under_way, HasWholeTsdus, IsShortTsdu, with_part}
-use Rattle.osi_class.proofs.Vocabulary.{joined, Part, tsdus_after, uncut}
+use Rattle.std.proofs.Common.{◌≡◌, ℕ, ◌+◌, ◌≤◌, Bool, true, false, List, [], ◌∷◌, ◌++◌, length, Ok, sym, ◌∙◌, ap, arith, length-append}
+use Rattle.std.proofs.Common.{append_assoc}
+use Rattle.osi_class.proofs.Vocabulary.{flat_map, AllByRecursion, append_cancel_left, map-append, longest_tsdu, LinkPair, Turn, TurnsAlong}
+use Rattle.osi_class.proofs.Vocabulary.{left_in, parts_under_way, under_way, HasWholeTsdus, IsShortTsdu, with_part, joined, Part}
+use Rattle.osi_class.proofs.Vocabulary.{tsdus_after, uncut}
 use Rattle.osi_class.proofs.between.parts_stay_in_order.{append_nil}
 use Rattle.osi_class.proofs.between.tsdus_come_in_order.{whole_kept}
 
@@ -21,24 +21,13 @@ End begun parts = (t : List ℕ) → tsdus_after begun (parts ++ (true, t) ∷ [
 
 begun_short : (parts : List Part) (begun : List ℕ) → End begun parts → AllByRecursion IsShortTsdu (tsdus_after begun parts) →
     IsShortTsdu begun
-begun_short [] begun ends all =
-    let one : (begun ++ []) ∷ [] ≡ [] ∷ [] = ends [] in
-    let none : begun ++ [] ≡ [] = cc in
-    let n : length begun ≡ 0 = ap length (sym (append_nil begun) ∙ none) in
-    omega arith
+begun_short [] begun ends all = grind (arith, append_nil begun)
 begun_short ((false, octets) ∷ parts) begun ends all = omega (arith, length-append {A = ℕ}, begun_short parts (begun ++ octets) ends all)
 begun_short ((true, octets) ∷ parts) begun ends all = omega (arith, length-append {A = ℕ})
 
 part_short : (end : Bool) (octets : List ℕ) (rest : List Part) (begun : List ℕ) → End begun ((end, octets) ∷ rest) →
     AllByRecursion IsShortTsdu (tsdus_after begun ((end, octets) ∷ rest)) → length begun + length octets ≤ longest_tsdu
-part_short false octets rest begun ends all =
-    let more = begun_short rest (begun ++ octets) ends all in
-    let n = length-append begun octets in
-    omega arith
-part_short true octets rest begun ends all =
-    let first : IsShortTsdu (begun ++ octets) = all.0 in
-    let n = length-append begun octets in
-    omega arith
+part_short end octets rest begun ends all = grind (arith, begun_short, length-append)
 
 -- all that is in flight, as parts
 abbrev pub pending : LinkPair → List Part
@@ -63,23 +52,8 @@ pub not_too_long : (p : LinkPair) (end : Bool) (octets : List ℕ) (rest : List 
     AllByRecursion IsShortTsdu (under_way p) →
     parts_under_way p.rightward ≡ (end, octets) ∷ rest →
     joined p.right.ends.joining end octets ≡ Ok (with_part p.right.ends.joining end octets)
-not_too_long p end octets rest whole all first =
-    let j = p.right.ends.joining in
-    let here : pending p ≡ (end, octets) ∷ (rest ++ uncut p.left.ends.unsent) =
-    ap (λ (x : List Part). x ++ uncut p.left.ends.unsent) first in
-    let ends = subst (λ (x : List Part). End j.begun x) here (pending_end p whole) in
-    let Shorts : List Part → Type 0 = λ x. AllByRecursion IsShortTsdu (tsdus_after j.begun x) in
-    let under : AllByRecursion IsShortTsdu (j.whole ++ tsdus_after j.begun (pending p)) =
-    subst (λ (u : List (List ℕ)). AllByRecursion IsShortTsdu (j.whole ++ tsdus_after j.begun (parts_under_way p.rightward ++ uncut u)))
-    (append_nil p.left.ends.unsent) all in
-    let parts = subst Shorts here (all_behind j.whole (tsdus_after j.begun (pending p)) under) in
-    let short = part_short end octets (rest ++ uncut p.left.ends.unsent) j.begun ends parts in
-    let no : nat_lt longest_tsdu (length j.begun + length octets) ≡ false = le-ltb longest_tsdu (length j.begun + length octets) short in
-    rw no
+not_too_long p end octets rest whole all first = grind (arith, all_behind, part_short, pending_end p whole, append_nil p.left.ends.unsent)
 
 pub stays_short : (old new : LinkPair) (turns : List Turn) → HasWholeTsdus old → AllByRecursion IsShortTsdu (under_way old) →
     AllByRecursion IsShortTsdu (flat_map left_in turns) → TurnsAlong old turns new → AllByRecursion IsShortTsdu (under_way new)
-stays_short old new turns whole all handed run =
-    all_behind (flat_map right_out turns) (under_way new)
-    (subst (λ (ts : List (List ℕ)). AllByRecursion IsShortTsdu ts) (whole_kept old new turns whole run)
-    (all_both (under_way old) (flat_map left_in turns) all handed))
+stays_short old new turns whole all handed run = grind (arith, all_behind, whole_kept, all_both)

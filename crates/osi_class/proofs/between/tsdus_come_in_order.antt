@@ -1,11 +1,10 @@
 -- The law of order between two links.
 use Rattle.std.proofs.Common.{◌≡◌, ℕ, List, [], ◌∷◌, ◌++◌, map, refl, sym, ◌∙◌, ap, append_assoc}
-use Rattle.osi_class.proofs.Vocabulary.{flat_map, flat_map-append, append_cancel_left, Value, request, confirm, disconnect, disconnected}
-use Rattle.osi_class.proofs.Vocabulary.{data0, data2, acknowledge, error, Standing, Given, given_in, Move, hand_in, give_out, take_in}
-use Rattle.osi_class.proofs.Vocabulary.{hand_out, given_parts, unit_parts, tsdu_in, part_out, part_in, tsdu_out, Part, tsdus_after, uncut}
-use Rattle.osi_class.proofs.Vocabulary.{MakeTheSame, LinkPair, swapped, Says, Comes, given_by, Turn, at_left, at_right, Turns, TurnsAlong}
-use Rattle.osi_class.proofs.Vocabulary.{opposite, left_in, right_out, parts_under_way, under_way_before, under_way, HasWholeTsdus, IsFresh}
-use Rattle.osi_class.proofs.Vocabulary.{opened_pair}
+use Rattle.osi_class.proofs.Vocabulary.{flat_map, flat_map-append, append_cancel_left, Value, data0, Standing, Given, given_in, Move}
+use Rattle.osi_class.proofs.Vocabulary.{give_out, take_in, given_parts, unit_parts, tsdu_in, part_out, part_in, tsdu_out, Part, tsdus_after}
+use Rattle.osi_class.proofs.Vocabulary.{uncut, MakeTheSame, LinkPair, swapped, Says, Comes, given_by, Turn, at_left, at_right, Turns}
+use Rattle.osi_class.proofs.Vocabulary.{TurnsAlong, opposite, left_in, right_out, parts_under_way, under_way_before, under_way}
+use Rattle.osi_class.proofs.Vocabulary.{HasWholeTsdus, IsFresh, opened_pair}
 use Rattle.osi_class.proofs.between.parts_stay_in_order.{append_nil, same_behind_all, uncut_tsdus, made}
 use Rattle.osi_class.proofs.bounds.what_a_call_preserves.{move_keeps}
 

@@ -1,7 +1,7 @@
 -- Between links of one class there are only units of that class.
 use Rattle.std.proofs.Common.{◌≡◌, Bool, false, List, [], ◌∷◌, ◌++◌, Option, Some, None, refl, sym, ◌∙◌, ap, subst, is_some}
 use Rattle.osi_class.proofs.Vocabulary.{LinkPair, Comes, given_by, Turn, at_left, at_right, Turns, TurnsAlong, AreOfClass, opened_pair}
-use Rattle.osi_class.proofs.Vocabulary.{AgreeZero, Flow, Standing, Given, Move, hand_in, give_out, take_in, hand_out, Moves}
+use Rattle.osi_class.proofs.Vocabulary.{AgreeZero, Flow, Standing, Given, Move, give_out, take_in, Moves}
 use Rattle.osi_class.proofs.giving.a_link_gives_finitely_many_units.{giving_leaves}
 use Rattle.osi_class.proofs.bounds.every_link_keeps_its_bounds.{move_same}
 

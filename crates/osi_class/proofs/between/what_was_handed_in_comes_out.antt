@@ -1,12 +1,11 @@
 -- If nothing is in flight and nothing is owed, what was handed in has been handed out; and what a link sends before its
 -- peer's link is opened.
-use Rattle.std.proofs.Common.{◌≡◌, ℕ, ◌<◌, List, [], ◌∷◌, ◌++◌, map, Option, Some, None, ◌⊎◌, inl, inr, refl, sym, ◌∙◌, ap, subst, arith}
+use Rattle.std.proofs.Common.{◌≡◌, ℕ, ◌<◌, List, [], ◌∷◌, ◌++◌, map, Option, Some, None, ◌⊎◌, refl, sym, ◌∙◌, ap, subst, arith}
 use Rattle.std.proofs.Common.{append_assoc}
 use Rattle.osi_class.proofs.Vocabulary.{flat_map, AllByRecursion, LinkPair, swapped, Turn, at_right, TurnsAlong, opposite, left_in}
-use Rattle.osi_class.proofs.Vocabulary.{right_out, given_by, parts_under_way, under_way, HasWholeTsdus, IsFresh, opened_pair, awaiting_pair}
-use Rattle.osi_class.proofs.Vocabulary.{OnlySends, IsQuiet, unit_numbers, ack_numbers, direction, Agree, AgreeZero, AgreeInClass, Flow}
-use Rattle.osi_class.proofs.Vocabulary.{Standing, Given, next_by, next, Move, hand_in, give_out, take_in, hand_out, MovesAlong, tsdu_in}
-use Rattle.osi_class.proofs.Vocabulary.{tsdus_in, Part, tsdus_after, uncut}
+use Rattle.osi_class.proofs.Vocabulary.{right_out, given_by, under_way, HasWholeTsdus, IsFresh, opened_pair, awaiting_pair, OnlySends}
+use Rattle.osi_class.proofs.Vocabulary.{IsQuiet, Agree, AgreeZero, AgreeInClass, Flow, Standing, Given, next_by, next, Move, hand_in}
+use Rattle.osi_class.proofs.Vocabulary.{give_out, MovesAlong, tsdu_in, tsdus_in, Part}
 use Rattle.osi_class.proofs.giving.when_nothing_is_given as nothing
 use Rattle.osi_class.proofs.between.parts_stay_in_order.{append_nil}
 use Rattle.osi_class.proofs.between.owed_acks_keep_the_counts.{nothing_under_way}
@@ -24,36 +23,17 @@ none_at s f is none = (nothing.class_2 s.ends f).0 (sym (ap (λ (o : Option Flow
 pub unsent_in_class_2 : (p : LinkPair) (units : ℕ) → 0 < units → Agree p units → p.rightward ≡ [] → p.leftward ≡ [] → next p.left ≡ None →
     next p.right ≡ None →
     p.left.ends.unsent ≡ []
-unsent_in_class_2 p units some a rightward leftward left right =
-    let l = a.left_flow in
-    let r = a.right_flow in
-    let at_right_end = none_at p.right r a.have.right right in
-    let at_left_end = none_at p.left l a.have.left left in
-    let all_open : l.sender.credit ≡ r.receiver.window = nothing_under_way (direction l p r) a.known a.in_step
-    (ap (λ (us : List Given). flat_map unit_numbers us) rightward) (ap (λ (us : List Given). flat_map ack_numbers us) leftward)
-    at_right_end.0 in
-    let window = a.window in
-    elim at_left_end.1 [
-      | inl none ↦ none
-      | inr closed ↦ absurd (omega (arith, all_open, window, closed))
-    ]
+unsent_in_class_2 p units some a rightward leftward left right = grind (arith, none_at, nothing_under_way)
 
 pub quiet_unsent : (p : LinkPair) → AgreeInClass p → IsQuiet p → p.left.ends.unsent ≡ []
-quiet_unsent p (inl a) quiet = unsent_in_class_0 p a quiet.left
-quiet_unsent p (inr (units, some, a)) quiet = unsent_in_class_2 p units some a quiet.rightward quiet.leftward quiet.left quiet.right
+quiet_unsent p h quiet = grind (arith, unsent_in_class_0, unsent_in_class_2)
 
 -- nothing is in flight if no unit is and nothing is unsent
 no_parts : (p : LinkPair) → p.rightward ≡ [] → p.left.ends.unsent ≡ [] → pending p ≡ []
-no_parts p rightward unsent =
-    ap (λ (us : List Given). parts_under_way us ++ uncut p.left.ends.unsent) rightward
-    ∙ ap (λ (ts : List (List ℕ)). uncut ts) unsent
+no_parts p rightward unsent = grind arith
 
 pub nothing_between : (p : LinkPair) → p.rightward ≡ [] → p.left.ends.unsent ≡ [] → p.right.ends.joining.whole ≡ [] → under_way p ≡ []
-nothing_between p rightward unsent handed_out =
-    let j = p.right.ends.joining in
-    ap (λ (ts : List (List ℕ)). j.whole ++ tsdus_after j.begun (parts_under_way p.rightward ++ uncut ts)) (append_nil p.left.ends.unsent)
-    ∙ ap (λ (ps : List Part). j.whole ++ tsdus_after j.begun ps) (no_parts p rightward unsent)
-    ∙ append_nil j.whole ∙ handed_out
+nothing_between p rightward unsent handed_out = grind (arith, append_nil, no_parts)
 
 pub nothing_begun : (p : LinkPair) → HasWholeTsdus p → p.rightward ≡ [] → p.left.ends.unsent ≡ [] → p.right.ends.joining.begun ≡ []
 nothing_begun p whole rightward unsent =
@@ -66,17 +46,12 @@ nothing_begun p whole rightward unsent =
 pub arrived : (old new : LinkPair) (turns : List Turn) → HasWholeTsdus old → under_way old ≡ [] → TurnsAlong old turns new →
     under_way new ≡ [] →
     flat_map left_in turns ≡ flat_map right_out turns
-arrived old new turns whole none run quiet =
-    sym (ap (λ (ts : List (List ℕ)). ts ++ flat_map left_in turns) none)
-    ∙ whole_kept old new turns whole run
-    ∙ ap (λ (ts : List (List ℕ)). flat_map right_out turns ++ ts) quiet
-    ∙ append_nil (flat_map right_out turns)
+arrived old new turns whole none run quiet = grind (arith, whole_kept, append_nil)
 
 pub quiet_arrived : (old new : LinkPair) (turns : List Turn) → HasWholeTsdus old → under_way old ≡ [] → TurnsAlong old turns new →
     AgreeInClass new → IsQuiet new →
     flat_map left_in turns ≡ flat_map right_out turns
-quiet_arrived old new turns whole none run agree quiet =
-    arrived old new turns whole none run (nothing_between new quiet.rightward (quiet_unsent new agree quiet) quiet.handed_out)
+quiet_arrived old new turns whole none run agree quiet = grind (arith, arrived, nothing_between, quiet_unsent)
 
 pub quiet_begun : (p : LinkPair) → HasWholeTsdus p → AgreeInClass p → IsQuiet p → p.right.ends.joining.begun ≡ []
 quiet_begun p whole agree quiet = nothing_begun p whole quiet.rightward (quiet_unsent p agree quiet)
@@ -85,20 +60,11 @@ quiet_begun p whole agree quiet = nothing_begun p whole quiet.rightward (quiet_u
 send_early : (left right new : Standing) (units : List Given) (moves : List Move) → AllByRecursion OnlySends moves →
     MovesAlong right moves new →
     TurnsAlong (awaiting_pair left right units) (map at_right moves) (awaiting_pair left new (units ++ flat_map given_by moves))
-send_early left right new units [] sends e =
-    ap (λ (s : Standing). awaiting_pair left s (units ++ [])) e ∙ ap (λ (us : List Given). awaiting_pair left right us) (append_nil units)
-send_early left right new units (hand_in tsdu ∷ moves) sends (mid, first, rest) = (
-  awaiting_pair left mid units,
-  record { moves = first; given = sym (append_nil units); comes = refl; right = refl },
-  send_early left mid new units moves sends.1 rest,
-)
-send_early left right new units (give_out unit ∷ moves) sends (mid, first, rest) = (
-  awaiting_pair left mid (units ++ unit ∷ []),
-  record { moves = first; given = refl; comes = refl; right = refl },
-  subst (λ (us : List Given). TurnsAlong (awaiting_pair left mid (units ++ unit ∷ [])) (map at_right moves) (awaiting_pair left new us))
-      (append_assoc units (unit ∷ []) (flat_map given_by moves))
-      (send_early left mid new (units ++ unit ∷ []) moves sends.1 rest),
-)
+send_early left right new units [] sends e = grind (arith, append_nil)
+send_early left right new units (hand_in tsdu ∷ moves) sends (mid, first, rest) =
+    grind (arith, append_nil, send_early left mid new units moves sends.1 rest)
+send_early left right new units (give_out unit ∷ moves) sends (mid, first, rest) =
+    grind (arith, append_assoc, send_early left mid new (units ++ unit ∷ []) moves sends.1 rest)
 send_early left right new units _ sends run = absurd sends.0
 
 pub sent_early : (left right new : Standing) (moves : List Move) → AllByRecursion OnlySends moves → MovesAlong right moves new →
@@ -131,13 +97,4 @@ pub early_under_way : (left right new : Standing) (moves : List Move) → IsFres
     MovesAlong right moves new →
     under_way (swapped (awaiting_pair left new (flat_map given_by moves))) ≡ tsdus_in moves
 early_under_way left right new moves a b sends run =
-    let old = opened_pair left right in
-    let after = awaiting_pair left new (flat_map given_by moves) in
-    let turns = map at_right moves in
-    let along = other_way old after turns (sent_early left right new moves sends run) in
-    let start = begins right left b a in
-    let kept = whole_kept (swapped old) (swapped after) (map opposite turns) start.0 along in
-    sym (ap (λ (ts : List (List ℕ)). ts ++ under_way (swapped after)) (none_out moves))
-    ∙ sym kept
-    ∙ ap (λ (ts : List (List ℕ)). ts ++ flat_map left_in (map opposite turns)) start.1
-    ∙ left_turns moves
+    grind (arith, other_way, whole_kept, sent_early left right new moves sends run, begins right left b a, none_out moves, left_turns moves)

@@ -1,9 +1,8 @@
 -- All that a link gives: a finite list of units.
-use Rattle.std.proofs.Common.{◌≡◌, ℕ, zero, suc, ◌-◌, ◌<◌, ◌≤◌, List, [], ◌∷◌, map, Option, Some, None, refl, sym, ◌∙◌, ap, arith, nat_lt}
-use Rattle.std.proofs.Common.{is_some, if◌then◌else◌, IfSome}
-use Rattle.osi_class.proofs.Vocabulary.{Ends, Flow, ack_number, after_acked, Drained, drained_by, drained_within, drained, left_to_give}
-use Rattle.osi_class.proofs.Vocabulary.{Standing, Given, ack, given_part, next_by, next, sent_flow, two_standing, is_of_two, give_out}
-use Rattle.osi_class.proofs.Vocabulary.{MovesAlong, Part, give}
+use Rattle.std.proofs.Common.{◌≡◌, ℕ, zero, suc, ◌-◌, ◌<◌, ◌≤◌, List, [], ◌∷◌, map, Option, Some, None, refl, ◌∙◌, ap, arith, is_some}
+use Rattle.std.proofs.Common.{IfSome}
+use Rattle.osi_class.proofs.Vocabulary.{Ends, Flow, Drained, drained_by, drained_within, drained, left_to_give, Standing, Given, given_part}
+use Rattle.osi_class.proofs.Vocabulary.{next_by, next, is_of_two, give_out, MovesAlong, Part}
 use Rattle.osi_class.proofs.giving.giving_ends.{giving_lowers}
 use Rattle.osi_class.proofs.between.parts_stay_in_order.{choose_some, at_some}
 
@@ -18,49 +17,31 @@ abbrev Leaves : Ends → Option Flow → Given × Standing → Type 0
 Leaves e flow (g, new) = LeavesTaking e flow g new
 
 zero_leaves : (e : Ends) (o : Option (Part × List (List ℕ))) → IfSome (given_part e None None o) (Leaves e None)
-zero_leaves e None = tt
-zero_leaves e (Some ((end, octets), rest)) = record { limit = refl; joining = refl; class = refl; unit = refl }
+zero_leaves e o = grind arith
 
 two_leaves : (e : Ends) (f g : Flow) (number : ℕ) (o : Option (Part × List (List ℕ))) →
     IfSome (given_part e (Some g) (Some number) o) (Leaves e (Some f))
-two_leaves e f g number None = tt
-two_leaves e f g number (Some ((end, octets), rest)) = record { limit = refl; joining = refl; class = refl; unit = refl }
+two_leaves e f g number o = grind arith
 
 next_leaves : (e : Ends) (flow : Option Flow) → IfSome (next_by e flow) (Leaves e flow)
-next_leaves e None = zero_leaves e (give e.limit e.unsent)
-next_leaves e (Some f) =
-    choose_some (Leaves e (Some f)) (nat_lt 0 f.receiver.waiting)
-    (Some (ack (ack_number f.receiver) f.receiver.window, two_standing e (record f { receiver = after_acked f.receiver })))
-    (if nat_lt 0 f.sender.credit then given_part e (Some (sent_flow f)) (Some f.sender.next) (give e.limit e.unsent) else None)
-    (λ _. record { limit = refl; joining = refl; class = refl; unit = refl })
-    (λ _. choose_some (Leaves e (Some f)) (nat_lt 0 f.sender.credit)
-    (given_part e (Some (sent_flow f)) (Some f.sender.next) (give e.limit e.unsent)) None
-    (λ _. two_leaves e f (sent_flow f) f.sender.next (give e.limit e.unsent))
-    (λ _. tt))
+next_leaves e flow = grind (arith, zero_leaves, choose_some, two_leaves)
 
 pub giving_leaves : (old new : Standing) (given : Given) → next old ≡ Some (given, new) → LeavesTaking old.ends old.flow given new
-giving_leaves old new given e =
-    at_some (Leaves old.ends old.flow) (next old) (given, new) (next_leaves old.ends old.flow) e
+giving_leaves old new given e = search (arith, at_some, next_leaves)
 
 limit_stays : (old new : Standing) (given : Given) → next old ≡ Some (given, new) → 0 < old.ends.limit → 0 < new.ends.limit
 limit_stays old new given e room = let same = (giving_leaves old new given e).limit in omega arith
 
 -- if nothing is left, nothing is given
 nothing_left : (s : Standing) → 0 < s.ends.limit → left_to_give s ≤ 0 → next s ≡ None
-nothing_left s room none =
-    elim (next s) as (λ o. next s ≡ o → o ≡ None) [
-      | None ↦ λ e. refl
-      | Some p ↦ λ e. let less = giving_lowers s p.1 p.0 room e in absurd (omega arith)
-    ] refl
+nothing_left s room none = grind (arith, giving_lowers)
 
 -- more fuel makes no difference
 within_enough : (n m : ℕ) (s : Standing) → 0 < s.ends.limit → left_to_give s ≤ n → left_to_give s ≤ m →
     drained_within n s ≡ drained_within m s
 within_enough zero zero s room a b = refl
-within_enough zero (suc m) s room a b =
-    sym (ap (λ (o : Option (Given × Standing)). drained_by o s (drained_within m)) (nothing_left s room a))
-within_enough (suc n) zero s room a b =
-    ap (λ (o : Option (Given × Standing)). drained_by o s (drained_within n)) (nothing_left s room b)
+within_enough zero (suc m) s room a b = grind (arith, nothing_left)
+within_enough (suc n) zero s room a b = grind (arith, nothing_left)
 within_enough (suc n) (suc m) s room a b =
     elim (next s) as (λ o. next s ≡ o → drained_by o s (drained_within n) ≡ drained_by o s (drained_within m)) [
       | None ↦ λ e. refl
@@ -70,8 +51,7 @@ within_enough (suc n) (suc m) s room a b =
     ] refl
 
 pub within_none : (n : ℕ) (s : Standing) → next s ≡ None → drained_within n s ≡ record { units = []; link = s }
-within_none zero s e = refl
-within_none (suc n) s e = ap (λ (o : Option (Given × Standing)). drained_by o s (drained_within n)) e
+within_none n s e = grind arith
 
 pub drained_none : (s : Standing) → next s ≡ None → drained s ≡ record { units = []; link = s }
 unfolding drained
@@ -81,12 +61,7 @@ drained_none s e = within_none (left_to_give s) s e
 first_step : (n : ℕ) (s t : Standing) (g : Given) → 0 < s.ends.limit → next s ≡ Some (g, t) → left_to_give s ≡ suc n →
     drained s ≡ record { units = g ∷ (drained t).units; link = (drained t).link }
 unfolding drained
-first_step n s t g room e is =
-    let less = giving_lowers s t g room e in
-    ap (λ (m : ℕ). drained_within m s) is
-    ∙ ap (λ (o : Option (Given × Standing)). drained_by o s (drained_within n)) e
-    ∙ ap (λ (d : Drained). record { units = g ∷ d.units; link = d.link })
-    (within_enough n (left_to_give t) t (limit_stays s t g e room) (omega arith) (omega arith))
+first_step n s t g room e is = grind (arith, giving_lowers, within_enough, limit_stays)
 
 pub drained_some : (s t : Standing) (g : Given) → 0 < s.ends.limit → next s ≡ Some (g, t) →
     drained s ≡ record { units = g ∷ (drained t).units; link = (drained t).link }

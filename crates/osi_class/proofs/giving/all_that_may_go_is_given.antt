@@ -16,8 +16,7 @@ pub more_units : (limit : ℕ) (t : List ℕ) (ts : List (List ℕ)) →
 more_units limit t ts = sum_by-cons (λ (t : List ℕ). parts_needed limit (length t)) t ts
 
 no_flow : (flow : Option Flow) → is_some flow ≡ false → flow ≡ None
-no_flow None e = refl
-no_flow (Some f) e = cc
+no_flow flow e = grind arith
 
 -- in class 0 nothing is left
 zero_goes : (e : Ends) (t : List ℕ) (others : List (List ℕ)) → 0 < e.limit → e.unsent ≡ [] → GoesWhole (zero_standing e) t others
@@ -133,14 +132,8 @@ some_at : {V : Type 0} (items : V → List ℕ) (limit i : ℕ) (vs : List V) (d
     units_needed limit (map items (take i vs)) + parts_needed limit (length (items (get_or vs i d))) ≤ units_needed limit (map items vs)
 some_at items limit i [] d within = absurd (omega arith)
 some_at items limit zero (v ∷ vs) d within = let all = more_units limit (items v) (map items vs) in omega (arith, all)
-some_at items limit (suc i) (v ∷ vs) d within =
-    let some = more_units limit (items v) (map items (take i vs)) in
-    let all = more_units limit (items v) (map items vs) in
-    let more = some_at items limit i vs d (omega arith) in
-    omega (arith, some, all, more)
+some_at items limit (suc i) (v ∷ vs) d within = grind (arith, more_units, some_at items limit i vs d (omega arith))
 
 pub some_of_all : {V : Type 0} (items : V → List ℕ) (limit i octets : ℕ) (vs : List V) (v : V) → i < length vs → v ≡ get_or vs i v →
     octets ≡ length (items v) → units_needed limit (map items (take i vs)) + parts_needed limit octets ≤ units_needed limit (map items vs)
-some_of_all items limit i octets vs v within is size =
-    let P : ℕ → Type 0 = λ n. units_needed limit (map items (take i vs)) + parts_needed limit n ≤ units_needed limit (map items vs) in
-    subst P (sym (size ∙ ap (λ x. length (items x)) is)) (some_at items limit i vs v within)
+some_of_all items limit i octets vs v within is size = grind (arith, some_at)

@@ -1,6 +1,6 @@
 -- The first TSDUs of a list and one more have no more octets than all of them.
 -- For `octets_of` of sending, which adds them up.
-use Rattle.std.proofs.Common.{◌≡◌, ℕ, zero, suc, ◌+◌, ◌<◌, ◌≤◌, List, [], ◌∷◌, length, take, map, get_or, sym, ◌∙◌, ap, subst, arith}
+use Rattle.std.proofs.Common.{◌≡◌, ℕ, zero, suc, ◌+◌, ◌<◌, ◌≤◌, List, [], ◌∷◌, length, take, map, get_or, arith}
 use Rattle.std.proofs.lemmas.List.Sums.{sum_by-cons}
 use Rattle.osi_class.specs.Tsdus.{octets_of_tsdus}
 
@@ -11,14 +11,8 @@ some_have : {V : Type 0} (items : V → List ℕ) (i : ℕ) (vs : List V) (d : V
     octets_of_tsdus (map items (take i vs)) + length (items (get_or vs i d)) ≤ octets_of_tsdus (map items vs)
 some_have items i [] d within = absurd (omega arith)
 some_have items zero (v ∷ vs) d within = let all = more_octets (items v) (map items vs) in omega (arith, all)
-some_have items (suc i) (v ∷ vs) d within =
-    let some = more_octets (items v) (map items (take i vs)) in
-    let all = more_octets (items v) (map items vs) in
-    let more = some_have items i vs d (omega arith) in
-    omega (arith, some, all, more)
+some_have items (suc i) (v ∷ vs) d within = grind (arith, more_octets, some_have items i vs d (omega arith))
 
 pub some_have_no_more : {V : Type 0} (items : V → List ℕ) (i octets : ℕ) (vs : List V) (v : V) → i < length vs → v ≡ get_or vs i v →
     octets ≡ length (items v) → octets_of_tsdus (map items (take i vs)) + octets ≤ octets_of_tsdus (map items vs)
-some_have_no_more items i octets vs v within is size =
-    let P : ℕ → Type 0 = λ n. octets_of_tsdus (map items (take i vs)) + n ≤ octets_of_tsdus (map items vs) in
-    subst P (sym (size ∙ ap (λ x. length (items x)) is)) (some_have items i vs v within)
+some_have_no_more items i octets vs v within is size = grind (arith, some_have)

@@ -1,7 +1,6 @@
 -- The octets of the units of one TSDU, at a link that had nothing more to give.
-use Rattle.std.proofs.Common.{◌≡◌, ℕ, zero, suc, ◌+◌, ◌-◌, ◌*◌, ◌/◌, ◌%◌, ◌<◌, ◌≤◌, true, false, List, [], ◌∷◌, ◌++◌, length, take, drop}
-use Rattle.std.proofs.Common.{Option, Some, None, inl, inr, refl, sym, ◌∙◌, ap, subst, arith, nat_lt, if◌then◌else◌, length-drop}
-use Rattle.std.proofs.Common.{length-append}
+use Rattle.std.proofs.Common.{◌≡◌, ℕ, zero, suc, ◌+◌, ◌-◌, ◌*◌, ◌%◌, ◌<◌, ◌≤◌, true, false, List, [], ◌∷◌, ◌++◌, length, take, drop, Some}
+use Rattle.std.proofs.Common.{None, inl, inr, refl, sym, ◌∙◌, ap, subst, arith, nat_lt, if◌then◌else◌, length-drop, length-append}
 use Rattle.osi_class.proofs.Vocabulary.{min, add-div_right, div-eq_of_lt, ltb-true, ltb-false, take-append-drop, Ends, Flow, drained_by}
 use Rattle.osi_class.proofs.Vocabulary.{drained_within, drained, octets_in, parts_needed, Joining, Standing, Given, given_part, next}
 use Rattle.osi_class.proofs.Vocabulary.{sent_flow, with_tsdu, zero_standing, two_standing, give}
@@ -14,9 +13,7 @@ Counts units count octets = (length units ≡ count) × (octets_in units ≡ oct
 
 -- a TSDU that is longer than a unit has one part more than its rest
 pub parts_cut : (limit octets : ℕ) → 0 < limit → limit < octets → parts_needed limit octets ≡ parts_needed limit (octets - limit) + 1
-parts_cut limit octets room longer =
-    let before : octets - 1 ≡ (octets - limit - 1) + limit = omega arith in
-    ap (λ (n : ℕ). n / limit + 1) before ∙ ap (λ (n : ℕ). n + 1) (add-div_right (octets - limit - 1) room)
+parts_cut limit octets room longer = grind (arith, add-div_right)
 
 pub one_part : (limit octets : ℕ) → 0 < limit → octets ≤ limit → parts_needed limit octets ≡ 1
 one_part limit octets room short = omega (arith, div-eq_of_lt)
@@ -66,10 +63,7 @@ two_with limit j t f = two_standing (record { limit = limit; unsent = t ∷ []; 
 
 pub more_credit : (c limit : ℕ) → 0 < c → c * limit ≡ limit + (c - 1) * limit
 more_credit zero limit some = absurd (omega arith)
-more_credit (suc c) limit some =
-    let same : suc c - 1 ≡ c = omega arith in
-    let one : suc c * limit ≡ limit + c * limit = omega arith in
-    one ∙ ap (λ (n : ℕ). limit + n * limit) (sym same)
+more_credit (suc c) limit some = grind arith
 
 -- with any credit, at least as many octets are given as every unit carries
 pub one_unit_carries : (credit limit octets parts : ℕ) → 123 ≤ limit → 0 < min parts credit → min 123 octets ≤ min octets (credit * limit)
@@ -77,8 +71,7 @@ one_unit_carries credit limit octets parts least some = let more = more_credit c
 
 pub no_tsdus : (limit : ℕ) (j : Joining) (a u c w x : ℕ) →
     next (two_standing (record { limit = limit; unsent = []; joining = j }) (two_flow a u c w x)) ≡ None
-no_tsdus limit j a u c w x =
-    elim (nat_lt 0 c) as (λ k. (if◌then◌else◌ {A = Option (Given × Standing)} k None None) ≡ None) [ true ↦ refl | false ↦ refl ]
+no_tsdus limit j a u c w x = grind arith
 
 two_counts : (limit : ℕ) → 0 < limit → (n a u c w x : ℕ) (t : List ℕ) (j : Joining) → length t + 1 ≤ n →
     Counts (drained_within n (two_with limit j t (two_flow a u c w x))).units (min (parts_needed limit (length t)) c)

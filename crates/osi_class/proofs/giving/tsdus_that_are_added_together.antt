@@ -1,9 +1,8 @@
 -- TSDUs that are added to those to be sent together.
-use Rattle.std.proofs.Common.{◌≡◌, ℕ, zero, suc, ◌<◌, ◌≤◌, Bool, true, false, List, [], ◌∷◌, ◌++◌, length, take, drop, map, Option, Some}
-use Rattle.std.proofs.Common.{None, refl, sym, ◌∙◌, ap, subst, arith, nat_lt, if◌then◌else◌}
-use Rattle.osi_class.proofs.Vocabulary.{append_assoc, Ends, Flow, ack_number, after_acked, Drained, drained, all_given, left_to_give}
-use Rattle.osi_class.proofs.Vocabulary.{given_one_by_one, one_by_one, Standing, Given, ack, with_tsdu, with_tsdus, next, next_by}
-use Rattle.osi_class.proofs.Vocabulary.{given_part, two_standing, sent_flow, hand_in, MovesAlong, Part, give}
+use Rattle.std.proofs.Common.{◌≡◌, ℕ, zero, suc, ◌<◌, ◌≤◌, List, [], ◌∷◌, ◌++◌, map, Option, Some, None, refl, sym, ◌∙◌, ap, arith}
+use Rattle.std.proofs.Common.{if◌then◌else◌}
+use Rattle.osi_class.proofs.Vocabulary.{append_assoc, Ends, Flow, Drained, drained, all_given, left_to_give, given_one_by_one, one_by_one}
+use Rattle.osi_class.proofs.Vocabulary.{Standing, Given, with_tsdu, with_tsdus, next, next_by, given_part, hand_in, MovesAlong, Part, give}
 use Rattle.osi_class.proofs.giving.giving_ends.{giving_lowers}
 use Rattle.osi_class.proofs.giving.a_link_gives_finitely_many_units.{giving_leaves, drained_none, drained_some}
 use Rattle.osi_class.proofs.between.parts_stay_in_order.{append_nil}
@@ -18,13 +17,7 @@ behind_gave t None = None
 behind_gave t (Some (p, more)) = Some (p, more ++ t ∷ [])
 
 give_behind : (limit : ℕ) (x t : List ℕ) (xs : List (List ℕ)) → give limit ((x ∷ xs) ++ t ∷ []) ≡ behind_gave t (give limit (x ∷ xs))
-give_behind limit x t xs = by (nat_lt limit (length x))
-  where
-    by : (b : Bool) →
-        (if◌then◌else◌ {A = Gave} b (Some ((false, take limit x), drop limit x ∷ (xs ++ t ∷ []))) (Some ((true, x), xs ++ t ∷ [])))
-        ≡ behind_gave t (if◌then◌else◌ {A = Gave} b (Some ((false, take limit x), drop limit x ∷ xs)) (Some ((true, x), xs)))
-    by true = refl
-    by false = refl
+give_behind limit x t xs = grind arith
 
 abbrev Next : Type 0
 Next = Option (Given × Standing)
@@ -35,38 +28,16 @@ behind_next t (Some (unit, s)) = Some (unit, with_tsdu s t)
 
 part_behind : (e : Ends) (flow : Option Flow) (number : Option ℕ) (t : List ℕ) (g : Gave) →
     given_part (record e { unsent = e.unsent ++ t ∷ [] }) flow number (behind_gave t g) ≡ behind_next t (given_part e flow number g)
-part_behind e flow number t None = refl
-part_behind e flow number t (Some (p, more)) = refl
+part_behind e flow number t g = grind arith
 
 given_behind : (e : Ends) (flow : Option Flow) (number : Option ℕ) (t : List ℕ) (xs : List (List ℕ)) (unit : Given) (s : Standing) →
     given_part e flow number (give e.limit xs) ≡ Some (unit, s) →
     given_part (record e { unsent = e.unsent ++ t ∷ [] }) flow number (give e.limit (xs ++ t ∷ [])) ≡ Some (unit, with_tsdu s t)
-given_behind e flow number t [] unit s h = absurd (cc)
-given_behind e flow number t (x ∷ xs) unit s h =
-    ap (given_part (record e { unsent = e.unsent ++ t ∷ [] }) flow number) (give_behind e.limit x t xs)
-    ∙ part_behind e flow number t (give e.limit (x ∷ xs)) ∙ ap (behind_next t) h
+given_behind e flow number t xs unit s h = grind (arith, give_behind, part_behind)
 
 next_behind : (e : Ends) (flow : Option Flow) (t : List ℕ) (unit : Given) (s : Standing) → next_by e flow ≡ Some (unit, s) →
     next_by (record e { unsent = e.unsent ++ t ∷ [] }) flow ≡ Some (unit, with_tsdu s t)
-next_behind e None t unit s h = given_behind e None None t e.unsent unit s h
-next_behind e (Some f) t unit s h = by (nat_lt 0 f.receiver.waiting) (nat_lt 0 f.sender.credit) h
-  where
-    by : (a c : Bool) →
-        (if◌then◌else◌ {A = Next} a
-        (Some (ack (ack_number f.receiver) f.receiver.window, two_standing e (record f { receiver = after_acked f.receiver })))
-        (if◌then◌else◌ {A = Next} c (given_part e (Some (sent_flow f)) (Some f.sender.next) (give e.limit e.unsent)) None)) ≡ Some
-        (unit, s) →
-        (if◌then◌else◌ {A = Next} a
-        (Some (
-          ack (ack_number f.receiver) f.receiver.window,
-          two_standing (record e { unsent = e.unsent ++ t ∷ [] }) (record f { receiver = after_acked f.receiver }),
-        ))
-        (if◌then◌else◌ {A = Next} c
-        (given_part (record e { unsent = e.unsent ++ t ∷ [] }) (Some (sent_flow f)) (Some f.sender.next)
-        (give e.limit (e.unsent ++ t ∷ []))) None)) ≡ Some (unit, with_tsdu s t)
-    by true c k = ap (behind_next t) k
-    by false true k = given_behind e (Some (sent_flow f)) (Some f.sender.next) t e.unsent unit s k
-    by false false k = absurd (cc)
+next_behind e flow t unit s h = grind (arith, given_behind)
 
 -- ---- all that is given of one more
 
@@ -90,11 +61,7 @@ end_given : (s : Standing) (t : List ℕ) → next s ≡ None → drained (with_
 end_given s t h = sym (ap (then_given t) (drained_none s h))
 
 one_behind : (n : ℕ) (s : Standing) (t : List ℕ) → 0 < s.ends.limit → left_to_give s ≤ n → drained (with_tsdu s t) ≡ both_given s t
-one_behind zero s t room le = at_end (next s) refl
-  where
-    at_end : (o : Next) → next s ≡ o → drained (with_tsdu s t) ≡ both_given s t
-    at_end None h = end_given s t h
-    at_end (Some (unit, x)) h = absurd (let l = giving_lowers s x unit room h in omega arith)
+one_behind zero s t room le = search (arith, end_given, giving_lowers)
 one_behind (suc n) s t room le = by (next s) refl (λ x r l. one_behind n x t r l)
   where
     by : (o : Next) → next s ≡ o → ((x : Standing) → 0 < x.ends.limit → left_to_give x ≤ n → drained (with_tsdu x t) ≡ both_given x t) →
@@ -118,15 +85,8 @@ put_none : (s : Standing) → with_tsdus s [] ≡ s
 put_none s = ap (λ (u : List (List ℕ)). record s { ends = record s.ends { unsent = u } }) (append_nil s.ends.unsent)
 
 many_behind : (s : Standing) (ts : List (List ℕ)) → 0 < s.ends.limit → drained (with_tsdus s ts) ≡ then_all ts (drained s)
-many_behind s [] room =
-    ap drained (put_none s) ∙ ap (λ (us : List Given). record { units = us; link = (drained s).link }) (sym (append_nil (all_given s)))
-many_behind s (t ∷ ts) room =
-    ap drained (sym (put_first s t ts))
-    ∙ many_behind (with_tsdu s t) ts room
-    ∙ ap (then_all ts) (one_behind (left_to_give s) s t room (omega arith))
-    ∙ ap (λ (us : List Given). record { units = us; link = one_by_one (drained s).link (t ∷ ts) })
-    (append_assoc (all_given s) (all_given (with_tsdu (drained s).link t))
-    (given_one_by_one (drained (with_tsdu (drained s).link t)).link ts))
+many_behind s [] room = grind (arith, put_none, append_nil)
+many_behind s (t ∷ ts) room = grind (arith, put_first, one_behind, append_assoc, many_behind (with_tsdu s t) ts room)
 
 pub many_at_once : (s : Standing) (ts : List (List ℕ)) → 0 < s.ends.limit → next s ≡ None →
     drained (with_tsdus s ts) ≡ record { units = given_one_by_one s ts; link = one_by_one s ts }
@@ -135,5 +95,4 @@ many_at_once s ts room quiet = many_behind s ts room ∙ ap (then_all ts) (drain
 -- the calls of send_tsdu that put them there
 pub many_moves : (s : Standing) (ts : List (List ℕ)) → MovesAlong s (map hand_in ts) (with_tsdus s ts)
 many_moves s [] = put_none s
-many_moves s (t ∷ ts) =
-    (with_tsdu s t, refl, subst (MovesAlong (with_tsdu s t) (map hand_in ts)) (put_first s t ts) (many_moves (with_tsdu s t) ts))
+many_moves s (t ∷ ts) = grind (arith, put_first, many_moves (with_tsdu s t) ts)

@@ -1,17 +1,13 @@
 -- An upper bound on the octets of the units that a link gives.
 use Rattle.std.proofs.Common.{◌≡◌, ℕ, zero, suc, ◌+◌, ◌-◌, ◌*◌, ◌<◌, ◌≤◌, true, false, List, [], ◌∷◌, length, take, drop, map, get_or}
-use Rattle.std.proofs.Common.{Option, Some, None, refl, sym, ◌∙◌, ap, subst, arith, nat_lt, if◌then◌else◌, IfSome, length-drop}
+use Rattle.std.proofs.Common.{Option, Some, None, refl, arith, IfSome, length-drop}
 use Rattle.std.proofs.lemmas.List.Sums.{sum_by-cons}
-use Rattle.osi_class.proofs.Vocabulary.{min, ltb-true, ltb-false, length-take-le, Ends, Flow, ack_number, after_acked, drained_by}
-use Rattle.osi_class.proofs.Vocabulary.{drained_within, drained, all_given, left_to_give, octets_of, octets_in, parts_needed}
-use Rattle.osi_class.proofs.Vocabulary.{octets_in_parts, most_by, most_given, Standing, Given, ack, given_part, next_by, next, two_standing}
-use Rattle.osi_class.proofs.Vocabulary.{sent_flow, Part, give}
+use Rattle.osi_class.proofs.Vocabulary.{min, ltb-true, length-take-le, Ends, Flow, drained_by, drained_within, drained, all_given}
+use Rattle.osi_class.proofs.Vocabulary.{left_to_give, octets_of, octets_in, parts_needed, octets_in_parts, most_by, most_given, Standing}
+use Rattle.osi_class.proofs.Vocabulary.{Given, given_part, next_by, next, sent_flow, Part, give}
 use Rattle.osi_class.proofs.giving.a_link_gives_finitely_many_units.{giving_leaves}
 use Rattle.osi_class.proofs.between.parts_stay_in_order.{choose_some, at_some}
 use Rattle.osi_class.proofs.giving.the_units_of_one_tsdu.{more_credit, one_part, parts_cut}
-
-one_more : (n headers : ℕ) → (n + 1) * headers ≡ headers + n * headers
-one_more n headers = omega arith
 
 -- one part less
 less_parts : (headers limit : ℕ) (tsdu : List ℕ) (more : List (List ℕ)) →
@@ -26,33 +22,14 @@ Parts headers limit unsent (p, rest) =
 
 cut_parts : (headers limit : ℕ) (t : List ℕ) (more : List (List ℕ)) → 0 < limit → limit < length t →
     Parts headers limit (t ∷ more) ((false, take limit t), drop limit t ∷ more)
-cut_parts headers limit t more room longer =
-    let front : length (take limit t) ≡ limit = length-take-le limit t (omega arith) in
-    let behind = length-drop limit t in
-    let before = less_parts headers limit t more in
-    let after = less_parts headers limit (drop limit t) more in
-    let count : parts_needed limit (length t) ≡ parts_needed limit (length (drop limit t)) + 1 =
-    parts_cut limit (length t) room longer ∙ ap (λ (m : ℕ). parts_needed limit m + 1) (sym behind) in
-    let headed : parts_needed limit (length t) * headers ≡ headers + parts_needed limit (length (drop limit t)) * headers =
-    ap (λ (n : ℕ). n * headers) count ∙ (let m : ℕ = parts_needed limit (length (drop limit t)) in one_more m headers) in
-    (omega (arith, front, behind, before, after, headed), omega (arith, front))
+cut_parts headers limit t more room longer = grind (arith, length-take-le, length-drop, less_parts, parts_cut)
 
 whole_parts : (headers limit : ℕ) (t : List ℕ) (more : List (List ℕ)) → 0 < limit → length t ≤ limit →
     Parts headers limit (t ∷ more) ((true, t), more)
-whole_parts headers limit t more room short =
-    let before = less_parts headers limit t more in
-    let count : parts_needed limit (length t) ≡ 1 = one_part limit (length t) room short in
-    let headed : parts_needed limit (length t) * headers ≡ headers = ap (λ (n : ℕ). n * headers) count ∙
-    (let one : 1 * headers ≡ headers = omega arith in one) in
-    (omega (arith, before, headed), short)
+whole_parts headers limit t more room short = grind (arith, less_parts, one_part)
 
 give_parts : (headers limit : ℕ) → 0 < limit → (unsent : List (List ℕ)) → IfSome (give limit unsent) (Parts headers limit unsent)
-give_parts headers limit room [] = tt
-give_parts headers limit room (t ∷ more) =
-    choose_some (Parts headers limit (t ∷ more)) (nat_lt limit (length t)) (Some ((false, take limit t), drop limit t ∷ more))
-    (Some ((true, t), more))
-    (λ b. cut_parts headers limit t more room (ltb-true limit (length t) b))
-    (λ b. whole_parts headers limit t more room (ltb-false limit (length t) b))
+give_parts headers limit room unsent = grind (arith, cut_parts, whole_parts)
 
 -- the next unit, with its headers, and what may be given after it are at most what might be given
 abbrev Within : ℕ → ℕ → Given × Standing → Type 0
@@ -60,8 +37,7 @@ Within headers most (unit, new) = octets_of unit + headers + most_given headers 
 
 zero_within : (headers : ℕ) (e : Ends) (o : Option (Part × List (List ℕ))) → IfSome o (Parts headers e.limit e.unsent) →
     IfSome (given_part e None None o) (Within headers (most_by headers e None))
-zero_within headers e None parts = tt
-zero_within headers e (Some ((end, octets), rest)) parts = let all = parts.0 in omega arith
+zero_within headers e o parts = grind arith
 
 -- a part goes for one unit of credit
 part_within : (waits octets headers limit left all credit : ℕ) → octets + headers + left ≡ all → octets ≤ limit → 0 < credit →
@@ -71,11 +47,7 @@ part_within waits octets headers limit left all credit is short some = omega (ar
 two_within : (headers : ℕ) (e : Ends) (f : Flow) (o : Option (Part × List (List ℕ))) → IfSome o (Parts headers e.limit e.unsent) →
     0 < f.sender.credit →
     IfSome (given_part e (Some (sent_flow f)) (Some f.sender.next) o) (Within headers (most_by headers e (Some f)))
-two_within headers e f None parts some = tt
-two_within headers e f (Some ((end, octets), rest)) parts some =
-    part_within (f.receiver.waiting * headers) (length octets) headers e.limit (octets_in_parts headers e.limit rest)
-    (octets_in_parts headers e.limit e.unsent)
-    f.sender.credit parts.0 parts.1 some
+two_within headers e f o parts some = grind (arith, part_within)
 
 ack_within : (waiting headers more : ℕ) → 0 < waiting → 0 + headers + ((waiting - 1) * headers + more) ≤ waiting * headers + more
 ack_within waiting headers more some = let fewer = more_credit waiting headers some in omega (arith, fewer)
@@ -83,17 +55,7 @@ ack_within waiting headers more some = let fewer = more_credit waiting headers s
 next_within : (headers : ℕ) (e : Ends) (flow : Option Flow) → 0 < e.limit →
     IfSome (next_by e flow) (Within headers (most_by headers e flow))
 next_within headers e None room = zero_within headers e (give e.limit e.unsent) (give_parts headers e.limit room e.unsent)
-next_within headers e (Some f) room =
-    let most = most_by headers e (Some f) in
-    choose_some (Within headers most) (nat_lt 0 f.receiver.waiting)
-    (Some (ack (ack_number f.receiver) f.receiver.window, two_standing e (record f { receiver = after_acked f.receiver })))
-    (if nat_lt 0 f.sender.credit then given_part e (Some (sent_flow f)) (Some f.sender.next) (give e.limit e.unsent) else None)
-    (λ t. ack_within f.receiver.waiting headers (min (octets_in_parts headers e.limit e.unsent) (f.sender.credit * (e.limit + headers)))
-    (ltb-true 0 f.receiver.waiting t))
-    (λ _. choose_some (Within headers most) (nat_lt 0 f.sender.credit)
-    (given_part e (Some (sent_flow f)) (Some f.sender.next) (give e.limit e.unsent)) None
-    (λ t. two_within headers e f (give e.limit e.unsent) (give_parts headers e.limit room e.unsent) (ltb-true 0 f.sender.credit t))
-    (λ _. tt))
+next_within headers e (Some f) room = search (arith, choose_some, ack_within, ltb-true, two_within, give_parts)
 
 giving_within : (headers : ℕ) (old new : Standing) (unit : Given) → 0 < old.ends.limit → next old ≡ Some (unit, new) →
     octets_of unit + headers + most_given headers new ≤ most_given headers old
@@ -139,7 +101,4 @@ pub some_of_all : {V : Type 0} (items : V → List ℕ) (headers limit i octets 
     octets ≡ length (items v) →
     octets_in_parts headers limit (map items (take i vs)) + (octets + parts_needed limit octets * headers) ≤ octets_in_parts headers limit
     (map items vs)
-some_of_all items headers limit i octets vs v within is size =
-    let P : ℕ → Type 0 = λ n. octets_in_parts headers limit (map items (take i vs)) + (n + parts_needed limit n * headers)
-    ≤ octets_in_parts headers limit (map items vs) in
-    subst P (sym (size ∙ ap (λ x. length (items x)) is)) (some_at items headers limit i vs v within)
+some_of_all items headers limit i octets vs v within is size = grind (arith, some_at)

@@ -1,6 +1,6 @@
 -- Histories: how many points they have, how these are numbered, and what a restart leaves.
 -- For the calls and units that add points or cut them.
-use Rattle.std.proofs.Common.{◌≡◌, refl, sym, ◌∙◌, ap, ℕ, zero, suc, ◌+◌, ◌-◌, ◌≤◌, List, [], ◌∷◌, ◌++◌, arith}
+use Rattle.std.proofs.Common.{◌≡◌, refl, ap, ℕ, zero, suc, ◌+◌, ◌-◌, ◌≤◌, List, [], ◌∷◌, ◌++◌, arith}
 use Rattle.osi_machine.specs.Histories.{Item, Octets, Point, PointKind, points, upto, cutat, AreNumberedFrom}
 
 pub points_append : (h k : List Item) → points (h ++ k) ≡ points h + points k
@@ -61,9 +61,7 @@ points_upto_least (suc k) (Point n kind octets ∷ h) = let e = points_upto_leas
 
 -- a restart leaves equally many points of two histories with equally many points
 pub cut_points : (a b n : ℕ) (g h : List Item) → a ≡ b → points g ≡ points h → points (cutat a g n) ≡ points (cutat b h n)
-cut_points a b n g h e q =
-    ap (λ (x : ℕ). points (cutat x g n)) e ∙ points_upto_least (n - b) g ∙ ap (λ (x : ℕ). (n - b) - ((n - b) - x)) q
-    ∙ sym (points_upto_least (n - b) h)
+cut_points a b n g h e q = grind (arith, points_upto_least)
 
 pub one_point_more : (m n : ℕ) (t v : List Item) (k : PointKind) (octets : List ℕ) → points t ≡ points v
     → points (t ++ Point m k octets ∷ []) ≡ points (v ++ Point n k octets ∷ [])

@@ -1,6 +1,6 @@
 -- What holds in each phase, or in each pair of phases, by one computation; cases by a test.
 -- For every proof that looks at a phase.
-use Rattle.std.proofs.Common.{◌≡◌, refl, Bool, true, false, not, ◌&&◌, ◌||◌, ◌⊎◌, if◌then◌else◌, inl, inr, arith}
+use Rattle.std.proofs.Common.{◌≡◌, refl, Bool, true, false, not, ◌&&◌, ◌||◌, ◌⊎◌, if◌then◌else◌, arith}
 use Rattle.osi_machine.specs.Floor.{Phase, WaitTransport, WaitCn, Connecting, Answering, Ready, MajorAsked, MajorDue, Releasing, ReleaseDue}
 use Rattle.osi_machine.specs.Floor.{Restarting, RestartDue, Aborting, Ended}
 
@@ -45,26 +45,20 @@ implied_both m f g h p q k l = implied_two (λ p q. m p q && f p q) g h p q (rw 
 
 -- by whether a test holds
 pub by_test : {A : Type 0} → (b : Bool) → (b ≡ true → A) → (b ≡ false → A) → A
-by_test true h k = h refl
-by_test false h k = k refl
+by_test b h k = grind arith
 
 -- one of two statements holds
 pub by_either : {A B C : Type 0} → A ⊎ B → (A → C) → (B → C) → C
-by_either (inl a) f g = f a
-by_either (inr b) f g = g b
+by_either h f g = grind arith
 
 pub if_yes : {A : Type 0} → (b : Bool) (x y : A) → b ≡ true → (if b then x else y) ≡ x
-if_yes true x y e = refl
-if_yes false x y e = absurd (cc)
+if_yes b x y e = grind arith
 
 pub if_no : {A : Type 0} → (b : Bool) (x y : A) → b ≡ false → (if b then x else y) ≡ y
-if_no true x y e = absurd (cc)
-if_no false x y e = refl
+if_no b x y e = grind arith
 
 pub if_first : {A : Type 0} → (b : Bool) (x y : A) → y ≡ x → (if b then x else y) ≡ x
-if_first true x y e = refl
-if_first false x y e = e
+if_first b x y e = grind arith
 
 pub if_second : {A : Type 0} → (b : Bool) (x y : A) → x ≡ y → (if b then x else y) ≡ y
-if_second true x y e = e
-if_second false x y e = refl
+if_second b x y e = grind arith

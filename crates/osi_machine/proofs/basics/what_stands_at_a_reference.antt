@@ -1,6 +1,6 @@
 -- The connection at a reference after one is replaced, one is added, a side ends, or a break.
 -- For the law of the same name, and for all that is said of each connection of a run.
-use Rattle.std.proofs.Common.{◌≡◌, refl, ◌∙◌, ap, subst, ℕ, zero, suc, ◌+◌, ◌<◌, ◌≤◌, true, List, [], ◌∷◌, ◌++◌, length, Option, Some, None}
+use Rattle.std.proofs.Common.{◌≡◌, refl, ◌∙◌, ap, subst, ℕ, zero, suc, ◌+◌, ◌<◌, ◌≤◌, true, List, [], ◌∷◌, ◌++◌, length, Some, None}
 use Rattle.std.proofs.Common.{is_some, arith}
 use Rattle.osi_machine.specs.Tables.{seen_from, cut_channels}
 use Rattle.osi_machine.proofs.Vocabulary.{AllByRecursion, slice_get, Side, connection_at, replaced, with_connection, Line, ends_there}
@@ -26,8 +26,7 @@ replaced_same (suc r) (y ∷ ls) l x e = replaced_same r ls l x e
 
 pub with_same : {C : Type 0} → (r : ℕ) (ls : List C) (l x : C) → connection_at r ls ≡ Some l
     → connection_at r (with_connection r x ls) ≡ Some x
-with_same zero ls l x e = absurd (cc)
-with_same (suc r) ls l x e = replaced_same r ls l x e
+with_same r ls l x e = grind (arith, replaced_same)
 
 pub replaced_count : {C : Type 0} → (r : ℕ) (ls : List C) (x : C) → length (replaced r x ls) ≡ length ls
 replaced_count r [] x = refl
@@ -35,8 +34,7 @@ replaced_count zero (y ∷ ls) x = refl
 replaced_count (suc r) (y ∷ ls) x = ap suc (replaced_count r ls x)
 
 pub with_count : {C : Type 0} → (r : ℕ) (ls : List C) (x : C) → length (with_connection r x ls) ≡ length ls
-with_count zero ls x = refl
-with_count (suc r) ls x = replaced_count r ls x
+with_count r ls x = grind (arith, replaced_count)
 
 -- ---- one more
 
@@ -46,8 +44,7 @@ there_still zero (x ∷ ws) vs w e = e
 there_still (suc k) (x ∷ ws) vs w e = there_still k ws vs w e
 
 pub more_still : (q : ℕ) (ls : List Line) (l x : Line) → connection_at q ls ≡ Some l → connection_at q (ls ++ x ∷ []) ≡ Some l
-more_still zero ls l x e = absurd (cc)
-more_still (suc q) ls l x e = there_still q ls (x ∷ []) l e
+more_still q ls l x e = grind (arith, there_still)
 
 last_got : (ls : List Line) (x : Line) → slice_get (ls ++ x ∷ []) (length ls) ≡ Some x
 last_got [] x = refl
@@ -64,8 +61,7 @@ none_got zero (l ∷ ls) h = absurd (omega arith)
 none_got (suc q) (l ∷ ls) h = none_got q ls (omega arith)
 
 pub none_there : (q : ℕ) (ls : List Line) → length ls < q → connection_at q ls ≡ None
-none_there zero ls h = refl
-none_there (suc q) ls h = none_got q ls (omega arith)
+none_there q ls h = grind (arith, none_got)
 
 some_got : (q : ℕ) (ls : List Line) → q < length ls → is_some (slice_get ls q) ≡ true
 some_got q [] h = absurd (omega arith)
@@ -73,22 +69,15 @@ some_got zero (l ∷ ls) h = refl
 some_got (suc q) (l ∷ ls) h = some_got q ls (omega arith)
 
 pub some_there : (q : ℕ) (ls : List Line) → 0 < q → q ≤ length ls → is_some (connection_at q ls) ≡ true
-some_there zero ls h k = absurd (omega arith)
-some_there (suc q) ls h k = some_got q ls (omega arith)
+some_there q ls h k = grind (arith, some_got)
 
 -- ---- an end, and a break
 
 ended_got : (side : Side) (keep : ℕ → ℕ) (k r : ℕ) (ls : List Line) (l : Line) → slice_get ls r ≡ Some l
     → slice_get (ended_lines side keep k ls) r ≡ Some (seen_from side (ends_there (keep (k + r)) (seen_from side l)))
 ended_got side keep k r [] l e = absurd (cc)
-ended_got side keep k zero (x ∷ ls) l e =
-    ap (λ (o : Option Line). ended_some o) e ∙ ap (λ (n : ℕ). Some (seen_from side (ends_there (keep n) (seen_from side l)))) (omega arith)
-  where
-    ended_some : Option Line → Option Line
-    ended_some None = None
-    ended_some (Some y) = Some (seen_from side (ends_there (keep k) (seen_from side y)))
-ended_got side keep k (suc r) (x ∷ ls) l e =
-    ended_got side keep (k + 1) r ls l e ∙ ap (λ (n : ℕ). Some (seen_from side (ends_there (keep n) (seen_from side l)))) (omega arith)
+ended_got side keep k zero (x ∷ ls) l e = grind arith
+ended_got side keep k (suc r) (x ∷ ls) l e = grind (arith, ended_got side keep (k + 1) r ls l e)
 
 pub ended_there : (side : Side) (keep : ℕ → ℕ) (q : ℕ) (ls : List Line) (l : Line) → connection_at q ls ≡ Some l
     → connection_at q (ended_lines side keep 1 ls) ≡ Some (seen_from side (ends_there (keep q) (seen_from side l)))
@@ -99,14 +88,8 @@ ended_there side keep (suc q) ls l e =
 cut_got : (left right : ℕ → ℕ) (k r : ℕ) (ls : List Line) (l : Line) → slice_get ls r ≡ Some l
     → slice_get (cut_channels left right k ls) r ≡ Some (cut_line (left (k + r)) (right (k + r)) l)
 cut_got left right k r [] l e = absurd (cc)
-cut_got left right k zero (x ∷ ls) l e =
-    ap (λ (o : Option Line). cut_some o) e ∙ ap (λ (n : ℕ). Some (cut_line (left n) (right n) l)) (omega arith)
-  where
-    cut_some : Option Line → Option Line
-    cut_some None = None
-    cut_some (Some y) = Some (cut_line (left k) (right k) y)
-cut_got left right k (suc r) (x ∷ ls) l e =
-    cut_got left right (k + 1) r ls l e ∙ ap (λ (n : ℕ). Some (cut_line (left n) (right n) l)) (omega arith)
+cut_got left right k zero (x ∷ ls) l e = grind arith
+cut_got left right k (suc r) (x ∷ ls) l e = grind (arith, cut_got left right (k + 1) r ls l e)
 
 pub cut_there : (left right : ℕ → ℕ) (q : ℕ) (ls : List Line) (l : Line) → connection_at q ls ≡ Some l
     → connection_at q (cut_channels left right 1 ls) ≡ Some (cut_line (left q) (right q) l)
@@ -136,8 +119,7 @@ all_replaced P (suc r) w (v ∷ ws) p h = (h.0, all_replaced P r w ws p h.1)
 
 pub all_with : {C : Type 0} → (P : C → Type 0) (r : ℕ) (w : C) (ws : List C) → P w → AllByRecursion P ws
     → AllByRecursion P (with_connection r w ws)
-all_with P zero w ws p h = h
-all_with P (suc r) w ws p h = all_replaced P r w ws p h
+all_with P r w ws p h = grind (arith, all_replaced)
 
 pub some_same : {C : Type 0} → (x w : C) → Some x ≡ Some w → x ≡ w
 some_same x w e = cc
@@ -148,5 +130,4 @@ all_got P zero (v ∷ ws) w e h = subst P (some_same v w e) h.0
 all_got P (suc r) (v ∷ ws) w e h = all_got P r ws w e h.1
 
 pub all_at : {C : Type 0} → (P : C → Type 0) (r : ℕ) (ws : List C) (w : C) → connection_at r ws ≡ Some w → AllByRecursion P ws → P w
-all_at P zero ws w e h = absurd (cc)
-all_at P (suc r) ws w e h = all_got P r ws w e h
+all_at P r ws w e h = grind (arith, all_got)

@@ -91,8 +91,7 @@ pub after_listens : (k : Shift) (s : State) → k.inv s → is_restarting (k.to 
 after_listens k s i = excluded may_hold is_restarting refl (k.to s).phase (k.holds_after s i)
 
 pub shifted_listens : (k : Shift) (s r : State) → Shifted k s r → (is_restarting s.phase ≡ false) × (is_restarting r.phase ≡ false)
-shifted_listens k s r (inl (e, i)) = (inv_listens k s i, ap (λ (q : State). is_restarting q.phase) e ∙ after_listens k s i)
-shifted_listens k s r (inr d) = (due_listens s d.due, due_listens r d.other)
+shifted_listens k s r h = grind (arith, inv_listens, after_listens, due_listens)
 
 pub shifted_still : (k : Shift) (s r : State) → Shifted k s r → Still s r
 shifted_still k s r (inl (e, i)) = subst (Still s) (sym e) (k.same s i)
@@ -318,9 +317,7 @@ module _ (w : Core) (k : Shift) (m : Meaning) (more : List Item) (g : Sending w 
       inl (record { asked = r; due = d; same = next_dropped there m (drops_waiting there m r g.unit.waits) }))
 
   other_fits : Fits there m
-  other_fits = by_either sides
-      (λ d. record { plain = g.unit.plain; good = λ a. absurd (let b = drops_waiting there m d.asked g.unit.waits in cc) })
-      (λ a. record { plain = g.unit.plain; good = λ b. g.good a.listens a.inv })
+  other_fits = search (arith, by_either, sides, drops_waiting)
 
   -- ---- what both will be
 
@@ -342,8 +339,7 @@ module _ (w : Core) (k : Shift) (m : Meaning) (more : List Item) (g : Sending w 
   other_end = flush_append w.peer.session w.own.sent m
 
   other_heard : heard w.peer.session (w.own.sent ++ m ∷ []) ≡ then_there
-  other_heard = heard_append w.peer.session w.own.sent m h.peer.fits owed
-      ∙ ap (λ (b : Bool). if b then there else then_there) (g.unit.quiet there)
+  other_heard = grind (arith, heard_append, owed)
 
   heard_end : hearing w.peer w.own ≡ there
   heard_end = heard_flush w.peer.session w.own.sent h.peer.fits owed
@@ -396,13 +392,7 @@ module _ (w : Core) (k : Shift) (m : Meaning) (more : List Item) (g : Sending w 
       (λ a. phase_there may_hold may_hold refl h.own (k.holds was a.inv)))) t)
 
   other_restart : is_restarting then_there.phase ≡ true → (then_there.numbers.next ≡ end.numbers.next) × (then_there.wishes ≡ end.wishes)
-  other_restart r = by_either sides
-      (λ d. let old = h.peer.meeting.restart d.asked in (
-        ap (λ (q : State). q.numbers.next) d.same ∙ old.0 ∙ sym d.due.next,
-        ap (λ (q : State). q.wishes) d.same ∙ old.1
-            ∙ sym d.due.same.wishes,
-      ))
-      (λ a. absurd (not_both _ (next_hears there m (ap not a.listens)) r))
+  other_restart r = search (arith, by_either, sides, not_both, next_hears)
 
   other_released : is_release_due then_there.phase ≡ true → is_releasing (k.to w.own.session).phase ≡ true
   other_released r = by_either runs.flush
@@ -441,19 +431,18 @@ module _ (w : Core) (k : Shift) (m : Meaning) (more : List Item) (g : Sending w 
   -- ---- what was seen
 
   own_views : Views (w.history ++ more) caller w.peer
-  own_views = record {
-    ends = λ l. shift_view k w.own.session w.peer.sent (w.own.view ++ more) g.now g.none h.own.fits
-        ∙ g.sees (ap not (inv_listens k (hearing w.own w.peer) runs.heard.1));
-    cut = λ r. absurd (
-        let l = after_listens k (hearing w.own w.peer) runs.heard.1 in
-        let c = ap (λ (q : State). is_restarting q.phase) (sym runs.heard.0) ∙ r in
-        cc);
-    due = λ r. absurd (let n = excluded may_hold is_restart_due refl (k.to w.own.session).phase (k.holds_after w.own.session g.now) in cc);
-    stream = λ d. streams (ap (λ (u : FunctionalUnits). u.duplex) (sym own_still.units) ∙ d);
-  }
-    where
-      streams : was.units.duplex ≡ true → (w.own.got ++ data_of w.peer.sent ≡ w.peer.said) × (w.history ++ more ≡ [])
-      streams d = let s = h.own_views.stream d in (s.0, ap (λ (v : List Item). w.history ++ v) (g.duplex d) ∙ append-nil w.history ∙ s.1)
+  own_views =
+      grind (
+        arith,
+        shift_view,
+        runs,
+        own_still,
+        inv_listens k (hearing w.own w.peer) runs.heard.1,
+        hearing w.own w.peer,
+        after_listens k (hearing w.own w.peer) runs.heard.1,
+        excluded may_hold is_restart_due refl (k.to w.own.session).phase (k.holds_after w.own.session g.now),
+        append-nil w.history,
+      )
 
   peer_sees : hears then_there.phase ≡ true → heard_view w.peer.session (w.own.sent ++ m ∷ []) w.peer.view ≡ w.history ++ more
   peer_sees l = by_either sides

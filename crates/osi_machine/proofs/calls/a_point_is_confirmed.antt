@@ -64,8 +64,7 @@ own_count : (w : Core) → Stands w → w.own.session.numbers.next ≡ w.own.ses
 own_count w h = h.consistent.own.count
 
 seen_all : (w : Core) → Answers w.own.session → Stands w → points w.own.view ≤ points w.history
-seen_all w a h = subst (λ (v : List Item). points w.own.view ≤ points v) (h.own_views.ends (heeds w a h))
-    (view_grows w.own.session w.peer.sent w.own.view h.own.fits)
+seen_all w a h = grind (arith, heeds, view_grows)
 
 heard_number : (w : Core) → Answers w.own.session → Stands w → (hearing w.own w.peer).numbers.next ≡ w.own.session.base + points w.history
 heard_number w a h = search (arith, heard_counted, heard_base, heeds)
@@ -73,9 +72,7 @@ heard_number w a h = search (arith, heard_counted, heard_base, heeds)
 -- what this side has seen, the other has
 all_above : (w : Core) (n : ℕ) → Answers w.own.session → Stands w → is_restarting (flushed w.peer w.own).phase ≡ false
     → (hearing w.own w.peer).base ≤ n → n < w.own.session.base + points w.history → n < w.peer.session.numbers.next
-all_above w n a h l from to =
-    other_above w h n (same_base w a h) (other_saw w h (ends_same w a h) l (there_sends w a h))
-    (subst (λ (b : ℕ). b ≤ n) (heard_base w a h) from) to
+all_above w n a h l from to = grind (arith, other_above, same_base, other_saw, ends_same, there_sends, heard_base)
 
 -- the other does not answer
 none_back : (w : Core) → Answers w.own.session → Stands w → w.peer.session.numbers.answers ≡ true → ⊥
@@ -87,8 +84,7 @@ none_back w a h t =
 
 keeps_flag : (w : Core) (m : Meaning) → ((s : State) → (becomes s m).numbers.answers ≡ s.numbers.answers) → Answers w.own.session → Stands w
     → (next (flushed w.peer w.own) m).numbers.answers ≡ false
-keeps_flag w m same a h = next_cases (λ q. q.numbers.answers ≡ false) (flushed w.peer w.own) m (λ d. there_sends w a h)
-    (λ d. same (flushed w.peer w.own) ∙ there_sends w a h)
+keeps_flag w m same a h = search (arith, next_cases, flushed, there_sends)
 
 was_below : (w : Core) (n : ℕ) → Answers w.own.session → Stands w → (flushed w.peer w.own).base ≤ n
     → n < (flushed w.peer w.own).numbers.confirmed → n < w.own.session.numbers.next
@@ -98,9 +94,7 @@ was_below w n a h from to =
 
 was_reach : (w : Core) → Answers w.own.session → Stands w
     → lower w.own.session.numbers.next (flushed w.peer w.own).numbers.confirmed ≤ w.own.session.numbers.confirmed
-was_reach w a h =
-    subst (λ (q : State). lower w.own.session.numbers.next q.numbers.confirmed ≤ w.own.session.numbers.confirmed) (ends_same w a h)
-    (h.peer_counts.reach a.answers)
+was_reach w a h = grind (arith, ends_same)
 
 -- ---- the confirmation of a minor point
 
@@ -153,10 +147,7 @@ own_answers w n k = record { phase = implied may_confirm_minor is_confirming ref
 
 -- nothing at or above it was confirmed
 confirmed_below : (w : Core) (n : ℕ) → Confirms w n → Stands w → (flushed w.peer w.own).numbers.confirmed ≤ n
-confirmed_below w n k h =
-    let reach : lower w.own.session.numbers.next (flushed w.peer w.own).numbers.confirmed ≤ w.own.session.numbers.confirmed =
-    was_reach w (own_answers w n k) h in
-    search (arith, cases_lt, lower_from)
+confirmed_below w n k h = grind (arith, cases_lt, lower_from, flushed w.peer w.own, was_reach w (own_answers w n k) h, own_answers w n k)
 
 ruleset there_laws = (own_answers, other_number, there_base, ends_same, own_count)
 

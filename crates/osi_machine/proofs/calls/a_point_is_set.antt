@@ -55,11 +55,9 @@ unfolding point_sent
 point_good p k s (DT o) d pl e g = absurd (not_both (has s.held data_token) g.met.0 d)
 point_good p k s (GT j) d pl e g = record { expected = k.asks; met = g.met }
 point_good p k s (PT j o) d pl e g = record { expected = k.please; met = g.met }
-point_good p k s (MIP c n o) d pl e g = absurd
-    (not_both (has s.held data_token) (and_parts (not (has s.held data_token)) (not (has s.held minor)) g.met.1.0).0 d)
+point_good p k s (MIP c n o) d pl e g = grind (arith, not_both, and_parts)
 point_good p k s (MIA n o) d pl e g = record { expected = k.acks; met = (g.met.0, (still_acks p s.numbers n g.met.1.0, tt)) }
-point_good p k s (MAP n o) d pl e g = absurd (not_both (has s.held data_token)
-    (and_parts (not (has s.held data_token)) (not (has s.held minor) && not (has s.held major)) g.met.1.0).0 d)
+point_good p k s (MAP n o) d pl e g = grind (arith, not_both, and_parts)
 point_good p k s (RS j n w o) d pl e g = search (arith, excluded, still_below)
 point_good p k s (FN o) d pl e g = absurd (let a = empty_has s.held data_token g.met.0 in cc)
 point_good p k s _ d pl e g = absurd (let a = g.expected in cc)
@@ -72,24 +70,15 @@ same_numbers v n e = grind arith
 point_step : (p : Phase) (s : State) (u : Meaning) → Speaks s → is_plain u ≡ true → Good (in_phase Ready s) u → stops s u ≡ false
     → (becomes (sent_in p s) u ≡ sent_in p (becomes s u)) × Speaks (becomes s u)
 point_step p s (DT o) i pl g st = (refl, i)
-point_step p s (GT j) i pl g st = (
-  refl,
-  record {
-    phase = i.phase;
-    held = united_has s.held j data_token
-        ∙ or_left (has s.held data_token) (has j data_token) i.held;
-  },
-)
+point_step p s (GT j) i pl g st = search (arith, united_has, or_left)
 point_step p s (PT j o) i pl g st = (refl, i)
-point_step p s (MIP c n o) i pl g st = absurd
-    (not_both (has s.held data_token) (and_parts (not (has s.held data_token)) (not (has s.held minor)) g.met.1.0).0 i.held)
+point_step p s (MIP c n o) i pl g st = grind (arith, not_both, and_parts)
 point_step p s (MIA n o) i pl g st =
     let a = and_parts (not s.numbers.answers) (nat_le s.numbers.confirmed n && nat_lt n s.numbers.next) g.met.1.0 in (
       ap (λ (v : Numbers). record s { phase = p; numbers = v }) (same_numbers s.numbers n (not-true s.numbers.answers a.0)),
       record { phase = i.phase; held = i.held },
     )
-point_step p s (MAP n o) i pl g st = absurd (not_both (has s.held data_token)
-    (and_parts (not (has s.held data_token)) (not (has s.held minor) && not (has s.held major)) g.met.1.0).0 i.held)
+point_step p s (MAP n o) i pl g st = grind (arith, not_both, and_parts)
 point_step p s (RS j n w o) i pl g st = absurd (let t = listening_stands s n (ap is_restarting i.phase) in cc)
 point_step p s (FN o) i pl g st = absurd (let a = empty_has s.held data_token g.met.0 in let b = i.held in cc)
 point_step p s _ i pl g st = absurd (let a = g.expected in cc)
@@ -115,8 +104,7 @@ pub record Points (w : Core) : Type 0 where
 
 -- half-duplex, and so the data token is held
 is_half : (u : FunctionalUnits) → IsOfProfile u → (u.minor ≡ true) ⊎ (u.major ≡ true) → u.duplex ≡ false
-is_half u p k = by_test u.duplex
-    (λ e. absurd (let d = p.alone e in elim k [ inl m ↦ (let n = d.0 in cc) | inr m ↦ (let n = d.1 in cc) ])) (λ e. e)
+is_half u p k = grind (arith, by_test)
 
 has_data : (u : FunctionalUnits) → IsOfProfile u → u.duplex ≡ false → has (available u) data_token ≡ true
 unfolding available
@@ -175,8 +163,7 @@ module _ (w : Core) (a : Points w) (h : Stands w) where
   own_units = end_units w.owner w.own w.peer h.own open_now
 
   no_duplex : here.units.duplex ≡ false
-  no_duplex = is_half here.units h.pair.profile
-      (subst (λ (u : FunctionalUnits). (u.minor ≡ true) ⊎ (u.major ≡ true)) (sym own_units) a.selected)
+  no_duplex = grind (arith, is_half, own_units)
 
   holds_data : has w.own.session.held data_token ≡ true
   holds_data = search (arith, own_units, has_data, is_half)
@@ -196,8 +183,7 @@ module _ (w : Core) (a : Points w) (h : Stands w) where
   all_seen = sym (nothing_to_see w.own.session w.peer.sent w.own.view holding h.own.fits) ∙ h.own_views.ends heeds
 
   point_sees : (more : List Item) → heard_view w.own.session w.peer.sent (w.own.view ++ more) ≡ w.history ++ more
-  point_sees more = nothing_to_see w.own.session w.peer.sent (w.own.view ++ more) holding h.own.fits
-      ∙ ap (λ (v : List Item). v ++ more) all_seen
+  point_sees more = grind (arith, nothing_to_see, holding, all_seen)
 
   own_number : w.own.session.numbers.next ≡ w.own.session.base + points w.history
   own_number = h.consistent.own.count ∙ ap (λ (v : List Item). w.own.session.base + points v) all_seen

@@ -66,10 +66,7 @@ release_good : (s : State) (u : Meaning) → ((t : Token) → HasRight s t) → 
     → Good (in_phase Ready s) u → Good (in_phase Releasing s) u
 unfolding available
 release_good s (DT o) right f p e g = record { expected = refl; met = g.met }
-release_good s (GT k) right f p e g = absurd (
-    let a = and_parts (is_within k (available s.units)) (is_disjoint k s.held) g.met.0 in
-    let n = none_to_come s k right a.0 a.1 in
-    cc)
+release_good s (GT k) right f p e g = grind (arith, and_parts, none_to_come)
 release_good s (PT k o) right f p e g = record { expected = refl; met = g.met }
 release_good s (MIP c n o) right f p e g = absurd (
     let l = and_parts (not (has s.held data_token)) (not (has s.held minor)) g.met.1.0 in
@@ -87,14 +84,9 @@ release_step : (s : State) (u : Meaning) → Releases s → is_finish u ≡ fals
     → (becomes (in_phase Releasing s) u ≡ in_phase Releasing (becomes s u)) × Releases (becomes s u)
 unfolding available
 release_step s (DT o) i f p e g st = (refl, i)
-release_step s (GT k) i f p e g st = absurd (
-    let a = and_parts (is_within k (available s.units)) (is_disjoint k s.held) g.met.0 in
-    let n = none_to_come s k i.right a.0 a.1 in
-    cc)
+release_step s (GT k) i f p e g st = grind (arith, and_parts, none_to_come)
 release_step s (PT k o) i f p e g st = (refl, i)
-release_step s (MIP c n o) i f p e g st = absurd (
-    let l = and_parts (not (has s.held data_token)) (not (has s.held minor)) g.met.1.0 in
-    not_both (has s.held minor) l.1 (has_it s minor (i.right minor) g.met.0))
+release_step s (MIP c n o) i f p e g st = grind (arith, and_parts, not_both, has_it)
 release_step s (MIA n o) i f p e g st = (refl, record { phase = i.phase; right = i.right })
 release_step s (MAP n o) i f p e g st = absurd (
     let l = and_parts (not (has s.held data_token)) (not (has s.held minor) && not (has s.held major)) g.met.1.0 in
@@ -306,13 +298,11 @@ release_stands w octets q h =
 
 refusal_good : (s : State) (u : Meaning) → is_plain u ≡ true → has_no_effect u ≡ false → Good (in_phase ReleaseDue s) u
     → Good (in_phase Ready s) u
-refusal_good s (RS j n w o) p e g = record { expected = refl; met = g.met }
-refusal_good s _ p e g = absurd (let a = g.expected in cc)
+refusal_good s u p e g = grind arith
 
 refusal_step : (s : State) (u : Meaning) → s.phase ≡ ReleaseDue → is_plain u ≡ true → Good (in_phase ReleaseDue s) u → stops s u ≡ false
     → (becomes (in_phase Ready s) u ≡ in_phase Ready (becomes s u)) × ((becomes s u).phase ≡ ReleaseDue)
-refusal_step s (RS j n w o) i p g st = absurd (let t = listening_stands s n (ap is_restarting i) in cc)
-refusal_step s _ i p g st = absurd (let a = g.expected in cc)
+refusal_step s u i p g st = grind (arith, listening_stands)
 
 abbrev refusal_shift : Shift
 refusal_shift = record {

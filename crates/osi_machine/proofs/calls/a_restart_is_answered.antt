@@ -1,19 +1,17 @@
 -- The call of RestartConfirm keeps the invariant of both sides.
 -- For each_step_keeps_both_sides.
-use Rattle.std.proofs.Common.{◌≡◌, refl, sym, ◌∙◌, ap, subst, ℕ, Bool, true, false, not, ◌&&◌, if◌then◌else◌, List, [], ◌∷◌, ◌++◌, Ok}
-use Rattle.std.proofs.Common.{arith}
+use Rattle.std.proofs.Common.{◌≡◌, refl, sym, ◌∙◌, ap, subst, ℕ, true, false, not, ◌&&◌, List, [], ◌∷◌, ◌++◌, Ok, arith}
 use Rattle.osi_machine.proofs.Vocabulary.{append-nil, eq-eqb, and_from, TokenSetting, State, FunctionalUnits, Sides, Ready, Meaning, RA}
 use Rattle.osi_machine.proofs.Vocabulary.{Tokens, Token, has, available, settle, setting_of, of_answerer, is_restarting, is_restart_due}
-use Rattle.osi_machine.proofs.Vocabulary.{may_hold, RestartConfirm, becomes, next, turned_owners, settled_by, Fits, flush, heard}
-use Rattle.osi_machine.proofs.Vocabulary.{heard_view, data_of, Party, Core, answered, AreConsistent}
+use Rattle.osi_machine.proofs.Vocabulary.{may_hold, RestartConfirm, becomes, next, turned_owners, settled_by, Fits, flush, heard, Party}
+use Rattle.osi_machine.proofs.Vocabulary.{Core, answered, AreConsistent}
 use Rattle.osi_machine.proofs.basics.what_holds_in_each_phase.{excluded, implied_two}
 use Rattle.osi_machine.proofs.channels.a_unit_is_dropped_bad_or_acted_on.{none_due, next_acted, and_false}
 use Rattle.osi_machine.proofs.channels.what_every_unit_in_flight_keeps.{fit_append, flush_append, heard_append, view_append, data_append}
 use Rattle.osi_machine.proofs.channels.a_deaf_side_acts_on_nothing.{AllEmpty, all_empty, empty_laws, empty_view, deaf_end, deaf_heard}
 use Rattle.osi_machine.proofs.channels.a_deaf_side_acts_on_nothing.{deaf_view, empty_end, empty_heard}
 use Rattle.osi_machine.proofs.channels.a_held_token_keeps_units_out.{none_held}
-use Rattle.osi_machine.proofs.invariant.what_holds_of_both_sides.{flushed, hearing, Meeting, Half, Views, Counting, Counts, IsOfProfile}
-use Rattle.osi_machine.proofs.invariant.what_holds_of_both_sides.{Pair, Stands}
+use Rattle.osi_machine.proofs.invariant.what_holds_of_both_sides.{flushed, hearing, Meeting, Half, Views, Counting, Counts, Pair, Stands}
 use Rattle.osi_machine.proofs.calls.a_unit_that_changes_no_state.{list_any_append}
 use Rattle.osi_machine.proofs.calls.an_answer_settles_the_tokens.{settled_answers, answerer_there, asker_holds, own_held, own_wanted}
 use Rattle.osi_machine.proofs.calls.an_answer_settles_the_tokens.{own_absent, their_held, their_wanted, their_absent}
@@ -46,9 +44,7 @@ restarted w a o = becomes (flushed w.peer w.own) (answer w.own.session a o)
 
 module _ (w : Core) (due : is_restart_due w.own.session.phase ≡ true) (s : Stands w) where
   none_under_way : AllEmpty w.peer.sent
-  none_under_way =
-      all_empty w.own.session w.peer.sent (λ u p. none_due w.own.session.phase u due p)
-      (excluded is_restart_due is_restarting refl w.own.session.phase due) s.own.fits
+  none_under_way = grind (arith, all_empty, none_due, excluded)
 
   own_end : flushed w.own w.peer ≡ w.own.session
   own_end = empty_end w.own.session w.peer.sent none_under_way
@@ -85,8 +81,7 @@ answer_fits : (w : Core) (a : Sides) (o : List ℕ) → is_restart_due w.own.ses
 answer_fits w a o due s = search (arith, other_waits, eq-eqb, own_end, other_units, other_wishes, settled_answers)
 
 end_after : (w : Core) (a : Sides) (o : List ℕ) → flush w.peer.session (w.own.sent ++ answer w.own.session a o ∷ []) ≡ restarted w a o
-end_after w a o = flush_append w.peer.session w.own.sent (answer w.own.session a o)
-    ∙ answer_next (flushed w.peer w.own) w.own.session.numbers.next (setting_of (settle w.own.session.units w.own.session.wishes a)) o
+end_after w a o = grind (arith, flush_append, answer_next, flushed)
 
 heard_after : (w : Core) (a : Sides) (o : List ℕ) → is_restart_due w.own.session.phase ≡ true → Stands w
     → heard w.peer.session (w.own.sent ++ answer w.own.session a o ∷ []) ≡ restarted w a o
@@ -143,26 +138,21 @@ module _ (w : Core) (a : Sides) (o : List ℕ) (due : is_restart_due w.own.sessi
   own_views = search (arith, none_under_way, own_heard, excluded, empty_view, empty_heard, own_end, empty_end)
 
   peer_views : Views (w.history ++ []) w.peer (answerer w.own a o)
-  peer_views = record {
-    ends = λ l. view_append w.peer.session w.own.sent u w.peer.view s.peer.fits (other_owes_none w due s)
-        ∙ ap (λ (b : Bool). if b then heard_view w.peer.session w.own.sent w.peer.view else heard_view w.peer.session w.own.sent
-        w.peer.view) (and_false (is_restarting (flushed w.peer w.own).phase))
-        ∙ deaf_view w.peer.session w.own.sent w.peer.view (other_waits w due s) s.peer.fits
-        ∙ s.own_views.due due ∙ sym (append-nil w.history);
-    cut = λ c. absurd (let e = ap (λ (q : State). is_restarting q.phase) (sym (heard_after w a o due s)) ∙ c in cc);
-    due = λ d. absurd (let e = excluded is_restarting is_restart_due refl w.peer.session.phase (other_asks w due s) in cc);
-    stream = λ d. streams (s.peer_views.stream (ap (λ (q : State). q.units.duplex) (sym (end_after w a o)) ∙ d));
-  }
-    where
-      u : Meaning
-      u = answer w.own.session a o
-
-      streams : (w.peer.got ++ data_of w.own.sent ≡ w.own.said) × (w.history ≡ [])
-          → (w.peer.got ++ data_of (w.own.sent ++ answer w.own.session a o ∷ []) ≡ w.own.said ++ []) × (w.history ++ [] ≡ [])
-      streams old = (
-        ap (λ (d : List (List ℕ)). w.peer.got ++ d) (data_append w.own.sent (u ∷ []) ∙ append-nil (data_of w.own.sent)) ∙ old.0
-            ∙ sym (append-nil w.own.said),
-        append-nil w.history ∙ old.1,
+  peer_views =
+      grind (
+        arith,
+        view_append,
+        other_owes_none,
+        and_false,
+        flushed,
+        deaf_view,
+        other_waits,
+        append-nil,
+        heard_after,
+        excluded,
+        other_asks,
+        end_after,
+        data_append,
       )
 
   -- ---- the numbers
@@ -184,10 +174,7 @@ module _ (w : Core) (a : Sides) (o : List ℕ) (due : is_restart_due w.own.sessi
   -- ---- both at once
 
   pair_kept : Pair (w.history ++ []) (answerer w.own a o) w.peer
-  pair_kept =
-      let r = confirmed w.own.session a in
-      let end = empty_end r w.peer.sent (none_under_way w due s) in
-      grind (arith, own_end, flushed, append-nil, list_any_append, IsOfProfile)
+  pair_kept = grind (arith, empty_end, none_under_way, own_end, flushed, append-nil, list_any_append)
 
   -- ---- the call
 

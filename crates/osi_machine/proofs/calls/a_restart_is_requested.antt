@@ -8,7 +8,7 @@ use Rattle.osi_machine.proofs.Vocabulary.{heard_view, lt-ltb, le-ltb, le-leb, eq
 use Rattle.osi_machine.proofs.Vocabulary.{FunctionalUnits, Restarting, may_restart, takes_restart, is_connecting, without_tokens, points}
 use Rattle.osi_machine.proofs.Vocabulary.{hears, Core, is_opening, append-nil, leb-true, has, available, is_release_due, is_restartable}
 use Rattle.osi_machine.proofs.Vocabulary.{offered, Restart, IsSound, cutat, Begins, Owner, turned_owner, turned_owners, is_own, is_to_own}
-use Rattle.osi_machine.proofs.Vocabulary.{is_absent, own_to_pool, given_up, data_of, Party, answered, AreConsistent}
+use Rattle.osi_machine.proofs.Vocabulary.{is_absent, own_to_pool, given_up, Party, answered, AreConsistent}
 use Rattle.osi_machine.proofs.basics.what_holds_in_each_phase.{excluded, if_first, by_test, implied, implied_two}
 use Rattle.osi_machine.proofs.basics.what_a_restart_leaves_of_a_history.{upto_append}
 use Rattle.osi_machine.proofs.channels.a_unit_is_dropped_bad_or_acted_on.{fit_cases, next_dropped, none_due, restart_due, and_false}
@@ -111,8 +111,7 @@ pub record Met (a b : State) : Type 0 where
   pub other_connect : is_connecting b.phase ≡ false
 
 turn_met : (a b : State) → Met a b → Met b a
-turn_met a b m =
-    record { meets = m.turned; turned = m.meets; restart = m.back; back = m.restart; connect = m.other_connect; other_connect = m.connect }
+turn_met a b m = grind arith
 
 meets_one : (a b : State) (n : ℕ) (w : TokenSetting) → is_restarting a.phase ≡ true → a.numbers.next ≡ n → a.wishes ≡ w → stands b n ≡ true
     → Met a (crossed b n w)
@@ -195,9 +194,7 @@ module _ (w : Core) (n : ℕ) (t : TokenSetting) (o : List ℕ) (q : Restarts w 
   begun = excluded may_restart is_opening refl w.own.session.phase q.phase
 
   pub flows : Flow w.own.session (asked w.own.session n t) w.peer.sent
-  flows = restart_flow w.own.session (asked w.own.session n t) w.peer.sent
-      (record { lives = implied may_restart is_lively refl w.own.session.phase q.phase; asked = refl; units = refl; base = refl })
-      s.own.fits
+  flows = search (arith, restart_flow, is_lively, implied may_restart is_lively refl w.own.session.phase q.phase)
 
   -- the other side will owe it no answer
   pub not_due : is_restart_due fy.phase ≡ false
@@ -241,31 +238,10 @@ module _ (w : Core) (n : ℕ) (t : TokenSetting) (o : List ℕ) (q : Restarts w 
       kept_heard (λ (r : State). hears r.phase ≡ true) (λ r u h f. next_hears r u h) w.own.session w.peer.sent (ap not listens) s.own.fits
 
   other_top : is_restarting fy.phase ≡ false → n ≤ fy.numbers.next
-  other_top l =
-      let e = other_heard in
-      let heeds = ap (λ (r : State). hears r.phase) e ∙ ap not l in
-      let all = listener_count w.history w.peer w.own s.consistent.peer s.peer.fits s.peer_views heeds in
-      let there = sym (ap (λ (r : State). r.numbers.next) e) ∙ all ∙ ap (λ (r : State). r.base + points w.history) e in
-      let base = other_base in
-      let seen = begins_points w.own.view w.history (listener_begins w.history w.own w.peer s.own_views own_hears) in
-      let count = s.consistent.own.count in
-      let top = q.top in
-      omega arith
+  other_top l = grind (arith, other_heard, listener_count, other_base, begins_points, listener_begins, own_hears)
 
   pub restart_fits : Fits fy (RS resync.Restart n t o)
-  restart_fits = record {
-    plain = refl;
-    good = λ d. record {
-      expected = elim flows.end [
-        | inl e ↦ (other_takes e.0).0
-        | inr e ↦ implied is_restarting takes_restart refl fy.phase (other_asked e.0)
-      ];
-      met = (
-        (rw (ap (λ (u : FunctionalUnits). u.resynchronize) other_units ∙ q.selected) refl),
-        (restart_met fy n (subst (λ (b : ℕ). b ≤ n) (sym other_base) q.low) other_top, tt),
-      );
-    };
-  }
+  restart_fits = search (arith, flows, other_takes, implied, other_asked, other_units, restart_met, other_base, other_top)
 
   -- ---- both sides after the call
 
@@ -340,43 +316,10 @@ module _ (w : Core) (n : ℕ) (t : TokenSetting) (o : List ℕ) (q : Restarts w 
 
   own_views : Views (w.history ++ []) asks w.peer
   unfolding restarted_at
-  own_views = record {
-    ends = λ l. absurd (let e = subst (λ (r : State). hears r.phase ≡ true) flows.heard l in cc);
-    cut = λ c.
-        let le = subst (λ (k : ℕ). n ≤ k) s.consistent.own.count q.top in
-        same_cut w.own.session.base n w.own.view w.history (listener_begins w.history w.own w.peer s.own_views own_hears) le
-        ∙ ap (λ (h : List Item). cutat w.own.session.base h n) (sym (append-nil w.history));
-    due = λ d. absurd (cc);
-    stream = λ d.
-        let k = s.own_views.stream (ap (λ (u : FunctionalUnits). u.duplex) (was_units ∙ sym own_units) ∙ d) in
-        (k.0, append-nil w.history ∙ k.1);
-  }
+  own_views = grind (arith, flows, same_cut, listener_begins, own_hears, append-nil, was_units, own_units)
 
   peer_views : Views (w.history ++ []) w.peer asks
-  peer_views = record {
-    ends = λ l. view_restart w.peer.session w.own.sent resync.Restart n t o w.peer.view s.peer.fits not_due
-        ∙ s.peer_views.ends (subst (λ (r : State). hears r.phase ≡ true) other_before l) ∙ sym (append-nil w.history);
-    cut = λ c. s.peer_views.cut (subst (λ (r : State). is_restarting r.phase ≡ true) other_before c)
-        ∙ ap (λ (h : List Item). cutat w.peer.session.base h w.peer.session.numbers.next) (sym (append-nil w.history));
-    due = λ d. absurd (
-        let e = due_end w.peer.session w.own.sent d s.peer.fits in
-        let f = subst (λ (r : State). is_restart_due r.phase ≡ true) (sym e) d in
-        let g = not_due in
-        cc);
-    stream = λ d. streams (s.peer_views.stream (duplex d));
-  }
-    where
-      duplex : (flush w.peer.session (w.own.sent ++ RS resync.Restart n t o ∷ [])).units.duplex ≡ true → fy.units.duplex ≡ true
-      duplex d = ap (λ (u : FunctionalUnits). u.duplex) (sym (crossed_units fy n t)) ∙ ap (λ (r : State). r.units.duplex) (sym other_end)
-          ∙ d
-
-      streams : (w.peer.got ++ data_of w.own.sent ≡ w.own.said) × (w.history ≡ [])
-          → (w.peer.got ++ data_of (w.own.sent ++ RS resync.Restart n t o ∷ []) ≡ w.own.said ++ []) × (w.history ++ [] ≡ [])
-      streams old = (
-        ap (λ (d : List (List ℕ)). w.peer.got ++ d) (data_append w.own.sent (RS resync.Restart n t o ∷ [])
-            ∙ append-nil (data_of w.own.sent)) ∙ old.0 ∙ sym (append-nil w.own.said),
-        append-nil w.history ∙ old.1,
-      )
+  peer_views = grind (arith, view_restart, not_due, other_before, append-nil, due_end, crossed_units, other_end, data_append)
 
   -- ---- the numbers
 
@@ -445,6 +388,4 @@ in_range s n sound h = grind (arith, and_parts, leb-true, below_if)
 
 pub restart_stands : (w : Core) (n : ℕ) (wishes : TokenSetting) (o : List ℕ) → IsGranted w (Restart n wishes o) → Stands w
     → Stands (answered w (Restart n wishes o) (Ok (granted w.own.session (Restart n wishes o))))
-restart_stands w n wishes o p s =
-    let range = in_range w.own.session n s.consistent.own.sound p.needed.1.0 in
-    all_kept w n wishes o (record { phase = p.phase; selected = p.needed.0; low = range.0; top = range.1 }) s p.kept
+restart_stands w n wishes o p s = grind (arith, all_kept, in_range w.own.session n s.consistent.own.sound p.needed.1.0)

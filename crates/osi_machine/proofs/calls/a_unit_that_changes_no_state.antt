@@ -6,8 +6,8 @@ use Rattle.osi_machine.proofs.Vocabulary.{list_any, State, FunctionalUnits, Mean
 use Rattle.osi_machine.proofs.Vocabulary.{has_right, is_within, is_ready, may_ask, may_hold, takes_data, takes_please, is_restarting}
 use Rattle.osi_machine.proofs.Vocabulary.{is_restart_due, becomes, Item, Owners, Owner, turned_owner, turned_owners, is_own, is_to_own}
 use Rattle.osi_machine.proofs.Vocabulary.{is_absent, seen, Fits, AllFit, flush, heard, hears, heard_view, Party, is_opening, not_from_false}
-use Rattle.osi_machine.proofs.Vocabulary.{append-nil, Data, drops, Octets, Point, cutat, AreNumberedFrom, view_next, data_of, Core}
-use Rattle.osi_machine.proofs.Vocabulary.{answered, IsConsistent, AreConsistent, and_from, not-true, and_right, Please, needs_token}
+use Rattle.osi_machine.proofs.Vocabulary.{append-nil, Data, Octets, Point, cutat, AreNumberedFrom, data_of, Core, answered, IsConsistent}
+use Rattle.osi_machine.proofs.Vocabulary.{AreConsistent, and_from, not-true, and_right, Please, needs_token}
 use Rattle.osi_machine.proofs.basics.what_holds_in_each_phase.{implied, excluded, if_first, by_either, implied_two}
 use Rattle.osi_machine.proofs.basics.what_a_restart_leaves_of_a_history.{cut_append}
 use Rattle.osi_machine.proofs.channels.a_unit_is_dropped_bad_or_acted_on.{next_cases, next_hears}
@@ -17,8 +17,8 @@ use Rattle.osi_machine.proofs.channels.what_every_unit_in_flight_keeps.{data_app
 use Rattle.osi_machine.proofs.channels.a_deaf_side_acts_on_nothing.{not_both}
 use Rattle.osi_machine.proofs.channels.a_held_token_keeps_units_out.{flush_open, is_lively, ends_lively, is_talking, Talks, ends_talking}
 use Rattle.osi_machine.proofs.channels.a_held_token_keeps_units_out.{nothing_to_see, none_needs}
-use Rattle.osi_machine.proofs.invariant.what_holds_of_both_sides.{flushed, hearing, Half, Views, Counting, Counts, IsOfProfile, Pair}
-use Rattle.osi_machine.proofs.invariant.what_holds_of_both_sides.{Stands, phase_there}
+use Rattle.osi_machine.proofs.invariant.what_holds_of_both_sides.{flushed, hearing, Half, Views, Counts, IsOfProfile, Pair, Stands}
+use Rattle.osi_machine.proofs.invariant.what_holds_of_both_sides.{phase_there}
 
 -- ---- a unit that changes no state
 
@@ -47,13 +47,11 @@ peer_half o x y m v said idle f h = search (arith, fit_append, flush_idle, heard
 
 pub own_counts : (x y : Party) (m : Meaning) (v : List Item) (said : List (List ℕ)) → IsIdle m → AllFit y.session x.sent
     → AllFit y.session (x.sent ++ m ∷ []) → Counts x y → Counts (sending x m v said) y
-own_counts x y m v said idle f more h =
-    subst (λ (r : State). Counting x.session (hearing x y) r y.session) (sym (heard_idle m idle y.session x.sent f more)) h
+own_counts x y m v said idle f more h = grind (arith, hearing, heard_idle)
 
 pub peer_counts : (x y : Party) (m : Meaning) (v : List Item) (said : List (List ℕ)) → IsIdle m → AllFit y.session x.sent
     → AllFit y.session (x.sent ++ m ∷ []) → Counts y x → Counts y (sending x m v said)
-peer_counts x y m v said idle f more h =
-    subst (λ (r : State). Counting y.session r (hearing x y) x.session) (sym (heard_idle m idle y.session x.sent f more)) h
+peer_counts x y m v said idle f more h = grind (arith, hearing, heard_idle)
 
 -- ---- a token that a side holds, or that is not available
 
@@ -194,8 +192,7 @@ none_owed o x y h asked = search (arith, hears_kept, not-true, implied_two, and_
 
 -- what is added, and what is seen of it
 pub said_seen : (b : Bool) (h : List Item) (i : Item) → (if b then h else h ++ i ∷ []) ≡ h ++ (if b then [] else i ∷ [])
-said_seen true h i = sym (append-nil h)
-said_seen false h i = refl
+said_seen b h i = grind (arith, append-nil)
 
 numbered_octets : (d : Bool) (b : ℕ) (h : List Item) (octets : List ℕ) → AreNumberedFrom b h
     → AreNumberedFrom b (h ++ (if d then [] else Octets octets ∷ []))
@@ -235,25 +232,20 @@ peer_sees : (o : Owners) (h : List Item) (x y : Party) (octets : List ℕ) → H
     → AllFit y.session (x.sent ++ DT octets ∷ []) → Views h y x → hears (heard y.session (x.sent ++ DT octets ∷ [])).phase ≡ true
     → heard_view y.session (x.sent ++ DT octets ∷ []) y.view ≡ h ++ added x.session octets
 peer_sees o h x y octets a b ready more k listens =
-    let owed = none_owed o x y a (listens_of x ready) in
-    let same = heard_idle (DT octets) (idle octets) y.session x.sent b.fits more in
-    let heeds = subst (λ (r : State). hears r.phase ≡ true) same listens in
-    let end = heard_flush y.session x.sent b.fits owed in
-    let heeding : is_restarting (flushed y x).phase ≡ false = not-true _ (subst (λ (r : State). hears r.phase ≡ true) end heeds) in
-    let kept : drops (flushed y x) (DT octets) ≡ false = rw heeding refl in
-    let one = view_append y.session x.sent (DT octets) y.view b.fits owed in
-    let two : view_next (flushed y x) (DT octets) (heard_view y.session x.sent y.view) ≡ seen (flushed y x) (DT octets)
-    (heard_view y.session x.sent y.view) =
-    ap (λ (d : Bool). if d then heard_view y.session x.sent y.view else seen (flushed y x) (DT octets) (heard_view y.session x.sent y.view))
-    kept in
-    let units : (flushed y x).units ≡ x.session.units = sym a.meeting.units
-    ∙ end_units o x y a (excluded is_ready is_opening refl x.session.phase ready) in
-    let three : seen (flushed y x) (DT octets) (heard_view y.session x.sent y.view)
-    ≡ (if x.session.units.duplex then h else h ++ Octets octets ∷ []) =
-    ap (λ (u : FunctionalUnits). if u.duplex then heard_view y.session x.sent y.view else heard_view y.session x.sent y.view ++ Octets
-    octets ∷ []) units
-    ∙ ap (λ (v : List Item). if x.session.units.duplex then v else v ++ Octets octets ∷ []) (k.ends heeds) in
-    one ∙ two ∙ three ∙ said_seen x.session.units.duplex h (Octets octets)
+    grind (
+      arith,
+      heard_flush,
+      not-true,
+      view_append,
+      none_owed o x y a (listens_of x ready),
+      listens_of x ready,
+      heard_idle (DT octets) (idle octets) y.session x.sent b.fits more,
+      idle octets,
+      flushed y x,
+      end_units o x y a (excluded is_ready is_opening refl x.session.phase ready),
+      excluded is_ready is_opening refl x.session.phase ready,
+      said_seen x.session.units.duplex h (Octets octets),
+    )
 
 peer_views : (o : Owners) (h : List Item) (x y : Party) (octets : List ℕ) → Half o x y → Half (turned_owners o) y x
     → is_ready x.session.phase ≡ true
@@ -350,26 +342,7 @@ please_own_views h x y m k = search append-nil
 please_peer_views : (h : List Item) (x y : Party) (tokens : Tokens) (octets : List ℕ) → AllFit y.session x.sent
     → AllFit y.session (x.sent ++ PT tokens octets ∷ [])
     → Views h y x → Views (h ++ []) y (sending x (PT tokens octets) (x.view ++ []) (x.said ++ []))
-please_peer_views h x y tokens octets f more k = record {
-  ends = λ l. view_idle (PT tokens octets) (λ s v. refl) y.session x.sent y.view f more
-      ∙ k.ends (subst (λ (q : State). hears q.phase ≡ true) same l) ∙ sym (append-nil h);
-  cut = λ r. k.cut (subst (λ (q : State). is_restarting q.phase ≡ true) same r)
-      ∙ ap (λ (w : List Item). cutat y.session.base w y.session.numbers.next) (sym (append-nil h));
-  due = λ d. ap (λ (r : List Item). r ++ []) (k.due d);
-  stream = λ d. streams (k.stream (ap (λ (q : State). q.units.duplex)
-      (sym (flush_idle (PT tokens octets) (please_idle tokens octets) y.session x.sent)) ∙ d));
-}
-  where
-    same : heard y.session (x.sent ++ PT tokens octets ∷ []) ≡ heard y.session x.sent
-    same = heard_idle (PT tokens octets) (please_idle tokens octets) y.session x.sent f more
-
-    streams : (y.got ++ data_of x.sent ≡ x.said) × (h ≡ [])
-        → (y.got ++ data_of (x.sent ++ PT tokens octets ∷ []) ≡ x.said ++ []) × (h ++ [] ≡ [])
-    streams old = (
-      ap (λ (r : List (List ℕ)). y.got ++ r) (data_append x.sent (PT tokens octets ∷ []) ∙ append-nil (data_of x.sent)) ∙ old.0
-          ∙ sym (append-nil x.said),
-      append-nil h ∙ old.1,
-    )
+please_peer_views h x y tokens octets f more k = grind (arith, view_idle, append-nil, flush_idle, please_idle, heard_idle, data_append)
 
 pub please_stands : (w : Core) (tokens : Tokens) (octets : List ℕ) → may_ask w.own.session.phase ≡ true
     → is_within tokens (available w.own.session.units) ≡ true → Stands w

@@ -12,8 +12,8 @@ use Rattle.osi_machine.proofs.Vocabulary.{is_asker, settle, stated, setting_of, 
 use Rattle.osi_machine.proofs.Vocabulary.{Absent, turned_owner, is_own, is_to_own, is_absent, append-nil, and_parts, and_from, agreed_base}
 use Rattle.osi_machine.proofs.Vocabulary.{TsduMaximumSize, State, Meaning, AC, Tokens, functional_units, both_units, units_within, base_for}
 use Rattle.osi_machine.proofs.Vocabulary.{serial_for, opened_with, is_answering, is_connecting, is_restarting, is_restart_due, may_hold}
-use Rattle.osi_machine.proofs.Vocabulary.{Accept, are_sizes, answered_sizes, becomes, drops, next, turned_owners, settled_by, Fits, flush}
-use Rattle.osi_machine.proofs.Vocabulary.{heard, hears, heard_view, data_of, Party, Core, answered, is_opening, IsFresh, AreConsistent}
+use Rattle.osi_machine.proofs.Vocabulary.{Accept, are_sizes, answered_sizes, becomes, next, turned_owners, settled_by, Fits, flush, heard}
+use Rattle.osi_machine.proofs.Vocabulary.{Party, Core, answered, is_opening, IsFresh, AreConsistent}
 use Rattle.osi_machine.proofs.basics.what_holds_in_each_phase.{implied, excluded, implied_two, if_first}
 use Rattle.osi_machine.proofs.channels.a_unit_is_dropped_bad_or_acted_on.{next_acted}
 use Rattle.osi_machine.proofs.channels.what_every_unit_in_flight_keeps.{fit_append, flush_append, heard_append, view_append, data_append}
@@ -94,8 +94,7 @@ pub own_wanted : (h a : Bool) → h ≡ (is_own (given h a) || is_to_own (given 
 own_wanted h a = grind arith
 
 pub own_absent : (h a : Bool) → (h ≡ true → a ≡ true) → a ≡ false → is_absent (given h a) ≡ true
-own_absent true a f e = absurd (let k = f refl in cc)
-own_absent false a f e = rw e refl
+own_absent h a f e = grind arith
 
 pub their_held : (h a : Bool) → false ≡ is_own (turned_owner (given h a))
 their_held h a = grind arith
@@ -104,8 +103,7 @@ pub their_wanted : (h a : Bool) → (a && not h) ≡ (is_own (turned_owner (give
 their_wanted h a = grind arith
 
 pub their_absent : (h a : Bool) → (h ≡ true → a ≡ true) → a ≡ false → is_absent (turned_owner (given h a)) ≡ true
-their_absent true a f e = absurd (let k = f refl in cc)
-their_absent false a f e = rw e refl
+their_absent h a f e = grind arith
 
 -- ---- what is accepted
 
@@ -142,9 +140,7 @@ connected w u n a z o = becomes (flushed w.peer w.own) (acceptance w.own.session
 
 module _ (w : Core) (u : ℕ) (q : Accepts w u) where
   none_under_way : AllEmpty w.peer.sent
-  none_under_way =
-      all_empty w.own.session w.peer.sent (λ m p. none_answering w.own.session.phase m q.answering p)
-      (excluded is_answering is_restarting refl w.own.session.phase q.answering) q.all.own.fits
+  none_under_way = grind (arith, all_empty, none_answering, excluded)
 
   own_end : flushed w.own w.peer ≡ w.own.session
   own_end = empty_end w.own.session w.peer.sent none_under_way
@@ -177,9 +173,7 @@ module _ (w : Core) (u : ℕ) where
   -- ---- the AC
 
   agreed_units : Accepts w u → both_units (flushed w.peer w.own).units (functional_units u) ≡ functional_units u
-  agreed_units q =
-      ap (λ (v : FunctionalUnits). both_units v (functional_units u)) (other_units w u q)
-      ∙ within_both (functional_units u) w.own.session.units q.within
+  agreed_units q = grind (arith, other_units, within_both)
 
   agreed_first : (n : ℕ) → Accepts w u → agreed_base (both_units (flushed w.peer w.own).units (functional_units u))
       (serial_for (functional_units u) n) (flushed w.peer w.own).proposed ≡ base_for (functional_units u) n
@@ -202,9 +196,7 @@ module _ (w : Core) (u : ℕ) where
 
   heard_after : (n : ℕ) (a : Sides) (z : TsduMaximumSize) (o : List ℕ) → Accepts w u
       → heard w.peer.session (w.own.sent ++ acceptance w.own.session u n a z o ∷ []) ≡ connected w u n a z o
-  heard_after n a z o q =
-      heard_append w.peer.session w.own.sent (acceptance w.own.session u n a z o) q.all.peer.fits (other_owes_none w u q)
-      ∙ accept_next n a z o q
+  heard_after n a z o q = search (arith, heard_append, other_owes_none, accept_next)
 
   -- ---- tokens
 
@@ -264,36 +256,24 @@ module _ (w : Core) (u n : ℕ) (a : Sides) (z : TsduMaximumSize) (o : List ℕ)
   own_views = search (arith, none_under_way, empty_view, own_seen, empty_heard, within_duplex, empty_end, own_end)
 
   peer_views : Views (w.history ++ []) w.peer (accepter w.own u n a z o)
-  peer_views = record {
-    ends = λ l. view_append w.peer.session w.own.sent m w.peer.view q.all.peer.fits (other_owes_none w u q)
-        ∙ if_first (drops (flushed w.peer w.own) m) (heard_view w.peer.session w.own.sent w.peer.view)
-        (heard_view w.peer.session w.own.sent w.peer.view) refl
-        ∙ q.all.peer_views.ends listens ∙ sym (append-nil w.history);
-    cut = λ c. absurd (let e = ap (λ (s : State). is_restarting s.phase) (sym (heard_after w u n a z o q)) ∙ c in cc);
-    due = λ d. absurd (let e = excluded is_connecting is_restart_due refl w.peer.session.phase (other_connects w u q) in cc);
-    stream = λ d. streams (q.all.peer_views.stream (duplex d));
-  }
-    where
-      m : Meaning
-      m = acceptance w.own.session u n a z o
-
-      listens : hears (hearing w.peer w.own).phase ≡ true
-      listens = ap (λ (r : State). hears r.phase) (other_heard w u q)
-          ∙ ap not (excluded is_connecting is_restarting refl w.peer.session.phase (other_connects w u q))
-
-      duplex : (flush w.peer.session (w.own.sent ++ acceptance w.own.session u n a z o ∷ [])).units.duplex ≡ true
-          → (flushed w.peer w.own).units.duplex ≡ true
-      duplex d =
-          let now = ap (λ (v : FunctionalUnits). v.duplex) (sym (agreed_units w u q))
-          ∙ ap (λ (s : State). s.units.duplex) (sym (end_after w u n a z o q)) ∙ d in
-          ap (λ (v : FunctionalUnits). v.duplex) (other_units w u q) ∙ within_duplex (functional_units u) w.own.session.units q.within now
-
-      streams : (w.peer.got ++ data_of w.own.sent ≡ w.own.said) × (w.history ≡ [])
-          → (w.peer.got ++ data_of (w.own.sent ++ acceptance w.own.session u n a z o ∷ []) ≡ w.own.said ++ []) × (w.history ++ [] ≡ [])
-      streams old = (
-        ap (λ (d : List (List ℕ)). w.peer.got ++ d) (data_append w.own.sent (m ∷ []) ∙ append-nil (data_of w.own.sent)) ∙ old.0
-            ∙ sym (append-nil w.own.said),
-        append-nil w.history ∙ old.1,
+  peer_views =
+      grind (
+        arith,
+        view_append,
+        other_owes_none,
+        if_first,
+        flushed,
+        append-nil,
+        heard_after,
+        excluded,
+        other_connects,
+        hearing,
+        other_heard,
+        agreed_units,
+        end_after,
+        other_units,
+        within_duplex,
+        data_append,
       )
 
   -- ---- the numbers

@@ -1,13 +1,13 @@
 -- The call of Give keeps the invariant: a side that holds fewer tokens acts alike on what is in flight to it.
 -- For each_step_keeps_both_sides.
-use Rattle.std.proofs.Common.{◌≡◌, refl, sym, ◌∙◌, ap, subst, Bool, true, false, not, ◌&&◌, ◌||◌, List, ◌⊎◌, inl, inr, arith, ℕ}
-use Rattle.std.proofs.Common.{if◌then◌else◌, [], ◌∷◌, ◌++◌, Ok}
+use Rattle.std.proofs.Common.{◌≡◌, refl, sym, ◌∙◌, ap, subst, Bool, true, false, not, ◌&&◌, ◌||◌, List, ◌⊎◌, inl, inr, arith, if◌then◌else◌}
+use Rattle.std.proofs.Common.{[], ◌∷◌, ◌++◌, Ok}
 use Rattle.osi_machine.proofs.Vocabulary.{and_parts, or_left, and_from, not-true, State, Tokens, Meaning, DT, GT, MIP, MAP, FN, Token}
 use Rattle.osi_machine.proofs.Vocabulary.{data_token, minor, major, release, has, some, is_empty, is_within, is_disjoint, without, united}
 use Rattle.osi_machine.proofs.Vocabulary.{available, lacks, may_ask, is_restart_due, becomes, stands, Good, Item, Fits, stops, view_next}
-use Rattle.osi_machine.proofs.Vocabulary.{append-nil, FunctionalUnits, may_give, may_hold, is_restarting, Give, drops, next, cutat, Owner}
-use Rattle.osi_machine.proofs.Vocabulary.{ToThem, turned_owner, turned_owners, is_own, is_to_own, is_absent, passed_to, flush, heard, hears}
-use Rattle.osi_machine.proofs.Vocabulary.{heard_view, data_of, Party, Core, answered, is_opening, AreConsistent}
+use Rattle.osi_machine.proofs.Vocabulary.{append-nil, FunctionalUnits, may_give, may_hold, is_restarting, Give, drops, next, Owner, ToThem}
+use Rattle.osi_machine.proofs.Vocabulary.{turned_owner, turned_owners, is_own, is_to_own, is_absent, passed_to, flush, heard, heard_view}
+use Rattle.osi_machine.proofs.Vocabulary.{Party, Core, answered, is_opening, AreConsistent}
 use Rattle.osi_machine.proofs.basics.what_holds_in_each_phase.{excluded, cut_or, implied, by_either}
 use Rattle.osi_machine.proofs.channels.a_unit_is_dropped_bad_or_acted_on.{next_acted, restart_due, due_next, next_cases, next_dropped}
 use Rattle.osi_machine.proofs.channels.what_every_unit_in_flight_keeps.{Steps, fit_append, flush_append, heard_flush, heard_append}
@@ -63,16 +63,7 @@ still_empty k s h = is_empty_of (without s.held k)
 -- a good unit stays good
 fewer_good : (k : Tokens) (s : State) (u : Meaning) → Good s u → Good (less k s) u
 fewer_good k s (DT o) g = record { expected = g.expected; met = (still_lacks k s data_token g.met.0, tt) }
-fewer_good k s (GT j) g =
-    let a = and_parts (is_within j (available s.units)) (is_disjoint j s.held) g.met.0 in
-    record {
-      expected = g.expected;
-      met = (
-        and_from (is_within j (available s.units)) (is_disjoint j (without s.held k)) a.0
-            (still_disjoint k j s a.1),
-        tt,
-      );
-    }
+fewer_good k s (GT j) g = grind (arith, and_parts, and_from, still_disjoint)
 fewer_good k s (MIP c n o) g = search (arith, two_lack, still_lacks)
 fewer_good k s (MAP n o) g = search (two_lack, still_lacks)
 fewer_good k s (FN o) g = record { expected = g.expected; met = (still_empty k s g.met.0, tt) }
@@ -124,8 +115,7 @@ gives_step k s u h f = search (arith, fewer_good, fewer_stops, fewer_becomes, st
 
 pub fewer_step : (k : Tokens) (s r : State) (u : Meaning) → Fewer k s r → Fits s u → Steps (Fewer k) s r u
 fewer_step k s r u (inl (e, h)) f = subst (λ (q : State). Steps (Fewer k) s q u) (sym e) (gives_step k s u h f)
-fewer_step k s r u (inr (e, d)) f = subst (λ (q : State). Steps (Fewer k) s q u) (sym e)
-    (record { fits = f; stops = refl; next = inr (refl, subst (λ (q : State). is_restart_due q.phase ≡ true) (sym (due_next s u d f)) d) })
+fewer_step k s r u (inr (e, d)) f = grind (arith, due_next)
 
 less_shows : (k : Tokens) (s : State) (u : Meaning) (v : List Item) → view_next (less k s) u v ≡ view_next s u v
 unfolding stands
@@ -137,8 +127,7 @@ fewer_shows k s r u v (inr (e, d)) = ap (λ (q : State). view_next q u v) e
 
 -- everything except the tokens is the same
 pub but_held : (k : Tokens) (s r : State) → Fewer k s r → r ≡ record s { held = r.held }
-but_held k s r (inl (e, h)) = e ∙ ap (λ (held : Tokens). record s { held = held }) (sym (ap (λ (q : State). q.held) e))
-but_held k s r (inr (e, d)) = e ∙ ap (λ (held : Tokens). record s { held = held }) (sym (ap (λ (q : State). q.held) e))
+but_held k s r h = grind arith
 
 -- ---- a token that is given: no longer held, owned by neither, in flight
 
@@ -179,10 +168,7 @@ dropped_not e r h k = grind arith
 
 other_asks : (w : Core) (k : Tokens) → Giving w k → Half w.owner w.own w.peer → drops (flushed w.peer w.own) (GT k) ≡ false
     → may_ask (flushed w.peer w.own).phase ≡ true
-other_asks w k g h d = by_either (runs w k g h).flush
-    (λ z. phase_there may_ask may_ask refl h z.1.phase)
-    (λ z. absurd (dropped_not _ _ d
-    (phase_there is_restart_due is_restarting refl h z.1)))
+other_asks w k g h d = grind (arith, by_either, phase_there, dropped_not, runs w k g h)
 
 give_fits : (w : Core) (k : Tokens) → Giving w k → Half w.owner w.own w.peer → Half (turned_owners w.owner) w.peer w.own
     → Fits (flushed w.peer w.own) (GT k)
@@ -219,8 +205,7 @@ give_fits w k g h j = record {
 
 -- what the other side is, once the unit is taken
 given_like : (k : Tokens) (s : State) → Like s (next s (GT k))
-given_like k s = next_cases (Like s) s (GT k) (λ d. itself s)
-    (λ d. record { phase = refl; units = refl; wishes = refl; proposed = refl; base = refl; numbers = refl })
+given_like k s = grind (arith, next_cases, itself)
 
 abbrev giver : Party → Tokens → Party
 giver x k = record { session = less k x.session; view = x.view ++ []; said = x.said ++ []; got = x.got; sent = x.sent ++ GT k ∷ [] }
@@ -315,24 +300,7 @@ module _ (w : Core) (k : Tokens) (g : Giving w k) (h : Half w.owner w.own w.peer
   own_views v = grind (arith, same_seen, append-nil, own_like_heard, own_like_end)
 
   peer_views : Half (turned_owners w.owner) w.peer w.own → Views w.history w.peer w.own → Views (w.history ++ []) w.peer (giver w.own k)
-  peer_views j v = record {
-    ends = λ l. view_idle (GT k) (λ s a. refl) w.peer.session w.own.sent w.peer.view j.fits
-        (fit_append w.peer.session w.own.sent (GT k) j.fits (give_fits w k g h j))
-        ∙ v.ends (ap hears (sym (peer_like_heard j).phase) ∙ l) ∙ sym (append-nil w.history);
-    cut = λ r. v.cut (ap is_restarting (sym (peer_like_heard j).phase) ∙ r)
-        ∙ ap (λ (a : List Item). cutat w.peer.session.base a w.peer.session.numbers.next) (sym (append-nil w.history));
-    due = λ d. ap (λ (a : List Item). a ++ []) (v.due d);
-    stream = λ d. streams (v.stream (ap (λ (u : FunctionalUnits). u.duplex)
-        (sym (subst (Like (flushed w.peer w.own)) (sym (other_end w k)) (given_like k (flushed w.peer w.own))).units) ∙ d));
-  }
-    where
-      streams : (w.peer.got ++ data_of w.own.sent ≡ w.own.said) × (w.history ≡ [])
-          → (w.peer.got ++ data_of (w.own.sent ++ GT k ∷ []) ≡ w.own.said ++ []) × (w.history ++ [] ≡ [])
-      streams old = (
-        ap (λ (r : List (List ℕ)). w.peer.got ++ r) (data_append w.own.sent (GT k ∷ []) ∙ append-nil (data_of w.own.sent)) ∙ old.0
-            ∙ sym (append-nil w.own.said),
-        append-nil w.history ∙ old.1,
-      )
+  peer_views j v = grind (arith, view_idle, fit_append, give_fits, peer_like_heard, append-nil, flushed, other_end, given_like, data_append)
 
 -- ---- the call
 

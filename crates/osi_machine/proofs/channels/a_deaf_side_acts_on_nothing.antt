@@ -1,11 +1,11 @@
 -- A side that has requested a restart, expects nothing or is being opened discards what is in flight to it.
 -- For restarts, and for connections that are being opened.
-use Rattle.std.proofs.Common.{◌≡◌, refl, sym, ◌∙◌, ap, subst, ℕ, Bool, true, false, not, ◌&&◌, ◌||◌, if◌then◌else◌, List, [], ◌∷◌, ◌++◌}
-use Rattle.std.proofs.Common.{◌⊎◌, inl, inr, arith}
+use Rattle.std.proofs.Common.{◌≡◌, refl, ◌∙◌, ap, subst, ℕ, Bool, true, false, not, ◌&&◌, ◌||◌, if◌then◌else◌, List, [], ◌∷◌, ◌++◌, ◌⊎◌}
+use Rattle.std.proofs.Common.{inl, inr, arith}
 use Rattle.osi_machine.proofs.Vocabulary.{TokenSetting, ResyncType, State, RestartDue, Meaning, RS, is_restarting, is_restart_due}
 use Rattle.osi_machine.proofs.Vocabulary.{is_expected, has_no_effect, passes_restarting, without_tokens, restarted_at, stands, drops, next}
-use Rattle.osi_machine.proofs.Vocabulary.{Item, seen, is_plain, Fits, AllFit, flush, stops, heard, hears, view_next, heard_view, or_left}
-use Rattle.osi_machine.proofs.Vocabulary.{Phase, is_connecting, is_answering, becomes, Good, both_ways}
+use Rattle.osi_machine.proofs.Vocabulary.{Item, is_plain, Fits, AllFit, flush, stops, heard, hears, view_next, heard_view, or_left, Phase}
+use Rattle.osi_machine.proofs.Vocabulary.{is_connecting, is_answering, becomes, Good, both_ways}
 use Rattle.osi_machine.proofs.basics.what_holds_in_each_phase.{excluded, if_first, by_test}
 use Rattle.osi_machine.proofs.channels.a_unit_is_dropped_bad_or_acted_on.{next_dropped, next_acted, and_false}
 use Rattle.osi_machine.proofs.channels.what_every_unit_in_flight_keeps.{hears_kept, heard_flush, heard_append, view_append}
@@ -24,11 +24,7 @@ empty_plain u h = grind arith
 
 pub empty_fits : (s : State) (us : List Meaning) → AllEmpty us → AllFit s us
 empty_fits s [] h = tt
-empty_fits s (u ∷ us) h =
-    let d = empty_dropped s u h.0 in (
-      record { plain = empty_plain u h.0; good = λ e. absurd (cc) },
-      subst (λ (r : State). AllFit r us) (sym (next_dropped s u d)) (empty_fits s us h.1),
-    )
+empty_fits s (u ∷ us) h = grind (arith, empty_dropped, empty_plain, next_dropped, empty_fits s us h.1)
 
 pub empty_end : (s : State) (us : List Meaning) → AllEmpty us → flush s us ≡ s
 empty_end s [] h = refl
@@ -36,20 +32,14 @@ empty_end s (u ∷ us) h = ap (λ (r : State). flush r us) (next_dropped s u (em
 
 pub empty_heard : (s : State) (us : List Meaning) → AllEmpty us → heard s us ≡ s
 empty_heard s [] h = refl
-empty_heard s (u ∷ us) h =
-    if_first (stops s u) s (heard (next s u) us)
-    (ap (λ (r : State). heard r us) (next_dropped s u (empty_dropped s u h.0)) ∙ empty_heard s us h.1)
+empty_heard s (u ∷ us) h = grind (arith, if_first, next_dropped, empty_dropped, empty_heard s us h.1)
 
 -- what holds if only what is discarded is in flight
 pub ruleset empty_laws = (empty_fits, empty_end, empty_heard)
 
 pub empty_view : (s : State) (us : List Meaning) (v : List Item) → AllEmpty us → heard_view s us v ≡ v
 empty_view s [] v h = refl
-empty_view s (u ∷ us) v h =
-    let d = empty_dropped s u h.0 in
-    let same : view_next s u v ≡ v = ap (λ (b : Bool). if b then v else seen s u v) d in
-    if_first (stops s u) v (heard_view (next s u) us (view_next s u v))
-    (ap (λ (r : State). heard_view r us (view_next s u v)) (next_dropped s u d) ∙ ap (heard_view s us) same ∙ empty_view s us v h.1)
+empty_view s (u ∷ us) v h = grind (arith, empty_dropped, if_first, next_dropped, empty_view s us v h.1)
 
 -- to a side that expects no unit, only such units come
 pub dropped_empty : (e r p : Bool) → (e || (r && not p)) ≡ true → r ≡ false → e ≡ true
@@ -81,13 +71,11 @@ pub restart_next : (s : State) (k : ResyncType) (n : ℕ) (w : TokenSetting) (o 
 restart_next s k n w o = next_acted s (RS k n w o) (restart_kept s k n w o)
 
 pub yielded : (s : State) (n : ℕ) (w : TokenSetting) → stands s n ≡ false → crossed s n w ≡ s
-yielded s n w e = ap (λ (b : Bool). if b then record (without_tokens RestartDue s)
-    { wishes = w; numbers = restarted_at n s.numbers } else s) e
+yielded s n w e = grind arith
 
 pub stood : (s : State) (n : ℕ) (w : TokenSetting) → stands s n ≡ true
     → crossed s n w ≡ record (without_tokens RestartDue s) { wishes = w; numbers = restarted_at n s.numbers }
-stood s n w e = ap (λ (b : Bool). if b then record (without_tokens RestartDue s) { wishes = w; numbers = restarted_at n s.numbers } else s)
-    e
+stood s n w e = grind arith
 
 -- a restart that does not take effect shows nothing
 pub yielded_view : (s : State) (k : ResyncType) (n : ℕ) (w : TokenSetting) (o : List ℕ) (v : List Item) → stands s n ≡ false
@@ -162,14 +150,4 @@ waiting_drops s u f c = search (arith, both_ways, becomes_later, next_acted)
 pub waiting : (s : State) (us : List Meaning) → is_connecting (flush s us).phase ≡ true → AllFit s us
     → AllEmpty us × (is_connecting s.phase ≡ true)
 waiting s [] c f = (tt, c)
-waiting s (u ∷ us) c f =
-    let more = waiting (next s u) us c f.1 in
-    let d = waiting_drops s u f.0 more.1 in
-    let now = subst (λ (r : State). is_connecting r.phase ≡ true) (next_dropped s u d) more.1 in (
-      (
-        dropped_empty (has_no_effect u) (is_restarting s.phase) (passes_restarting u) d
-            (excluded is_connecting is_restarting refl s.phase now),
-        more.0,
-      ),
-      now,
-    )
+waiting s (u ∷ us) c f = grind (arith, waiting_drops, next_dropped, dropped_empty, excluded, waiting (next s u) us c f.1)

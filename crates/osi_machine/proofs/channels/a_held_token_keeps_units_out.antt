@@ -5,8 +5,8 @@ use Rattle.osi_machine.proofs.Vocabulary.{and_parts, or_left, State, Tokens, Mea
 use Rattle.osi_machine.proofs.Vocabulary.{some, no_token, is_empty, without, united, lacks, may_hold, becomes, drops, Good, next, Item}
 use Rattle.osi_machine.proofs.Vocabulary.{seen, is_plain, Fits, AllFit, stops, heard, is_data_or_minor, is_no_release, needs_token}
 use Rattle.osi_machine.proofs.Vocabulary.{view_next, heard_view, list_any, Phase, FunctionalUnits, CN, AC, RF, DT, GT, PT, MIP, MIA, MAP}
-use Rattle.osi_machine.proofs.Vocabulary.{MAA, RS, RA, FN, DN, NF, AB, AA, is_wait_cn, is_connecting, is_restarting, is_restart_due}
-use Rattle.osi_machine.proofs.Vocabulary.{may_ask, is_ready, is_release_due, has_no_effect, flush, is_opening}
+use Rattle.osi_machine.proofs.Vocabulary.{MAA, RS, RA, FN, DN, NF, AB, AA, is_restarting, is_restart_due, may_ask, is_ready, is_release_due}
+use Rattle.osi_machine.proofs.Vocabulary.{has_no_effect, flush, is_opening}
 use Rattle.osi_machine.proofs.basics.what_holds_in_each_phase.{excluded, by_test}
 use Rattle.osi_machine.proofs.channels.a_unit_is_dropped_bad_or_acted_on.{fit_cases, restart_due, due_next}
 use Rattle.osi_machine.proofs.channels.what_every_unit_in_flight_keeps.{kept_all, kept_heard, due_end}
@@ -146,8 +146,7 @@ pub record Talks (s : State) : Type 0 where
   pub right : (has s.held data_token ≡ true) ⊎ (s.units.major ≡ false)
 
 no_major : (s : State) (n : ℕ) (o : List ℕ) → Good s (MAP n o) → (has s.held data_token ≡ true) ⊎ (s.units.major ≡ false) → ⊥
-no_major s n o g (inl h) = let e = held_needs s data_token (MAP n o) h g in cc
-no_major s n o g (inr h) = let e = g.met.0 in cc
+no_major s n o g h = grind (arith, held_needs)
 
 more_right : (s : State) (k : Tokens) (held : Tokens) → ((t : Token) → has held t ≡ (has s.held t || has k t))
     → (has s.held data_token ≡ true) ⊎ (s.units.major ≡ false)
@@ -156,10 +155,8 @@ more_right s k held e (inl h) = inl (e data_token ∙ or_left (has s.held data_t
 more_right s k held e (inr h) = inr h
 
 becomes_talks : (s : State) (u : Meaning) → is_plain u ≡ true → Good s u → stops s u ≡ false → Talks s → Talks (becomes s u)
-becomes_talks s (CN w r n x from to z o) p g st h =
-    absurd (let e = excluded is_wait_cn is_talking refl s.phase g.expected in let f = h.phase in cc)
-becomes_talks s (AC w r n x z o) p g st h = absurd
-    (let e = excluded is_connecting is_talking refl s.phase g.expected in let f = h.phase in cc)
+becomes_talks s (CN w r n x from to z o) p g st h = grind (arith, excluded)
+becomes_talks s (AC w r n x z o) p g st h = grind (arith, excluded)
 becomes_talks s (RF r o) p g st h = absurd (cc)
 becomes_talks s (DT o) p g st h = h
 becomes_talks s (GT k) p g st h = record { phase = h.phase; right = more_right s k _ (united_has s.held k) h.right }

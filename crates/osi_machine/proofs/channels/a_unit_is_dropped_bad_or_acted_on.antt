@@ -5,13 +5,11 @@ use Rattle.std.proofs.Common.{is_none, arith, ap, ◌&&◌}
 use Rattle.osi_machine.proofs.Vocabulary.{and_parts, not-true, not-false, State, Phase, Aborting, Ended, Meaning, UnitFault, Outcome}
 use Rattle.osi_machine.proofs.Vocabulary.{Condition, is_over, is_aborting, is_ended, first_fault, becomes, nothing, good, judged}
 use Rattle.osi_machine.proofs.Vocabulary.{in_aborting, in_ended, take_expected, respond_unit, without_tokens, drops, AllMet, Good, next}
-use Rattle.osi_machine.proofs.Vocabulary.{is_acted_on, Fits, RS, is_restarting, is_restart_due, is_expected, Item, is_plain, stops, hears}
-use Rattle.osi_machine.proofs.Vocabulary.{view_next}
+use Rattle.osi_machine.proofs.Vocabulary.{is_acted_on, Fits, is_restart_due, is_expected, Item, is_plain, stops, hears, view_next}
 use Rattle.osi_machine.proofs.basics.what_holds_in_each_phase.{by_test}
 
 none_if : (b : Bool) (a : Option UnitFault) (f : UnitFault) → (if b then a else Some f) ≡ None → (b ≡ true) × (a ≡ None)
-none_if true a f h = (refl, h)
-none_if false a f h = absurd (cc)
+none_if b a f h = grind arith
 
 -- a unit without a fault meets all its conditions, and conversely
 pub all_met : (n : ℕ) (cs : List Condition) → first_fault n cs ≡ None → AllMet cs
@@ -23,8 +21,7 @@ no_fault_of n [] h = refl
 no_fault_of n (c ∷ cs) h = rw h.0 (no_fault_of n cs h.1)
 
 none_is : {A : Type 0} (o : Option A) → is_none o ≡ true → o ≡ None
-none_is None h = refl
-none_is (Some x) h = absurd (cc)
+none_is o h = grind arith
 
 -- the conditions for acting on it
 pub record Acted (s : State) (u : Meaning) : Type 0 where
@@ -46,13 +43,11 @@ over_of a e p h k = over_parts p ∙ rw (h, k) refl
 
 -- a test, whose two outcomes leave what is wanted
 either : (P : State → Type 0) (b : Bool) (x y : Outcome) → (b ≡ true → P x.next) → (b ≡ false → P y.next) → P (if b then x else y).next
-either P true x y h k = h refl
-either P false x y h k = k refl
+either P b x y h k = grind arith
 
 judged_cases : (P : State → Type 0) (s : State) (u : Meaning) (f : Option UnitFault) → P (without_tokens Aborting s)
     → (f ≡ None → P (becomes s u)) → P (judged s u f).next
-judged_cases P s u None h k = k refl
-judged_cases P s u (Some f) h k = h
+judged_cases P s u f h k = grind arith
 
 aborting_cases : (P : State → Type 0) (s : State) (u : Meaning) → P s → P (without_tokens Ended s) → P (in_aborting s u).next
 aborting_cases P s u h k = grind arith
@@ -124,8 +119,7 @@ and_false b = grind arith
 
 -- a restart is never discarded unread
 pub restart_acted : (s : State) (u : Meaning) → stops s u ≡ true → drops s u ≡ false
-restart_acted s (RS k n w o) h = and_false (is_restarting s.phase)
-restart_acted s _ h = absurd (cc)
+restart_acted s u h = grind (arith, and_false)
 
 -- after a restart that takes effect an answer is due
 pub restart_due : (s : State) (u : Meaning) → stops s u ≡ true → is_restart_due (next s u).phase ≡ true
@@ -143,8 +137,7 @@ pub due_stops : (s : State) (u : Meaning) → is_restart_due s.phase ≡ true �
 due_stops s u h f = grind (arith, restart_acted, none_due)
 
 pub due_view : (s : State) (u : Meaning) (v : List Item) → is_restart_due s.phase ≡ true → Fits s u → view_next s u v ≡ v
-due_view s u v h f = by_test (drops s u) (λ d. rw d)
-    (λ d. absurd (let n = none_due s.phase u h f.plain in let e = (f.good d).expected in cc))
+due_view s u v h f = grind (arith, by_test, none_due)
 
 -- ---- no unit leads to Restarting
 

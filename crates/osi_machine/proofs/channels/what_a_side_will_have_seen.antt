@@ -2,11 +2,11 @@
 -- For the clauses of the invariant on histories.
 use Rattle.std.proofs.Common.{◌≡◌, refl, sym, ◌∙◌, ap, subst, ℕ, ◌+◌, ◌≤◌, Bool, true, false, if◌then◌else◌, List, [], ◌∷◌, ◌++◌, arith}
 use Rattle.std.proofs.Common.{append_assoc}
-use Rattle.osi_machine.proofs.Vocabulary.{State, Meaning, CN, AC, DT, GT, PT, MIP, MIA, MAP, MAA, RS, RA, FN, NF, is_wait_cn, is_connecting}
-use Rattle.osi_machine.proofs.Vocabulary.{is_ready, takes_data, is_major_due, is_acceptable, point_taken, minor_confirmed, major_confirmed}
-use Rattle.osi_machine.proofs.Vocabulary.{becomes, drops, next, Good, Item, Octets, Point, points, minor_kind, major_point, cutat}
-use Rattle.osi_machine.proofs.Vocabulary.{AreNumberedFrom, seen, is_plain, Fits, AllFit, stops, heard, view_next, heard_view, is_opening}
-use Rattle.osi_machine.proofs.Vocabulary.{append-nil, Begins, hears, Party, IsConsistent}
+use Rattle.osi_machine.proofs.Vocabulary.{State, Meaning, CN, AC, DT, GT, PT, MIP, MIA, MAP, MAA, RS, RA, FN, NF, is_ready, takes_data}
+use Rattle.osi_machine.proofs.Vocabulary.{is_major_due, point_taken, minor_confirmed, major_confirmed, becomes, drops, next, Good, Item}
+use Rattle.osi_machine.proofs.Vocabulary.{Octets, Point, points, minor_kind, major_point, cutat, AreNumberedFrom, seen, is_plain, Fits}
+use Rattle.osi_machine.proofs.Vocabulary.{AllFit, stops, heard, view_next, heard_view, is_opening, append-nil, Begins, hears, Party}
+use Rattle.osi_machine.proofs.Vocabulary.{IsConsistent}
 use Rattle.osi_machine.proofs.basics.what_holds_in_each_phase.{implied, excluded, by_test}
 use Rattle.osi_machine.proofs.basics.what_a_restart_leaves_of_a_history.{points_append}
 use Rattle.osi_machine.proofs.channels.a_unit_is_dropped_bad_or_acted_on.{next_acted, chosen, fit_cases}
@@ -43,12 +43,8 @@ one_point n base v i one h = let e = points_append v (i ∷ []) in omega arith
 becomes_counted : (s : State) (u : Meaning) (v : List Item) → is_plain u ≡ true → Good s u → stops s u ≡ false → Counted s v
     → Counted (becomes s u) (seen s u v)
 unfolding point_taken minor_confirmed major_confirmed
-becomes_counted s (CN w r n x from to z o) v p g st h =
-    let e = h.fresh (implied is_wait_cn is_opening refl s.phase g.expected) in
-    chosen (λ q. Counted q v) (is_acceptable w r z) _ _ (record { count = h.count; fresh = λ k. e })
-    (record { count = h.count; fresh = λ k. e })
-becomes_counted s (AC w r n x z o) v p g st h =
-    record { count = opened_count _ v (h.fresh (implied is_connecting is_opening refl s.phase g.expected)); fresh = λ k. absurd (cc) }
+becomes_counted s (CN w r n x from to z o) v p g st h = search (arith, implied, chosen)
+becomes_counted s (AC w r n x z o) v p g st h = grind (arith, opened_count, implied)
 becomes_counted s (DT o) v p g st h = record {
   count = one_taken _ _ s.units.duplex o v h.count;
   fresh = λ k. absurd (let e = excluded takes_data is_opening refl s.phase g.expected in cc);
@@ -74,8 +70,7 @@ heard_counted = until_heard Counted (λ s u v f st h. view_cases Counted s u v f
 -- ---- only points are added
 
 more_or_same : (b : Bool) (v w : List Item) (k : ℕ) → k ≤ points v → k ≤ points (if b then v else v ++ w)
-more_or_same true v w k h = h
-more_or_same false v w k h = let e = points_append v w in omega arith
+more_or_same b v w k h = grind (arith, points_append)
 
 seen_more : (s : State) (u : Meaning) (v : List Item) (k : ℕ) → stops s u ≡ false → k ≤ points v → k ≤ points (seen s u v)
 seen_more s (DT o) v k st h = more_or_same s.units.duplex v (Octets o ∷ []) k h

@@ -3,7 +3,7 @@
 use Rattle.std.proofs.Common.{◌≡◌, refl, sym, ◌∙◌, ap, subst, ℕ, Bool, true, false, if◌then◌else◌, List, [], ◌∷◌, ◌++◌, append_assoc, arith}
 use Rattle.std.proofs.Common.{◌≤◌, ◌<◌, nat_lt}
 use Rattle.osi_machine.proofs.Vocabulary.{State, Meaning, is_restart_due, next, Fits, AllFit, flush, stops, heard, hears, view_next}
-use Rattle.osi_machine.proofs.Vocabulary.{heard_view, data_in, data_of, Item, ltb-true, ltb-false, or_parts, list_any, data_token, lower}
+use Rattle.osi_machine.proofs.Vocabulary.{heard_view, data_of, Item, ltb-true, ltb-false, or_parts, list_any, data_token, lower}
 use Rattle.osi_machine.proofs.Vocabulary.{point_taken, minor_confirmed, major_confirmed, restarted_at, becomes, Good, is_plain, needs_token}
 use Rattle.osi_machine.proofs.Vocabulary.{is_opening}
 use Rattle.osi_machine.proofs.basics.what_holds_in_each_phase.{by_test}
@@ -81,15 +81,13 @@ pub view_append_due : (s : State) (us : List Meaning) (m : Meaning) (v : List It
     → is_restart_due (flush s us).phase ≡ true →
     heard_view s (us ++ m ∷ []) v ≡ heard_view s us v
 view_append_due s [] m v f n = rw (due_stops s m n f.0) (due_view s m v n f.0)
-view_append_due s (u ∷ us) m v f n = ap (λ (r : List Item). if stops s u then v else r)
-    (view_append_due (next s u) us m (view_next s u v) f.1 n)
+view_append_due s (u ∷ us) m v f n = grind (arith, view_append_due (next s u) us m (view_next s u v) f.1 n)
 
 -- ---- data
 
 pub data_append : (us vs : List Meaning) → data_of (us ++ vs) ≡ data_of us ++ data_of vs
 data_append [] vs = refl
-data_append (u ∷ us) vs = ap (λ (d : List (List ℕ)). data_in u ++ d) (data_append us vs)
-    ∙ sym (append_assoc (data_in u) (data_of us) (data_of vs))
+data_append (u ∷ us) vs = grind (arith, append_assoc, data_append us vs)
 
 -- ---- two states that a channel runs through alike
 

@@ -6,16 +6,15 @@ use Rattle.osi_machine.specs.Floor.{Input, Standing, react}
 use Rattle.osi_machine.specs.Core.{turned, called}
 use Rattle.osi_machine.proofs.Vocabulary.{append-nil, leb-true, ltb-true, eqb-true, and_parts, State, Phase, Call, Accept, Data, Give}
 use Rattle.osi_machine.proofs.Vocabulary.{Please, Minor, MinorConfirm, Major, Restart, Release, Meaning, CN, AC, DT, GT, PT, MIP, MIA, MAP}
-use Rattle.osi_machine.proofs.Vocabulary.{RS, AA, is_ready, is_answering, is_connecting, is_wait_cn, is_major_due, is_releasing}
-use Rattle.osi_machine.proofs.Vocabulary.{is_restarting, may_give, may_ask, may_confirm_minor, takes_data, takes_please, takes_minor_ack}
-use Rattle.osi_machine.proofs.Vocabulary.{may_call, needs, after, is_acceptable, becomes, stands, from_base, point_sent, point_taken}
+use Rattle.osi_machine.proofs.Vocabulary.{RS, AA, is_ready, is_major_due, is_releasing, is_restarting, may_give, may_ask, may_confirm_minor}
+use Rattle.osi_machine.proofs.Vocabulary.{takes_data, may_call, needs, after, becomes, stands, from_base, point_sent, point_taken}
 use Rattle.osi_machine.proofs.Vocabulary.{minor_confirmed, major_confirmed, restarted_at, IsSound, Good, Item, Octets, Point, minor_kind}
 use Rattle.osi_machine.proofs.Vocabulary.{major_point, points, cutat, seen, got_in, Party, speaks, view_called, party_taking, is_opening}
 use Rattle.osi_machine.proofs.Vocabulary.{IsConsistent, AllHold, AllByRecursion, Passed, Granted, Answer, HasSerial, Outcome, IsNumbered}
 use Rattle.osi_machine.proofs.Vocabulary.{allowed, respond_unit, alone, respond, call_input, taken_input, call_move, after_inputs}
 use Rattle.osi_machine.proofs.Vocabulary.{HasNumbers, IsSendable, sends, Core, CoreStep, call_at, take_at, Side, Left, Right, Offer}
-use Rattle.osi_machine.proofs.Vocabulary.{CanBeOffered, stays_in_core, party_called, answered, taking, takes, at_side, core_step, core_run}
-use Rattle.osi_machine.proofs.Vocabulary.{core_start, AreConsistent, IsNumberedStep, is_sized}
+use Rattle.osi_machine.proofs.Vocabulary.{CanBeOffered, party_called, answered, taking, takes, at_side, core_step, core_run, core_start}
+use Rattle.osi_machine.proofs.Vocabulary.{AreConsistent, IsNumberedStep, is_sized}
 use Rattle.osi_machine.proofs.basics.what_holds_in_each_phase.{implied, excluded, by_test}
 use Rattle.osi_machine.proofs.basics.what_a_restart_leaves_of_a_history.{points_append, points_cut}
 use Rattle.osi_machine.proofs.channels.a_unit_is_dropped_bad_or_acted_on.{unit_cases, chosen}
@@ -44,13 +43,11 @@ one_point n base k v i one h = let e = points_append v (i ∷ []) in omega arith
 
 one_more : (n base : ℕ) (b : Bool) (octets : List ℕ) (v : List Item) → n ≡ base + points v
     → n ≡ base + points (v ++ (if b then [] else Octets octets ∷ []))
-one_more n base true octets v h = nothing_said n base v h
-one_more n base false octets v h = let e = points_append v (Octets octets ∷ []) in omega arith
+one_more n base b octets v h = grind (arith, nothing_said, points_append)
 
 pub one_taken : (n base : ℕ) (b : Bool) (octets : List ℕ) (v : List Item) → n ≡ base + points v
     → n ≡ base + points (if b then v else v ++ Octets octets ∷ [])
-one_taken n base true octets v h = h
-one_taken n base false octets v h = let e = points_append v (Octets octets ∷ []) in omega arith
+one_taken n base b octets v h = grind (arith, points_append)
 
 pub opened_count : (base : ℕ) (v : List Item) → v ≡ [] → base ≡ base + points v
 opened_count base v e = rw e (omega arith)
@@ -77,8 +74,7 @@ same_lines : (s r : State) (v w : List Item) (said said' got got' : List (List �
 same_lines s r v w said said' got got' p u i a o c h = grind arith
 
 pub below_if : (b : Bool) (n next : ℕ) → (if b then nat_lt n next else nat_le n next) ≡ true → n ≤ next
-below_if true n next h = let k = ltb-true n next h in omega arith
-below_if false n next h = leb-true n next h
+below_if b n next h = grind (arith, ltb-true, leb-true)
 
 -- ---- the calls
 
@@ -86,12 +82,8 @@ pub call_lines : (s : State) (c : Call) (v : List Item) (said got : List (List �
     → IsSound s
     → Lines s v said got → Lines (after s c) (view_called s c v) (said ++ speaks s c) got
 unfolding quiet point_sent minor_confirmed major_confirmed restarted_at
-call_lines s (Accept requirements serial sides sizes octets) v said got p t sound h =
-    let f = h.fresh (implied is_answering is_opening refl s.phase p) in
-    calm _ _ _ _ refl (rw f.2 (omega arith))
-call_lines s (Data octets) v said got p t sound h =
-    same_lines s s v _ said _ got got refl refl refl refl (excluded is_ready is_opening refl s.phase p)
-    (one_more _ _ s.units.duplex octets v h.count) h
+call_lines s (Accept requirements serial sides sizes octets) v said got p t sound h = grind (arith, implied, calm)
+call_lines s (Data octets) v said got p t sound h = search (arith, same_lines, one_more, excluded is_ready is_opening refl s.phase p)
 call_lines s (Give tokens) v said got p t sound h =
     same_lines s _ v _ said _ got got refl refl refl refl (excluded may_give is_opening refl s.phase p) (nothing_said _ _ v h.count) h
 call_lines s (Please tokens octets) v said got p t sound h =
@@ -99,10 +91,8 @@ call_lines s (Please tokens octets) v said got p t sound h =
 call_lines s (Minor confirm octets) v said got p t sound h =
     calm _ _ _ _ (implied is_ready quiet refl s.phase p) (one_point _ _ 0 v (Point s.numbers.next (minor_kind confirm) octets) refl h.count)
 call_lines s (MinorConfirm n octets) v said got p t sound h =
-    same_lines s _ v _ said _ got got refl refl refl refl (excluded may_confirm_minor is_opening refl s.phase p)
-    (nothing_said _ _ v h.count) h
-call_lines s (Major octets) v said got p t sound h =
-    calm _ _ _ _ refl (one_point _ _ 0 v (Point s.numbers.next major_point octets) refl h.count)
+    search (arith, same_lines, nothing_said, excluded may_confirm_minor is_opening refl s.phase p)
+call_lines s (Major octets) v said got p t sound h = search (arith, calm, one_point)
 call_lines s (Restart n wishes octets) v said got p t sound h = grind (arith, and_parts, leb-true, below_if, points_cut)
 call_lines s (Release octets) v said got p t sound h = record {
   count = nothing_said _ _ v h.count;
@@ -121,31 +111,20 @@ stood_below s n e st = grind (arith, ltb-true, leb-true, eqb-true, and_parts)
 
 chosen_lines : (P : State → List Item → Type 0) (b : Bool) (x y : State) (v w : List Item) → (b ≡ true → P x v) → (b ≡ false → P y w)
     → P (if b then x else y) (if b then v else w)
-chosen_lines P true x y v w h k = h refl
-chosen_lines P false x y v w h k = k refl
+chosen_lines P b x y v w h k = grind arith
 
 pub unit_lines : (s : State) (u : Meaning) (v : List Item) (said got : List (List ℕ)) → Good s u → IsSound s → Lines s v said got
     → Lines (becomes s u) (seen s u v) said (got ++ got_in s u)
 unfolding quiet point_taken minor_confirmed major_confirmed restarted_at
-unit_lines s (CN version_2 requirements serial wishes from to sizes octets) v said got g sound h =
-    let f = h.fresh (implied is_wait_cn is_opening refl s.phase g.expected) in
-    chosen (λ r. Lines r v said (got ++ [])) (is_acceptable version_2 requirements sizes) _ _
-    (grind arith)
-    (calm _ _ _ _ refl h.count)
-unit_lines s (AC version_2 requirements serial sides sizes octets) v said got g sound h =
-    let f = h.fresh (implied is_connecting is_opening refl s.phase g.expected) in
-    calm _ _ _ _ refl (opened_count _ v f.2)
+unit_lines s (CN version_2 requirements serial wishes from to sizes octets) v said got g sound h = search (arith, implied, chosen, calm)
+unit_lines s (AC version_2 requirements serial sides sizes octets) v said got g sound h = grind (arith, implied, calm, opened_count)
 unit_lines s (DT octets) v said got g sound h =
-    same_lines s s v _ said said got _ refl refl refl refl (excluded takes_data is_opening refl s.phase g.expected)
-    (one_taken _ _ s.units.duplex octets v h.count) h
-unit_lines s (GT tokens) v said got g sound h =
-    same_lines s _ v v said said got _ refl refl refl refl (excluded may_ask is_opening refl s.phase g.expected) h.count h
-unit_lines s (PT tokens octets) v said got g sound h =
-    same_lines s s v v said said got _ refl refl refl refl (excluded takes_please is_opening refl s.phase g.expected) h.count h
+    search (arith, same_lines, one_taken, excluded takes_data is_opening refl s.phase g.expected)
+unit_lines s (GT tokens) v said got g sound h = grind (arith, same_lines, excluded)
+unit_lines s (PT tokens octets) v said got g sound h = grind (arith, same_lines, excluded)
 unit_lines s (MIP confirm n octets) v said got g sound h =
     calm _ _ _ _ (implied is_ready quiet refl s.phase g.expected) (one_point _ _ 0 v (Point n (minor_kind confirm) octets) refl h.count)
-unit_lines s (MIA n octets) v said got g sound h =
-    same_lines s _ v v said said got _ refl refl refl refl (excluded takes_minor_ack is_opening refl s.phase g.expected) h.count h
+unit_lines s (MIA n octets) v said got g sound h = grind (arith, same_lines, excluded)
 unit_lines s (MAP n octets) v said got g sound h = record {
   count = one_point _ _ 0 v (Point n major_point octets) refl h.count;
   major = λ k. refl;
@@ -224,11 +203,8 @@ call_kept laws x c g small e h =
 
 pub answered_kept : SessionLaws → (w : Core) (c : Call) (a : Answer) → HasSerial c → allowed w.own.session c ≡ a → AreConsistent w
     → AreConsistent (answered w c a)
-answered_kept laws w c (Ok g) small e h = assumption (
-  call_kept laws w.own c g small e h.own,
-  small_append w.own.sent g.sent h.own_small
-      (laws.sendable w.own.session c g h.own.sound small e).numbered,
-)
+answered_kept laws w c (Ok g) small e h =
+    grind (arith, small_append, call_kept laws w.own c g small e h.own, laws.sendable w.own.session c g h.own.sound small e)
 answered_kept laws w c (Err d) small e h = h
 
 -- the effect of a call that is granted
@@ -245,17 +221,15 @@ pub record IsGranted (w : Core) (c : Call) : Type 0 where
 pub is_granted : SessionLaws → (w : Core) (c : Call) (g : Granted) → HasSerial c → allowed w.own.session c ≡ Ok g → AreConsistent w
     → IsGranted w c
 is_granted laws w c g small e h =
-    let q = laws.passed w.own.session c g e in
-    record {
-      phase = q.phase;
-      needed = q.needed;
-      sized = subst (λ (r : Granted). is_sized r.sent ≡ true) q.gives (laws.sendable w.own.session c g h.own.sound small e).sized;
-      kept = subst (λ (r : Granted). AreConsistent (answered w c (Ok r))) q.gives (answered_kept laws w c (Ok g) small e h);
-    }
+    grind (
+      arith,
+      laws.passed w.own.session c g e,
+      laws.sendable w.own.session c g h.own.sound small e,
+      answered_kept laws w c (Ok g) small e h,
+    )
 
 called_kept : SessionLaws → (w : Core) (c : Call) → HasSerial c → AreConsistent w → AreConsistent (called w c)
-called_kept laws w c small h = by_test (stays_in_core c) (λ e. rw e (answered_kept laws w c (allowed w.own.session c) small refl h))
-    (λ e. rw e h)
+called_kept laws w c small h = grind (arith, by_test, answered_kept)
 
 pub taking_kept : SessionLaws → (w : Core) (us : List Meaning) → w.peer.sent ≡ us → AreConsistent w → AreConsistent (taking w us)
 taking_kept laws w us e h = search (arith, consistent, sound_unit, taken_lines, lines_of)

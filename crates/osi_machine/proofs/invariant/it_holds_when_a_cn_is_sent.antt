@@ -1,9 +1,9 @@
 -- The invariant of both sides holds while the CN of a caller is in flight.
 -- For every run: it begins so.
-use Rattle.std.proofs.Common.{◌≡◌, sym, ap, Bool, true, if◌then◌else◌, unwrap_or, arith}
-use Rattle.osi_machine.proofs.Vocabulary.{State, Answering, Ended, are_sizes, has_data, functional_units, serial_for, offered}
-use Rattle.osi_machine.proofs.Vocabulary.{is_restarting, without_tokens, awaiting, next, no_owner, turned_owners, Offer, CanBeOffered}
-use Rattle.osi_machine.proofs.Vocabulary.{offering, offer_sent, core_start, and_from}
+use Rattle.std.proofs.Common.{◌≡◌, true, unwrap_or, arith}
+use Rattle.osi_machine.proofs.Vocabulary.{State, Answering, are_sizes, has_data, functional_units, serial_for, offered, is_restarting}
+use Rattle.osi_machine.proofs.Vocabulary.{awaiting, next, no_owner, turned_owners, Offer, CanBeOffered, offering, offer_sent, core_start}
+use Rattle.osi_machine.proofs.Vocabulary.{and_from}
 use Rattle.osi_machine.proofs.basics.what_holds_in_each_phase.{by_test}
 use Rattle.osi_machine.proofs.channels.a_held_token_keeps_units_out.{has_set}
 use Rattle.osi_machine.proofs.invariant.what_holds_of_both_sides.{Meeting, Counting, IsOfProfile, Stands}
@@ -22,9 +22,7 @@ answering o = record awaiting {
 is_answered : (o : Offer) → are_sizes o.sizes ≡ true → has_data (functional_units o.requirements) ≡ true
     → answering o ≡ next awaiting (offer_sent o)
 unfolding answering
-is_answered o z h =
-    sym (ap (λ (b : Bool). if b then answering o else without_tokens Ended awaiting)
-    (and_from (has_data (functional_units o.requirements)) (are_sizes o.sizes) h z))
+is_answered o z h = grind (arith, answering, and_from)
 
 own_meets : (o : Offer) → Meeting no_owner (offering o) (offering o) (answering o) (offering o) awaiting
 unfolding answering

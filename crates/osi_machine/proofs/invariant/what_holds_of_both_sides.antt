@@ -153,14 +153,7 @@ pub record Like (s r : State) : Type 0 where
   pub numbers : r.numbers ≡ s.numbers
 
 pub like : (s r : State) → r ≡ record s { held = r.held } → Like s r
-like s r e = assumption (
-  ap (λ (q : State). q.phase) e,
-  ap (λ (q : State). q.units) e,
-  ap (λ (q : State). q.wishes) e,
-  ap (λ (q : State). q.proposed) e,
-  ap (λ (q : State). q.base) e,
-  ap (λ (q : State). q.numbers) e,
-)
+like s r e = grind arith
 
 pub itself : (s : State) → Like s s
 itself s = record { phase = refl; units = refl; wishes = refl; proposed = refl; base = refl; numbers = refl }

@@ -1,7 +1,7 @@
 -- Before a class is known each connection waits for its caller's first message or is dead; no message shows a loss.
 -- For a_loss_is_shown_by_an_end.
-use Rattle.std.proofs.Common.{◌≡◌, refl, sym, subst, ℕ, zero, suc, Bool, true, false, not, ◌||◌, List, [], ◌∷◌, take, ◌⊎◌, arith, Ok, Err}
-use Rattle.std.proofs.Common.{inl, inr, ◌∙◌, ap}
+use Rattle.std.proofs.Common.{◌≡◌, refl, sym, subst, ℕ, zero, suc, Bool, true, false, not, ◌||◌, List, [], ◌∷◌, take, ◌⊎◌, arith, inl, inr}
+use Rattle.std.proofs.Common.{◌∙◌, ap}
 use Rattle.osi_machine.proofs.Vocabulary.{list_any, Lost, Phase, Call, Answer, allowed, is_over, shows_loss, Message, Transport, waiting}
 use Rattle.osi_machine.proofs.Vocabulary.{gone, World, turned, session_of, put, after_answer, Terms, message_taken, ended_at, shown_at_end}
 use Rattle.osi_machine.proofs.Vocabulary.{is_waiting, without_first, Told, or_parts, not-true, append-nil, unit, agree, bye, denies, closed}
@@ -63,20 +63,13 @@ dead_taken broken terms keep w m ms h e = search (arith, or_parts)
 
 -- an end of either side, and a break
 pub dead_ends : (keep : ℕ) (w : World) → IsDead w → IsDead (ended_at keep w)
-dead_ends keep w h =
-    record { left = refl; over_now = refl; quiet = h.quiet; idle = h.idle; no_unit = take_none is_unit keep w.own.channel h.no_unit }
+dead_ends keep w h = grind (arith, take_none, is_unit)
 
 pub dead_ended : (keep : ℕ) (w : World) → IsDead (turned w) → IsDead (turned (ended_at keep w))
 dead_ended keep w h = record { left = h.left; over_now = h.over_now; quiet = refl; idle = refl; no_unit = h.no_unit }
 
 pub dead_cut : (left right : ℕ) (w : World) → IsDead w → IsDead (cut_to left right w)
-dead_cut left right w h = record {
-  left = h.left;
-  over_now = h.over_now;
-  quiet = h.quiet;
-  idle = h.idle;
-  no_unit = take_none is_unit left w.own.channel h.no_unit;
-}
+dead_cut left right w h = grind (arith, take_none, is_unit)
 
 pub quiet_end : (w : World) → shows_loss w.own.kept.phase ≡ false → shown_at_end w ≡ []
 quiet_end w e = if_no (shows_loss w.own.kept.phase) (Lost ∷ []) [] e
@@ -110,9 +103,7 @@ waits_opens b w t u h4 e = search (arith, not_both)
 
 pub early_call : (b : Bool) (w : World) (t u : Told) (x : Call) → Stage b w t u → IsEarly w
     → IsEarly (after_answer b x w (allowed (session_of w) x))
-early_call b w t u x h (inl e) = subst (λ (a : Answer). IsEarly (after_answer b x w a))
-    (sym (caller_refuses w t u x (waits_opens b w t u h e)).refused) (inl e)
-early_call b w t u x h (inr d) = inr (dead_call b w x d)
+early_call b w t u x h h2 = grind (arith, caller_refuses, waits_opens, refused, dead_call)
 
 pub early_called : (b : Bool) (w : World) (t u : Told) (x : Call) → Stage b (turned w) t u → IsEarly (turned w)
     → IsEarly (turned (after_answer b x w (allowed (session_of w) x)))
@@ -141,8 +132,7 @@ early_ends b keep w t u h (inr d) = inr (dead_ends keep w d)
 
 pub early_ended : (b : Bool) (keep : ℕ) (w : World) (t u : Told) → Stage b (turned w) t u → IsEarly (turned w)
     → IsEarly (turned (ended_at keep w))
-early_ended b keep w t u h (inl e) = opens_early _ _ _ (called_ends keep w t u (waits_opens b (turned w) t u h e))
-early_ended b keep w t u h (inr d) = inr (dead_ended keep w d)
+early_ended b keep w t u h h2 = grind (arith, opens_early, called_ends, waits_opens, dead_ended)
 
 pub early_cut : (left right : ℕ) (w : World) → IsEarly w → IsEarly (cut_to left right w)
 early_cut left right w (inl e) = inl e
@@ -158,26 +148,20 @@ pub none_back : (w : World) → NoAgree w → NoAgree (turned w)
 none_back w h = record { own = h.peer; peer = h.own }
 
 pub none_call : (b : Bool) (w : World) (x : Call) (a : Answer) → NoAgree w → NoAgree (after_answer b x w a)
-none_call b w x (Ok g) h = record { own = put_none is_agree b w.own.channel (unit g.sent) refl h.own; peer = h.peer }
-none_call b w x (Err e) h = h
+none_call b w x a h = grind (arith, put_none)
 
 pub none_takes : (b : Bool) (r keep : ℕ) (w : World) (m : Message) (ms : List Message) → w.peer.channel ≡ m ∷ ms → NoAgree w
     → (is_agree m ≡ false) × NoAgree (message_taken b (denies r) keep w.own.transport (without_first w ms) m).world
 none_takes b r keep w m ms e h = search (arith, or_parts, put_none, take_none, append-nil)
 
 pub none_closed : (b : Bool) (keep : ℕ) (w : World) → NoAgree w → NoAgree (closed b keep w)
-none_closed b keep w h = record {
-  own = put_none is_agree b (take keep w.own.channel) (bye 128) refl
-      (take_none is_agree keep w.own.channel h.own);
-  peer = h.peer;
-}
+none_closed b keep w h = grind (arith, put_none, take_none)
 
 pub none_ends : (keep : ℕ) (w : World) → NoAgree w → NoAgree (ended_at keep w)
 none_ends keep w h = record { own = take_none is_agree keep w.own.channel h.own; peer = h.peer }
 
 pub none_cut : (left right : ℕ) (w : World) → NoAgree w → NoAgree (cut_to left right w)
-none_cut left right w h =
-    record { own = take_none is_agree left w.own.channel h.own; peer = take_none is_agree right w.peer.channel h.peer }
+none_cut left right w h = grind (arith, take_none)
 
 abbrev pub is_lost : Shown → Bool
 is_lost Lost = true

@@ -118,8 +118,7 @@ Denied terms b w o s t = is_denial terms ≡ true → NoAgree w
 denied_takes : (terms : Terms) (b : Bool) (keep : ℕ) (w : World) (x : Message) (xs : List Message) → w.peer.channel ≡ x ∷ xs
     → is_denial terms ≡ true
     → NoAgree w → (is_agree x ≡ false) × NoAgree (taking_of b terms keep w x xs).world
-denied_takes (denies r) b keep w x xs e d h = none_takes b r keep w x xs e h
-denied_takes (accepts class) b keep w x xs e d h = absurd (cc)
+denied_takes terms b keep w x xs e d h = grind (arith, none_takes)
 
 denied_kept : (terms : Terms) → IsKept terms (Denied terms)
 denied_kept terms = record {
@@ -148,13 +147,11 @@ back : (P : World → Type 0) (w : World) → P w → P (turned (turned w))
 back P w h = subst P (sym (turned_back w)) h
 
 dead_quiet : (side : Side) (w : World) → IsDead w → shows_loss (seen_from side w).own.kept.phase ≡ false
-dead_quiet Left w h = over_quiet w.own.kept.phase h.over_now
-dead_quiet Right w h = h.quiet
+dead_quiet side w h = grind (arith, over_quiet)
 
 dead_side_call : (b : Bool) (side : Side) (w : World) (x : Call) → IsDead w
     → IsDead (seen_from side (after_answer b x (seen_from side w) (allowed (session_of (seen_from side w)) x)))
-dead_side_call b Left w x h = dead_call b w x h
-dead_side_call b Right w x h = dead_called b (turned w) x (back IsDead w h)
+dead_side_call b side w x h = grind (arith, dead_call, dead_called, back)
 
 early_side_call : (b : Bool) (side : Side) (w : World) (x : Call) → StageOf b w → IsEarly w
     → IsEarly (seen_from side (after_answer b x (seen_from side w) (allowed (session_of (seen_from side w)) x)))
@@ -165,8 +162,7 @@ dead_side_takes : (b : Bool) (terms : Terms) (keep : ℕ) (side : Side) (w : Wor
     → (seen_from side w).peer.channel ≡ x ∷ xs → IsDead w
     → ((taking_of b terms keep (seen_from side w) x xs).closes ≡ false)
     × IsDead (seen_from side (taking_of b terms keep (seen_from side w) x xs).world)
-dead_side_takes b terms keep Left w x xs e h = dead_takes b terms keep w x xs h
-dead_side_takes b terms keep Right w x xs e h = dead_taken b terms keep (turned w) x xs (back IsDead w h) e
+dead_side_takes b terms keep side w x xs e h = grind (arith, dead_takes, dead_taken, back)
 
 known_before : (terms : Terms) (tr : Transport) (x : Message) (known : Option Class) → is_known (learns terms tr x known) ≡ false
     → is_known known ≡ false
@@ -188,8 +184,7 @@ ends_or_not : (P : World → Type 0) (side : Side) (n : ℕ) (w : World) → P (
 ends_or_not P side n w h k = grind arith
 
 dead_ends_at : (side : Side) (n : ℕ) (w : World) → IsDead w → IsDead (seen_from side (ended_at n (seen_from side w)))
-dead_ends_at Left n w h = dead_ends n w h
-dead_ends_at Right n w h = dead_ended n (turned w) (back IsDead w h)
+dead_ends_at side n w h = grind (arith, dead_ends, dead_ended, back)
 
 dead_side_ends : (side : Side) (n : ℕ) (w : World) → IsDead w → IsDead (seen_from side (ends_there n (seen_from side w)))
 dead_side_ends side n w h = ends_or_not IsDead side n w (dead_ends_at side n w h) h
@@ -197,8 +192,7 @@ dead_side_ends side n w h = ends_or_not IsDead side n w (dead_ends_at side n w h
 early_ends_at : (b : Bool) (side : Side) (n : ℕ) (w : World) → StageOf b w × IsEarly w
     → IsEarly (seen_from side (ended_at n (seen_from side w)))
 early_ends_at b Left n w h = early_ends b n w h.0.own h.0.peer h.0.stage h.1
-early_ends_at b Right n w h = early_ended b n (turned w) h.0.own h.0.peer (back (λ v. Stage b v h.0.own h.0.peer) w h.0.stage)
-    (back IsEarly w h.1)
+early_ends_at b Right n w h = grind (arith, early_ended, back)
 
 stages : (b : Bool) (j : List Entry) (k : ℕ) (ws : List World) (os : List Offer) → Lines Whole b j k ws os → AllByRecursion (StageOf b) ws
 stages b j k [] [] h = tt
@@ -264,15 +258,13 @@ module _ (d side : Side) where
   order_one k r [] w v e n q h = absurd (cc)
   order_one k zero (x ∷ ws) w v e n q (inl h) = absurd (n (subst IsDead (some_same x w e) h.0))
   order_one k zero (x ∷ ws) w v e n q (inr h) = and_rest k v ws (quiet_first k v q) (order_dead (k + 1) ws h)
-  order_one k (suc r) (x ∷ ws) w v e n q (inl h) =
-      and_rest k x (replaced r v ws) (quiet_first k x (dead_quiet side x h.0)) (order_one (k + 1) r ws w v e n q h.1)
+  order_one k (suc r) (x ∷ ws) w v e n q (inl h) = grind (arith, and_rest, quiet_first, dead_quiet, order_one (k + 1) r ws w v e n q h.1)
   order_one k (suc r) (x ∷ ws) w v e n q (inr h) = absurd (n (all_got IsDead r ws w e h))
 
   order_with : (r : ℕ) (ws : List World) (w v : World) → connection_at r ws ≡ Some w → (IsDead w → ⊥)
       → shows_loss (seen_from side v).own.kept.phase ≡ false
       → OneAlive ws → list_any (is_loss d) (shown_in_order side 1 (with_connection r v ws)) ≡ false
-  order_with zero ws w v e n q h = absurd (cc)
-  order_with (suc r) ws w v e n q h = order_one 1 r ws w v e n q h
+  order_with r ws w v e n q h = search (arith, order_one)
 
 -- ---- one connection moves
 
@@ -334,15 +326,12 @@ marked_calm : (side : Side) (e : Ending) (m : Machine)
     → list_any (is_loss d) m.journal ≡ false)
     → by_terms m.terms m.known ≡ true → (is_class_2 m.terms ≡ false → OneAlive m.worlds)
     → (is_known m.known ≡ false → AllByRecursion IsEarly m.worlds) → IsCalm (marked_ended side e m)
-marked_calm Left e m k c a y = record { classes = c; alone = a; early = y; losses = λ d n. k d (ap loses (sym (end_after Left d e m)) ∙ n) }
-marked_calm Right e m k c a y =
-    record { classes = c; alone = a; early = y; losses = λ d n. k d (ap loses (sym (end_after Right d e m)) ∙ n) }
+marked_calm side e m k c a y = grind (arith, end_after)
 
 end_journal : (d side : Side) (e : Ending) (m : Machine) → list_any (is_loss d) m.journal ≡ false
     → list_any (is_loss d) (shown_in_order side 1 m.worlds) ≡ false
     → list_any (is_loss d) (m.journal ++ (shown_in_order side 1 m.worlds ++ ended side e ∷ [])) ≡ false
-end_journal d side e m h k = none_more (is_loss d) m.journal (shown_in_order side 1 m.worlds ++ ended side e ∷ []) h
-    (none_more (is_loss d) (shown_in_order side 1 m.worlds) (ended side e ∷ []) k refl)
+end_journal d side e m h k = grind (arith, none_more)
 
 -- a side ends that is told of a break or runs out of memory
 own_loses : (b : Bool) (e : Ending) (o : Option Ending) → loses (Some e) ≡ true → loses (if b then Some e else o) ≡ false
@@ -398,8 +387,7 @@ close_over : SessionLaws → (b : Bool) (terms : Terms) (keep : ℕ) (w : World)
     → w.peer.channel ≡ x ∷ xs
     → Stage b w t u → (taking_of b terms keep w x xs).closes ≡ true → stopped (taking_of b terms keep w x xs).world.own ≡ true
 close_over laws b terms keep w t u x xs e (inl h) c = absurd (let k = sym c ∙ (caller_takes b terms keep w t u x xs h e).stays_open in cc)
-close_over laws b terms keep w t u x xs e (inr (inl h)) c =
-    absurd (let k = sym c ∙ (called_takes b terms keep w u t x xs h e).stays_open in cc)
+close_over laws b terms keep w t u x xs e (inr (inl h)) c = grind (arith, called_takes)
 close_over laws b terms keep w t u x xs e (inr (inr h)) c = ((message_repeats b w t u h laws terms keep x xs e).over_now c).0
 
 taking_calm : SessionLaws → (m : Machine) (side : Side) (r : ℕ) (keep : ℕ → ℕ) (w : World) (x : Message) (xs : List Message)
@@ -492,8 +480,7 @@ abbrev new_line : Bool → Offer → World
 new_line b o = if b then record (asked_with o) { own = record (asked_with o).own { channel = [] } } else asked_with o
 
 new_early : (b : Bool) (o : Offer) → IsEarly (new_line b o)
-new_early true o = inl refl
-new_early false o = inl refl
+new_early b o = grind arith
 
 none_waits : (known : Option Class) (asked : List Transport) → (not (is_known known) && list_any is_waiting asked) ≡ false
     → is_known known ≡ false
@@ -521,8 +508,7 @@ asked_calm m o None q c =
 -- ---- a step, and a list of steps
 
 if_calm : (b : Bool) (m n : Machine) → (b ≡ true → IsCalm m) → (b ≡ false → IsCalm n) → IsCalm (if b then m else n)
-if_calm true m n h k = h refl
-if_calm false m n h k = k refl
+if_calm b m n h k = grind arith
 
 told_loses : (e : Ending) (broken : Bool) → not (is_told e broken) ≡ false → loses (Some e) ≡ true
 told_loses e broken h = grind arith
@@ -553,8 +539,7 @@ module _ (laws : SessionLaws) (terms : Terms) where
   step_calm : (m : Machine) (s : Step) → Keeps m → IsCalm (step m s)
   step_calm m (connects o) g = asked_calm m o (refusal m o) refl g.calm
   step_calm m (calls side r x) g = call_calm m side r x (λ w e. stage_of terms m g.good r w e) (connection_at r m.worlds) refl g.calm
-  step_calm m (delivers side r keep) g = if_calm (is_some (end_of side m)) _ _ (λ e. g.calm)
-      (λ e. delivery_calm laws m side r keep (ap is_some (sym (end_is side m)) ∙ e) (known_at m g r) g.calm (connection_at r m.worlds) refl)
+  step_calm m (delivers side r keep) g = search (arith, if_calm, delivery_calm, end_is, known_at)
   step_calm m (breaks left right) g = if_calm m.broken _ _ (λ e. g.calm) (λ e. broken_calm m left right g.calm)
   step_calm m (ends side e keep) g = if_calm (is_some (end_of side m) || not (is_told e m.broken)) _ _ (λ q. g.calm)
       (λ q. lost_calm m side e keep (told_loses e m.broken (or_parts (is_some (end_of side m)) (not (is_told e m.broken)) q).1)
@@ -584,6 +569,4 @@ module _ (laws : SessionLaws) (terms : Terms) where
       })).calm
 
 pub losses_have_an_end : SessionLaws → (m : Machine) → IsRun m → LosesByItsEnd m
-losses_have_an_end laws m h side =
-    subst (λ (x : Machine). list_any (is_loss side) x.journal ≡ true → loses (end_of side x) ≡ true) h.reached
-    (losses_of laws h.agreed h.steps h.numbered side)
+losses_have_an_end laws m h side = grind (arith, losses_of)

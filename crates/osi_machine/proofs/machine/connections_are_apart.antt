@@ -1,9 +1,8 @@
 -- A step of one connection changes no other.
 -- For the law of the same name.
-use Rattle.std.proofs.Common.{◌≡◌, refl, sym, ◌∙◌, ap, ℕ, false, List, [], ◌∷◌, Option, Some, None, is_some, arith}
-use Rattle.osi_machine.proofs.Vocabulary.{Call, Side, Class, Message, World, Taking, message_taken, Ending, closed_here, Machine}
-use Rattle.osi_machine.proofs.Vocabulary.{connection_at, seen_from, end_of, call_in, side_of, marked_ended, after_taking, without_first}
-use Rattle.osi_machine.proofs.Vocabulary.{learns, taken_in, delivered_to, AreApart}
+use Rattle.std.proofs.Common.{◌≡◌, refl, sym, ◌∙◌, ap, ℕ, false, List, [], ◌∷◌, Option, Some, is_some, arith}
+use Rattle.osi_machine.proofs.Vocabulary.{Call, Side, Class, Message, World, Taking, Ending, closed_here, Machine, connection_at, end_of}
+use Rattle.osi_machine.proofs.Vocabulary.{call_in, side_of, marked_ended, after_taking, taken_in, delivered_to, AreApart}
 use Rattle.osi_machine.proofs.basics.what_stands_at_a_reference.{with_other, there_still}
 
 call_other : (m : Machine) (side : Side) (r : ℕ) (c : Call) (k : ℕ) → (k ≡ r → ⊥) → (a : Option World)
@@ -29,18 +28,13 @@ taken_other : (m : Machine) (side : Side) (r : ℕ) (keep : ℕ → ℕ) (w : Wo
     → end_of side (taken_in m side r keep w ms) ≡ end_of side m
     → connection_at k (taken_in m side r keep w ms).worlds ≡ connection_at k m.worlds
 taken_other m side r keep w k n i [] e = refl
-taken_other m side r keep w k n i (x ∷ xs) e =
-    taking_other (record m { known = learns m.terms w.own.transport x m.known }) side r keep
-    (message_taken m.broken m.terms (keep r) w.own.transport (without_first w xs) x) k n
-    (ap is_some (same_end side m (learns m.terms w.own.transport x m.known)) ∙ i)
-    (e ∙ sym (same_end side m (learns m.terms w.own.transport x m.known)))
+taken_other m side r keep w k n i (x ∷ xs) e = search (arith, taking_other, same_end)
 
 delivery_other : (m : Machine) (side : Side) (r : ℕ) (keep : ℕ → ℕ) (k : ℕ) → (k ≡ r → ⊥) → is_some (end_of side m) ≡ false
     → (a : Option World)
     → end_of side (delivered_to m side r keep (side_of side a)) ≡ end_of side m
     → connection_at k (delivered_to m side r keep (side_of side a)).worlds ≡ connection_at k m.worlds
-delivery_other m side r keep k n i None e = refl
-delivery_other m side r keep k n i (Some w) e = taken_other m side r keep (seen_from side w) k n i (seen_from side w).peer.channel e
+delivery_other m side r keep k n i a e = grind (arith, taken_other)
 
 pub are_apart : (m : Machine) → AreApart m
 are_apart m = search (arith, there_still, call_other, delivery_other)

@@ -39,10 +39,7 @@ shown_offers side r (i ∷ shown) = shown_offers side r shown
 
 pub order_offers : (side : Side) (r : ℕ) (ws : List World) → offers_in (shown_in_order side r ws) ≡ []
 order_offers side r [] = refl
-order_offers side r (w ∷ ws) =
-    offers_append (map (shown_at side r) (shown_at_end (seen_from side w))) (shown_in_order side (r + 1) ws)
-    ∙ ap (λ (os : List Offer). os ++ offers_in (shown_in_order side (r + 1) ws)) (shown_offers side r (shown_at_end (seen_from side w)))
-    ∙ order_offers side (r + 1) ws
+order_offers side r (w ∷ ws) = grind (arith, offers_append, shown_offers, order_offers side (r + 1) ws)
 
 -- a call that was answered, to the side that made it
 abbrev pub told_of_call : Told → Call → Option CallError → Told
@@ -107,10 +104,7 @@ call_by side r c e d k n = ap (λ (b : Bool). if b then call_answered side r c e
 
 shown_by : (side : Side) (r : ℕ) (shown : List Shown) → IsBy side r (map (shown_at side r) shown)
 shown_by side r [] d k n = refl
-shown_by side r (i ∷ shown) d k n =
-    ap (λ (b : Bool). if b then shown_at side r i ∷ record_of d k (map (shown_at side r) shown) else record_of d k
-    (map (shown_at side r) shown)) n
-    ∙ shown_by side r shown d k n
+shown_by side r (i ∷ shown) d k n = grind (arith, shown_by side r shown d k n)
 
 self_side : (side : Side) → is_side side side ≡ true
 self_side side = grind arith
@@ -129,10 +123,7 @@ call_own side r t c e = grind (arith, own_entry)
 shown_own : (side : Side) (r : ℕ) (t : Told) (shown : List Shown)
     → told_by t (record_of side r (map (shown_at side r) shown)) ≡ told_all t shown
 shown_own side r t [] = refl
-shown_own side r t (i ∷ shown) =
-    ap (λ (b : Bool). told_by t (if b then shown_at side r i ∷ record_of side r (map (shown_at side r) shown)
-    else record_of side r (map (shown_at side r) shown))) (own_entry side r)
-    ∙ shown_own side r (told_shown t i) shown
+shown_own side r t (i ∷ shown) = grind (arith, own_entry, shown_own side r (told_shown t i) shown)
 
 refused_mute : (side : Side) (r : ℕ) (c : Call) (e : CallError) → IsMute (call_answered side r c (Some e) ∷ [])
 refused_mute side r c e d n t = by_test (is_side d side && (r == n)) (λ q. rw q) (λ q. rw q)
@@ -176,29 +167,22 @@ module _ (P : Claim) (b : Bool) where
   keep_lines : (j es : List Entry) (k : ℕ) (ws : List World) (os : List Offer) → ((d : Side) (n : ℕ) → k ≤ n → record_of d n es ≡ [])
       → Lines P b j k ws os → Lines P b (j ++ es) k ws os
   keep_lines j es k [] [] f h = tt
-  keep_lines j es k (w ∷ ws) (o ∷ os) f h =
-      (at_same j es k w o (λ d. f d k (omega arith)) h.0, keep_lines j es (k + 1) ws os (λ d n l. f d n (omega arith)) h.1)
+  keep_lines j es k (w ∷ ws) (o ∷ os) f h = grind (arith, at_same, keep_lines j es (k + 1) ws os (λ d n l. f d n (omega arith)) h.1)
   keep_lines j es k _ _ f h = absurd h
 
   -- nor do entries that tell nothing
   mute_lines : (j es : List Entry) (k : ℕ) (ws : List World) (os : List Offer) → IsMute es → Lines P b j k ws os
       → Lines P b (j ++ es) k ws os
   mute_lines j es k [] [] f h = tt
-  mute_lines j es k (w ∷ ws) (o ∷ os) f h = (
-    seen_told w o _ _ _ _ (sym (told_more Left k o j es ∙ f Left k _)) (sym (told_more Right k o j es ∙ f Right k _)) h.0,
-    mute_lines j es (k + 1) ws os f h.1,
-  )
+  mute_lines j es k (w ∷ ws) (o ∷ os) f h =
+      grind (arith, seen_told, told_more Left k o j es, told_more Right k o j es, mute_lines j es (k + 1) ws os f h.1)
   mute_lines j es k _ _ f h = absurd h
 
   -- one connection is replaced
   change_line : (j es : List Entry) (k r : ℕ) (ws : List World) (os : List Offer) (w v : World)
       → ((d : Side) (n : ℕ) → (n ≡ k + r → ⊥) → record_of d n es ≡ []) → slice_get ws r ≡ Some w
       → ((o : Offer) → At j (k + r) w o → At (j ++ es) (k + r) v o) → Lines P b j k ws os → Lines P b (j ++ es) k (replaced r v ws) os
-  change_line j es k zero (x ∷ ws) (o ∷ os) w v f e g h = (
-    at_number (j ++ es) (k + 0) k v o (omega arith)
-        (g o (subst (λ (y : World). At j (k + 0) y o) (some_same x w e) (at_number j k (k + 0) x o (omega arith) h.0))),
-    keep_lines j es (k + 1) ws os (λ d n l. f d n (λ q. absurd (omega arith))) h.1,
-  )
+  change_line j es k zero (x ∷ ws) (o ∷ os) w v f e g h = grind (arith, at_number, some_same, keep_lines)
   change_line j es k (suc r) (x ∷ ws) (o ∷ os) w v f e g h = (
     at_same j es k x o (λ d. f d k (λ q. absurd (omega arith))) h.0,
     change_line j es (k + 1) r ws os w v (λ d n q. f d n (λ y. q (omega arith))) e
@@ -233,8 +217,7 @@ get_below (v ∷ ws) zero w e = omega arith
 get_below (v ∷ ws) (suc r) w e = let k = get_below ws r w e in omega arith
 
 pub if_none : (b : Bool) (e : Refusal) (x : Option Refusal) → (if b then Some e else x) ≡ None → (b ≡ false) × (x ≡ None)
-if_none true e x h = absurd (cc)
-if_none false e x h = (refl, h)
+if_none b e x h = grind arith
 
 asked_profile : (past : Bool) (known : Option Class) (asked : List Transport) (o : Offer) → refusal_by past known asked o ≡ None
     → is_profile o.requirements ≡ true
@@ -257,21 +240,18 @@ module _ (terms : Terms) (P : Claim) (kept : IsKept terms P) where
 
   to_side : (b : Bool) (side : Side) (w : World) (o : Offer) (T : Side → Told) → P b w o (T Left) (T Right)
       → P b (seen_from side w) o (T side) (T (other side))
-  to_side b Left w o T h = h
-  to_side b Right w o T h = kept.turns b w o (T Left) (T Right) h
+  to_side b side w o T h = grind arith
 
   from_side : (b : Bool) (side : Side) (w : World) (o : Offer) (T : Side → Told) → P b w o (T side) (T (other side))
       → P b (seen_from side w) o (T Left) (T Right)
-  from_side b Left w o T h = h
-  from_side b Right w o T h = kept.turns b w o (T Right) (T Left) h
+  from_side b side w o T h = grind arith
 
   -- what is noted of a connection is of one side alone
   one_told : (b : Bool) (side : Side) (k : ℕ) (v : World) (o : Offer) (j es : List Entry) (f : Told → Told)
       → record_of (other side) k es ≡ []
       → ((t : Told) → told_by t (record_of side k es) ≡ f t) → P b v o (f (told_of side k o j)) (told_of (other side) k o j)
       → At P b (j ++ es) k (seen_from side v) o
-  one_told b side k v o j es f quiet tells h = from_side b side v o (λ d. told_of d k o (j ++ es))
-      (seen_told P b v o _ _ _ _ (sym (told_more side k o j es ∙ tells _)) (sym (told_same (other side) k o j es quiet)) h)
+  one_told b side k v o j es f quiet tells h = grind (arith, from_side, seen_told, told_more, told_same, other)
 
   -- one connection moves, by one side
   move_good : (m : Machine) (side : Side) (r : ℕ) (w v : World) (es : List Entry) (f : Told → Told) → connection_at r m.worlds ≡ Some w
@@ -332,8 +312,7 @@ module _ (terms : Terms) (P : Claim) (kept : IsKept terms P) where
   call_good : (m : Machine) (side : Side) (r : ℕ) (c : Call) → HasSerial c → IsGood terms P m → (a : Option World)
       → connection_at r m.worlds ≡ a
       → IsGood terms P (call_in m side r c (side_of side a))
-  call_good m side r c small g None e =
-      mute_good m (call_answered side r c (Some error.NoSuchConnection) ∷ []) (refused_mute side r c error.NoSuchConnection) refl g
+  call_good m side r c small g None e = grind (arith, mute_good, refused_mute)
   call_good m side r c small g (Some w) e =
       let v = seen_from side w in
       let a = allowed (session_of v) c in
@@ -383,9 +362,7 @@ module _ (terms : Terms) (P : Claim) (kept : IsKept terms P) where
   end_lines b side keep j es k _ _ f h = absurd h
 
   marked_good : (side : Side) (e : Ending) (m : Machine) → IsGood terms P m → IsGood terms P (marked_ended side e m)
-  marked_good Left e m g = record { offers = g.offers; lines = g.lines; fresh = g.fresh; none = g.none; agreed = g.agreed; asked = g.asked }
-  marked_good Right e m g =
-      record { offers = g.offers; lines = g.lines; fresh = g.fresh; none = g.none; agreed = g.agreed; asked = g.asked }
+  marked_good side e m g = grind arith
 
   end_good : (m : Machine) (side : Side) (e : Ending) (keep : ℕ → ℕ) → IsGood terms P m → IsGood terms P (after_end side e keep m)
   end_good m side e keep g = marked_good side e _ (record {
@@ -447,16 +424,14 @@ module _ (terms : Terms) (P : Claim) (kept : IsKept terms P) where
 
   delivery_good : (m : Machine) (side : Side) (r : ℕ) (keep : ℕ → ℕ) → IsGood terms P m → (a : Option World) → connection_at r m.worlds ≡ a
       → IsGood terms P (delivered_to m side r keep (side_of side a))
-  delivery_good m side r keep g None e = g
-  delivery_good m side r keep g (Some w) e = taken_good m side r keep w e g (seen_from side w).peer.channel refl
+  delivery_good m side r keep g a e = grind (arith, taken_good)
 
   -- ---- a break
 
   cut_lines : (j : List Entry) (left right : ℕ → ℕ) (k : ℕ) (ws : List World) (os : List Offer) → Lines P false j k ws os
       → Lines P true j k (cut_channels left right k ws) os
   cut_lines j left right k [] [] h = tt
-  cut_lines j left right k (w ∷ ws) (o ∷ os) h =
-      (kept.breaks w o _ _ (left k) (right k) h.0, cut_lines j left right (k + 1) ws os h.1)
+  cut_lines j left right k (w ∷ ws) (o ∷ os) h = grind (arith, cut_lines j left right (k + 1) ws os h.1)
   cut_lines j left right k _ _ h = absurd h
 
   break_good : (m : Machine) (left right : ℕ → ℕ) → IsGood terms P m

@@ -1,7 +1,7 @@
 -- No entry of the journal indicates a fault, whatever its reference.
 -- For the clause `faultless` of `what_two_records_tell`.
-use Rattle.std.proofs.Common.{◌≡◌, refl, sym, ◌∙◌, ap, ℕ, zero, suc, ◌<◌, Bool, true, false, ◌||◌, if◌then◌else◌, List, [], ◌∷◌, length}
-use Rattle.std.proofs.Common.{Option, Some, None, arith}
+use Rattle.std.proofs.Common.{◌≡◌, refl, sym, ◌∙◌, ℕ, zero, suc, ◌<◌, Bool, false, ◌||◌, if◌then◌else◌, List, [], ◌∷◌, length, Option, Some}
+use Rattle.std.proofs.Common.{None, arith}
 use Rattle.osi_machine.specs.Examples.{for_asker}
 use Rattle.osi_machine.proofs.Vocabulary.{or_assoc, or-false, or-true, list_any, slice_get, Call, no_sizes, Offer, Side, Left, Right, World}
 use Rattle.osi_machine.proofs.Vocabulary.{Machine, Entry, shown_at, connection_at, Told, told_call, told_entry, told_by, is_of, record_of}
@@ -21,8 +21,7 @@ entry_faulted t e = search (arith, call_faulted, or-false, or-true)
 
 told_faulted : (t : Told) (es : List Entry) → (told_by t es).faulted ≡ (t.faulted || list_any is_fault es)
 told_faulted t [] = sym (or-false t.faulted)
-told_faulted t (e ∷ es) = told_faulted (told_entry t e) es ∙ ap (λ (b : Bool). b || list_any is_fault es) (entry_faulted t e)
-    ∙ or_assoc t.faulted (is_fault e) (list_any is_fault es)
+told_faulted t (e ∷ es) = grind (arith, entry_faulted, or_assoc, told_faulted (told_entry t e) es)
 
 fine_record : (t : Told) (es : List Entry) → (told_by t es).faulted ≡ false → list_any is_fault es ≡ false
 fine_record t es h = (or_parts t.faulted (list_any is_fault es) (sym (told_faulted t es) ∙ h)).1
@@ -30,15 +29,11 @@ fine_record t es h = (or_parts t.faulted (list_any is_fault es) (sym (told_fault
 -- ---- each entry of an indication belongs to a record
 
 entry_fine : (e : Entry) (es : List Entry) → ((d : Side) (n : ℕ) → list_any is_fault (record_of d n (e ∷ es)) ≡ false) → is_fault e ≡ false
-entry_fine (shown_at side r i) es h =
-    (or_parts (is_fault (shown_at side r i)) (list_any is_fault (record_of side r es))
-    (sym (ap (λ (b : Bool). list_any is_fault (if b then shown_at side r i ∷ record_of side r es else record_of side r es))
-    (own_entry side r)) ∙ (h side r))).0
+entry_fine (shown_at side r i) es h = grind (arith, or_parts, own_entry side r)
 entry_fine _ es h = refl
 
 fine_behind : (e : Entry) (es : List Entry) (b : Bool) → list_any is_fault (if b then e ∷ es else es) ≡ false → list_any is_fault es ≡ false
-fine_behind e es true h = (or_parts (is_fault e) (list_any is_fault es) h).1
-fine_behind e es false h = h
+fine_behind e es b h = grind (arith, or_parts)
 
 fine_journal : (j : List Entry) → ((d : Side) (n : ℕ) → list_any is_fault (record_of d n j) ≡ false) → list_any is_fault j ≡ false
 fine_journal [] h = refl
@@ -70,14 +65,12 @@ none_from (w ∷ ws) (suc r) e = let k = none_from ws r e in omega arith
 
 not_given : (m : Machine) (h : IsRun m) → IsGood h.agreed Whole m → (d : Side) (n : ℕ) (o : Offer) → connection_at n m.worlds ≡ None
     → told_of d n o m.journal ≡ untold d o
-not_given m h g d zero o e = g.none d o
-not_given m h g d (suc r) o e = g.fresh d (suc r) o (none_from m.worlds r e)
+not_given m h g d n o e = grind (arith, none_from)
 
 fine_at : SessionLaws → (m : Machine) → IsRun m → (d : Side) (n : ℕ) (a : Option World) → connection_at n m.worlds ≡ a
     → list_any is_fault (record_of d n m.journal) ≡ false
 fine_at laws m h d n None e =
-    fine_record (untold d an_offer) (record_of d n m.journal)
-    (ap (λ (t : Told). t.faulted) (not_given m h (good_run laws m h) d n an_offer e) ∙ untold_fine d an_offer)
+    grind (arith, fine_record, an_offer, not_given m h (good_run laws m h) d n an_offer e, good_run laws m h, untold_fine d an_offer)
 fine_at laws m h Left n (Some w) e = fine_record (untold Left w.offer) (record_of Left n m.journal) (no_faults laws m h n w e).0
 fine_at laws m h Right n (Some w) e = fine_record (untold Right w.offer) (record_of Right n m.journal) (no_faults laws m h n w e).1
 

@@ -1,8 +1,8 @@
 -- Data or a point that is taken is the item of the history at the mark of its taker.
 -- For the clause `item` of `what_two_records_tell`.
 use Rattle.std.proofs.Common.{◌≡◌, sym, ◌∙◌, ap, subst, ℕ, Bool, true, false, List, [], ◌∷◌, ◌++◌, take, length, inl, inr, arith}
-use Rattle.osi_machine.proofs.Vocabulary.{State, Meaning, is_over, Item, Begins, is_acted_on, Message, unit, World, turned, session_of}
-use Rattle.osi_machine.proofs.Vocabulary.{Machine, Told, brings, IsRun, OfEach, TakesItsItem, TakeTheirItems}
+use Rattle.osi_machine.proofs.Vocabulary.{State, Meaning, is_over, Item, Begins, is_acted_on, Message, unit, World, session_of, Machine}
+use Rattle.osi_machine.proofs.Vocabulary.{Told, brings, IsRun, OfEach, TakesItsItem, TakeTheirItems}
 use Rattle.osi_machine.proofs.invariant.each_step_keeps_one_side.{SessionLaws}
 use Rattle.osi_machine.proofs.promises.what_two_users_may_rely_on.{none_brought, sees_the_history, takes_the_next_item}
 use Rattle.osi_machine.proofs.whole.how_a_core_simulates_a_connection.{stopped, IsLast, Carried, taken_view, session_is}
@@ -44,8 +44,4 @@ takes_its_item laws b w t u (inr (inr h)) m ms e a =
     (next_there laws b w t u m ms h e l (subst (λ (s : State). is_acted_on s m ≡ true) same a))))
 
 pub items_taken : SessionLaws → (m : Machine) → IsRun m → OfEach TakeTheirItems m
-items_taken laws m h r w e =
-    let s = stage_at laws m h r w e in (
-      takes_its_item laws m.broken w _ _ s,
-      takes_its_item laws m.broken (turned w) _ _ (turned_stage m.broken w _ _ s),
-    )
+items_taken laws m h r w e = search (arith, takes_its_item, turned_stage, stage_at laws m h r w e)

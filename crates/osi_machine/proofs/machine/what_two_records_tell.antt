@@ -4,9 +4,9 @@ use Rattle.std.proofs.Common.{◌≡◌, refl, sym, ◌∙◌, ap, subst, ℕ, z
 use Rattle.std.proofs.Common.{length, Option, Some, None, inl, inr, ◌⊎◌, arith}
 use Rattle.osi_machine.specs.Core.{turned as turned_core}
 use Rattle.osi_machine.proofs.Vocabulary.{or_comm, slice_get, is_over, FunctionalUnits, Item, Point, PointKind, points, Begins, Agree}
-use Rattle.osi_machine.proofs.Vocabulary.{Offer, Left, Right, Core, is_opening, World, turned, Machine, Entry, connection_at, Told, told_of}
-use Rattle.osi_machine.proofs.Vocabulary.{IsRun, OfEach, HasOneHolder, ShowNoFault, RecordsAgree, ShownAsAsked, ConfirmedThere}
-use Rattle.osi_machine.proofs.Vocabulary.{ConfirmedInBoth, untold, Side, seen_from, Terms}
+use Rattle.osi_machine.proofs.Vocabulary.{Offer, Left, Right, Core, is_opening, World, Machine, Entry, connection_at, Told, told_of, IsRun}
+use Rattle.osi_machine.proofs.Vocabulary.{OfEach, HasOneHolder, ShowNoFault, RecordsAgree, ShownAsAsked, ConfirmedThere, ConfirmedInBoth}
+use Rattle.osi_machine.proofs.Vocabulary.{untold, Side, seen_from, Terms}
 use Rattle.osi_machine.proofs.basics.what_holds_in_each_phase.{by_test, by_either}
 use Rattle.osi_machine.proofs.basics.what_a_restart_leaves_of_a_history.{points_append}
 use Rattle.osi_machine.proofs.channels.a_held_token_keeps_units_out.{flush_open}
@@ -63,12 +63,7 @@ pub record StageOf (b : Bool) (w : World) : Type 0 where
 pub stage_of : (terms : Terms) (m : Machine) → IsGood terms Whole m → (r : ℕ) (w : World) → connection_at r m.worlds ≡ Some w
     → StageOf m.broken w
 stage_of terms m g zero w e = absurd (cc)
-stage_of terms m g (suc r) w e =
-    record {
-      own = told_of Left (1 + r) w.offer m.journal;
-      peer = told_of Right (1 + r) w.offer m.journal;
-      stage = line_at m.broken m.journal 1 r m.worlds g.offers w e g.lines;
-    }
+stage_of terms m g (suc r) w e = grind (arith, line_at m.broken m.journal 1 r m.worlds g.offers w e g.lines)
 
 pub stage_from : (b : Bool) (side : Side) (w : World) → StageOf b w → StageOf b (seen_from side w)
 stage_from b Left w h = h
@@ -92,8 +87,7 @@ record Silent (t : Told) : Type 0 where
   indicated : t.indicated ≡ []
 
 silent : (d : Side) (o : Offer) (t : Told) → t ≡ untold d o → Silent t
-silent Left o t e = record { view = ap (λ (x : Told). x.view) e; indicated = ap (λ (x : Told). x.indicated) e }
-silent Right o t e = record { view = ap (λ (x : Told). x.view) e; indicated = ap (λ (x : Told). x.indicated) e }
+silent d o t e = grind arith
 
 agreed_or_not : (b : Bool) (w : World) (s t : Told) → Stage b w s t → Silent s ⊎ Repeats b w s t
 agreed_or_not b w s t (inl h) = inl (silent Left w.offer s h.own_told)
@@ -141,9 +135,7 @@ told_duplex t c s h e = h.duplex (rw (e, alive c.owner c.own c.peer s.own) refl)
 -- and both sides that are open have the same units
 same_duplex : (c : Core) → Stands c → is_opening c.own.session.phase ≡ false → is_opening c.peer.session.phase ≡ false
     → c.peer.session.units.duplex ≡ c.own.session.units.duplex
-same_duplex c s e f = ap (λ (u : FunctionalUnits). u.duplex)
-    (sym (flush_open c.peer.session c.own.sent f s.peer.fits).units ∙ sym s.own.meeting.units
-    ∙ (flush_open c.own.session c.peer.sent e s.own.fits).units)
+same_duplex c s e f = grind (arith, flush_open c.peer.session c.own.sent f s.peer.fits, flush_open c.own.session c.peer.sent e s.own.fits)
 
 -- so that duplex is selected at a side that is open, if either record tells so
 either_duplex : (a b d : Bool) → a ≡ d → (b ≡ false) ⊎ (b ≡ d) → (a || b) ≡ true → d ≡ true
@@ -177,8 +169,7 @@ shown_here b w s t g d = by_either (agreed_or_not b w s t g)
     (λ h. shown_there s t h.core h.stands h.own h.peer d)
 
 pub shown_as_asked : (b : Bool) (w : World) (s t : Told) → Stage b w s t → ShownAsAsked w s t
-shown_as_asked b w s t g d =
-    (shown_here b w s t g d, shown_here b (turned w) t s (turned_stage b w s t g) (or_comm t.duplex s.duplex ∙ d))
+shown_as_asked b w s t g d = search (arith, shown_here, turned_stage, or_comm)
 
 -- ---- what is confirmed
 
@@ -243,6 +234,4 @@ module _ (laws : SessionLaws) (m : Machine) (h : IsRun m) where
   duplex_agreements r w e = shown_as_asked m.broken w _ _ (stage_at laws m h r w e)
 
   pub confirmations : OfEach ConfirmedInBoth m
-  confirmations r w e =
-      let k = stage_at laws m h r w e in
-      (confirmed_there m.broken w _ _ k, confirmed_there m.broken (turned w) _ _ (turned_stage m.broken w _ _ k))
+  confirmations r w e = search (arith, confirmed_there, turned_stage, stage_at laws m h r w e)

@@ -2,20 +2,18 @@
 -- For the law of the same name, and for the records of the machine.
 use Rattle.std.proofs.Common.{◌≡◌, refl, sym, ◌∙◌, ap, ℕ, ◌+◌, Bool, true, false, not, ◌||◌, if◌then◌else◌, List, [], ◌∷◌, ◌++◌, arith}
 use Rattle.std.proofs.Common.{subst, map, Option, Some, None, Ok, Err}
-use Rattle.osi_machine.specs.Floor.{agreed_base}
 use Rattle.osi_machine.specs.Core.{turned, called}
 use Rattle.osi_machine.proofs.Vocabulary.{append-nil, Shown, State, FunctionalUnits, Call, Accept, Data, Give, Please, Minor, MinorConfirm}
 use Rattle.osi_machine.proofs.Vocabulary.{Major, MajorConfirm, Restart, RestartConfirm, Release, ReleaseRefuse, Meaning, CN, AC, DT, GT, PT}
-use Rattle.osi_machine.proofs.Vocabulary.{MIP, MIA, MAP, MAA, RS, RA, FN, NF, Phase, is_over, is_wait_cn, is_connecting, is_answering}
-use Rattle.osi_machine.proofs.Vocabulary.{is_ready, is_major_asked, is_major_due, is_releasing, is_release_due, is_restarting}
-use Rattle.osi_machine.proofs.Vocabulary.{is_restart_due, takes_restart, takes_data, stands, is_acceptable, becomes, shown_for, after}
-use Rattle.osi_machine.proofs.Vocabulary.{may_call, both_units, functional_units, Good, Item, Octets, Point, PointKind, points, cutat}
-use Rattle.osi_machine.proofs.Vocabulary.{minor_kind, major_point, seen, got_in, is_plain, view_called, speaks, stays_in_core, is_opening}
-use Rattle.osi_machine.proofs.Vocabulary.{Told, told_call, told_shown, AllByRecursion, CallError, Granted, Answer, Outcome, nothing, good}
-use Rattle.osi_machine.proofs.Vocabulary.{drops, allowed, respond_unit, Agree, is_acted_on, AllFit, Core, CoreStep, call_at, take_at, Side}
-use Rattle.osi_machine.proofs.Vocabulary.{Left, Right, Offer, answered, taking, takes, core_step, core_run, core_start, IsNumberedStep}
-use Rattle.osi_machine.proofs.Vocabulary.{Entry, call_answered, shown_at, error_of, told_entry, told_by, is_of, record_of, untold}
-use Rattle.osi_machine.proofs.Vocabulary.{call_entries, take_entries, core_entries, core_journal, left_told, right_told, AreTold}
+use Rattle.osi_machine.proofs.Vocabulary.{MIP, MIA, MAP, MAA, RS, RA, FN, NF, Phase, is_over, is_connecting, is_ready, is_major_asked}
+use Rattle.osi_machine.proofs.Vocabulary.{is_major_due, is_releasing, is_release_due, is_restarting, is_restart_due, becomes, shown_for}
+use Rattle.osi_machine.proofs.Vocabulary.{after, may_call, Good, Item, Octets, Point, PointKind, points, seen, got_in, is_plain}
+use Rattle.osi_machine.proofs.Vocabulary.{view_called, speaks, stays_in_core, is_opening, Told, told_call, told_shown, AllByRecursion}
+use Rattle.osi_machine.proofs.Vocabulary.{CallError, Granted, Answer, Outcome, nothing, good, drops, allowed, respond_unit, Agree}
+use Rattle.osi_machine.proofs.Vocabulary.{is_acted_on, AllFit, Core, CoreStep, call_at, take_at, Side, Left, Right, Offer, answered, taking}
+use Rattle.osi_machine.proofs.Vocabulary.{takes, core_step, core_run, core_start, IsNumberedStep, Entry, call_answered, shown_at, error_of}
+use Rattle.osi_machine.proofs.Vocabulary.{told_entry, told_by, record_of, untold, call_entries, take_entries, core_entries, core_journal}
+use Rattle.osi_machine.proofs.Vocabulary.{left_told, right_told, AreTold}
 use Rattle.osi_machine.proofs.basics.what_holds_in_each_phase.{implied, excluded, by_test, every}
 use Rattle.osi_machine.proofs.basics.what_a_restart_leaves_of_a_history.{cut_points, one_point_more, no_point_more}
 use Rattle.osi_machine.proofs.channels.a_unit_is_dropped_bad_or_acted_on.{fit_acts, no_fault}
@@ -76,13 +74,11 @@ none_more t v b f d = f d ∙ sym (append-nil v)
 
 octets_called : (b : Bool) (t v : List Item) (octets : List ℕ) → points t ≡ points v
     → points (t ++ Octets octets ∷ []) ≡ points (v ++ (if b then [] else Octets octets ∷ []))
-octets_called true t v octets e = no_point_more t octets ∙ e ∙ ap points (sym (append-nil v))
-octets_called false t v octets e = no_point_more t octets ∙ e ∙ sym (no_point_more v octets)
+octets_called b t v octets e = grind (arith, no_point_more, append-nil)
 
 octets_taken : (b : Bool) (t v : List Item) (octets : List ℕ) → points t ≡ points v
     → points (t ++ Octets octets ∷ []) ≡ points (if b then v else v ++ Octets octets ∷ [])
-octets_taken true t v octets e = no_point_more t octets ∙ e
-octets_taken false t v octets e = no_point_more t octets ∙ e ∙ sym (no_point_more v octets)
+octets_taken b t v octets e = grind (arith, no_point_more)
 
 same_points : (t : Told) (s : State) (v : List Item) (said got : List (List ℕ)) → Tells t s v said got → points t.view ≡ points (v ++ [])
 same_points t s v said got h = h.pointed ∙ ap points (sym (append-nil v))
@@ -145,36 +141,19 @@ pub call_tells : (t : Told) (s : State) (c : Call) (v : List Item) (said got : L
     → Tells (told_call t c) (after s c) (view_called s c v) (said ++ speaks s c) got
 unfolding calm
 call_tells t s (Accept requirements serial sides sizes octets) v said got k p n f h =
-    let o = implied is_answering is_opening refl s.phase p in
-    calm_tells _ _ _ _ _ refl refl (λ d. h.fresh o ∙ sym (append-nil v ∙ (f o).0))
-    (not_asking t s v said got h (excluded is_answering is_restarting refl s.phase p)) (λ o. refl) h.fine
-    (λ d. (h.silent o).0 ∙ sym (append-nil said ∙ (f o).1)) (λ d. (h.silent o).1 ∙ sym (f o).2) (same_points t s v said got h)
-call_tells t s (Data octets) v said got k p n f h =
-    open_tells is_ready refl refl t _ s _ v _ said _ got _ p (implied is_ready calm refl s.phase p) refl refl refl refl refl refl h
-    (λ d. data_added s.units.duplex t.view v octets (h.view d) d)
-    (λ d. octets_said s.units.duplex t.requested said octets (h.said d) d) h.got
-    (octets_called s.units.duplex t.view v octets h.pointed)
+    grind (arith, implied, calm_tells, append-nil, not_asking, excluded, same_points)
+call_tells t s (Data octets) v said got k p n f h = grind (arith, open_tells, implied, calm, data_added, octets_said, octets_called)
 call_tells t s (Minor confirm octets) v said got k p n f h =
-    open_tells is_ready refl refl t _ s _ v _ said _ got _ p (implied is_ready calm refl s.phase p) refl refl refl refl refl refl h
-    (λ d. point_added s.numbers.next t.base t.view v (minor_kind confirm) octets (next_point t s v said got h n d) (h.view d))
-    (λ d. h.said d ∙ sym (append-nil said)) h.got
-    (one_point_more (t.base + points t.view) s.numbers.next t.view v (minor_kind confirm) octets h.pointed)
-call_tells t s (Major octets) v said got k p n f h =
-    open_tells is_ready refl refl t _ s _ v _ said _ got _ p refl refl refl refl refl refl refl h
-    (λ d. point_added s.numbers.next t.base t.view v major_point octets (next_point t s v said got h n d) (h.view d))
-    (λ d. h.said d ∙ sym (append-nil said)) h.got
-    (one_point_more (t.base + points t.view) s.numbers.next t.view v major_point octets h.pointed)
+    grind (arith, open_tells, implied, calm, point_added, next_point, append-nil, one_point_more)
+call_tells t s (Major octets) v said got k p n f h = grind (arith, open_tells, point_added, next_point, append-nil, one_point_more)
 call_tells t s (MajorConfirm octets) v said got k p n f h = quiet_call is_major_due refl refl t s _ v said got p refl refl refl h
 call_tells t s (Restart m wishes octets) v said got k p n f h = grind (arith, append-nil, cut_points)
 call_tells t s (RestartConfirm sides octets) v said got k p n f h = quiet_call is_restart_due refl refl t s _ v said got p refl refl refl h
 call_tells t s (Release octets) v said got k p n f h = quiet_call is_ready refl refl t s _ v said got p refl refl refl h
 call_tells t s (ReleaseRefuse octets) v said got k p n f h = quiet_call is_release_due refl refl t s _ v said got p refl refl refl h
-call_tells t s (Give tokens) v said got k p n f h =
-    same_tells t s _ v _ said _ got got refl refl refl refl (append-nil v) (append-nil said) refl h
-call_tells t s (Please tokens octets) v said got k p n f h =
-    same_tells t s _ v _ said _ got got refl refl refl refl (append-nil v) (append-nil said) refl h
-call_tells t s (MinorConfirm m octets) v said got k p n f h =
-    same_tells t s _ v _ said _ got got refl refl refl refl (append-nil v) (append-nil said) refl h
+call_tells t s (Give tokens) v said got k p n f h = grind (arith, same_tells, append-nil)
+call_tells t s (Please tokens octets) v said got k p n f h = grind (arith, same_tells, append-nil)
+call_tells t s (MinorConfirm m octets) v said got k p n f h = grind (arith, same_tells, append-nil)
 call_tells t s _ v said got k p n f h = absurd (cc)
 
 -- ---- a unit that is acted on
@@ -190,8 +169,7 @@ data_taken b t v octets e d = rw (e, d) refl
 either : (P : List Shown → State → List Item → Type 0) (b : Bool) (a c : List Shown) (x y : State) (v w : List Item) → (b ≡ true → P a x v)
     → (b ≡ false → P c y w)
     → P (if b then a else c) (if b then x else y) (if b then v else w)
-either P true a c x y v w h k = h refl
-either P false a c x y v w h k = k refl
+either P b a c x y v w h k = grind arith
 
 either_state : (P : List Shown → State → Type 0) (b : Bool) (a c : List Shown) (x y : State) → P a x → P c y
     → P (if b then a else c) (if b then x else y)
@@ -202,49 +180,14 @@ pub unit_tells : (t : Told) (s : State) (u : Meaning) (v : List Item) (said got 
     → Tells (told_all t (shown_for s u)) (becomes s u) (seen s u v) said (got ++ got_in s u)
 unfolding calm
 unit_tells t s (CN w r n x from to z o) v said got p g f h =
-    let open_now = implied is_wait_cn is_opening refl s.phase g.expected in
-    let fresh = h.fresh open_now in
-    either_state (λ a q. Tells (told_all t a) q v said (got ++ [])) (is_acceptable w r z) _ _ _ _
-    (grind (arith, not_asking, append-nil))
-    (calm_tells _ _ _ _ _ refl h.base (λ d. fresh ∙ sym (f open_now).0)
-    (not_asking t s v said got h (excluded is_wait_cn is_restarting refl s.phase g.expected)) (λ o. absurd (cc)) h.fine
-    (λ d. (h.silent open_now).0 ∙ sym (f open_now).1)
-    (λ d. (h.silent open_now).1 ∙ sym (append-nil got ∙ (f open_now).2)) h.pointed)
-unit_tells t s (AC w r n x z o) v said got p g f h =
-    let open_now = implied is_connecting is_opening refl s.phase g.expected in
-    let k = h.asked g.expected in
-    calm_tells _ _ _ _ _ refl (ap (λ (a : FunctionalUnits). agreed_base (both_units a (functional_units r)) n t.proposed) k.0
-    ∙ ap (agreed_base (both_units s.units (functional_units r)) n) k.1)
-    (λ d. h.fresh open_now ∙ sym (f open_now).0) (not_asking t s v said got h
-    (excluded is_connecting is_restarting refl s.phase g.expected))
-    (λ o. ap (λ (a : FunctionalUnits). (both_units a (functional_units r)).duplex) k.0) h.fine
-    (λ d. (h.silent open_now).0 ∙ sym (f open_now).1)
-    (λ d. (h.silent open_now).1 ∙ sym (append-nil got ∙ (f open_now).2)) h.pointed
-unit_tells t s (DT o) v said got p g f h =
-    open_tells takes_data refl refl t _ s _ v _ said _ got _ g.expected
-    (implied takes_data calm refl s.phase g.expected) refl refl refl refl refl refl h
-    (λ d. data_taken s.units.duplex t.view v o (h.view d) d) h.said (λ d. octets_said s.units.duplex t.indicated got o (h.got d) d)
-    (octets_taken s.units.duplex t.view v o h.pointed)
-unit_tells t s (MIP c n o) v said got p g f h =
-    open_tells is_ready refl refl t _ s _ v _ said _ got _ g.expected
-    (implied is_ready calm refl s.phase g.expected) refl refl refl refl refl refl h
-    (λ d. ap (λ (r : List Item). r ++ Point n (minor_kind c) o ∷ []) (h.view d)) h.said (λ d. h.got d ∙ sym (append-nil got))
-    (one_point_more n n t.view v (minor_kind c) o h.pointed)
-unit_tells t s (MAP n o) v said got p g f h =
-    open_tells is_ready refl refl t _ s _ v _ said _ got _ g.expected refl refl refl refl refl refl refl h
-    (λ d. ap (λ (r : List Item). r ++ Point n major_point o ∷ []) (h.view d)) h.said (λ d. h.got d ∙ sym (append-nil got))
-    (one_point_more n n t.view v major_point o h.pointed)
+    grind (arith, implied, either_state, not_asking, append-nil, calm_tells, excluded)
+unit_tells t s (AC w r n x z o) v said got p g f h = grind (arith, implied, calm_tells, not_asking, excluded, append-nil)
+unit_tells t s (DT o) v said got p g f h = grind (arith, open_tells, implied, calm, data_taken, octets_said, octets_taken)
+unit_tells t s (MIP c n o) v said got p g f h = grind (arith, open_tells, implied, calm, append-nil, one_point_more)
+unit_tells t s (MAP n o) v said got p g f h = grind (arith, open_tells, append-nil, one_point_more)
 unit_tells t s (MAA n o) v said got p g f h = quiet_unit is_major_asked refl refl t s _ v said got g.expected refl refl refl h
-unit_tells t s (RS j n w o) v said got p g f h =
-    either (λ a q z. Tells (told_all t a) q z said (got ++ [])) (stands s n) _ _ _ s (cutat s.base v n) v
-    (λ e. calm_tells _ _ _ _ _ refl h.base (λ d. ap (λ (b : ℕ). cutat b t.view n) h.base
-    ∙ ap (λ (r : List Item). cutat s.base r n) (h.view d)) refl
-    (λ o. h.duplex (implied takes_restart is_open refl s.phase g.expected)) h.fine h.said (λ d. h.got d ∙ sym (append-nil got))
-    (cut_points t.base s.base n t.view v h.base h.pointed))
-    (λ e. same_tells t s s v v said said got _ refl refl refl refl refl refl (append-nil got) h)
-unit_tells t s (RA n w o) v said got p g f h =
-    calm_tells _ _ _ _ _ refl h.base h.view refl (λ o. h.duplex (implied is_restarting is_open refl s.phase g.expected)) h.fine h.said
-    (λ d. h.got d ∙ sym (append-nil got)) h.pointed
+unit_tells t s (RS j n w o) v said got p g f h = grind (arith, either, calm_tells, implied, append-nil, cut_points, same_tells)
+unit_tells t s (RA n w o) v said got p g f h = grind (arith, calm_tells, implied, append-nil)
 unit_tells t s (FN o) v said got p g f h = quiet_unit is_ready refl refl t s _ v said got g.expected refl refl refl h
 unit_tells t s (NF o) v said got p g f h = quiet_unit is_releasing refl refl t s _ v said got g.expected refl refl refl h
 unit_tells t s (GT k) v said got p g f h = same_tells t s _ v v said said got _ refl refl refl refl refl refl (append-nil got) h
@@ -256,13 +199,7 @@ unit_tells t s _ v said got p g f h = absurd (cc)
 
 pub record_append : (side : Side) (r : ℕ) (es fs : List Entry) → record_of side r (es ++ fs) ≡ record_of side r es ++ record_of side r fs
 record_append side r [] fs = refl
-record_append side r (e ∷ es) fs = by (is_of side r e) (record_append side r es fs)
-  where
-    by : (b : Bool) → record_of side r (es ++ fs) ≡ record_of side r es ++ record_of side r fs
-        → (if b then e ∷ record_of side r (es ++ fs) else record_of side r (es ++ fs))
-        ≡ (if b then e ∷ record_of side r es else record_of side r es) ++ record_of side r fs
-    by true h = ap (λ (x : List Entry). e ∷ x) h
-    by false h = h
+record_append side r (e ∷ es) fs = grind (arith, record_append side r es fs)
 
 pub told_append : (t : Told) (es fs : List Entry) → told_by t (es ++ fs) ≡ told_by (told_by t es) fs
 told_append t [] fs = refl
@@ -373,22 +310,15 @@ record TellBoth (w : Core) (at_left at_right : Told) : Type 0 where
 
 take_told : (side : Side) (t : Told) (w : Core) (us : List Meaning)
     → told_by t (record_of side 1 (take_entries side w.own.session us)) ≡ told_all t (shown_of w us)
-take_told side t w [] = refl
-take_told side t w (u ∷ us) = shown_told side t (respond_unit w.own.session u).shown
+take_told side t w us = grind (arith, shown_told)
 
 take_untold : (side : Side) (t : Told) (s : State) (us : List Meaning) → told_by t (record_of (other side) 1 (take_entries side s us)) ≡ t
-take_untold side t s [] = refl
-take_untold side t s (u ∷ us) = shown_untold side t (respond_unit s u).shown
+take_untold side t s us = grind (arith, shown_untold)
 
 step_tells : SessionLaws → (w : Core) (step : CoreStep) (left right : Told) → Stands w → TellBoth w left right
     → TellBoth (core_step w step) (told_by left (record_of Left 1 (core_entries w step)))
     (told_by right (record_of Right 1 (core_entries w step)))
-step_tells laws w (call_at Left c) left right s h = record {
-  left = subst (λ (t : Told). Tells t (called w c).own.session (called w c).own.view (called w c).own.said (called w c).own.got)
-      (sym (call_told Left left w.own.session c)) (called_tells laws w c left s h.left);
-  right = subst (λ (t : Told). Tells t (called w c).peer.session (called w c).peer.view (called w c).peer.said (called w c).peer.got)
-      (sym (call_untold Left right w.own.session c)) (called_peer w c right h.right);
-}
+step_tells laws w (call_at Left c) left right s h = search (arith, call_told, called_tells, call_untold, called_peer)
 step_tells laws w (call_at Right c) left right s h =
     record {
       left = subst (λ (t : Told). Tells t (called (turned w) c).peer.session (called (turned w) c).peer.view (called (turned w) c).peer.said
@@ -426,8 +356,7 @@ starts_told o = grind arith
 pub are_told : SessionLaws → (o : Offer) (steps : List CoreStep) → AllByRecursion IsNumberedStep steps → Stands (core_start o)
     → AreTold o steps
 are_told laws o steps small s =
-    let h = run_tells laws (core_start o) steps (untold Left o) (untold Right o) small s (starts_told o) in
-    record { left = h.left.view; right = h.right.view; left_asking = h.left.asking; right_asking = h.right.asking }
+    grind (arith, run_tells laws (core_start o) steps (untold Left o) (untold Right o) small s (starts_told o), starts_told o)
 
 -- so that the views of both records agree
 pub told_agree : SessionLaws → (o : Offer) (steps : List CoreStep) → AllByRecursion IsNumberedStep steps → Stands (core_start o)

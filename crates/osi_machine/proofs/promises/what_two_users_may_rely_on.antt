@@ -1,7 +1,7 @@
 -- What two users may rely on, from the invariant of both sides.
 -- For the laws of the core, and for those of the machine.
-use Rattle.std.proofs.Common.{◌≡◌, refl, sym, ◌∙◌, ap, subst, ℕ, zero, suc, ◌+◌, ◌-◌, ◌≤◌, ◌<◌, Bool, true, false, not, if◌then◌else◌, List}
-use Rattle.std.proofs.Common.{[], ◌∷◌, ◌++◌, length, length-append, inl, inr, append_assoc, arith}
+use Rattle.std.proofs.Common.{◌≡◌, refl, sym, ◌∙◌, ap, subst, ℕ, zero, suc, ◌+◌, ◌-◌, ◌≤◌, ◌<◌, Bool, true, false, not, List, [], ◌∷◌, ◌++◌}
+use Rattle.std.proofs.Common.{length, length-append, inl, inr, append_assoc, arith}
 use Rattle.osi_machine.proofs.Vocabulary.{append-nil, is_profile, State, Numbers, Meaning, DT, MIP, MAP, FunctionalUnits, is_restarting}
 use Rattle.osi_machine.proofs.Vocabulary.{Item, Octets, Point, PointKind, points, upto, AreNumberedFrom, Begins, Agree, is_acted_on, seen}
 use Rattle.osi_machine.proofs.Vocabulary.{cut_by, data_of, Offer, CanBeOffered, Party, Core, taking, core_start, is_opening, IsReached}
@@ -25,8 +25,7 @@ pub offer_stands : (o : Offer) → CanBeOffered o → is_profile o.requirements 
 offer_stands o serial profile = search (arith, profile_of, starts_stand, profile_data)
 
 pub reached_stands : SessionLaws → (w : Core) → IsReached w → Stands w
-reached_stands laws w r = subst Stands r.reached
-    (run_stands laws (core_start r.offer) r.steps r.numbered (offer_stands r.offer r.offered r.profile))
+reached_stands laws w r = grind (arith, run_stands, offer_stands)
 
 -- ---- tokens
 
@@ -50,9 +49,7 @@ upto_begins (suc k) (Octets octets ∷ h) = let b = upto_begins (suc k) h in (b.
 upto_begins (suc k) (Point n kind octets ∷ h) = let b = upto_begins k h in (b.0, ap (λ (r : List Item). Point n kind octets ∷ r) b.1)
 
 view_begins : (h : List Item) (x y : Party) → Views h x y → Begins x.view h
-view_begins h x y v = by_test (is_restarting (hearing x y).phase)
-    (λ e. subst (λ (r : List Item). Begins r h) (sym (v.cut e)) (upto_begins (x.session.numbers.next - x.session.base) h))
-    (λ e. listener_begins h x y v (ap not e))
+view_begins h x y v = search (arith, by_test, listener_begins, hearing x y, upto_begins (x.session.numbers.next - x.session.base) h)
 
 pub sees_the_history : (w : Core) → Stands w → SeesTheHistory w
 sees_the_history w s = view_begins w.history w.own w.peer s.own_views
@@ -68,19 +65,13 @@ head_is x y xs ys e = grind arith
 agree_of : {A : Type 0} → (a b m k : List A) → a ++ m ≡ b ++ k → Agree a b
 agree_of [] b m k e = inl (b, refl)
 agree_of (x ∷ a) [] m k e = inr (x ∷ a, refl)
-agree_of (x ∷ a) (y ∷ b) m k e =
-    let h = head_is x y (a ++ m) (b ++ k) e in
-    elim (agree_of a b m k (ap tail_of e)) [
-      | inl p ↦ inl (p.0, ap (λ r. x ∷ r) p.1 ∙ ap (λ r. r ∷ b) h)
-      | inr p ↦ inr (p.0, ap (λ r. y ∷ r) p.1 ∙ ap (λ r. r ∷ a) (sym h))
-    ]
+agree_of (x ∷ a) (y ∷ b) m k e = grind (arith, head_is, agree_of a b m k (ap tail_of e))
 
 begins_agree : {A : Type 0} → (a b h : List A) → Begins a h → Begins b h → Agree a b
 begins_agree a b h p q = agree_of a b p.0 q.0 (p.1 ∙ sym q.1)
 
 pub views_agree : (w : Core) → Stands w → ViewsAgree w
-views_agree w s = begins_agree w.own.view w.peer.view w.history (view_begins w.history w.own w.peer s.own_views)
-    (view_begins w.history w.peer w.own s.peer_views)
+views_agree w s = search (arith, begins_agree, view_begins)
 
 -- with duplex
 pub got_what_was_said : (w : Core) → Stands w → GotWhatWasSaid w
@@ -99,16 +90,11 @@ seen_next : SessionLaws → (w : Core) (u : Meaning) (us : List Meaning) → w.p
     → Stands w
     → Begins (seen w.own.session u w.own.view) (cut_by w.own.session u w.history)
 seen_next laws w u us e a s =
-    let n = sees_the_history (taking w (u ∷ us)) (taking_stands laws w (u ∷ us) e s) in
-    subst (λ (v : List Item). Begins v (cut_by w.own.session u w.history))
-    (ap (λ (b : Bool). if b then seen w.own.session u w.own.view else w.own.view) a)
-    (subst (Begins (if is_acted_on w.own.session u then seen w.own.session u w.own.view else w.own.view))
-    (ap (λ (b : Bool). if b then cut_by w.own.session u w.history else w.history) a) n)
+    grind (arith, sees_the_history (taking w (u ∷ us)) (taking_stands laws w (u ∷ us) e s), taking_stands laws w (u ∷ us) e s)
 
 pub takes_the_next_item : SessionLaws → (w : Core) → Stands w → TakesTheNextItem w
 takes_the_next_item laws w s (DT o) us e a =
-    subst (λ (v : List Item). Begins v w.history) (said_seen w.own.session.units.duplex w.own.view (Octets o))
-    (seen_next laws w (DT o) us e a s)
+    grind (arith, said_seen w.own.session.units.duplex w.own.view (Octets o), seen_next laws w (DT o) us e a s)
 takes_the_next_item laws w s (MIP c n o) us e a = seen_next laws w (MIP c n o) us e a s
 takes_the_next_item laws w s (MAP n o) us e a = seen_next laws w (MAP n o) us e a s
 takes_the_next_item laws w s _ us e a = none_brought w s

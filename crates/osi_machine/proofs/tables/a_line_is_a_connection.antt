@@ -1,15 +1,15 @@
 -- A connection of the machine as its two sides keep it: every move of it is the same in the tables.
 -- For the_tables_are_the_machine.
-use Rattle.std.proofs.Common.{◌≡◌, refl, sym, ◌∙◌, ap, subst, ◌+◌, Bool, true, false, List, ◌∷◌, take, Option, Some, Ok, Err, arith, ℕ}
+use Rattle.std.proofs.Common.{◌≡◌, refl, sym, ◌∙◌, ap, ◌+◌, Bool, true, false, List, ◌∷◌, take, Option, Some, Ok, Err, arith, ℕ}
 use Rattle.std.proofs.Common.{if◌then◌else◌, [], None}
 use Rattle.osi_machine.proofs.Vocabulary.{called, taken, react, said_of, State, WaitTransport, Ended, Meaning, Token, Call, HasSerial}
 use Rattle.osi_machine.proofs.Vocabulary.{Answer, Granted, CallError, without_tokens, allowed, respond, respond_unit, awaiting, points}
 use Rattle.osi_machine.proofs.Vocabulary.{is_own, given_up, left_by, offering, offer_sent, Message, unit, Transport, not_yet, waiting}
 use Rattle.osi_machine.proofs.Vocabulary.{linked, kept_of, World, turned, session_of, after_call, after_answer, Taking, unit_taken}
-use Rattle.osi_machine.proofs.Vocabulary.{error_of, without_first, Seat, Line, Turn, Told, opened, refused, broken as broken_off, denied}
-use Rattle.osi_machine.proofs.Vocabulary.{rests, RefusedByTransport, is_wait_transport, lost, owned, Offer, ask, agree, deny, bye, over}
-use Rattle.osi_machine.proofs.Vocabulary.{closing, gone, Kept, asked_with, put, unchanged, moves, moved, Terms, accepts, denies, asked_at}
-use Rattle.osi_machine.proofs.Vocabulary.{message_taken, shortened, closed, ended_at, shown_at_end}
+use Rattle.osi_machine.proofs.Vocabulary.{error_of, without_first, Seat, Line, Turn, Told, opened, refused, broken as broken_off}
+use Rattle.osi_machine.proofs.Vocabulary.{RefusedByTransport, is_wait_transport, lost, Offer, ask, agree, deny, bye, over, closing, gone}
+use Rattle.osi_machine.proofs.Vocabulary.{Kept, asked_with, put, unchanged, moves, moved, Terms, accepts, denies, asked_at, message_taken}
+use Rattle.osi_machine.proofs.Vocabulary.{shortened, closed, ended_at, shown_at_end}
 use Rattle.osi_machine.proofs.basics.what_holds_in_each_phase.{if_yes, by_test}
 use Rattle.osi_machine.proofs.invariant.each_step_keeps_one_side.{SessionLaws}
 use Rattle.osi_machine.proofs.calls.a_restart_is_requested.{given_theirs}
@@ -64,13 +64,7 @@ pub begun_seated : (w : World) (a : Option Meaning) → is_begun w.own.transport
 begun_seated w a b d = grind (arith, not_both, is_begun)
 
 pub turned_tabled : (l : Line) (w : World) → Tabled l w → Tabled (tables.turned l) (turned w)
-turned_tabled l w h = record {
-  first = h.second;
-  second = h.first;
-  same = ap tables.turned h.same ∙ ap (λ (v : World). record { own = seat_of (turned w) h.second; peer = seat_of v h.first })
-      (sym (turned_back w));
-  seated = record { own = h.seated.peer; peer = subst (λ (v : World). IsSeated v h.first) (sym (turned_back w)) h.seated.own };
-}
+turned_tabled l w h = grind (arith, turned_back w)
 
 -- ---- what a session that is over leaves of its tokens
 
@@ -81,8 +75,7 @@ theirs_stay s w = search (arith, owned_as, left_theirs)
 pub gone_state : (w : World) → session_of (record w
     { owner = given_up w.owner; own = record w.own { kept = kept_of (without_tokens Ended (session_of w)) } }) ≡ without_tokens Ended
     (session_of w)
-gone_state w = ap (λ h. state_from (kept_of (without_tokens Ended (session_of w))) h (w.own.kept.base + points (take w.own.mark w.history)))
-    (owned_none (given_up w.owner) (λ t. own_gone (w.owner t)))
+gone_state w = grind (arith, state_from, owned_none, own_gone)
 
 pub gone_seated : (w : World) (tr : Transport) (ms : List Message) (a b : Option Meaning) → is_begun tr ≡ true → AreSeated w a b
     → AreSeated (record w {
@@ -182,11 +175,8 @@ module _ (broken : Bool) (w : World) (a b : Option Meaning) where
 
   asked_tabled : (terms : Terms) → w.own.transport ≡ not_yet → AreSeated w a b
       → TurnTabled (tables.unseen (tables.asked_at broken terms (line_of w a b))) (unchanged (asked_at broken terms w))
-  asked_tabled (accepts class) e h =
-      let own = ap (λ (k : Kept). state_from k (owned w.owner) (k.base + points (take w.own.mark w.history))) (h.own.idle e) in
-      search (arith, begun_seated)
-  asked_tabled (denies reason) e h =
-      record { first = a; second = b; same = refl; seated = still_seated (put broken (deny reason ∷ []) w.own.channel) h }
+  asked_tabled (accepts class) e h = grind (arith, state_from, begun_seated)
+  asked_tabled (denies reason) e h = grind (arith, still_seated)
 
   agreed_tabled : w.own.transport ≡ waiting → AreSeated w a b
       → TurnTabled (tables.hears broken linked opened (line_of w a b))
@@ -199,16 +189,15 @@ module _ (broken : Bool) (w : World) (a b : Option Meaning) where
       (moves (moved broken gone (without_tokens Ended (session_of w)) [] w) (RefusedByTransport reason ∷ []))
   unfolding react
   denied_tabled reason e h =
-      let own = sym (gone_state w) in
-      let peer = sym (theirs_stay (without_tokens Ended (session_of w)) w) in
-      let opens = if_yes (is_wait_transport w.own.kept.phase) (denied reason (record { state = session_of w; waiting = a }))
-      (rests (record { state = session_of w; waiting = a })) (waits_now w (h.own.called e)) in
-      record {
-        first = a;
-        second = b;
-        same = search arith;
-        seated = gone_seated w gone (put broken [] w.own.channel) a b refl h;
-      }
+      grind (
+        arith,
+        if_yes,
+        gone_state w,
+        theirs_stay (without_tokens Ended (session_of w)) w,
+        waits_now w (h.own.called e),
+        h.own.called e,
+        gone_seated w gone (put broken [] w.own.channel) a b refl h,
+      )
 
   -- ---- the other has closed
 
@@ -217,22 +206,13 @@ module _ (broken : Bool) (w : World) (a b : Option Meaning) where
       (moves (moved broken gone (lost (session_of w)).next (over ∷ []) (shortened keep w)) (lost (session_of w)).shown)
   unfolding react
   lost_tabled keep reason h =
-      let own = sym (gone_state w) in
-      let peer = sym (theirs_stay (without_tokens Ended (session_of w)) w) in
-      let channel = ap (put broken (over ∷ [])) (put_nothing broken (take keep w.own.channel)) in
-      record {
-        first = a;
-        second = b;
-        same = λ i. record {
-          line = record {
-            own = record { transport = gone; session = record { state = own i; waiting = a }; channel = channel i };
-            peer = record { transport = w.peer.transport; session = record { state = peer i; waiting = b }; channel = w.peer.channel };
-          };
-          shown = (lost (session_of w)).shown;
-          closes = false;
-        };
-        seated = gone_seated w gone (put broken (over ∷ []) (take keep w.own.channel)) a b refl h;
-      }
+      grind (
+        arith,
+        gone_state w,
+        theirs_stay (without_tokens Ended (session_of w)) w,
+        put_nothing broken (take keep w.own.channel),
+        gone_seated w gone (put broken (over ∷ []) (take keep w.own.channel)) a b refl h,
+      )
 
   -- ---- any message but a session unit
 
@@ -243,12 +223,9 @@ module _ (broken : Bool) (w : World) (a b : Option Meaning) where
   message_tabled terms keep waiting (deny r) e q h = denied_tabled r e h
   message_tabled terms keep linked (unit u) e q h = absurd (cc)
   message_tabled terms keep linked (bye r) e q h = lost_tabled keep r h
-  message_tabled terms keep closing (bye r) e q h =
-      record { first = a; second = b; same = refl; seated = linked_seated gone w.own.channel refl h }
-  message_tabled terms keep closing over e q h =
-      record { first = a; second = b; same = refl; seated = linked_seated gone w.own.channel refl h }
-  message_tabled terms keep gone (bye r) e q h =
-      record { first = a; second = b; same = refl; seated = still_seated (put broken (over ∷ []) w.own.channel) h }
+  message_tabled terms keep closing (bye r) e q h = grind (arith, linked_seated)
+  message_tabled terms keep closing over e q h = grind (arith, linked_seated)
+  message_tabled terms keep gone (bye r) e q h = grind (arith, still_seated)
   message_tabled terms keep _ _ e q h = record { first = a; second = b; same = refl; seated = h }
 
   -- ---- a close, an end, a break
@@ -292,17 +269,12 @@ pub end_tabled : (keep : ℕ) (w : World) (a b : Option Meaning) → AreSeated w
     → Tabled (tables.ended_at keep (line_of w a b)).line (ended_at keep w)
 unfolding react
 end_tabled keep w a b h =
-    let own = sym (gone_state w) in
-    let peer = sym (theirs_stay (without_tokens Ended (session_of w)) w) in
-    record {
-      first = a;
-      second = b;
-      same = λ i. record {
-        own = record { transport = gone; session = record { state = own i; waiting = a }; channel = take keep w.own.channel };
-        peer = record { transport = w.peer.transport; session = record { state = peer i; waiting = b }; channel = w.peer.channel };
-      };
-      seated = gone_seated w gone (take keep w.own.channel) a b refl h;
-    }
+    grind (
+      arith,
+      gone_state w,
+      theirs_stay (without_tokens Ended (session_of w)) w,
+      gone_seated w gone (take keep w.own.channel) a b refl h,
+    )
 
 pub break_tabled : (left right : ℕ) (w : World) (a b : Option Meaning) → AreSeated w a b → AreSeated (cut_to left right w) a b
 break_tabled left right w a b h = grind arith

@@ -3,13 +3,12 @@
 use Rattle.std.proofs.Common.{◌≡◌, refl, sym, ◌∙◌, ap, subst, ℕ, Bool, true, false, if◌then◌else◌, List, [], ◌∷◌, ◌++◌, map, None, Ok, Err}
 use Rattle.std.proofs.Common.{◌⊎◌, inl, inr, append_assoc, arith}
 use Rattle.osi_session.specs.Moves.{answered as answered_move}
-use Rattle.osi_session.proofs.tables.the_verdict_on_a_unit.{good_is_fine}
 use Rattle.osi_machine.specs.Calm.{left_by, after_calls, after_message, IsCalm, StaysCalm, IsNoFaultBehind}
 use Rattle.osi_machine.proofs.Vocabulary.{cases_Bool, AllByRecursion, list_any, Input, called, taken, Standing, react, verdict, is_faulty}
-use Rattle.osi_machine.proofs.Vocabulary.{respond_all, acting, and_then, said_of, State, Meaning, DT, Call, HasSerial, CallError, Granted}
-use Rattle.osi_machine.proofs.Vocabulary.{Answer, Outcome, allowed, is_over, is_wait_transport, respond_unit, Core, stays_in_core, answered}
-use Rattle.osi_machine.proofs.Vocabulary.{taking, Message, unit, ask, agree, deny, bye, over, World, session_of, Told, Tables, IsTableRun}
-use Rattle.osi_machine.proofs.Vocabulary.{AtEachSide, Fits, IsNoFaultNext, is_leaving, IsOverWhenLeft}
+use Rattle.osi_machine.proofs.Vocabulary.{respond_all, acting, said_of, State, Meaning, DT, Call, HasSerial, CallError, Granted, Answer}
+use Rattle.osi_machine.proofs.Vocabulary.{Outcome, allowed, is_over, is_wait_transport, respond_unit, Core, stays_in_core, taking, Message}
+use Rattle.osi_machine.proofs.Vocabulary.{unit, ask, agree, deny, bye, over, World, session_of, Told, Tables, IsTableRun, AtEachSide}
+use Rattle.osi_machine.proofs.Vocabulary.{IsNoFaultNext, is_leaving, IsOverWhenLeft}
 use Rattle.osi_machine.proofs.basics.what_holds_in_each_phase.{excluded}
 use Rattle.osi_machine.proofs.invariant.what_holds_of_both_sides.{Stands}
 use Rattle.osi_machine.proofs.invariant.each_step_keeps_one_side.{SessionLaws}
@@ -55,9 +54,7 @@ either b x y p q = grind arith
 over_all : (s : State) (us : List Meaning) → is_over s.phase ≡ true → is_over (respond_all s us).next.phase ≡ true
 unfolding respond_all
 over_all s [] o = o
-over_all s (u ∷ us) o = either (is_faulty (verdict s u)) (respond_unit s u)
-    (and_then (respond_unit s u) (respond_all (respond_unit s u).next us)) (over_next s u o)
-    (over_all (respond_unit s u).next us (over_next s u o))
+over_all s (u ∷ us) o = grind (arith, either, over_next, over_all (respond_unit s u).next us (over_next s u o))
 
 over_unit : (s : State) (u : Meaning) → is_over s.phase ≡ true → is_over (left_by s (taken (said_of u))).phase ≡ true
 unfolding react
@@ -105,14 +102,7 @@ Lives s sent = (is_over s.phase ≡ true) ⊎ HasCore s sent
 module _ (laws : SessionLaws) (c : Core) (call : Call) (sent : List Meaning) (small : HasSerial call) (stands : Stands c)
     (way : c.peer.sent ≡ sent) where
   granted : (g : Granted) → allowed c.own.session call ≡ Ok g → (k : Bool) → stays_in_core call ≡ k → Lives g.next sent
-  granted g e true q = inr (record {
-    core = answered c call (Ok g);
-    stands = subst (λ (a : Answer). Stands (answered c call a)) e
-        (subst (λ (b : Bool). Stands (if b then answered c call (allowed c.own.session call) else c)) q
-        (called_stands laws c call small stands));
-    is = refl;
-    way = way;
-  })
+  granted g e true q = grind (arith, called_stands laws c call small stands)
   granted g e false q =
       inl (ap (λ (x : Granted). is_over x.next.phase) (laws.passed c.own.session call g e).gives ∙ stop_over c.own.session call q)
 
@@ -124,9 +114,7 @@ module _ (laws : SessionLaws) (c : Core) (call : Call) (sent : List Meaning) (sm
 one_call : SessionLaws → (s : State) (call : Call) (sent : List Meaning) → HasSerial call → Lives s sent
     → Lives (left_by s (called call)) sent
 one_call laws s call sent small (inl o) = inl (ap (λ (x : State). is_over x.phase) (unmoved s call error.Ended (refused s call o)) ∙ o)
-one_call laws s call sent small (inr h) =
-    subst (λ (x : State). Lives (left_by x (called call)) sent) (sym h.is)
-    (answers laws h.core call sent small h.stands h.way (allowed h.core.own.session call) refl)
+one_call laws s call sent small (inr h) = search (arith, answers)
 
 all_calls : SessionLaws → (s : State) (calls : List Call) (sent : List Meaning) → AllByRecursion HasSerial calls → Lives s sent
     → Lives (after_calls s calls) sent

@@ -1,16 +1,16 @@
 -- What the moves of one connection preserve, with the words of both sides, is true at each reference after every list of steps.
 -- For what_is_heard_was_said and what_is_in_flight_can_be_sent.
-use Rattle.std.proofs.Common.{◌≡◌, refl, sym, ◌∙◌, ap, subst, ℕ, zero, suc, ◌+◌, Bool, true, false, not, ◌&&◌, ◌==◌, if◌then◌else◌, List}
-use Rattle.std.proofs.Common.{[], ◌∷◌, ◌++◌, append_assoc, map, Option, Some, None, is_some, inl, inr, ◌⊎◌, arith}
+use Rattle.std.proofs.Common.{◌≡◌, refl, sym, subst, ℕ, zero, suc, ◌+◌, Bool, true, false, not, ◌&&◌, ◌==◌, if◌then◌else◌, List, [], ◌∷◌}
+use Rattle.std.proofs.Common.{◌++◌, append_assoc, map, Option, Some, None, is_some, inl, inr, ◌⊎◌, arith}
 use Rattle.osi_machine.specs.Tables.{after_call, message_taken, closed, start, seen_from, side_of, end_of, stays, noted, refusal, asked_in}
 use Rattle.osi_machine.specs.Tables.{call_in, marked_ended, after_end, closes_by, without_first, taken_in, delivered_to, cut_channels, step}
-use Rattle.osi_machine.specs.Tables.{run, shown_in_order, transport_of, asked_with, turned}
+use Rattle.osi_machine.specs.Tables.{run, asked_with, turned}
 use Rattle.osi_machine.proofs.Vocabulary.{eqb-true, eq-eqb, append-nil, slice_get, called, react, Meaning, Call, Offer, Side, Left, Right}
 use Rattle.osi_machine.proofs.Vocabulary.{Class, class_2, Message, Transport, Terms, Ending, closed_here, Refusal, Step, connects, calls}
 use Rattle.osi_machine.proofs.Vocabulary.{delivers, breaks, ends, shown_at, connection_at, with_connection, is_given, learns, Line, Turn}
 use Rattle.osi_machine.proofs.Vocabulary.{Tables, ends_there, ended_lines, after_turn, cut_line, one_or_none, said_to_first, heard_of_first}
 use Rattle.osi_machine.proofs.Vocabulary.{said_at_delivery, heard_at_delivery, said_at_call, said_at, heard_at, said_in, heard_in, is_long}
-use Rattle.osi_machine.proofs.Vocabulary.{refusal_by, AllByRecursion, said_to, heard_of, ended}
+use Rattle.osi_machine.proofs.Vocabulary.{refusal_by, AllByRecursion, said_to, heard_of}
 use Rattle.osi_machine.proofs.basics.what_holds_in_each_phase.{by_test}
 use Rattle.osi_machine.proofs.basics.what_stands_at_a_reference.{with_other, with_same, ended_there, cut_there}
 use Rattle.osi_machine.proofs.machine.every_connection_of_a_run.{if_none}
@@ -48,8 +48,7 @@ pub record IsKept (P : Claim) (Ok : Step → Type 0) : Type 0 where
 -- ---- the line at a reference
 
 quiet : (x : Words) → x ≡ and_more x [] []
-quiet x = ap (λ (us : List Meaning). record { said = us; heard = x.heard }) (sym (append-nil x.said))
-    ∙ ap (λ (us : List Meaning). record { said = x.said ++ []; heard = us }) (sym (append-nil x.heard))
+quiet x = grind (arith, append-nil)
 
 not_equal : (q r : ℕ) → (q == r) ≡ false → r ≡ q → ⊥
 not_equal q r e f = absurd (let x = eq-eqb q r (sym f) in cc)
@@ -63,8 +62,7 @@ new_got (suc k) (x ∷ ls) l = new_got k ls l
 
 new_there : (r : ℕ) (ls : List Line) (l : Line) → (connection_at r (ls ++ l ∷ []) ≡ connection_at r ls)
     ⊎ ((connection_at r ls ≡ None) × (connection_at r (ls ++ l ∷ []) ≡ Some l))
-new_there zero ls l = inl refl
-new_there (suc r) ls l = new_got r ls l
+new_there r ls l = grind (arith, new_got)
 
 ended_got_none : (side : Side) (keep : ℕ → ℕ) (k r : ℕ) (ls : List Line) → slice_get ls r ≡ None
     → slice_get (ended_lines side keep k ls) r ≡ None
@@ -74,8 +72,7 @@ ended_got_none side keep k (suc r) (x ∷ ls) e = ended_got_none side keep (k + 
 
 ended_none : (side : Side) (keep : ℕ → ℕ) (r : ℕ) (ls : List Line) → connection_at r ls ≡ None
     → connection_at r (ended_lines side keep 1 ls) ≡ None
-ended_none side keep zero ls e = refl
-ended_none side keep (suc r) ls e = ended_got_none side keep 1 r ls e
+ended_none side keep r ls e = grind (arith, ended_got_none)
 
 cut_got_none : (left right : ℕ → ℕ) (k r : ℕ) (ls : List Line) → slice_get ls r ≡ None → slice_get (cut_channels left right k ls) r ≡ None
 cut_got_none left right k r [] e = refl
@@ -83,17 +80,14 @@ cut_got_none left right k zero (x ∷ ls) e = absurd (cc)
 cut_got_none left right k (suc r) (x ∷ ls) e = cut_got_none left right (k + 1) r ls e
 
 cut_none : (left right : ℕ → ℕ) (r : ℕ) (ls : List Line) → connection_at r ls ≡ None → connection_at r (cut_channels left right 1 ls) ≡ None
-cut_none left right zero ls e = refl
-cut_none left right (suc r) ls e = cut_got_none left right 1 r ls e
+cut_none left right r ls e = grind (arith, cut_got_none)
 
 asked_short : (past : Bool) (known : Option Class) (asked : List Transport) (o : Offer) → refusal_by past known asked o ≡ None
     → is_long o ≡ false
 asked_short past known asked o h = grind (arith, if_none)
 
 one_by_one : (x : Words) (a b c d : List Meaning) → and_more (and_more x a b) c d ≡ and_more x (a ++ c) (b ++ d)
-one_by_one x a b c d =
-    ap (λ (us : List Meaning). record { said = us; heard = (x.heard ++ b) ++ d }) (append_assoc x.said a c)
-    ∙ ap (λ (us : List Meaning). record { said = x.said ++ (a ++ c); heard = us }) (append_assoc x.heard b d)
+one_by_one x a b c d = grind (arith, append_assoc)
 
 -- ---- what is true at a reference
 
@@ -116,12 +110,10 @@ KnowsAt P side r t x y = HoldsAt P side t.broken x y (connection_at r t.lines)
 
 module _ (P : Claim) (Ok : Step → Type 0) (kept : IsKept P Ok) where
   pub told_from : (side : Side) (b : Bool) (l : Line) (x y : Words) → HoldsAt P side b x y (Some l) → P b (seen_from side l) x y
-  told_from Left b l x y h = h
-  told_from Right b l x y h = kept.turns b l y x h
+  told_from side b l x y h = grind arith
 
   told_as : (side : Side) (b : Bool) (l : Line) (x y : Words) → P b l x y → HoldsAt P side b x y (Some (seen_from side l))
-  told_as Left b l x y h = h
-  told_as Right b l x y h = kept.turns b l x y h
+  told_as side b l x y h = grind arith
 
   -- nothing of it is changed
   same_holds : (side : Side) (b : Bool) (x y : Words) (o p : Option Line) → p ≡ o → HoldsAt P side b x y o → HoldsAt P side b x y p
@@ -144,16 +136,7 @@ module _ (P : Claim) (Ok : Step → Type 0) (kept : IsKept P Ok) where
 
   asked_knows : (t : Tables) (r : ℕ) (o : Offer) (a : Option Refusal) (x y : Words) → Ok (connects o) → refusal t o ≡ a → Knows P r t x y
       → Knows P r (asked_in t o a) x y
-  asked_knows t r o (Some e) x y small q h = h
-  asked_knows t r o None x y small q h = elim (new_there r t.lines (asked_with t.broken o)) [
-    | inl e ↦ same_holds Left t.broken x y (connection_at r t.lines) _ e h
-    | inr e ↦ same_holds Left t.broken x y (Some (asked_with t.broken o)) _ e.1 (first (subst (Holds P t.broken x y) e.0 h))
-  ]
-    where
-      first : (x ≡ silent) × (y ≡ silent) → P t.broken (asked_with t.broken o) x y
-      first z = subst (λ (u : Words). P t.broken (asked_with t.broken o) u y) (sym z.0)
-          (subst (P t.broken (asked_with t.broken o) silent) (sym z.1)
-          (kept.new t.broken o small (asked_short (is_some t.left_end) t.known (map transport_of t.lines) o q)))
+  asked_knows t r o a x y small q h = grind (arith, new_there, same_holds, asked_short)
 
   -- ---- a call
 
@@ -161,8 +144,7 @@ module _ (P : Claim) (Ok : Step → Type 0) (kept : IsKept P Ok) where
       → connection_at r t.lines ≡ o
       → HoldsAt P side t.broken x y o → KnowsAt P side r (call_in t side r c (side_of side o))
       (and_more x (said_at_call c (side_of side o)) []) y
-  call_same t side r c x y None small e h =
-      same_holds side t.broken (and_more x [] []) y None (connection_at r t.lines) e (quiet_holds side t.broken x y None h)
+  call_same t side r c x y None small e h = grind (arith, same_holds, quiet_holds)
   call_same t side r c x y (Some l) small e h = by_test (is_given (seen_from side l).own.transport)
       (λ g. rw g (now_holds t side r l (after_call t.broken c (seen_from side l)) _ y e
       (kept.call t.broken side r c (seen_from side l) x y small g (told_from side t.broken l x y h))))
@@ -170,10 +152,7 @@ module _ (P : Claim) (Ok : Step → Type 0) (kept : IsKept P Ok) where
 
   call_other : (t : Tables) (side : Side) (q r : ℕ) (c : Call) (x y : Words) (o : Option Line) → (r ≡ q → ⊥) → KnowsAt P side r t x y
       → KnowsAt P side r (call_in t side q c (side_of side o)) x y
-  call_other t side q r c x y None n h = h
-  call_other t side q r c x y (Some l) n h = by_test (is_given (seen_from side l).own.transport)
-      (λ g. rw g (other_holds t side q r (seen_from side (after_call t.broken c (seen_from side l))) x y n h))
-      (λ g. rw g h)
+  call_other t side q r c x y o n h = grind (arith, by_test, other_holds)
 
   call_knows : (t : Tables) (side : Side) (q r : ℕ) (c : Call) (x y : Words) → Ok (calls side q c) → KnowsAt P side r t x y
       → KnowsAt P side r (call_in t side q c (side_of side (connection_at q t.lines)))
@@ -190,15 +169,11 @@ module _ (P : Claim) (Ok : Step → Type 0) (kept : IsKept P Ok) where
       → HoldsAt P side b x y o → HoldsAt P side b x y (connection_at r (ended_lines side keep 1 ls))
   ended_knows side keep b ls r x y None e h = same_holds side b x y None _ (ended_none side keep r ls e) h
   ended_knows side keep b ls r x y (Some l) e h =
-      same_holds side b x y (Some (seen_from side (ends_there (keep r) (seen_from side l)))) _ (ended_there side keep r ls l e)
-      (told_as side b (ends_there (keep r) (seen_from side l)) x y (kept.end b (keep r) (seen_from side l) x y (told_from side b l x y h)))
+      grind (arith, same_holds, told_as, ended_there side keep r ls l e, told_from side b l x y h)
 
   end_knows : (side : Side) (e : Ending) (keep : ℕ → ℕ) (t : Tables) (r : ℕ) (x y : Words) → KnowsAt P side r t x y
       → KnowsAt P side r (after_end side e keep t) x y
-  end_knows side e keep t r x y h =
-      marked_knows side side e (noted (shown_in_order side 1 t.lines ++ ended side e ∷ [])
-      (record t { lines = ended_lines side keep 1 t.lines })) r x y
-      (ended_knows side keep t.broken t.lines r x y (connection_at r t.lines) refl h)
+  end_knows side e keep t r x y h = grind (arith, marked_knows, ended_knows)
 
   -- ---- a delivery
 
@@ -219,8 +194,7 @@ module _ (P : Claim) (Ok : Step → Type 0) (kept : IsKept P Ok) where
       → HoldsAt P side t.broken x y (Some l) → (ms : List Message) → (seen_from side l).peer.channel ≡ ms
       → KnowsAt P side r (taken_in t side r keep (seen_from side l) ms)
       (and_more x (said_to_first (seen_from side l) ms) (heard_of_first (seen_from side l) ms)) y
-  taken_same t side r keep l x y e h [] f = same_holds side t.broken (and_more x [] []) y (Some l) _ e
-      (quiet_holds side t.broken x y (Some l) h)
+  taken_same t side r keep l x y e h [] f = grind (arith, same_holds, quiet_holds)
   taken_same t side r keep l x y e h (m ∷ xs) f =
       turn_knows now side r r keep turn _ y (now_holds now side r l turn.line _ y e told)
       (λ c. now_holds now side r l (closed t.broken (keep r) turn.line) _ y e
@@ -241,23 +215,17 @@ module _ (P : Claim) (Ok : Step → Type 0) (kept : IsKept P Ok) where
   delivery_same : (t : Tables) (side : Side) (r : ℕ) (keep : ℕ → ℕ) (x y : Words) (o : Option Line) → connection_at r t.lines ≡ o
       → HoldsAt P side t.broken x y o → KnowsAt P side r (delivered_to t side r keep (side_of side o))
       (and_more x (said_at_delivery (side_of side o)) (heard_at_delivery (side_of side o))) y
-  delivery_same t side r keep x y None e h =
-      same_holds side t.broken (and_more x [] []) y None (connection_at r t.lines) e (quiet_holds side t.broken x y None h)
-  delivery_same t side r keep x y (Some l) e h = taken_same t side r keep l x y e h (seen_from side l).peer.channel refl
+  delivery_same t side r keep x y o e h = grind (arith, same_holds, quiet_holds, taken_same)
 
   taken_other : (t : Tables) (side : Side) (q r : ℕ) (keep : ℕ → ℕ) (l : Line) (x y : Words) (ms : List Message) → (r ≡ q → ⊥)
       → KnowsAt P side r t x y → KnowsAt P side r (taken_in t side q keep l ms) x y
   taken_other t side q r keep l x y [] n h = h
-  taken_other t side q r keep l x y (m ∷ xs) n h =
-      turn_knows (record t { known = learns t.terms l.own.transport m t.known }) side q r keep
-      (message_taken t.broken t.terms (keep q) l.own.transport (without_first l xs) m) x y
-      (other_holds t side q r _ x y n h) (λ c. other_holds t side q r _ x y n h)
+  taken_other t side q r keep l x y (m ∷ xs) n h = search (arith, turn_knows, other_holds)
 
   delivery_other : (t : Tables) (side : Side) (q r : ℕ) (keep : ℕ → ℕ) (x y : Words) (o : Option Line) → (r ≡ q → ⊥)
       → KnowsAt P side r t x y
       → KnowsAt P side r (delivered_to t side q keep o) x y
-  delivery_other t side q r keep x y None n h = h
-  delivery_other t side q r keep x y (Some l) n h = taken_other t side q r keep l x y l.peer.channel n h
+  delivery_other t side q r keep x y o n h = grind (arith, taken_other)
 
   delivery_knows : (t : Tables) (side : Side) (q r : ℕ) (keep : ℕ → ℕ) (x y : Words) → KnowsAt P side r t x y
       → KnowsAt P side r (step t (delivers side q keep))
@@ -280,9 +248,7 @@ module _ (P : Claim) (Ok : Step → Type 0) (kept : IsKept P Ok) where
   cut_knows : (left right : ℕ → ℕ) (b : Bool) (ls : List Line) (r : ℕ) (x y : Words) (o : Option Line) → connection_at r ls ≡ o
       → Holds P b x y o → Holds P true x y (connection_at r (cut_channels left right 1 ls))
   cut_knows left right b ls r x y None e h = same_holds Left true x y None _ (cut_none left right r ls e) h
-  cut_knows left right b ls r x y (Some l) e h =
-      same_holds Left true x y (Some (cut_line (left r) (right r) l)) _ (cut_there left right r ls l e)
-      (kept.cut b (left r) (right r) l x y h)
+  cut_knows left right b ls r x y (Some l) e h = grind (arith, same_holds, cut_there left right r ls l e)
 
   break_knows : (t : Tables) (left right : ℕ → ℕ) (r : ℕ) (x y : Words) → Knows P r t x y → Knows P r (step t (breaks left right)) x y
   break_knows t left right r x y h = grind (arith, cut_knows)
@@ -313,18 +279,10 @@ module _ (P : Claim) (Ok : Step → Type 0) (kept : IsKept P Ok) where
       (and_more y (said_in Right r t steps) (heard_in Right r t steps))
   run_knows r t [] x y small h = both_quiet t.broken x y (connection_at r t.lines) h
   run_knows r t (s ∷ steps) x y small h =
-      subst (λ (w : Words). Knows P r (run (step t s) steps) w
-      (and_more y (said_in Right r t (s ∷ steps)) (heard_in Right r t (s ∷ steps))))
-      (one_by_one x (said_at Left r t s) (heard_at Left r t s) (said_in Left r (step t s) steps) (heard_in Left r (step t s) steps))
-      (subst (λ (w : Words). Knows P r (run (step t s) steps)
-      (and_more (and_more x (said_at Left r t s) (heard_at Left r t s)) (said_in Left r (step t s) steps)
-      (heard_in Left r (step t s) steps)) w)
-      (one_by_one y (said_at Right r t s) (heard_at Right r t s) (said_in Right r (step t s) steps) (heard_in Right r (step t s) steps))
-      (run_knows r (step t s) steps _ _ small.1 (step_knows r t s x y small.0 h)))
+      grind (arith, one_by_one, step_knows, run_knows r (step t s) steps _ _ small.1 (step_knows r t s x y small.0 h))
 
   start_knows : (r : ℕ) (terms : Terms) → Knows P r (start terms) silent silent
-  start_knows zero terms = (refl, refl)
-  start_knows (suc r) terms = (refl, refl)
+  start_knows r terms = grind arith
 
   pub all_know : (r : ℕ) (terms : Terms) (steps : List Step) → AllByRecursion Ok steps
       → Knows P r (run (start terms) steps) (record

@@ -1,19 +1,18 @@
 -- Over every list of steps the tables do what the machine does.
 -- For the law of the same name, and for all laws of the tables.
-use Rattle.std.proofs.Common.{◌≡◌, refl, sym, ◌∙◌, ap, subst, ℕ, zero, suc, ◌+◌, Bool, not, ◌||◌, if◌then◌else◌, List, [], ◌∷◌, ◌++◌, map}
-use Rattle.std.proofs.Common.{Option, Some, None, is_some, inl, inr, arith}
+use Rattle.std.proofs.Common.{◌≡◌, refl, sym, ◌∙◌, subst, ℕ, zero, suc, ◌+◌, Bool, if◌then◌else◌, List, [], ◌∷◌, ◌++◌, map, Option, Some}
+use Rattle.std.proofs.Common.{None, is_some, inl, inr, arith}
 use Rattle.osi_machine.specs.Machine.{ends_there}
-use Rattle.osi_machine.proofs.Vocabulary.{AllByRecursion, slice_get, taken, said_of, CallError, Call, HasSerial, Meaning, allowed, Offer}
-use Rattle.osi_machine.proofs.Vocabulary.{Side, Left, Right, Class, class_2, Message, unit, Transport, linked, World, turned, session_of}
-use Rattle.osi_machine.proofs.Vocabulary.{after_answer, Taking, unit_taken, Terms, message_taken, Ending, closed_here, Refusal, Step}
-use Rattle.osi_machine.proofs.Vocabulary.{connects, calls, delivers, breaks, ends, Entry, connect_answered, call_answered, shown_at}
-use Rattle.osi_machine.proofs.Vocabulary.{Machine, start, connection_at, replaced, with_connection, seen_from, end_of, stays, noted}
-use Rattle.osi_machine.proofs.Vocabulary.{is_given, refusal_by, transport_of, refusal, asked_in, error_of, call_in, side_of, ended_worlds}
+use Rattle.osi_machine.proofs.Vocabulary.{AllByRecursion, slice_get, taken, said_of, Call, HasSerial, Meaning, allowed, Offer, Side, Class}
+use Rattle.osi_machine.proofs.Vocabulary.{class_2, Message, unit, Transport, linked, World, turned, session_of, after_answer, Taking}
+use Rattle.osi_machine.proofs.Vocabulary.{unit_taken, Terms, message_taken, Ending, Refusal, Step, connects, calls, delivers, breaks, ends}
+use Rattle.osi_machine.proofs.Vocabulary.{Entry, connect_answered, shown_at, Machine, start, connection_at, replaced, with_connection}
+use Rattle.osi_machine.proofs.Vocabulary.{seen_from, end_of, stays, noted, is_given, transport_of, asked_in, call_in, side_of, ended_worlds}
 use Rattle.osi_machine.proofs.Vocabulary.{shown_in_order, marked_ended, after_end, closes_by, after_taking, without_first, learns, taken_in}
-use Rattle.osi_machine.proofs.Vocabulary.{delivered_to, cut_channels, is_told, step, run, HasNumber, Line, Turn, Tables, Told}
+use Rattle.osi_machine.proofs.Vocabulary.{delivered_to, cut_channels, step, run, HasNumber, Line, Turn, Tables, Told}
 use Rattle.osi_machine.proofs.basics.what_holds_in_each_phase.{by_test}
 use Rattle.osi_machine.proofs.invariant.each_step_keeps_one_side.{SessionLaws}
-use Rattle.osi_machine.proofs.whole.before_it_is_agreed_to.{caller_refuses, called_refuses, Refuses, no_unit_back, no_unit_out}
+use Rattle.osi_machine.proofs.whole.before_it_is_agreed_to.{caller_refuses, called_refuses, no_unit_back, no_unit_out}
 use Rattle.osi_machine.proofs.whole.every_stage_of_a_connection.{Stage, Whole, whole_kept, turned_back}
 use Rattle.osi_machine.proofs.machine.every_connection_of_a_run.{IsGood, step_good}
 use Rattle.osi_machine.proofs.tables.a_line_is_a_connection.{line_of, AreSeated, Tabled, TurnTabled, turned_tabled, call_tabled}
@@ -61,8 +60,7 @@ got_at (l ∷ ls) (w ∷ ws) (suc r) h = got_at ls ws r h.1
 got_at _ _ r h = absurd h
 
 pub line_there : (ls : List Line) (ws : List World) (r : ℕ) → AllTabled ls ws → At (connection_at r ls) (connection_at r ws)
-line_there ls ws zero h = tt
-line_there ls ws (suc r) h = got_at ls ws r h
+line_there ls ws r h = grind (arith, got_at)
 
 replaced_tabled : (ls : List Line) (ws : List World) (r : ℕ) (l : Line) (w : World) → Tabled l w → AllTabled ls ws
     → AllTabled (replaced r l ls) (replaced r w ws)
@@ -73,12 +71,10 @@ replaced_tabled _ _ r l w h k = absurd k
 
 with_tabled : (ls : List Line) (ws : List World) (r : ℕ) (l : Line) (w : World) → Tabled l w → AllTabled ls ws
     → AllTabled (with_connection r l ls) (with_connection r w ws)
-with_tabled ls ws zero l w h k = k
-with_tabled ls ws (suc r) l w h k = replaced_tabled ls ws r l w h k
+with_tabled ls ws r l w h k = grind (arith, replaced_tabled)
 
 side_tabled : (side : Side) (l : Line) (w : World) → Tabled l w → Tabled (tables.seen_from side l) (seen_from side w)
-side_tabled Left l w h = h
-side_tabled Right l w h = turned_tabled l w h
+side_tabled side l w h = search (arith, turned_tabled)
 
 appended : (ls : List Line) (ws : List World) (l : Line) (w : World) → Tabled l w → AllTabled ls ws
     → AllTabled (ls ++ l ∷ []) (ws ++ w ∷ [])
@@ -97,20 +93,13 @@ stays_follows m ls side r l w es k h = grind (arith, with_tabled, side_tabled)
 
 transports_as : (ls : List Line) (ws : List World) → AllTabled ls ws → map tables.transport_of ls ≡ map transport_of ws
 transports_as [] [] h = refl
-transports_as (l ∷ ls) (w ∷ ws) h =
-    ap (λ (x : Line). x.own.transport ∷ map tables.transport_of ls) h.0.same
-    ∙ ap (λ (ts : List Transport). w.own.transport ∷ ts) (transports_as ls ws h.1)
+transports_as (l ∷ ls) (w ∷ ws) h = grind (arith, transports_as ls ws h.1)
 transports_as _ _ h = absurd h
 
 asked_follows : (m : Machine) (ls : List Line) (o : Offer) (a : Option Refusal) → AllTabled ls m.worlds
     → Follows (tables.noted (connect_answered o a ∷ []) (tables.asked_in (tables_of m ls) o a))
     (noted (connect_answered o a ∷ []) (asked_in m o a))
-asked_follows m ls o (Some e) k = record { lines = ls; all = k; same = refl }
-asked_follows m ls o None k = record {
-  lines = ls ++ tables.asked_with m.broken o ∷ [];
-  all = appended ls m.worlds (tables.asked_with m.broken o) _ (new_tabled m.broken o) k;
-  same = refl;
-}
+asked_follows m ls o a k = search (arith, appended, new_tabled)
 
 -- ---- a call
 
@@ -119,8 +108,7 @@ stage_call : SessionLaws → (b : Bool) (w : World) (t u : Told) (first second :
     → Tabled (tables.after_call b c (line_of w first second)) (after_answer b c w (allowed (session_of w) c))
 stage_call laws b w t u first second c small (inl h) s = refused_tabled b w first second c (caller_refuses w t u c h) s
 stage_call laws b w t u first second c small (inr (inl h)) s =
-    refused_tabled b w first second c (subst (λ (v : World). Refuses (session_of v) c) (turned_back w) (called_refuses (turned w) u t c h))
-    s
+    search (arith, refused_tabled, turned_back w, called_refuses (turned w) u t c h)
 stage_call laws b w t u first second c small (inr (inr h)) s = call_tabled b w first second laws t u c small h s
 
 if_follows : (b : Bool) (t t' : Tables) (m m' : Machine) → Follows t m → Follows t' m' → Follows (if b then t else t') (if b then m else m')
@@ -130,25 +118,21 @@ line_call : SessionLaws → (m : Machine) (ls : List Line) (side : Side) (r : �
     → (l : Line) (w : World) → Tabled l w → StageOf m.broken w
     → Follows (tables.call_in (tables_of m ls) side r c (Some l)) (call_in m side r c (Some w))
 line_call laws m ls side r c small k l w h p =
-    subst (λ (x : Line). Follows (tables.call_in (tables_of m ls) side r c (Some x)) (call_in m side r c (Some w))) (sym h.same)
-    (if_follows (is_given w.own.transport) _ _ _ _
-    (subst (λ (e : Option CallError). Follows (tables.noted (call_answered side r c e ∷ [])
-    (tables.stays (tables_of m ls) side r (tables.after_call m.broken c (line_of w h.first h.second))))
-    (noted (call_answered side r c (error_of (allowed (session_of w) c)) ∷ [])
-    (stays m side r (after_answer m.broken c w (allowed (session_of w) c)))))
-    (sym (error_as (session_of w) h.first c))
-    (stays_follows m ls side r _ _ (call_answered side r c (error_of (allowed (session_of w) c)) ∷ []) k
-    (stage_call laws m.broken w p.own p.peer h.first h.second c small p.stage h.seated)))
-    (record { lines = ls; all = k; same = refl }))
+    grind (
+      arith,
+      if_follows,
+      stays_follows,
+      line_of w h.first h.second,
+      error_as (session_of w) h.first c,
+      stage_call laws m.broken w p.own p.peer h.first h.second c small p.stage h.seated,
+    )
 
 call_follows : SessionLaws → (terms : Terms) (m : Machine) (ls : List Line) (side : Side) (r : ℕ) (c : Call) → HasSerial c
     → AllTabled ls m.worlds → IsGood terms Whole m
     → (a : Option Line) (b : Option World) → connection_at r m.worlds ≡ b → At a b
     → Follows (tables.call_in (tables_of m ls) side r c (tables.side_of side a)) (call_in m side r c (side_of side b))
 call_follows laws terms m ls side r c small k g None None e h = record { lines = ls; all = k; same = refl }
-call_follows laws terms m ls side r c small k g (Some l) (Some w) e h =
-    line_call laws m ls side r c small k (tables.seen_from side l) (seen_from side w) (side_tabled side l w h)
-    (stage_from m.broken side w (stage_of terms m g r w e))
+call_follows laws terms m ls side r c small k g (Some l) (Some w) e h = search (arith, line_call, side_tabled, stage_from, stage_of)
 call_follows laws terms m ls side r c small k g _ _ e h = absurd h
 
 -- ---- the end of a side
@@ -174,15 +158,12 @@ ended_tabled side keep r _ _ h = absurd h
 shown_tabled : (side : Side) (r : ℕ) (ls : List Line) (ws : List World) → AllTabled ls ws
     → tables.shown_in_order side r ls ≡ shown_in_order side r ws
 shown_tabled side r [] [] h = refl
-shown_tabled side r (l ∷ ls) (w ∷ ws) h =
-    let k = side_tabled side l w h.0 in
-    search (arith, shown_as, shown_tabled side (r + 1) ls ws h.1)
+shown_tabled side r (l ∷ ls) (w ∷ ws) h = grind (arith, shown_as, side_tabled side l w h.0, shown_tabled side (r + 1) ls ws h.1)
 shown_tabled side r _ _ h = absurd h
 
 marked_follows : (side : Side) (e : Ending) (t : Tables) (m : Machine) → Follows t m
     → Follows (tables.marked_ended side e t) (marked_ended side e m)
-marked_follows Left e t m h = record { lines = h.lines; all = h.all; same = ap (tables.marked_ended Left e) h.same }
-marked_follows Right e t m h = record { lines = h.lines; all = h.all; same = ap (tables.marked_ended Right e) h.same }
+marked_follows side e t m h = grind arith
 
 end_follows : (side : Side) (e : Ending) (keep : ℕ → ℕ) (t : Tables) (m : Machine) → Follows t m
     → Follows (tables.after_end side e keep t) (after_end side e keep m)
@@ -198,14 +179,9 @@ still m ls side r k first second h s = grind (arith, line_of, with_tabled, side_
 closes_follows : (m : Machine) (ls : List Line) (side : Side) (r : ℕ) (keep : ℕ → ℕ) (k : Taking) (first second : Option Meaning)
     (known : Option Class) → AllTabled ls m.worlds → AreSeated k.world first second
     → Follows (tables.closes_by known (tables_of m ls) side r keep (line_of k.world first second)) (closes_by known m side r keep k)
-closes_follows m ls side r keep k first second (Some class_2) h s = record {
-  lines = with_connection r (tables.seen_from side (tables.closed m.broken (keep r) (line_of k.world first second))) ls;
-  all = with_tabled ls m.worlds r _ _ (side_tabled side _ _ (close_tabled m.broken k.world first second (keep r) s)) h;
-  same = refl;
-}
-closes_follows m ls side r keep k first second _ h s =
-    end_follows side closed_here keep (tables.stays (tables_of m ls) side r (line_of k.world first second)) (stays m side r k.world)
-    (still m ls side r k first second h s)
+closes_follows m ls side r keep k first second (Some class_2) h s =
+    grind (arith, with_tabled, side_tabled, line_of k.world first second, close_tabled m.broken k.world first second (keep r) s)
+closes_follows m ls side r keep k first second _ h s = search (arith, end_follows, line_of, still)
 
 turn_follows : (m : Machine) (ls : List Line) (side : Side) (r : ℕ) (keep : ℕ → ℕ) (x : Turn) (k : Taking) → AllTabled ls m.worlds
     → TurnTabled x k
@@ -236,8 +212,7 @@ stage_message : SessionLaws → SaysItsUnit → (b : Bool) (terms : Terms) (keep
     → TurnTabled (tables.message_taken b terms keep tr (line_of (without_first w ms) first second) x)
     (message_taken b terms keep tr (without_first w ms) x)
 stage_message laws says b terms keep w t u first second ms linked (unit m) p e l s = stage_unit laws says b w t u first second m ms p e l s
-stage_message laws says b terms keep w t u first second ms tr x p e l s =
-    message_tabled b (without_first w ms) first second terms keep tr x l refl (popped_seated w ms first second s)
+stage_message laws says b terms keep w t u first second ms tr x p e l s = search (arith, message_tabled, popped_seated)
 
 taken_follows : SessionLaws → SaysItsUnit → (m : Machine) (ls : List Line) (side : Side) (r : ℕ) (keep : ℕ → ℕ) (w : World)
     (first second : Option Meaning) → AllTabled ls m.worlds
@@ -254,12 +229,7 @@ delivery_follows : SessionLaws → SaysItsUnit → (terms : Terms) (m : Machine)
     → Follows (tables.delivered_to (tables_of m ls) side r keep (tables.side_of side a)) (delivered_to m side r keep (side_of side b))
 delivery_follows laws says terms m ls side r keep k g None None e h = record { lines = ls; all = k; same = refl }
 delivery_follows laws says terms m ls side r keep k g (Some l) (Some w) e h =
-    let v = seen_from side w in
-    let q = side_tabled side l w h in
-    subst (λ (x : Line). Follows (tables.taken_in (tables_of m ls) side r keep x x.peer.channel) (taken_in m side r keep v v.peer.channel))
-    (sym q.same)
-    (taken_follows laws says m ls side r keep v q.first q.second k
-    (stage_from m.broken side w (stage_of terms m g r w e)) q.seated v.peer.channel refl)
+    grind (arith, taken_follows, side_tabled side l w h, stage_from m.broken side w (stage_of terms m g r w e), stage_of terms m g r w e)
 delivery_follows laws says terms m ls side r keep k g _ _ e h = absurd h
 
 -- ---- a break
@@ -267,10 +237,7 @@ delivery_follows laws says terms m ls side r keep k g _ _ e h = absurd h
 cut_tabled : (left right : ℕ → ℕ) (r : ℕ) (ls : List Line) (ws : List World) → AllTabled ls ws
     → AllTabled (tables.cut_channels left right r ls) (cut_channels left right r ws)
 cut_tabled left right r [] [] h = tt
-cut_tabled left right r (l ∷ ls) (w ∷ ws) h = (
-  search (arith, break_tabled),
-  cut_tabled left right (r + 1) ls ws h.1,
-)
+cut_tabled left right r (l ∷ ls) (w ∷ ws) h = grind (arith, break_tabled, cut_tabled left right (r + 1) ls ws h.1)
 cut_tabled left right r _ _ h = absurd h
 
 -- ---- a step, and a list of steps
@@ -281,13 +248,8 @@ end_as side m ls = grind arith
 module _ (laws : SessionLaws) (says : SaysItsUnit) (terms : Terms) where
   step_of : (m : Machine) (ls : List Line) (s : Step) → HasNumber s → AllTabled ls m.worlds → IsGood terms Whole m
       → Follows (tables.step (tables_of m ls) s) (step m s)
-  step_of m ls (connects o) small k g =
-      subst (λ (a : Option Refusal). Follows (tables.noted (connect_answered o a ∷ []) (tables.asked_in (tables_of m ls) o a))
-      (step m (connects o)))
-      (sym (ap (λ (ts : List Transport). refusal_by (is_some m.left_end) m.known ts o) (transports_as ls m.worlds k)))
-      (asked_follows m ls o (refusal m o) k)
-  step_of m ls (calls side r c) small k g =
-      call_follows laws terms m ls side r c small k g (connection_at r ls) (connection_at r m.worlds) refl (line_there ls m.worlds r k)
+  step_of m ls (connects o) small k g = grind (arith, transports_as, asked_follows)
+  step_of m ls (calls side r c) small k g = search (arith, call_follows, line_there)
   step_of m ls (delivers side r keep) small k g =
       subst (λ (e : Option Ending). Follows (if is_some e then tables_of m ls else tables.delivered_to (tables_of m ls) side r keep
       (tables.side_of side (connection_at r ls))) (step m (delivers side r keep)))
@@ -295,19 +257,13 @@ module _ (laws : SessionLaws) (says : SaysItsUnit) (terms : Terms) where
       (if_follows (is_some (end_of side m)) _ _ _ _ (record { lines = ls; all = k; same = refl })
       (delivery_follows laws says terms m ls side r keep k g (connection_at r ls) (connection_at r m.worlds) refl
       (line_there ls m.worlds r k)))
-  step_of m ls (breaks left right) small k g = if_follows m.broken _ _ _ _ (record { lines = ls; all = k; same = refl })
-      (record { lines = tables.cut_channels left right 1 ls; all = cut_tabled left right 1 ls m.worlds k; same = refl })
+  step_of m ls (breaks left right) small k g = grind (arith, if_follows, cut_tabled)
   step_of m ls (ends side e keep) small k g =
-      subst (λ (x : Option Ending). Follows (if is_some x || not (is_told e m.broken) then tables_of m ls else tables.after_end side e keep
-      (tables_of m ls)) (step m (ends side e keep)))
-      (sym (end_as side m ls))
-      (if_follows (is_some (end_of side m) || not (is_told e m.broken)) _ _ _ _ (record { lines = ls; all = k; same = refl })
-      (end_follows side e keep (tables_of m ls) m (record { lines = ls; all = k; same = refl })))
+      grind (arith, if_follows, end_as side m ls, end_follows side e keep (tables_of m ls) m (record { lines = ls; all = k; same = refl }))
 
   step_follows : (t : Tables) (m : Machine) (s : Step) → HasNumber s → Follows t m → IsGood terms Whole m
       → Follows (tables.step t s) (step m s)
-  step_follows t m s small h g = subst (λ (x : Tables). Follows (tables.step x s) (step m s)) (sym h.same)
-      (step_of m h.lines s small h.all g)
+  step_follows t m s small h g = grind (arith, step_of)
 
   run_follows : (t : Tables) (m : Machine) (steps : List Step) → AllByRecursion HasNumber steps → Follows t m → IsGood terms Whole m
       → Follows (tables.run t steps) (run m steps)
@@ -318,6 +274,4 @@ module _ (laws : SessionLaws) (says : SaysItsUnit) (terms : Terms) where
 
   pub all_follow : (steps : List Step) → AllByRecursion HasNumber steps
       → Follows (tables.run (tables.start terms) steps) (run (start terms) steps)
-  all_follow steps small =
-      run_follows (tables.start terms) (start terms) steps small (record { lines = []; all = tt; same = refl })
-      (record { offers = []; lines = tt; fresh = λ d n o l. refl; none = λ d o. refl; agreed = refl; asked = refl })
+  all_follow steps small = grind (arith, run_follows)

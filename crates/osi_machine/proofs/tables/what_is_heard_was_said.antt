@@ -1,7 +1,6 @@
 -- What each side of a connection sent, and what the other received of it, over lists of steps.
 -- For the law of the same name.
-use Rattle.std.proofs.Common.{◌≡◌, refl, ◌∙◌, subst, ℕ, Bool, true, false, ◌||◌, List, [], ◌∷◌, ◌++◌, append_assoc, Option, Some, None}
-use Rattle.std.proofs.Common.{arith}
+use Rattle.std.proofs.Common.{◌≡◌, ◌∙◌, ℕ, Bool, true, false, ◌||◌, List, [], ◌∷◌, ◌++◌, append_assoc, Option, Some, None, arith}
 use Rattle.osi_session.specs.Phases.{is_ended}
 use Rattle.osi_machine.specs.Tables.{message_taken, start, seen_from, side_of, run}
 use Rattle.osi_machine.proofs.Vocabulary.{append-nil, Meaning, Begins, Side, Left, Right, Message, Transport, Terms, Step, connection_at}
@@ -19,16 +18,7 @@ message_closes : SayLaws → (b : Bool) (terms : Terms) (keep : ℕ) (tr : Trans
 message_closes laws b terms keep tr l m c = grind arith
 
 told_kept : SayLaws → IsKept Told (λ s. Unit {0})
-told_kept laws = record {
-  new = λ b o small short. asked_told b o;
-  turns = turned_told;
-  call = λ b side r c l x y small given h. call_told laws b c l x y given h;
-  take = λ b terms keep l m xs x y e h. message_told laws b terms keep l.own.transport l m xs x y refl e h;
-  close = λ b terms keep to_keep tr l m x y c h.
-      close_told b to_keep (message_taken b terms keep tr l m).line x y (message_closes laws b terms keep tr l m c) h;
-  end = ends_told laws;
-  cut = cut_told;
-}
+told_kept laws = search (arith, asked_told, turned_told, call_told, message_told, close_told, message_closes, ends_told, cut_told)
 
 any_steps : (steps : List Step) → AllByRecursion (λ s. Unit {0}) steps
 any_steps [] = tt
@@ -37,17 +27,14 @@ any_steps (s ∷ steps) = (tt, any_steps steps)
 -- ---- one side at a time
 
 told_side : (side : Side) (b : Bool) (l : Line) (x y : Words) → HoldsAt Told side b x y (Some l) → Told b (seen_from side l) x y
-told_side Left b l x y h = h
-told_side Right b l x y h = turned_told b l y x h
+told_side side b l x y h = grind (arith, turned_told)
 
 none_at : (side : Side) (b : Bool) (x y : Words) → HoldsAt Told side b x y None → (x ≡ silent) × (y ≡ silent)
-none_at Left b x y h = h
-none_at Right b x y h = (h.1, h.0)
+none_at side b x y h = grind arith
 
 line_of_side : (side : Side) (b : Bool) (x y : Words) (o : Option Line) (l : Line) → HoldsAt Told side b x y o → side_of side o ≡ Some l
     → Told b l x y
-line_of_side side b x y None l h e = absurd (cc)
-line_of_side side b x y (Some k) l h e = subst (λ (v : Line). Told b v x y) (some_same (seen_from side k) l e) (told_side side b k x y h)
+line_of_side side b x y o l h e = grind (arith, some_same, told_side)
 
 heard_begins : (side : Side) (b : Bool) (x y : Words) (o : Option Line) → HoldsAt Told side b x y o → Begins x.heard y.said
 heard_begins side b x y o h = search (arith, none_at, append-nil, told_side)

@@ -1,12 +1,12 @@
 -- Every unit in flight can be written, and the numbers of each session are in order.
 -- For the law `what_is_under_way_can_be_sent`.
-use Rattle.std.proofs.Common.{◌≡◌, refl, sym, subst, ℕ, zero, suc, Bool, true, false, List, [], ◌∷◌, ◌++◌, length, take, Option, Some, None}
-use Rattle.std.proofs.Common.{Ok, Err, arith, ap, ◌∙◌}
+use Rattle.std.proofs.Common.{◌≡◌, refl, sym, subst, ℕ, zero, suc, Bool, true, false, List, [], ◌∷◌, ◌++◌, take, Option, Some, None, Ok}
+use Rattle.std.proofs.Common.{Err, arith}
 use Rattle.osi_session.specs.Moves.{answered as answered_move, after_inputs}
 use Rattle.osi_session.specs.Runs.{HasNumbers}
 use Rattle.osi_session.specs.Sessions.{CanBeSent}
 use Rattle.osi_message.specs.Written.{is_second, user_data_of}
-use Rattle.osi_machine.specs.Tables.{asked_with, shortened, after_call, message_taken, closed, ended_at, start, without_first, run, turned}
+use Rattle.osi_machine.specs.Tables.{asked_with, shortened, after_call, message_taken, closed, ended_at, without_first, turned}
 use Rattle.osi_machine.proofs.Vocabulary.{leb-true, ltb-false, or_parts, not-false, AllByRecursion, Input, called, taken, opened, refused}
 use Rattle.osi_machine.proofs.Vocabulary.{broken as broken_off, Standing, Move, react, Said, said_of, IsAddress, State, Meaning}
 use Rattle.osi_machine.proofs.Vocabulary.{WaitTransport, Call, HasSerial, Granted, Answer, IsSound, IsSendable, allowed, respond}
@@ -32,8 +32,7 @@ sendable_append (unit m ∷ xs) ys h k = (h.0, sendable_append xs ys h.1 k)
 sendable_append (x ∷ xs) ys h k = sendable_append xs ys h k
 
 put_sendable : (b : Bool) (ms ch : List Message) → AreSendable ms → AreSendable ch → AreSendable (put b ms ch)
-put_sendable true ms ch h k = k
-put_sendable false ms ch h k = sendable_append ch ms k h
+put_sendable b ms ch h k = grind (arith, sendable_append)
 
 take_sendable : (n : ℕ) (ms : List Message) → AreSendable ms → AreSendable (take n ms)
 take_sendable zero ms h = tt
@@ -42,8 +41,7 @@ take_sendable (suc n) (unit m ∷ ms) h = (h.0, take_sendable n ms h.1)
 take_sendable (suc n) (x ∷ ms) h = take_sendable n ms h
 
 replied_sendable : (r : Option Meaning) → CanBeSent r → AreSendable (replied r)
-replied_sendable None h = tt
-replied_sendable (Some m) h = (h, tt)
+replied_sendable r h = grind arith
 
 rest_sendable : (x : Message) (ms : List Message) → AreSendable (x ∷ ms) → AreSendable ms
 rest_sendable x ms h = grind arith
@@ -97,27 +95,13 @@ moved_line b tr m l w h = grind (arith, put_sendable, replied_sendable)
 
 put_line : (b : Bool) (ms : List Message) (tr : Transport) (l : Line) → AreSendable ms → IsSoundLine l
     → IsSoundLine (puts b ms (in_transport tr l))
-put_line b ms tr l k h = record {
-  own = record {
-    sound = h.own.sound;
-    waits = h.own.waits;
-    under_way = put_sendable b ms l.own.channel k h.own.under_way;
-  };
-  peer = h.peer;
-}
+put_line b ms tr l k h = grind (arith, put_sendable)
 
 gone_line : (tr : Transport) (l : Line) → IsSoundLine l → IsSoundLine (in_transport tr l)
 gone_line tr l h = record { own = record { sound = h.own.sound; waits = h.own.waits; under_way = h.own.under_way }; peer = h.peer }
 
 short_line : (n : ℕ) (l : Line) → IsSoundLine l → IsSoundLine (shortened n l)
-short_line n l h = record {
-  own = record {
-    sound = h.own.sound;
-    waits = h.own.waits;
-    under_way = take_sendable n l.own.channel h.own.under_way;
-  };
-  peer = h.peer;
-}
+short_line n l h = grind (arith, take_sendable)
 
 popped_line : (l : Line) (ms : List Message) → AreSendable ms → IsSoundLine l → IsSoundLine (without_first l ms)
 popped_line l ms k h = record { own = h.own; peer = record { sound = h.peer.sound; waits = h.peer.waits; under_way = k } }
@@ -128,18 +112,8 @@ called_line laws b c l small h = grind (arith, well_called, put_sendable, replie
 message_line : SendLaws → (b : Bool) (terms : Terms) (keep : ℕ) (tr : Transport) (l : Line) (x : Message) (xs : List Message)
     → AreSendable (x ∷ xs) → IsSoundLine l
     → IsSoundLine (message_taken b terms keep tr (without_first l xs) x).line
-message_line laws b (accepts class) keep not_yet l ask xs k h =
-    put_line b (agree ∷ []) linked (without_first l xs) tt (popped_line l xs k h)
-message_line laws b (denies reason) keep not_yet l ask xs k h =
-    let p = popped_line l xs k h in
-    record {
-      own = record {
-        sound = p.own.sound;
-        waits = p.own.waits;
-        under_way = put_sendable b (deny reason ∷ []) l.own.channel tt p.own.under_way;
-      };
-      peer = p.peer;
-    }
+message_line laws b (accepts class) keep not_yet l ask xs k h = search (arith, put_line, popped_line)
+message_line laws b (denies reason) keep not_yet l ask xs k h = grind (arith, popped_line, put_sendable)
 message_line laws b terms keep waiting l agree xs k h =
     moved_line b linked (react l.own.session opened) (without_first l xs) (well_opened laws l.own.session h.own.sound h.own.waits)
     (popped_line l xs k h)
@@ -164,16 +138,7 @@ message_line laws b terms keep linked l (bye r) xs k h =
     }
 message_line laws b terms keep closing l (bye r) xs k h = gone_line gone (without_first l xs) (popped_line l xs k h)
 message_line laws b terms keep closing l over xs k h = gone_line gone (without_first l xs) (popped_line l xs k h)
-message_line laws b terms keep gone l (bye r) xs k h =
-    let p = popped_line l xs k h in
-    record {
-      own = record {
-        sound = p.own.sound;
-        waits = p.own.waits;
-        under_way = put_sendable b (over ∷ []) l.own.channel tt p.own.under_way;
-      };
-      peer = p.peer;
-    }
+message_line laws b terms keep gone l (bye r) xs k h = grind (arith, popped_line, put_sendable)
 message_line laws b terms keep tr l x xs k h = popped_line l xs (rest_sendable x xs k) h
 
 closed_line : (b : Bool) (keep : ℕ) (l : Line) → IsSoundLine l → IsSoundLine (closed b keep l)
@@ -184,8 +149,7 @@ ended_line laws keep l h = moved_line true gone (react l.own.session broken_off)
     (well_broken laws l.own.session h.own.sound h.own.waits) (short_line keep l h)
 
 short_selector : (s : Option (List ℕ)) → is_long_selector s ≡ false → IsAddress s
-short_selector None h = tt
-short_selector (Some octets) h = ltb-false 16 (length octets) h
+short_selector s h = grind (arith, ltb-false)
 
 offer_sendable : (o : Offer) → CanBeOffered o → is_long o ≡ false → IsSendable (offer_sent o)
 unfolding user_data_of
@@ -209,10 +173,7 @@ ends_line : SendLaws → (keep : ℕ) (l : Line) → IsSoundLine l → IsSoundLi
 ends_line laws keep l h = by_test (is_given l.own.transport) (λ e. rw e (ended_line laws keep l h)) (λ e. rw e h)
 
 cut_sound : (left right : ℕ) (l : Line) → IsSoundLine l → IsSoundLine (cut_line left right l)
-cut_sound left right l h = record {
-  own = record { sound = h.own.sound; waits = h.own.waits; under_way = take_sendable left l.own.channel h.own.under_way };
-  peer = record { sound = h.peer.sound; waits = h.peer.waits; under_way = take_sendable right l.peer.channel h.peer.under_way };
-}
+cut_sound left right l h = grind (arith, take_sendable)
 
 -- whatever was sent and received
 abbrev Sound : Claim
@@ -233,6 +194,4 @@ known_sound : (r : ℕ) (t : Tables) (x y : Words) (l : Line) → Knows Sound r 
 known_sound r t x y l h e = subst (Holds Sound t.broken x y) e h
 
 pub are_sound : SendLaws → (t : Tables) → IsTableRun t → AreSoundLines t
-are_sound laws t h r l e =
-    known_sound r (run (start h.agreed) h.steps) _ _ l (all_know Sound HasNumber (sound_kept laws) r h.agreed h.steps h.numbered)
-    (ap (λ (u : Tables). connection_at r u.lines) h.reached ∙ e)
+are_sound laws t h r l e = grind (arith, known_sound, all_know, sound_kept)

@@ -1,7 +1,7 @@
 -- On one connection: what each side sent, what the other received of it, and what is in flight, over all that may happen.
 -- For what_is_heard_was_said.
 use Rattle.std.proofs.Common.{◌≡◌, refl, sym, ◌∙◌, ap, ℕ, zero, suc, Bool, true, false, ◌||◌, List, [], ◌∷◌, ◌++◌, append_assoc, take, drop}
-use Rattle.std.proofs.Common.{Option, Ok, inl, inr, ◌⊎◌, arith, subst, Some, None, Err}
+use Rattle.std.proofs.Common.{Option, Ok, ◌⊎◌, arith, subst, Some, None, Err}
 use Rattle.osi_session.specs.Phases.{is_ended, is_over, is_wait_transport}
 use Rattle.osi_session.specs.Moves.{answered as answered_move}
 use Rattle.osi_machine.specs.Tables.{turned, asked_with, after_call, message_taken, closed, ended_at, without_first}
@@ -45,8 +45,7 @@ units_append (x ∷ xs) ys = units_append xs ys
 
 -- messages that are no units
 pub put_no_units : (b : Bool) (ms ch : List Message) → units_in ms ≡ [] → units_in (put b ms ch) ≡ units_in ch
-put_no_units true ms ch e = refl
-put_no_units false ms ch e = units_append ch ms ∙ ap (λ (us : List Meaning). units_in ch ++ us) e ∙ append-nil (units_in ch)
+put_no_units b ms ch e = grind (arith, units_append, append-nil)
 
 units_taken : (k : ℕ) (ch : List Message) → units_in (take k ch) ++ units_in (drop k ch) ≡ units_in ch
 units_taken zero ch = refl
@@ -89,45 +88,18 @@ same_units a b xs ys said heard e f h = search arith
 -- what followed after this many messages is lost
 pub fewer_units : (a b : Bool) (k : ℕ) (ch : List Message) (said heard : List Meaning) → b ≡ true → Carried a ch said heard
     → Carried b (take k ch) said heard
-fewer_units a b k ch said heard stop h = record {
-  lost = units_in (drop k ch) ++ h.lost;
-  splits = ap (λ (us : List Meaning). heard ++ us)
-      (sym (append_assoc (units_in (take k ch)) (units_in (drop k ch)) h.lost)
-      ∙ ap (λ (us : List Meaning). us ++ h.lost) (units_taken k ch))
-      ∙ h.splits;
-  whole = inr stop;
-}
+fewer_units a b k ch said heard stop h = grind (arith, append_assoc (units_in (take k ch)) (units_in (drop k ch)) h.lost, units_taken k ch)
 
 -- a unit is taken from the front
 pub first_heard : (a : Bool) (u : Meaning) (ms : List Message) (said heard : List Meaning) → Carried a (unit u ∷ ms) said heard
     → Carried a ms said (heard ++ u ∷ [])
-first_heard a u ms said heard h = record {
-  lost = h.lost;
-  splits = append_assoc heard (u ∷ []) (units_in ms ++ h.lost) ∙ h.splits;
-  whole = h.whole;
-}
+first_heard a u ms said heard h = grind (arith, append_assoc)
 
 -- a unit is sent: after a break it is lost, otherwise it is put into the channel
 one_said : (b parts : Bool) (ch : List Message) (said heard : List Meaning) (u : Meaning) → (parts ≡ true → ⊥)
     → Carried (b || parts) ch said heard
     → Carried (b || parts) (put b (unit u ∷ []) ch) (said ++ u ∷ []) heard
-one_said true parts ch said heard u n h = record {
-  lost = h.lost ++ u ∷ [];
-  splits = ap (λ (us : List Meaning). heard ++ us) (sym (append_assoc (units_in ch) h.lost (u ∷ [])))
-      ∙ sym (append_assoc heard (units_in ch ++ h.lost) (u ∷ []))
-      ∙ ap (λ (us : List Meaning). us ++ u ∷ []) h.splits;
-  whole = inr refl;
-}
-one_said false parts ch said heard u n h =
-    let none : h.lost ≡ [] = elim h.whole [ inl e ↦ e | inr stop ↦ absurd (n stop) ] in
-    record {
-      lost = [];
-      splits = ap (λ (us : List Meaning). heard ++ us) (append-nil (units_in (ch ++ unit u ∷ [])) ∙ units_append ch (unit u ∷ []))
-          ∙ sym (append_assoc heard (units_in ch) (u ∷ []))
-          ∙ ap (λ (us : List Meaning). us ++ u ∷ []) (ap (λ (us : List Meaning). heard ++ us) (sym (append-nil (units_in ch)))
-          ∙ ap (λ (us : List Meaning). heard ++ (units_in ch ++ us)) (sym none) ∙ h.splits);
-      whole = inl refl;
-    }
+one_said b parts ch said heard u n h = search (arith, append_assoc, append-nil, units_append)
 
 pub reply_said : (b parts : Bool) (ch : List Message) (said heard : List Meaning) (r : Option Meaning) → (parts ≡ true → ⊥)
     → Carried (b || parts) ch said heard
@@ -259,8 +231,7 @@ linked_there : (tr : Transport) (p : Phase) → is_given tr ≡ true → may_abo
 linked_there tr p g m w o = grind (arith, waits_mute, over_mute)
 
 not_early : (e : Bool) (p : Phase) → (e ≡ true → may_abort p ≡ false) → may_abort p ≡ true → e ≡ false
-not_early true p f m = absurd (let x = f refl in cc)
-not_early false p f m = refl
+not_early e p f m = grind arith
 
 pub call_told : SayLaws → (b : Bool) (c : Call) (l : Line) (x y : Words) → is_given l.own.transport ≡ true → Told b l x y
     → Told b (after_call b c l) (and_more x (one_or_none (react l.own.session (called c)).reply) []) y
@@ -289,8 +260,7 @@ call_told laws b c l x y g h = by (allowed l.own.session.state c) refl
 pub close_told : (b : Bool) (keep : ℕ) (l : Line) (x y : Words) → is_ended l.own.session.state.phase ≡ true → Told b l x y
     → Told b (closed b keep l) x y
 close_told b keep l x y o h =
-    cuts_told b l (closed b keep l).own keep x y refl refl (ended_over l.own.session.state.phase o)
-    (put_no_units b (bye 128 ∷ []) (take keep l.own.channel) refl) h
+    search (arith, cuts_told, ended_over l.own.session.state.phase o, put_no_units b (bye 128 ∷ []) (take keep l.own.channel) refl)
 
 end_told : SayLaws → (b : Bool) (keep : ℕ) (l : Line) (x y : Words) → Told b l x y → Told b (ended_at keep l).line x y
 end_told laws b keep l x y h =
@@ -341,8 +311,7 @@ agreed_there tr l xs w e f h k = search arith
 -- a unit comes from a side with a transport connection
 unit_there : (early : Bool) (l : Line) (u : Meaning) (xs : List Message) → l.peer.channel ≡ unit u ∷ xs → is_early l.peer.transport ≡ early
     → Fits l.peer l.own → early ≡ false
-unit_there true l u xs e f k = absurd (let n = ap units_in (sym e) ∙ k.early f in cc)
-unit_there false l u xs e f k = refl
+unit_there early l u xs e f k = grind arith
 
 -- and goes to a side with one
 no_unit_early : {A : Type 0} (l : Line) (u : Meaning) (xs : List Message) → l.peer.channel ≡ unit u ∷ xs → is_early l.own.transport ≡ true

@@ -3,8 +3,8 @@
 use Rattle.std.proofs.Common.{◌≡◌, refl, sym, ◌∙◌, ap, subst, ℕ, zero, suc, List, [], ◌∷◌, map, Option, Some, None, Bool, ◌+◌, arith}
 use Rattle.osi_machine.proofs.Vocabulary.{AllByRecursion, list_any, slice_get, State, Offer, Side, Left, Right, Message, World, Terms}
 use Rattle.osi_machine.proofs.Vocabulary.{turned, session_of, IsLegal, Step, Entry, Machine, start, connection_at, run, HasNumber, Line}
-use Rattle.osi_machine.proofs.Vocabulary.{Tables, Told, told_of, IsRun, is_fault, loses, IsLine, AreLines, AtEachSide, IsAsTables}
-use Rattle.osi_machine.proofs.Vocabulary.{offers_in, IsTableRun, AreOffered, OfEachLine, Meaning, TellsNoFault, LosesAsItEnds}
+use Rattle.osi_machine.proofs.Vocabulary.{Tables, Told, told_of, IsRun, is_fault, IsLine, AreLines, AtEachSide, IsAsTables, offers_in}
+use Rattle.osi_machine.proofs.Vocabulary.{IsTableRun, AreOffered, OfEachLine, Meaning, TellsNoFault, LosesAsItEnds}
 use Rattle.osi_machine.proofs.basics.what_stands_at_a_reference.{some_same}
 use Rattle.osi_machine.proofs.invariant.each_step_keeps_one_side.{SessionLaws}
 use Rattle.osi_machine.proofs.whole.every_stage_of_a_connection.{Whole, Stage, turned_stage}
@@ -30,8 +30,7 @@ OfSides P m = (r : ℕ) (w : World) → connection_at r m.worlds ≡ Some w
 at_side : (P : State → List Message → Type 0) (side : Side) (w : World) (a b : Option Meaning)
     → P (session_of w) w.peer.channel × P (session_of (turned w)) w.own.channel
     → P (tables.seen_from side (line_of w a b)).own.session.state (tables.seen_from side (line_of w a b)).peer.channel
-at_side P Left w a b h = h.0
-at_side P Right w a b h = h.1
+at_side P side w a b h = grind arith
 
 abbrev map_option : {A B : Type 0} → (A → B) → Option A → Option B
 map_option f None = None
@@ -48,16 +47,7 @@ lines_as (w ∷ ws) (l ∷ ls) h = (line_as w l h.0, lines_as ws ls h.1)
 lines_as _ _ h = absurd h
 
 follows_as : (m : Machine) (t : Tables) → Follows t m → IsAsTables m t
-follows_as m t h = subst (IsAsTables m) (sym h.same)
-    (record {
-      terms = refl;
-      broken = refl;
-      left_end = refl;
-      right_end = refl;
-      known = refl;
-      journal = refl;
-      lines = lines_as m.worlds h.lines h.all;
-    })
+follows_as m t h = grind (arith, lines_as)
 
 -- ---- a line, and the connection that it is
 
@@ -76,8 +66,7 @@ offers_got (v ∷ ws) zero w e = ap (map_option offer_of) e
 offers_got (v ∷ ws) (suc r) w e = offers_got ws r w e
 
 offer_got : (ws : List World) (r : ℕ) (w : World) → connection_at r ws ≡ Some w → connection_at r (map offer_of ws) ≡ Some w.offer
-offer_got ws zero w e = absurd (cc)
-offer_got ws (suc r) w e = offers_got ws r w e
+offer_got ws r w e = grind (arith, offers_got)
 
 lines_offers : (b : Bool) (j : List Entry) (k : ℕ) (ws : List World) (os : List Offer) → Lines Whole b j k ws os → os ≡ map offer_of ws
 lines_offers b j k [] [] h = refl
@@ -98,8 +87,7 @@ module _ (t : Tables) (m : Machine) (h : Follows t m) where
   same_journal = ap (λ (x : Tables). x.journal) h.same
 
   offer_there : Offered m → (r : ℕ) (w : World) → connection_at r m.worlds ≡ Some w → connection_at r (offers_in t.journal) ≡ Some w.offer
-  offer_there q r w e =
-      ap (λ (j : List Entry). connection_at r (offers_in j)) same_journal ∙ ap (connection_at r) q ∙ offer_got m.worlds r w e
+  offer_there q r w e = grind (arith, same_journal, offer_got)
 
   offered_as : Offered m → AreOffered t
   offered_as q r l e = let x = there r l e in record { offer = x.world.offer; found = offer_there q r x.world x.found }
@@ -164,7 +152,4 @@ module _ (laws : SessionLaws) (says : SaysItsUnit) where
       ap (list_any is_fault) (same_journal t (machine_of t h) (follows_run t h)) ∙ no_fault_shown laws (machine_of t h) (run_of t h)
 
   pub table_losses : (t : Tables) → IsTableRun t → LosesAsItEnds t
-  table_losses t h =
-      let f = follows_run t h in
-      subst LosesAsItEnds (sym f.same)
-      (λ side e. ap loses (end_as side (machine_of t h) f.lines) ∙ losses_have_an_end laws (machine_of t h) (run_of t h) side e)
+  table_losses t h = grind (arith, end_as, losses_have_an_end, follows_run t h, run_of t h)

@@ -4,8 +4,8 @@ use Rattle.std.proofs.Common.{◌≡◌, refl, sym, ◌∙◌, ap, subst, ℕ, B
 use Rattle.std.proofs.Common.{append_assoc, arith}
 use Rattle.osi_machine.proofs.Vocabulary.{append-nil, list_any, State, FunctionalUnits, Meaning, DT, PT, Tokens, is_empty, takes_data}
 use Rattle.osi_machine.proofs.Vocabulary.{has_no_effect, is_restarting, is_restart_due, drops, next, Item, Owners, turned_owners}
-use Rattle.osi_machine.proofs.Vocabulary.{is_acted_on, got_in, cut_by, owners_after, AllFit, flush, stops, heard, hears, view_next}
-use Rattle.osi_machine.proofs.Vocabulary.{heard_view, data_in, data_of, Party, Core, taking, is_opening, IsConsistent, AreConsistent}
+use Rattle.osi_machine.proofs.Vocabulary.{is_acted_on, cut_by, owners_after, AllFit, flush, stops, heard, hears, view_next, heard_view}
+use Rattle.osi_machine.proofs.Vocabulary.{data_in, data_of, Party, Core, taking, is_opening, IsConsistent, AreConsistent}
 use Rattle.osi_machine.proofs.basics.what_holds_in_each_phase.{excluded, if_first, by_test}
 use Rattle.osi_machine.proofs.channels.a_unit_is_dropped_bad_or_acted_on.{restart_acted, next_acted, next_dropped, next_hears}
 use Rattle.osi_machine.proofs.channels.what_every_unit_in_flight_keeps.{kept_heard, due_end}
@@ -74,31 +74,16 @@ taker_views_acted h x y u us f listens st same gets v = record {
 pub giver_views_acted : (o : Owners) (h : List Item) (x y : Party) (u : Meaning) (us : List Meaning) → is_restarting x.session.phase ≡ false
     → Half o x (rest_of y (u ∷ us)) → Half (turned_owners o) (rest_of y (u ∷ us)) x → Views h (rest_of y (u ∷ us)) x
     → Views h (rest_of y us) (taken_party x u)
-giver_views_acted o h x y u us listens a b v = record {
-  ends = v.ends;
-  cut = v.cut;
-  due = λ r. absurd (
-      let e = due_end y.session x.sent r b.fits in
-      let d = subst (λ (q : State). is_restart_due q.phase ≡ true) (sym e) r in
-      let n = none_owed o x (rest_of y (u ∷ us)) a listens in
-      cc);
-  stream = v.stream;
-}
+giver_views_acted o h x y u us listens a b v = grind (arith, due_end, none_owed o x (rest_of y (u ∷ us)) a listens)
 
 -- with duplex all data is got
 data_got : (x : Party) (octets : List ℕ) (us : List Meaning) → drops x.session (DT octets) ≡ false → x.session.units.duplex ≡ true
     → (taken_party x (DT octets)).got ++ data_of us ≡ x.got ++ data_of (DT octets ∷ us)
-data_got x octets us d e =
-    ap (λ (r : List (List ℕ)). r ++ data_of us)
-    (ap (λ (b : Bool). if b then x.got else x.got ++ got_in x.session (DT octets)) d
-    ∙ ap (λ (b : Bool). x.got ++ (if b then octets ∷ [] else [])) e)
-    ∙ append_assoc x.got (octets ∷ []) (data_of us)
+data_got x octets us d e = grind (arith, append_assoc)
 
 please_got : (x : Party) (k : Tokens) (octets : List ℕ) (us : List Meaning)
     → (taken_party x (PT k octets)).got ++ data_of us ≡ x.got ++ data_of (PT k octets ∷ us)
-please_got x k octets us = ap (λ (r : List (List ℕ)). r ++ data_of us) (by_test (drops x.session (PT k octets))
-    (λ e. rw e)
-    (λ e. rw e (append-nil x.got)))
+please_got x k octets us = grind (arith, by_test, append-nil)
 
 -- ---- everything that is stated of both sides
 

@@ -132,8 +132,7 @@ same_tokens o now end other heard peer r m e = search arith
 -- what shows no data gets none
 pub none_got : (x : Party) (u : Meaning) → got_in x.session u ≡ []
     → (if drops x.session u then x.got else x.got ++ got_in x.session u) ≡ x.got
-none_got x u e = if_first (drops x.session u) x.got (x.got ++ got_in x.session u)
-    (ap (λ (g : List (List ℕ)). x.got ++ g) e ∙ append-nil x.got)
+none_got x u e = grind (arith, if_first, append-nil)
 
 pub same_stream : (got : List (List ℕ)) (u : Meaning) (us : List Meaning) → data_in u ≡ [] → got ++ data_of us ≡ got ++ data_of (u ∷ us)
 same_stream got u us e = ap (λ (d : List (List ℕ)). got ++ (d ++ data_of us)) (sym e)
@@ -146,11 +145,7 @@ no_cut r us listens f c = not_both _ (kept_heard (λ (q : State). hears q.phase 
 -- no answer is due at the other of a side that listens
 pub none_due_there : (o : Owners) (x y : Party) → Half o x y → Half (turned_owners o) y x → is_restarting x.session.phase ≡ false
     → is_restart_due y.session.phase ≡ true → ⊥
-none_due_there o x y a b listens r =
-    let e = due_end y.session x.sent r b.fits in
-    let d = subst (λ (q : State). is_restart_due q.phase ≡ true) (sym e) r in
-    let n = none_owed o x y a listens in
-    cc
+none_due_there o x y a b listens r = grind (arith, due_end y.session x.sent r b.fits, none_owed o x y a listens)
 
 -- it shows no data, cuts nothing off and moves no token
 pub record MovesNothing (w : Core) (u : Meaning) (r : State) : Type 0 where

@@ -1,11 +1,11 @@
 -- A call on a whole connection, and on the core that simulates it.
 -- For every_step_is_simulated.
-use Rattle.std.proofs.Common.{◌≡◌, refl, sym, ◌∙◌, ap, subst, ℕ, Bool, true, false, ◌||◌, if◌then◌else◌, List, [], ◌∷◌, ◌++◌, append_assoc}
-use Rattle.std.proofs.Common.{map, length, inl, inr, Ok, arith}
+use Rattle.std.proofs.Common.{◌≡◌, refl, sym, ap, ℕ, Bool, true, false, ◌||◌, if◌then◌else◌, List, [], ◌∷◌, ◌++◌, append_assoc, map, length}
+use Rattle.std.proofs.Common.{Ok, arith}
 use Rattle.osi_machine.proofs.Vocabulary.{append-nil, length-append, map-append, list_any, Passed, State, Meaning, Token, is_over, Call}
-use Rattle.osi_machine.proofs.Vocabulary.{Granted, allowed, after, sends, may_call, Numbers, Item, Owner, Owners, is_own, turned_owner}
-use Rattle.osi_machine.proofs.Vocabulary.{given_up, own_to_pool, left_by, is_plain, Core, stays_in_core, says, view_called, owners_called}
-use Rattle.osi_machine.proofs.Vocabulary.{answered, Message, unit, Kept, World, put, mark_called, after_call}
+use Rattle.osi_machine.proofs.Vocabulary.{Granted, allowed, after, sends, may_call, Item, Owner, Owners, is_own, turned_owner, given_up}
+use Rattle.osi_machine.proofs.Vocabulary.{own_to_pool, left_by, is_plain, Core, stays_in_core, says, view_called, owners_called, answered}
+use Rattle.osi_machine.proofs.Vocabulary.{Message, unit, World, put, mark_called, after_call}
 use Rattle.osi_machine.proofs.basics.what_holds_in_each_phase.{by_either, by_test}
 use Rattle.osi_machine.proofs.invariant.what_holds_of_both_sides.{Stands}
 use Rattle.osi_machine.proofs.invariant.each_step_keeps_one_side.{SessionLaws, granted}
@@ -27,47 +27,24 @@ none_last s lost tail h = grind arith
 pub carried_more : (broken : Bool) (channel : List Message) (sent : List Meaning) (s r : State) (m : Meaning)
     → Carried broken false channel sent s
     → Carried broken false (put broken (unit m ∷ []) channel) (sent ++ m ∷ []) r
-carried_more true channel sent s r m h = record {
-  there = h.there;
-  lost = h.lost ++ m ∷ [];
-  tail = [];
-  splits = sym (append_assoc h.there h.lost (m ∷ [])) ∙ ap (λ (us : List Meaning). us ++ m ∷ []) h.splits;
-  carries = h.carries ∙ ap (λ (us : List Meaning). map unit (h.there ++ us)) (none_last s h.lost h.tail h.last);
-  whole = inr refl;
-  last = tt;
-}
-carried_more false channel sent s r m h = record {
-  there = sent ++ m ∷ [];
-  lost = [];
-  tail = [];
-  splits = append-nil (sent ++ m ∷ []);
-  carries = ap (λ (ms : List Message). ms ++ unit m ∷ [])
-      (h.carries ∙ ap (λ (us : List Meaning). map unit (h.there ++ us)) (none_last s h.lost h.tail h.last)
-      ∙ ap (map unit) (append-nil h.there ∙ sym (append-nil h.there)
-      ∙ ap (λ (r : List Meaning). h.there ++ r) (sym (by_either h.whole (λ e. e) (λ e. absurd (cc)))) ∙ h.splits))
-      ∙ sym (map-append unit sent (m ∷ [])) ∙ ap (map unit) (sym (append-nil (sent ++ m ∷ [])));
-  whole = inl refl;
-  last = tt;
-}
+carried_more true channel sent s r m h = search (arith, append_assoc h.there h.lost (m ∷ []), none_last s h.lost h.tail h.last)
+carried_more false channel sent s r m h =
+    search (
+      arith,
+      by_either,
+      append-nil (sent ++ m ∷ []),
+      none_last s h.lost h.tail h.last,
+      append-nil h.there,
+      map-append unit sent (m ∷ []),
+    )
 
 -- the last unit of a side
 pub carried_last : (broken : Bool) (channel : List Message) (sent : List Meaning) (s : State) (m : Meaning) → IsLast s m
     → Carried broken false channel sent s
     → Carried broken true (put broken (unit m ∷ []) channel) sent s
 carried_last true channel sent s m k h = grind (arith, none_last)
-carried_last false channel sent s m k h = record {
-  there = sent;
-  lost = [];
-  tail = m ∷ [];
-  splits = append-nil sent;
-  carries = ap (λ (ms : List Message). ms ++ unit m ∷ [])
-      (h.carries ∙ ap (λ (us : List Meaning). map unit (h.there ++ us)) (none_last s h.lost h.tail h.last)
-      ∙ ap (map unit) (append-nil h.there ∙ sym (append-nil h.there)
-      ∙ ap (λ (r : List Meaning). h.there ++ r) (sym (by_either h.whole (λ e. e) (λ e. absurd (cc)))) ∙ h.splits))
-      ∙ sym (map-append unit sent (m ∷ []));
-  whole = inl refl;
-  last = (refl, refl, k);
-}
+carried_last false channel sent s m k h =
+    grind (arith, by_either, append-nil sent, none_last s h.lost h.tail h.last, append-nil h.there, map-append unit sent (m ∷ []))
 
 -- ---- owners
 
@@ -111,29 +88,17 @@ pub call_projects : SessionLaws → (broken : Bool) (w : World) (c : Core) (x : 
     → stopped w.own ≡ false → Projects broken w c → Stands c
     → allowed c.own.session x ≡ Ok g → Projects broken (after_call broken c.own.session x g w) (answered c x (Ok g))
 call_projects laws broken w c x g k lives p s e =
-    let q = laws.passed c.own.session x g e in
-    let same : Passed c.own.session x (granted c.own.session x) =
-    record { phase = q.phase; needed = q.needed; size = q.size; limit = q.limit; gives = refl } in
-    subst (λ (r : Granted). Projects broken (after_call broken c.own.session x r w) (answered c x (Ok r))) (sym q.gives) (record {
-      history = ap (λ (h : List Item). h ++ says c.own.session x) p.history;
-      own = called_own broken w c x k lives p s same;
-      peer =
-          let s' = c.own.session in
-          let own = p.own.alike lives in
-          let now = call_lives s' x k (ap (λ (r : Kept). is_over r.phase) (sym own.kept) ∙ lives) in
-          record {
-            begun = p.peer.begun;
-            counted = p.peer.counted;
-            alike = λ l.
-                let a = p.peer.alike l in
-                grind (arith, left_theirs, theirs_called);
-            carried = λ l. subst (λ (b : Bool). Carried broken b (put broken (unit (sends s' x) ∷ []) w.own.channel)
-                (c.own.sent ++ sends s' x ∷ []) (after s' x)) (sym now)
-                (carried_more broken w.own.channel c.own.sent s' (after s' x) (sends s' x)
-                (subst (λ (b : Bool). Carried broken b w.own.channel c.own.sent s') lives (p.peer.carried l)));
-            parted = p.peer.parted;
-          };
-    })
+    grind (
+      arith,
+      called_own,
+      call_lives,
+      left_theirs,
+      theirs_called,
+      carried_more,
+      laws.passed c.own.session x g e,
+      granted c.own.session x,
+      p.own.alike lives,
+    )
 
 -- ---- a call after which a side is over
 
@@ -159,25 +124,18 @@ pub stop_projects : SessionLaws → (broken : Bool) (w : World) (c : Core) (x : 
     → stopped w.own ≡ false → Projects broken w c
     → allowed c.own.session x ≡ Ok g → Projects broken (after_call broken c.own.session x g w) c
 stop_projects laws broken w c x g k lives p e =
-    let q = laws.passed c.own.session x g e in
-    let s' = c.own.session in
-    let now = stop_over s' x k in
-    subst (λ (r : Granted). Projects broken (after_call broken s' x r w) c) (sym q.gives) (record {
-      history = ap (λ (d : List Item). w.history ++ d) (stop_silent s' x k) ∙ append-nil w.history ∙ p.history;
-      own = one_over broken (after_call broken s' x (granted s' x) w) c p.own.begun now (record {
-        acked = ap (λ (v : Numbers). v.confirmed) (stop_numbers s' x k);
-        based = grind arith;
-        marked = stop_mark s' x w.history w.own.mark k ∙ p.own.counted.marked;
-      });
-      peer = record {
-        begun = p.peer.begun;
-        counted = p.peer.counted;
-        alike = λ l.
-            let a = p.peer.alike l in
-            grind (arith, left_theirs, stop_owners);
-        carried = λ l. subst (λ (b : Bool). Carried broken b (put broken (unit (sends s' x) ∷ []) w.own.channel) c.own.sent s') (sym now)
-            (carried_last broken w.own.channel c.own.sent s' (sends s' x) (stop_last s' x k q.phase)
-            (subst (λ (b : Bool). Carried broken b w.own.channel c.own.sent s') lives (p.peer.carried l)));
-        parted = p.peer.parted;
-      };
-    })
+    grind (
+      arith,
+      stop_over,
+      stop_silent,
+      one_over,
+      granted,
+      stop_numbers,
+      stop_mark,
+      left_theirs,
+      stop_owners,
+      carried_last,
+      stop_last,
+      laws.passed c.own.session x g e,
+      append-nil w.history,
+    )

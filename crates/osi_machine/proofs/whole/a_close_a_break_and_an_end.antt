@@ -60,8 +60,7 @@ carried_cut : (k : ℕ) (broken broken' a b : Bool) (channel : List Message) (se
     → (b || broken') ≡ true
     → Carried broken a channel sent s → Carried broken' b (take k channel) sent s
 carried_cut k broken broken' a b channel sent s f w h =
-    let c = cut_there k b s h.there h.lost h.tail (more_over a b s h.lost h.tail f h.last) in
-    grind arith
+    grind (arith, cut_there k b s h.there h.lost h.tail (more_over a b s h.lost h.tail f h.last), more_over a b s h.lost h.tail f h.last)
 
 pub none_parts : (k : ℕ) (ms : List Message) → list_any parts ms ≡ false → list_any parts (take k ms) ≡ false
 none_parts zero ms h = refl

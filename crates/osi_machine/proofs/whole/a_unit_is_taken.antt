@@ -28,8 +28,7 @@ CutsAlike s (RS k n x o) h v = stands s n ≡ true → cutat s.base v n ≡ cuta
 CutsAlike s u h v = Unit {0}
 
 cuts_alike : (c : Core) (u : Meaning) (us : List Meaning) → Stands (at c (u ∷ us)) → CutsAlike c.own.session u c.history c.own.view
-cuts_alike c (RS k n x o) us s = cut_seen c k n x o us s
-cuts_alike c _ us s = tt
+cuts_alike c u us s = search (arith, cut_seen)
 
 seen_mark : (s : State) (u : Meaning) (h v : List Item) (mark : ℕ) → CutsAlike s u h v → mark ≡ length v
     → mark_after s u h mark ≡ length (seen s u v)
@@ -67,8 +66,7 @@ plain_reply s _ p k = refl
 
 -- the channel of its taker stays
 pub put_nothing : (broken : Bool) (channel : List Message) → put broken [] channel ≡ channel
-put_nothing true channel = refl
-put_nothing false channel = append-nil channel
+put_nothing broken channel = grind (arith, append-nil)
 
 -- ---- the first unit of the core's channel
 
@@ -121,8 +119,7 @@ module _ (broken : Bool) (w : World) (c : Core) (u : Meaning) (us : List Meaning
 carried_on : (broken : Bool) (channel channel' : List Message) (sent : List Meaning) (s r : State) (b : Bool) → channel' ≡ channel
     → b ≡ false → Carried broken false channel sent s
     → Carried broken b channel' sent r
-carried_on broken channel channel' sent s r b e f h =
-    subst (λ (x : Bool). Carried broken x channel' sent r) (sym f) (grind (arith, none_last))
+carried_on broken channel channel' sent s r b e f h = grind (arith, none_last)
 
 giver_side : (broken : Bool) (w : World) (c : Core) (u : Meaning) (us : List Meaning) (ms : List Message) → Takes broken w c u us ms
     → OneSide broken (turned_world (took broken w c u ms)) (turned (taking c (u ∷ us)))
@@ -287,9 +284,7 @@ ignored broken w u ms = after_unit broken (session_of (without_first w ms)) u (w
 
 over_history : (broken : Bool) (w : World) (u : Meaning) (ms : List Message) → stopped w.own ≡ true
     → (ignored broken w u ms).history ≡ w.history
-over_history broken w u ms o =
-    ap (λ (b : Bool). if b then cut_by (session_of (without_first w ms)) u w.history else w.history)
-    (over_not_acted (session_of (without_first w ms)) u o)
+over_history broken w u ms o = grind (arith, over_not_acted)
 
 over_giver : (broken : Bool) (w : World) (c : Core) (u : Meaning) (ms : List Message) → Projects broken w c → stopped w.own ≡ true
     → w.peer.channel ≡ unit u ∷ ms

@@ -1,7 +1,7 @@
 -- A connection that was requested and not yet agreed to: nobody owns, sees or sends anything, until a CN is sent.
 -- For every_stage_of_a_connection.
-use Rattle.std.proofs.Common.{◌≡◌, refl, sym, ◌∙◌, ap, ℕ, zero, Bool, true, false, not, ◌||◌, List, [], ◌∷◌, take, ◌⊎◌, inl, inr, Err}
-use Rattle.std.proofs.Common.{arith, subst, ◌++◌}
+use Rattle.std.proofs.Common.{◌≡◌, refl, sym, ◌∙◌, ap, ℕ, zero, Bool, true, false, ◌||◌, List, [], ◌∷◌, take, ◌⊎◌, inl, inr, Err, arith}
+use Rattle.std.proofs.Common.{subst, ◌++◌}
 use Rattle.osi_machine.specs.Core.{turned}
 use Rattle.osi_machine.proofs.Vocabulary.{take-nil, State, Phase, Token, Call, CallError, allowed, may_call, is_over, is_wait_transport}
 use Rattle.osi_machine.proofs.Vocabulary.{is_wait_cn, is_profile, awaiting, Owner, Absent, Owners, own_to_pool, turned_owner, left_by}
@@ -49,8 +49,7 @@ pub record Left_it (x : End) : Type 0 where
   pub zero_now : AreZero x.kept.confirmed x.kept.base x.mark
 
 pub caller_zero : (x : End) → Waits x ⊎ Left_it x → AreZero x.kept.confirmed x.kept.base x.mark
-caller_zero x (inl h) = h.zero_now
-caller_zero x (inr h) = h.zero_now
+caller_zero x h = grind arith
 
 pub called_zero : (x : End) → Idle not_yet x ⊎ (Idle linked x ⊎ Left_it x) → AreZero x.kept.confirmed x.kept.base x.mark
 called_zero x h1 = search arith
@@ -110,9 +109,7 @@ no_call p x h = grind arith
 
 pub refused_early : (s : State) (x : Call) → is_early s.phase ≡ true → allowed s x ≡ Err error.BadState
 unfolding allowed
-refused_early s x h =
-    if_no (is_over s.phase) _ _ (excluded is_early is_over refl s.phase h)
-    ∙ if_yes (not (may_call s.phase x)) _ _ (ap not (no_call s.phase x h))
+refused_early s x h = grind (arith, if_no, excluded, if_yes, no_call)
 
 -- a call that is refused changes nothing
 pub record Refuses (s : State) (x : Call) : Type 0 where
@@ -193,35 +190,23 @@ cut_both k j w = record w {
 }
 
 caller_kept : (x : End) (ch : List Message) → Waits x ⊎ Left_it x → Waits (record x { channel = ch }) ⊎ Left_it (record x { channel = ch })
-caller_kept x ch (inl h) = inl (record {
-  transport = h.transport;
-  phase = h.phase;
-  mark = h.mark;
-  said = h.said;
-  got = h.got;
-  zero_now = h.zero_now;
-})
-caller_kept x ch (inr h) = inr (record { transport = h.transport; over_now = h.over_now; zero_now = h.zero_now })
+caller_kept x ch h = grind arith
 
 called_kept : (x : End) (ch : List Message) → Idle not_yet x ⊎ (Idle linked x ⊎ Left_it x)
     → Idle not_yet (record x { channel = ch }) ⊎ (Idle linked (record x { channel = ch }) ⊎ Left_it (record x { channel = ch }))
 called_kept x ch h2 = search arith
 
 pub break_opens : (k j : ℕ) (w : World) (t u : Told) → Opens w t u → Opens (cut_both k j w) t u
-break_opens k j w t u h = record {
-  small = h.small;
-  profile = h.profile;
-  history = h.history;
-  owner = h.owner;
-  caller = caller_kept w.own (take k w.own.channel) h.caller;
-  called = called_kept w.peer (take j w.peer.channel) h.called;
-  way = cut_replies j (cut_asks k h.way);
-  own_channel = ap (take k) h.own_channel ∙ take_asks k h.way ∙ sym (asks_kept j (cut_asks k h.way));
-  peer_channel = ap (take j) (h.peer_channel ∙ sym (replies_kept k h.way)) ∙ take_replies j (cut_asks k h.way);
-  suited = grind arith;
-  own_told = h.own_told;
-  peer_told = h.peer_told;
-}
+break_opens k j w t u h =
+    search (
+      arith,
+      caller_kept w.own (take k w.own.channel) h.caller,
+      called_kept w.peer (take j w.peer.channel) h.called,
+      take_asks k h.way,
+      asks_kept j (cut_asks k h.way),
+      replies_kept k h.way,
+      take_replies j (cut_asks k h.way),
+    )
 
 -- ---- the start
 
@@ -245,8 +230,7 @@ first_carried false channel m s e =
 
 first_parted : (broken : Bool) (o : Offer) (channel : List Message) → channel ≡ []
     → list_any parts (put broken (unit (offer_sent o) ∷ []) channel) ≡ false
-first_parted true o channel e = ap (list_any parts) e
-first_parted false o channel e = ap (λ (ms : List Message). list_any parts (ms ++ unit (offer_sent o) ∷ [])) e
+first_parted broken o channel e = grind arith
 
 started_own : (broken : Bool) (w : World) (t u : Told) → Opens w t u → Waits w.own → w.own.channel ≡ []
     → OneSide broken (started broken w) (core_start w.offer)
@@ -313,18 +297,8 @@ module _ (broken : Bool) (terms : Terms) (k : ℕ) (w : World) (t u : Told) wher
       → suits way w.peer.transport ≡ true → OpenTaken broken t u (message_taken broken terms k w.own.transport (without_first w ms) m)
   by_way m ms h e nothing_sent f b = absurd (cc)
   by_way m ms h e asked f b = absurd (cc)
-  by_way m ms h e agreed f b =
-      let same : agree ≡ m = cc in
-      let none : [] ≡ ms = cc in
-      subst (λ (x : Message). OpenTaken broken t u (message_taken broken terms k w.own.transport (without_first w ms) x)) same
-      (subst (λ (xs : List Message). OpenTaken broken t u (message_taken broken terms k w.own.transport (without_first w xs) agree)) none
-      (caller_agreed h e b))
-  by_way m ms h e (denied r) f b =
-      let same : deny r ≡ m = cc in
-      let none : [] ≡ ms = cc in
-      subst (λ (x : Message). OpenTaken broken t u (message_taken broken terms k w.own.transport (without_first w ms) x)) same
-      (subst (λ (xs : List Message). OpenTaken broken t u (message_taken broken terms k w.own.transport (without_first w xs) (deny r))) none
-      (caller_denied r h e))
+  by_way m ms h e agreed f b = grind (arith, caller_agreed h e b)
+  by_way m ms h e (denied r) f b = grind (arith, caller_denied r h e)
 
   pub caller_takes : (m : Message) (ms : List Message) → Opens w t u → w.peer.channel ≡ m ∷ ms
       → OpenTaken broken t u (message_taken broken terms k w.own.transport (without_first w ms) m)
@@ -356,8 +330,7 @@ denied_now broken w t u reason h e k way f none s = grind arith
 asked_now : (broken : Bool) (terms : Terms) (w : World) (t u : Told) → Opens (turned_world w) t u → w.own.channel ≡ [] → Idle not_yet w.own
     → CalledTaken t u (unchanged (asked_at broken terms (without_first w [])))
 asked_now true (accepts class) w t u h e k = record { stays_open = refl; leads = accepted_now true w t u h e k nothing_sent e refl refl }
-asked_now false (accepts class) w t u h e k =
-    record { stays_open = refl; leads = accepted_now false w t u h e k agreed (ap (λ (ms : List Message). ms ++ agree ∷ []) e) refl refl }
+asked_now false (accepts class) w t u h e k = search (arith, accepted_now)
 asked_now true (denies reason) w t u h e k =
     record { stays_open = refl; leads = denied_now true w t u reason h e k nothing_sent e refl refl }
 asked_now false (denies reason) w t u h e k =
@@ -374,12 +347,7 @@ asked_message broken terms k w t u h e = search (arith, asked_now, asked_late)
 called_way : (broken : Bool) (terms : Terms) (k : ℕ) (w : World) (t u : Told) (m : Message) (ms : List Message) → Opens (turned_world w) t u
     → (way : Way) → m ∷ ms ≡ asks way → w.own.channel ≡ replies way
     → CalledTaken t u (message_taken broken terms k w.own.transport (without_first w ms) m)
-called_way broken terms k w t u m ms h asked f e =
-    let same : ask ≡ m = cc in
-    let none : [] ≡ ms = cc in
-    subst (λ (x : Message). CalledTaken t u (message_taken broken terms k w.own.transport (without_first w ms) x)) same
-    (subst (λ (xs : List Message). CalledTaken t u (message_taken broken terms k w.own.transport (without_first w xs) ask)) none
-    (asked_message broken terms k w t u h e))
+called_way broken terms k w t u m ms h asked f e = grind (arith, asked_message broken terms k w t u h e)
 called_way broken terms k w t u m ms h _ f e = absurd (cc)
 
 pub called_takes : (broken : Bool) (terms : Terms) (k : ℕ) (w : World) (t u : Told) (m : Message) (ms : List Message)

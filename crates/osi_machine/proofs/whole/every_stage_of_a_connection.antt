@@ -48,12 +48,9 @@ refused_stage b w s t c r h = subst (λ (a : Answer). Stage b (after_answer b c 
 called_stage : SessionLaws → (b : Bool) (w : World) (s t : Told) (c : Call) → HasSerial c → Stage b w s t
     → Stage b (after_answer b c w (allowed (session_of w) c)) (told_of_call s c (error_of (allowed (session_of w) c))) t
 called_stage laws b w s t c small (inl h) = refused_stage b w s t c (caller_refuses w s t c h) (inl h)
-called_stage laws b w s t c small (inr (inl h)) =
-    refused_stage b w s t c (subst (λ (v : World). Refuses (session_of v) c) (turned_back w) (called_refuses (turned w) t s c h))
-    (inr (inl h))
+called_stage laws b w s t c small (inr (inl h)) = grind (arith, refused_stage, turned_back w, called_refuses (turned w) t s c h)
 called_stage laws b w s t c small (inr (inr h)) =
-    inr (inr (subst (λ (d : Told). Repeats b (after_answer b c w (allowed (session_of w) c)) d t) (same_told s c (allowed (session_of w) c))
-    (call_repeats b w s t h laws c small)))
+    grind (arith, same_told s c (allowed (session_of w) c), call_repeats b w s t h laws c small)
 
 -- ---- a message
 
@@ -64,9 +61,7 @@ message_offer b terms k tr w m = grind arith
 module _ (laws : SessionLaws) (terms : Terms) (b : Bool) (w : World) (s t : Told) (k : ℕ) (x : Message) (xs : List Message)
     (e : w.peer.channel ≡ x ∷ xs) where
   taken_stage : Stage b w s t → Stage b (taking_of b terms k w x xs).world (told_all s (taking_of b terms k w x xs).shown) t
-  taken_stage (inl h) = by_either (caller_takes b terms k w s t x xs h e).leads
-      (λ y. inl y)
-      (λ y. inr (inr y))
+  taken_stage (inl h) = grind (arith, by_either, caller_takes b terms k w s t x xs h e)
   taken_stage (inr (inl h)) = inr (inl (called_takes b terms k w t s x xs h e).leads)
   taken_stage (inr (inr h)) = inr (inr (message_repeats b w s t h laws terms k x xs e).repeats)
 

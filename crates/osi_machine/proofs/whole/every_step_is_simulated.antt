@@ -4,11 +4,10 @@ use Rattle.std.proofs.Common.{◌≡◌, refl, sym, ◌∙◌, ap, subst, Bool, 
 use Rattle.std.proofs.Common.{take}
 use Rattle.osi_session.specs.Respond.{shown_for}
 use Rattle.osi_machine.proofs.Vocabulary.{closes_for, State, Meaning, Call, Answer, HasSerial, Outcome, allowed, is_over, respond_unit}
-use Rattle.osi_machine.proofs.Vocabulary.{drops, is_plain, Core, stays_in_core, answered, Message, unit, World, session_of, after_call}
-use Rattle.osi_machine.proofs.Vocabulary.{after_answer, after_unit, Taking, unit_taken, turned as turned_world, without_first, Told}
-use Rattle.osi_machine.proofs.Vocabulary.{told_call, shows_loss, lost, ask, agree, deny, bye, over, Transport, not_yet, waiting, linked}
-use Rattle.osi_machine.proofs.Vocabulary.{closing, gone, moved, moves, put, shortened, unchanged, Terms, message_taken, closed, ended_at}
-use Rattle.osi_machine.proofs.Vocabulary.{shown_at_end}
+use Rattle.osi_machine.proofs.Vocabulary.{drops, is_plain, Core, stays_in_core, Message, unit, World, session_of, after_call, after_answer}
+use Rattle.osi_machine.proofs.Vocabulary.{after_unit, Taking, unit_taken, turned as turned_world, without_first, Told, told_call}
+use Rattle.osi_machine.proofs.Vocabulary.{shows_loss, lost, ask, agree, deny, bye, over, Transport, not_yet, waiting, linked, closing, gone}
+use Rattle.osi_machine.proofs.Vocabulary.{moved, moves, put, shortened, unchanged, Terms, message_taken, closed, ended_at, shown_at_end}
 use Rattle.osi_machine.proofs.basics.what_holds_in_each_phase.{if_yes, by_test}
 use Rattle.osi_machine.proofs.channels.a_unit_is_dropped_bad_or_acted_on.{no_fault}
 use Rattle.osi_machine.proofs.invariant.what_holds_of_both_sides.{Stands}
@@ -92,15 +91,13 @@ module _ (broken : Bool) (w : World) (t u : Told) (h : Repeats broken w t u) whe
   core_answer : SessionLaws → (x : Call) → HasSerial x → stopped w.own ≡ false → (k : Bool) → stays_in_core x ≡ k → (a : Answer)
       → allowed h.core.own.session x ≡ a → Repeats broken (answered_by broken h.core.own.session x w a) (told_answer t x a) u
   core_answer laws x small l k q (Err d) e = h
-  core_answer laws x small l true q (Ok g) e = record {
-    core = answered h.core x (Ok g);
-    stands = subst (λ (a : Answer). Stands (answered h.core x a)) e
-        (subst (λ (b : Bool). Stands (if b then answered h.core x (allowed h.core.own.session x) else h.core)) q
-        (called_stands laws h.core x small h.stands));
-    projects = call_projects laws broken w h.core x g q l h.projects h.stands e;
-    own = answer_tells laws h.core x (Ok g) t q e h.stands h.own;
-    peer = h.peer;
-  }
+  core_answer laws x small l true q (Ok g) e =
+      grind (
+        arith,
+        called_stands laws h.core x small h.stands,
+        call_projects laws broken w h.core x g q l h.projects h.stands e,
+        answer_tells laws h.core x (Ok g) t q e h.stands h.own,
+      )
   core_answer laws x small l false q (Ok g) e = search (stop_projects, Tells, stop_told)
 
   answers_as : (x : Call) (a : Answer) → answered_by broken (session_of w) x w a ≡ after_answer broken x w a
@@ -232,6 +229,4 @@ module _ (broken : Bool) (w : World) (t u : Told) (h : Repeats broken w t u) whe
   break_repeats k j = search (arith, same_core, break_projects)
 
   pub end_repeats : (k : ℕ) → Repeats broken (ended_at k w) (told_all t (shown_at_end w)) u
-  end_repeats k =
-      subst (λ (d : Told). Repeats broken (ended_at k w) d u) (sym (loss_told t (session_of w)))
-      (same_core broken (ended_at k w) (end_projects broken w h.core h.projects k))
+  end_repeats k = search (arith, loss_told, same_core, end_projects)

@@ -91,14 +91,12 @@ not_both b p q = absurd (cc)
 
 pub one_over : (broken : Bool) (w : World) (c : Core) → is_begun w.own.transport ≡ true → stopped w.own ≡ true → Counted w.own c.own
     → OneSide broken w c
-one_over broken w c b o a =
-    record { begun = b; counted = a; alike = λ l. not_both _ o l; carried = λ l. not_both _ o l; parted = λ l. not_both _ o l }
+one_over broken w c b o a = grind (arith, not_both)
 
 pub both_over : (broken : Bool) (w : World) (c : Core) → w.history ≡ c.history → is_begun w.own.transport ≡ true → stopped w.own ≡ true
     → is_begun w.peer.transport ≡ true → stopped w.peer ≡ true → Counted w.own c.own → Counted w.peer c.peer
     → Projects broken w c
-both_over broken w c h b o d p x y =
-    record { history = h; own = one_over broken w c b o x; peer = one_over broken (turned_world w) (turned c) d p y }
+both_over broken w c h b o d p x y = grind (arith, one_over)
 
 -- ---- the session of a side that is not over is that of the core
 
@@ -106,8 +104,7 @@ pub taken_view : (v h : List Item) → Begins v h → take (length v) h ≡ v
 taken_view v h b = ap (take (length v)) (sym b.1) ∙ take-append_seam v b.0
 
 pub owned_is : (w : World) (c : Core) → Stands c → Alike w c → owned w.owner ≡ c.own.session.held
-owned_is w c s a = tokens_same (owned w.owner) c.own.session.held
-    (λ t. has_set (λ t. is_own (w.owner t)) t ∙ a.owns t ∙ sym (s.own.meeting.holds t))
+owned_is w c s a = grind (arith, tokens_same, has_set)
 
 -- V(M), of a side that is over too
 pub next_is : (w : World) (c : Core) → Stands c → w.history ≡ c.history → Counted w.own c.own

@@ -4,13 +4,12 @@ use Rattle.std.proofs.Common.{if◌then◌else◌, List, [], ◌∷◌, Option, 
 use Rattle.osi_message.specs.Words.{Word, says, part}
 use Rattle.osi_session.specs.declared.numbers.Numbers.{Numbers}
 use Rattle.osi_session.proofs.Vocabulary.{cases_Bool, and_parts, ltb-true, lt-ltb, Phase, Ready, MajorDue, ReleaseDue, RestartDue, Aborting}
-use Rattle.osi_session.proofs.Vocabulary.{Ended, State, UnitFault, Unexpected, is_over, is_ready, is_wait_cn, is_connecting, is_major_asked}
-use Rattle.osi_session.proofs.Vocabulary.{is_restarting, is_releasing, may_hold, may_confirm_minor, Meaning, AB, AC, AA, CN, DN, DT, FN, GT}
-use Rattle.osi_session.proofs.Vocabulary.{MAA, MAP, MIA, MIP, NF, PT, RA, RF, RS, First, Middle, Last, as_message, AllMet, Condition, si}
-use Rattle.osi_session.proofs.Vocabulary.{first_fault, is_expected, drops, Tokens, Verdict, over, dropped, faulty, fine, by_fault}
-use Rattle.osi_session.proofs.Vocabulary.{is_faulty, becomes, stands, without_tokens, restarted_at, respond_unit, Taker, Hearing, kept_in}
-use Rattle.osi_session.proofs.Vocabulary.{word_conditions, word_verdict, enacted_word, respond_word, minor_confirmed, point_sent}
-use Rattle.osi_session.proofs.Vocabulary.{point_taken, united}
+use Rattle.osi_session.proofs.Vocabulary.{Ended, State, UnitFault, Unexpected, is_over, is_ready, is_restarting, may_confirm_minor, Meaning}
+use Rattle.osi_session.proofs.Vocabulary.{AB, AC, AA, CN, DN, DT, FN, GT, MAA, MAP, MIA, MIP, NF, PT, RA, RF, RS, First, Middle, Last}
+use Rattle.osi_session.proofs.Vocabulary.{as_message, AllMet, Condition, si, first_fault, is_expected, drops, Tokens, Verdict, over}
+use Rattle.osi_session.proofs.Vocabulary.{dropped, faulty, fine, by_fault, is_faulty, becomes, stands, without_tokens, restarted_at}
+use Rattle.osi_session.proofs.Vocabulary.{respond_unit, Taker, Hearing, kept_in, word_conditions, word_verdict, enacted_word, respond_word}
+use Rattle.osi_session.proofs.Vocabulary.{minor_confirmed, point_sent, point_taken, united}
 use Rattle.osi_session.proofs.ahead.a_side_that_has_sent_a_word.{shifted, Goes, IsAheadBy, quiet_good}
 use Rattle.osi_session.proofs.tables.what_is_true_of_each_phase.{implied, excluded}
 use Rattle.osi_session.proofs.tables.the_outcomes_of_each_input.{unit_cases}
@@ -47,31 +46,13 @@ from_ready Ended = true
 from_ready _ = false
 
 neither : (b : Bool) → b ≡ true → b ≡ false → ⊥
-neither true h k = cc
-neither false h k = cc
+neither b h k = grind arith
 
 either_phase : (p : Phase → Bool) (b : Bool) (x y : State) → p x.phase ≡ true → p y.phase ≡ true → p (if b then x else y).phase ≡ true
-either_phase p true x y h k = h
-either_phase p false x y h k = k
+either_phase p b x y h k = grind arith
 
 ready_becomes : (s : State) (u : Meaning) → past_ready s.phase ≡ true → is_expected s.phase u ≡ true → past_ready (becomes s u).phase ≡ true
-ready_becomes s (CN v n m w from to z o) h x = absurd (neither (is_wait_cn s.phase) x (excluded past_ready is_wait_cn refl s.phase h))
-ready_becomes s (AC v n m w z o) h x = absurd (neither (is_connecting s.phase) x (excluded past_ready is_connecting refl s.phase h))
-ready_becomes s (RF r o) h x = refl
-ready_becomes s (DT o) h x = h
-ready_becomes s (GT t) h x = h
-ready_becomes s (PT t o) h x = h
-ready_becomes s (MIP c n o) h x = h
-ready_becomes s (MIA n o) h x = h
-ready_becomes s (MAP n o) h x = refl
-ready_becomes s (MAA n o) h x = absurd (neither (is_major_asked s.phase) x (excluded past_ready is_major_asked refl s.phase h))
-ready_becomes s (RS k n w o) h x = either_phase past_ready (stands s n) _ s refl h
-ready_becomes s (RA n w o) h x = absurd (neither (is_restarting s.phase) x (excluded past_ready is_restarting refl s.phase h))
-ready_becomes s (FN o) h x = refl
-ready_becomes s (DN o) h x = refl
-ready_becomes s (NF o) h x = absurd (neither (is_releasing s.phase) x (excluded past_ready is_releasing refl s.phase h))
-ready_becomes s (AB b o) h x = refl
-ready_becomes s AA h x = h
+ready_becomes s u h x = grind (arith, neither, excluded, either_phase)
 
 past_ready_ends : (s : State) (u : Meaning) → past_ready s.phase ≡ true → past_ready (respond_unit s u).next.phase ≡ true
 past_ready_ends s u h =
@@ -80,25 +61,7 @@ past_ready_ends s u h =
 
 confirming_becomes : (s : State) (u : Meaning) → past_confirming s.phase ≡ true → is_expected s.phase u ≡ true →
     past_confirming (becomes s u).phase ≡ true
-confirming_becomes s (CN v n m w from to z o) h x =
-    absurd (neither (is_wait_cn s.phase) x (excluded past_confirming is_wait_cn refl s.phase h))
-confirming_becomes s (AC v n m w z o) h x =
-    absurd (neither (is_connecting s.phase) x (excluded past_confirming is_connecting refl s.phase h))
-confirming_becomes s (RF r o) h x = refl
-confirming_becomes s (DT o) h x = h
-confirming_becomes s (GT t) h x = h
-confirming_becomes s (PT t o) h x = h
-confirming_becomes s (MIP c n o) h x = h
-confirming_becomes s (MIA n o) h x = h
-confirming_becomes s (MAP n o) h x = refl
-confirming_becomes s (MAA n o) h x = absurd (neither (is_major_asked s.phase) x (excluded past_confirming is_major_asked refl s.phase h))
-confirming_becomes s (RS k n w o) h x = either_phase past_confirming (stands s n) _ s refl h
-confirming_becomes s (RA n w o) h x = absurd (neither (is_restarting s.phase) x (excluded past_confirming is_restarting refl s.phase h))
-confirming_becomes s (FN o) h x = absurd (neither (is_ready s.phase) x (excluded past_confirming is_ready refl s.phase h))
-confirming_becomes s (DN o) h x = refl
-confirming_becomes s (NF o) h x = absurd (neither (is_releasing s.phase) x (excluded past_confirming is_releasing refl s.phase h))
-confirming_becomes s (AB b o) h x = refl
-confirming_becomes s AA h x = h
+confirming_becomes s u h x = grind (arith, neither, excluded, either_phase)
 
 past_confirming_ends : (s : State) (u : Meaning) → past_confirming s.phase ≡ true → past_confirming (respond_unit s u).next.phase ≡ true
 past_confirming_ends s u h =
@@ -106,15 +69,7 @@ past_confirming_ends s u h =
     (record { same = h; ended = λ a. refl; bad = λ a e. refl; good = λ a e x m. confirming_becomes s u h x })
 
 stays_from : (s : State) (u : Meaning) → from_ready s.phase ≡ true → is_expected s.phase u ≡ true → from_ready (becomes s u).phase ≡ true
-stays_from s (CN v n m w from to z o) h x = absurd (neither (is_wait_cn s.phase) x (excluded from_ready is_wait_cn refl s.phase h))
-stays_from s (RS k n w o) h x = either_phase from_ready (stands s n) _ s refl h
-stays_from s (DT o) h x = h
-stays_from s (GT t) h x = h
-stays_from s (PT t o) h x = h
-stays_from s (MIP c n o) h x = h
-stays_from s (MIA n o) h x = h
-stays_from s AA h x = h
-stays_from s _ h x = refl
+stays_from s u h x = grind (arith, neither, excluded, either_phase)
 
 unit_stays : (s : State) (u : Meaning) → from_ready s.phase ≡ true → from_ready (respond_unit s u).next.phase ≡ true
 unit_stays s u h =
@@ -137,22 +92,10 @@ same_state s = s
 
 part_step : (t : Taker) (v : Word) → IsReady t.state → (respond_word t v).reply ≡ None →
     Goes IsReady past_ready same_state (respond_word t v) (respond_word (shifted same_state t) v)
-part_step t v p r = elim (cases_Bool (past_ready (respond_word t v).next.state.phase)) [
-  | inl y ↦ inl y
-  | inr n ↦ inr (
-    still_ready (respond_word t v).next.state.phase (word_stays t v (implied is_ready from_ready refl t.state.phase p)) n,
-    record { next = refl; quiet = r; closes = refl },
-  )
-]
+part_step t v p r = grind (arith, cases_Bool, still_ready, word_stays, implied)
 
 pub part_ahead : IsAheadBy IsReady past_ready same_state
-part_ahead = record {
-  holds = λ s p. implied is_ready may_hold refl s.phase p;
-  phase = λ s. refl;
-  ends = past_ready_ends;
-  aborts = refl;
-  step = part_step;
-}
+part_ahead = grind (arith, implied, past_ready_ends, part_step)
 
 -- ---- what is taken without an answer is discarded, or good
 
@@ -167,17 +110,10 @@ pub record Passes (t : Taker) (v : Word) : Type 0 where
 
 passed_by : (o d x : Bool) (n : ℕ) (f : Option UnitFault) → verdict_by o d x n f ≡ fine →
     (o ≡ false) × (d ≡ false) × (x ≡ true) × (f ≡ None)
-passed_by true d x n f h = absurd (cc)
-passed_by false true x n f h = absurd (cc)
-passed_by false false false n f h = absurd (cc)
-passed_by false false true n None h = (refl, refl, refl, refl)
-passed_by false false true n (Some e) h = absurd (cc)
+passed_by o d x n f h = grind arith
 
 pub passes : (t : Taker) (v : Word) → word_verdict t v ≡ fine → Passes t v
-passes t v h =
-    let a = passed_by (is_over t.state.phase) (drops t.state (as_message v)) (is_expected t.state.phase (as_message v)) (si (as_message v))
-    (first_fault (si (as_message v)) (word_conditions t v)) h in
-    record { lives = a.0; acts = a.1; expected = a.2; met = all_met (si (as_message v)) (word_conditions t v) a.3 }
+passes t v h = grind (arith, passed_by, all_met)
 
 no_fault : (n : ℕ) (cs : List Condition) → AllMet cs → first_fault n cs ≡ None
 no_fault n [] h = refl
@@ -187,25 +123,14 @@ pub passing : (t : Taker) (v : Word) → Passes t v → word_verdict t v ≡ fin
 passing t v h = let f = no_fault (si (as_message v)) (word_conditions t v) h.met in rw (h.lives, h.acts, h.expected, f) refl
 
 dropped_by : (o d x : Bool) (n : ℕ) (f : Option UnitFault) → verdict_by o d x n f ≡ dropped → (o ≡ false) × (d ≡ true)
-dropped_by true d x n f h = absurd (cc)
-dropped_by false true x n f h = (refl, refl)
-dropped_by false false false n f h = absurd (cc)
-dropped_by false false true n None h = absurd (cc)
-dropped_by false false true n (Some e) h = absurd (cc)
+dropped_by o d x n f h = grind arith
 
 is_dropped : (t : Taker) (v : Word) → is_over t.state.phase ≡ false → drops t.state (as_message v) ≡ true → word_verdict t v ≡ dropped
 is_dropped t v o d = rw (o, d) refl
 
 quiet_verdict : (w : Verdict) (o d x : Bool) (n : ℕ) (f : Option UnitFault) → verdict_by o d x n f ≡ w → o ≡ false → is_faulty w ≡ false →
     (w ≡ dropped) ⊎ (w ≡ fine)
-quiet_verdict dropped o d x n f e l q = inl refl
-quiet_verdict fine o d x n f e l q = inr refl
-quiet_verdict (faulty fault) o d x n f e l q = absurd (cc)
-quiet_verdict over true d x n f e l q = absurd (cc)
-quiet_verdict over false true x n f e l q = absurd (cc)
-quiet_verdict over false false false n f e l q = absurd (cc)
-quiet_verdict over false false true n None e l q = absurd (cc)
-quiet_verdict over false false true n (Some y) e l q = absurd (cc)
+quiet_verdict w o d x n f e l q = grind arith
 
 pub quietly : (t : Taker) (v : Word) → is_over t.state.phase ≡ false → (respond_word t v).reply ≡ None →
     (word_verdict t v ≡ dropped) ⊎ (word_verdict t v ≡ fine)
@@ -271,16 +196,12 @@ restart_gone gone s k n w o r g = by (stands s n) (stands_ready s n r)
     by false e = absurd (cc)
 
 lacks_none : (a b : Bool) → b ≡ true → (not a && not b) ≡ true → ⊥
-lacks_none true b h k = cc
-lacks_none false true h k = cc
-lacks_none false false h k = cc
+lacks_none a b h k = grind arith
 
 acknowledges : (answers asked : Bool) (c k n : ℕ) → asked ≡ false →
     (not answers && (nat_le c k && (if asked then nat_lt (k + 1) n else nat_lt k n))) ≡ true
     → (answers ≡ false) × (nat_le c k ≡ true) × (nat_lt k n ≡ true)
-acknowledges true asked c k n a h = absurd (cc)
-acknowledges false true c k n a h = absurd (cc)
-acknowledges false false c k n a h = let p = and_parts (nat_le c k) (nat_lt k n) h in (refl, p.0, p.1)
+acknowledges answers asked c k n a h = grind (arith, and_parts)
 
 -- a confirmation that is taken then, is also taken after the point
 abbrev with_point : State → State
@@ -290,43 +211,15 @@ taken_conf : (s : State) (j : Option (List ℕ)) (n : ℕ) (o : List ℕ) → is
     Passes (record { state = s; joined = j }) (says (MIA n o))
     → (s.numbers.answers ≡ false) × (Passes (record { state = with_point s; joined = j }) (says (MIA n o)))
 unfolding point_sent
-taken_conf s j n o r p =
-    let a = acknowledges s.numbers.answers (is_major_asked s.phase) s.numbers.confirmed n s.numbers.next
-    (excluded is_ready is_major_asked refl s.phase r) p.met.1.0 in (
-      a.0,
-      record {
-        lives = p.lives;
-        acts = p.acts;
-        expected = p.expected;
-        met = (
-          p.met.0,
-          (
-            acks s.numbers.answers (is_major_asked s.phase) s.numbers.confirmed n s.numbers.next a.0
-                (excluded is_ready is_major_asked refl s.phase r) a.1 a.2,
-            p.met.1.1,
-          ),
-        );
-      },
-    )
-  where
-    more : (c k n : ℕ) → nat_le c k ≡ true → nat_lt k n ≡ true → (nat_le c k && nat_lt k (n + 1)) ≡ true
-    more c k n h0 h1 = grind (arith, ltb-true, lt-ltb)
-
-    acks : (answers asked : Bool) (c k n : ℕ) → answers ≡ false → asked ≡ false → nat_le c k ≡ true → nat_lt k n ≡ true
-        → (nat_le (if answers then n else c) k && (if asked then nat_lt (k + 1) (n + 1) else nat_lt k (n + 1))) ≡ true
-    acks false false c k n e f h l = more c k n h l
-    acks true asked c k n e f h l = absurd (cc)
-    acks false true c k n e f h l = absurd (cc)
+taken_conf s j n o r p = grind (arith, acknowledges, excluded, ltb-true, lt-ltb)
 
 -- both leave the same numbers
 numbers_alike : (v : Numbers) (n : ℕ) → v.answers ≡ false → minor_confirmed n (point_sent v) ≡ point_sent (minor_confirmed n v)
 unfolding minor_confirmed point_sent
-numbers_alike v n e = let c : n + 1 ≡ (if v.answers then v.next else n + 1) =
-    rw e refl in λ i. record { next = v.next + 1; confirmed = c i; lowest = v.lowest; answers = false }
+numbers_alike v n e = grind arith
 
 or_more : (a b : Bool) → a ≡ true → (a || b) ≡ true
-or_more true b e = refl
-or_more false b e = absurd (cc)
+or_more a b e = grind arith
 
 still_held : (held more : Tokens) → held.minor ≡ true → (united held more).minor ≡ true
 unfolding united
@@ -341,8 +234,7 @@ point_good t (says (GT k)) p h r =
     (inr (record { ready = p.ready; minor = still_held t.state.held k p.minor }, record { next = refl; quiet = refl; closes = refl }))
 point_good t (says (PT k o)) p h r =
     fine_goes MayPoint past_ready with_point t _ h h (inr (p, record { next = refl; quiet = refl; closes = refl }))
-point_good t (says (MIP c n o)) p h r =
-    absurd (lacks_none t.state.held.data_token t.state.held.minor p.minor (passes t (says (MIP c n o)) h).met.1.0)
+point_good t (says (MIP c n o)) p h r = grind (arith, lacks_none, passes)
 point_good t (says (MIA n o)) p h r =
     let q = taken_conf t.state t.joined n o p.ready (passes t (says (MIA n o)) h) in
     fine_goes MayPoint past_ready with_point t _ h (passing (shifted with_point t) (says (MIA n o)) q.1)
@@ -361,27 +253,13 @@ point_good t (says (RS k n w o)) p h r =
     fine_gone MayPoint past_ready with_point t _ h
     (restart_gone past_ready t.state k n w o (excluded is_ready is_restarting refl t.state.phase p.ready) refl)
 point_good t (says (AB b o)) p h r = absurd (loud t (says (AB b o)) AA h r refl)
-point_good t (says (CN v n m w from to z o)) p h r =
-    absurd (neither (is_wait_cn t.state.phase) (passes t (says (CN v n m w from to z o)) h).expected
-    (excluded is_ready is_wait_cn refl t.state.phase p.ready))
-point_good t (says (AC v n m w z o)) p h r =
-    absurd (neither (is_connecting t.state.phase) (passes t (says (AC v n m w z o)) h).expected
-    (excluded is_ready is_connecting refl t.state.phase p.ready))
-point_good t (says (RF c o)) p h r =
-    absurd (neither (is_connecting t.state.phase) (passes t (says (RF c o)) h).expected
-    (excluded is_ready is_connecting refl t.state.phase p.ready))
-point_good t (says (MAA n o)) p h r =
-    absurd (neither (is_major_asked t.state.phase) (passes t (says (MAA n o)) h).expected
-    (excluded is_ready is_major_asked refl t.state.phase p.ready))
-point_good t (says (RA n w o)) p h r =
-    absurd (neither (is_restarting t.state.phase) (passes t (says (RA n w o)) h).expected
-    (excluded is_ready is_restarting refl t.state.phase p.ready))
-point_good t (says (DN o)) p h r =
-    absurd (neither (is_releasing t.state.phase) (passes t (says (DN o)) h).expected
-    (excluded is_ready is_releasing refl t.state.phase p.ready))
-point_good t (says (NF o)) p h r =
-    absurd (neither (is_releasing t.state.phase) (passes t (says (NF o)) h).expected
-    (excluded is_ready is_releasing refl t.state.phase p.ready))
+point_good t (says (CN v n m w from to z o)) p h r = grind (arith, neither, passes, excluded)
+point_good t (says (AC v n m w z o)) p h r = grind (arith, neither, passes, excluded)
+point_good t (says (RF c o)) p h r = grind (arith, neither, passes, excluded)
+point_good t (says (MAA n o)) p h r = grind (arith, neither, passes, excluded)
+point_good t (says (RA n w o)) p h r = grind (arith, neither, passes, excluded)
+point_good t (says (DN o)) p h r = grind (arith, neither, passes, excluded)
+point_good t (says (NF o)) p h r = grind (arith, neither, passes, excluded)
 point_good t (says AA) p h r = let e = (passes t (says AA) h).expected in absurd (cc)
 point_good t (part First o) p h r =
     fine_goes MayPoint past_ready with_point t _ h h (inr (p, record { next = refl; quiet = refl; closes = refl }))
@@ -398,13 +276,7 @@ point_step t v p r = elim (quietly t v (excluded is_ready is_over refl t.state.p
 ]
 
 pub point_ahead : IsAheadBy MayPoint past_ready (renumbered point_sent)
-point_ahead = record {
-  holds = λ s p. implied is_ready may_hold refl s.phase p.ready;
-  phase = λ s. refl;
-  ends = past_ready_ends;
-  aborts = refl;
-  step = point_step;
-}
+point_ahead = grind (arith, implied, past_ready_ends, point_step)
 
 -- ---- the confirmation of a minor point
 
@@ -419,8 +291,7 @@ with_conf n s = renumbered (minor_confirmed n) s
 -- both leave the same numbers
 points_alike : (v : Numbers) (n : ℕ) → v.answers ≡ true → point_taken (minor_confirmed n v) ≡ minor_confirmed n (point_taken v)
 unfolding minor_confirmed point_taken
-points_alike v n e = let c : (if v.answers then n + 1 else v.next) ≡ n + 1 =
-    rw e refl in λ i. record { next = v.next + 1; confirmed = c i; lowest = v.lowest; answers = true }
+points_alike v n e = grind arith
 
 same_point : (n : ℕ) (s : State) (j : Option (List ℕ)) (c : Bool) (m : ℕ) (o : List ℕ) →
     word_verdict (record { state = s; joined = j }) (says (MIP c m o)) ≡ fine
@@ -433,8 +304,7 @@ unfolding point_taken
 answers_on v = refl
 
 no_ack : (answers b : Bool) → answers ≡ true → (not answers && b) ≡ true → ⊥
-no_ack true b h k = cc
-no_ack false b h k = cc
+no_ack answers b h k = grind arith
 
 conf_good : (m : ℕ) (t : Taker) (v : Word) → MayConfirm t.state → word_verdict t v ≡ fine → (respond_word t v).reply ≡ None
     → Goes MayConfirm past_confirming (with_conf m) (respond_word t v) (respond_word (shifted (with_conf m) t) v)
@@ -465,27 +335,13 @@ conf_good m t (says (RS k n w o)) p h r =
     fine_gone MayConfirm past_confirming (with_conf m) t _ h
     (restart_gone past_confirming t.state k n w o (excluded may_confirm_minor is_restarting refl t.state.phase p.phase) refl)
 conf_good m t (says (AB b o)) p h r = absurd (loud t (says (AB b o)) AA h r refl)
-conf_good m t (says (CN v n x w from to z o)) p h r =
-    absurd (neither (is_wait_cn t.state.phase) (passes t (says (CN v n x w from to z o)) h).expected
-    (excluded may_confirm_minor is_wait_cn refl t.state.phase p.phase))
-conf_good m t (says (AC v n x w z o)) p h r =
-    absurd (neither (is_connecting t.state.phase) (passes t (says (AC v n x w z o)) h).expected
-    (excluded may_confirm_minor is_connecting refl t.state.phase p.phase))
-conf_good m t (says (RF c o)) p h r =
-    absurd (neither (is_connecting t.state.phase) (passes t (says (RF c o)) h).expected
-    (excluded may_confirm_minor is_connecting refl t.state.phase p.phase))
-conf_good m t (says (MAA n o)) p h r =
-    absurd (neither (is_major_asked t.state.phase) (passes t (says (MAA n o)) h).expected
-    (excluded may_confirm_minor is_major_asked refl t.state.phase p.phase))
-conf_good m t (says (RA n w o)) p h r =
-    absurd (neither (is_restarting t.state.phase) (passes t (says (RA n w o)) h).expected
-    (excluded may_confirm_minor is_restarting refl t.state.phase p.phase))
-conf_good m t (says (DN o)) p h r =
-    absurd (neither (is_releasing t.state.phase) (passes t (says (DN o)) h).expected
-    (excluded may_confirm_minor is_releasing refl t.state.phase p.phase))
-conf_good m t (says (NF o)) p h r =
-    absurd (neither (is_releasing t.state.phase) (passes t (says (NF o)) h).expected
-    (excluded may_confirm_minor is_releasing refl t.state.phase p.phase))
+conf_good m t (says (CN v n x w from to z o)) p h r = grind (arith, neither, passes, excluded)
+conf_good m t (says (AC v n x w z o)) p h r = grind (arith, neither, passes, excluded)
+conf_good m t (says (RF c o)) p h r = grind (arith, neither, passes, excluded)
+conf_good m t (says (MAA n o)) p h r = grind (arith, neither, passes, excluded)
+conf_good m t (says (RA n w o)) p h r = grind (arith, neither, passes, excluded)
+conf_good m t (says (DN o)) p h r = grind (arith, neither, passes, excluded)
+conf_good m t (says (NF o)) p h r = grind (arith, neither, passes, excluded)
 conf_good m t (says AA) p h r = let e = (passes t (says AA) h).expected in absurd (cc)
 conf_good m t (part First o) p h r =
     fine_goes MayConfirm past_confirming (with_conf m) t _ h h (inr (p, record { next = refl; quiet = refl; closes = refl }))
@@ -502,10 +358,4 @@ conf_step m t v p r = elim (quietly t v (excluded may_confirm_minor is_over refl
 ]
 
 pub conf_ahead : (m : ℕ) → IsAheadBy MayConfirm past_confirming (renumbered (minor_confirmed m))
-conf_ahead m = record {
-  holds = λ s p. implied may_confirm_minor may_hold refl s.phase p.phase;
-  phase = λ s. refl;
-  ends = past_confirming_ends;
-  aborts = refl;
-  step = conf_step m;
-}
+conf_ahead m = grind (arith, implied, past_confirming_ends, conf_step)

@@ -1,16 +1,14 @@
 -- What closes the transport connection, and that nothing is sent with it.
-use Rattle.std.proofs.Common.{◌≡◌, refl, sym, ◌∙◌, ap, subst, ℕ, Bool, true, false, not, ◌||◌, List, [], ◌∷◌, ◌++◌, None, Result, Ok, Err}
+use Rattle.std.proofs.Common.{◌≡◌, refl, sym, ◌∙◌, ap, subst, ℕ, Bool, true, false, not, ◌||◌, List, [], ◌∷◌, None, Result, Ok}
 use Rattle.std.proofs.Common.{if◌then◌else◌, arith}
 use Rattle.std.proofs.lemmas.List.Folds.{list_any-append}
 use Rattle.osi_session.specs.Moves as whole
-use Rattle.osi_session.proofs.Vocabulary.{list_any, SpduFault, Kind, Zero, Two, category_of, Known, Meaning, AB, AA, meaning_by}
-use Rattle.osi_session.proofs.Vocabulary.{said_at, Word, Words, State, is_aborting, is_ended, is_over, Call, Answer}
-use Rattle.osi_session.proofs.Vocabulary.{allowed, may_close, may_close_word, closes_alone, Taker, Hearing, word_verdict, respond_word}
-use Rattle.osi_session.proofs.Vocabulary.{respond_words, heard_then, is_restart_word, acting_words, respond_tsdu, Input, called}
-use Rattle.osi_session.proofs.Vocabulary.{came_as, came, Listener, Move, taker_of, answered}
-use Rattle.osi_session.proofs.Vocabulary.{react, listening, in_words, Outcome, becomes, reply_for, closes_for, in_aborting}
-use Rattle.osi_session.proofs.Vocabulary.{in_ended, respond_unit, Verdict, over, dropped, faulty, fine, verdict, enacted, is_faulty}
-use Rattle.osi_session.proofs.Vocabulary.{respond_fault}
+use Rattle.osi_session.proofs.Vocabulary.{list_any, SpduFault, Kind, Zero, Two, category_of, Known, Meaning, meaning_by, said_at, Word}
+use Rattle.osi_session.proofs.Vocabulary.{Words, State, is_ended, is_over, Call, Answer, allowed, may_close, may_close_word, closes_alone}
+use Rattle.osi_session.proofs.Vocabulary.{Taker, Hearing, word_verdict, respond_word, respond_words, heard_then, acting_words, respond_tsdu}
+use Rattle.osi_session.proofs.Vocabulary.{Input, called, came_as, came, Listener, Move, answered, react, listening, in_words, Outcome}
+use Rattle.osi_session.proofs.Vocabulary.{becomes, reply_for, closes_for, in_aborting, in_ended, respond_unit, Verdict, verdict, enacted}
+use Rattle.osi_session.proofs.Vocabulary.{is_faulty, respond_fault}
 use Rattle.osi_session.proofs.tables.units_that_are_alone.{StandsAlone, stands_alone, alone_in_octets}
 use Rattle.osi_session.proofs.runs.what_every_run_preserves.{word_ended}
 use Rattle.osi_session.proofs.tables.the_verdict_on_a_unit.{enacts}
@@ -34,23 +32,16 @@ good_last : (s : State) (u : Meaning) → closes_for u ≡ true → is_ended (be
 good_last s u h0 = grind arith
 
 aborting_last : (s : State) (u : Meaning) → ClosesLast (in_aborting s u)
-aborting_last s (AB bits octets) = record { silent = λ k. refl; last = λ k. refl }
-aborting_last s AA = record { silent = λ k. refl; last = λ k. refl }
-aborting_last s _ = open_still _ refl
+aborting_last s u = grind (arith, open_still)
 
 ended_last : (s : State) (u : Meaning) → ClosesLast (in_ended s u)
-ended_last s (AB bits octets) = open_still _ refl
-ended_last s _ = open_still _ refl
+ended_last s u = grind (arith, open_still)
 
 either_last : (b : Bool) (x y : Outcome) → ClosesLast x → ClosesLast y → ClosesLast (if b then x else y)
-either_last true x y h k = h
-either_last false x y h k = k
+either_last b x y h k = grind arith
 
 enacted_last : (s : State) (u : Meaning) (v : Verdict) → ClosesLast (enacted s u v)
-enacted_last s u over = either_last (is_aborting s.phase) _ _ (aborting_last s u) (ended_last s u)
-enacted_last s u dropped = open_still _ refl
-enacted_last s u (faulty fault) = open_still _ refl
-enacted_last s u fine = record { silent = good_silent u; last = good_last s u }
+enacted_last s u v = grind (arith, either_last, aborting_last, ended_last, open_still, good_silent, good_last)
 
 unit_closes_last : (s : State) (u : Meaning) → ClosesLast (respond_unit s u)
 unit_closes_last s u = subst ClosesLast (sym (enacts s u)) (enacted_last s u (verdict s u))
@@ -69,13 +60,11 @@ abbrev Ends : Hearing → Type 0
 Ends h = h.closes ≡ true → is_ended h.next.state.phase ≡ true
 
 either_ends : (b : Bool) (x y : Hearing) → Ends x → Ends y → Ends (if b then x else y)
-either_ends true x y h k = h
-either_ends false x y h k = k
+either_ends b x y h k = grind arith
 
 or_ends : (a b : Bool) (next : State) → (a ≡ true → is_ended next.phase ≡ true) → (b ≡ true → is_ended next.phase ≡ true)
     → (a || b) ≡ true → is_ended next.phase ≡ true
-or_ends true b next h k c = h refl
-or_ends false b next h k c = k c
+or_ends a b next h k c = grind arith
 
 stays_ended : (t : Taker) (ws : Words) → is_ended t.state.phase ≡ true → is_ended (respond_words t ws).next.state.phase ≡ true
 stays_ended t ws h = all_keep (λ r. is_ended r.phase ≡ true) (λ w. Unit {0}) t ws (λ r w q. word_ended r w) (any_word ws) h
@@ -99,12 +88,10 @@ aborting_open : (s : State) (u : Meaning) → may_close u ≡ false → (in_abor
 aborting_open s u h0 = grind arith
 
 ended_open : (s : State) (u : Meaning) → (in_ended s u).closes ≡ false
-ended_open s (AB bits octets) = refl
-ended_open s _ = refl
+ended_open s u = grind arith
 
 either_open : (b : Bool) (x y : Outcome) → x.closes ≡ false → y.closes ≡ false → (if b then x else y).closes ≡ false
-either_open true x y h k = h
-either_open false x y h k = k
+either_open b x y h k = grind arith
 
 enacted_open : (s : State) (u : Meaning) (v : Verdict) → may_close u ≡ false → (enacted s u v).closes ≡ false
 enacted_open s u v h0 = grind (arith, either_open, aborting_open, ended_open, good_open)
@@ -113,8 +100,7 @@ pub unit_open : (s : State) (u : Meaning) → may_close u ≡ false → (respond
 unit_open s u h = subst (λ (o : Outcome). o.closes ≡ false) (sym (enacts s u)) (enacted_open s u (verdict s u) h)
 
 pub neither : (a b : Bool) → (a || b) ≡ false → (a ≡ false) × (b ≡ false)
-neither true b h = absurd (cc)
-neither false b h = (refl, h)
+neither a b h = grind arith
 
 none_closes : (a b : Bool) → a ≡ false → b ≡ false → (a || b) ≡ false
 none_closes a b h k = rw (h, k) refl
@@ -127,8 +113,7 @@ word_open t w h = word_does (λ o. o.closes ≡ false) t w (record {
 })
 
 either_still : (b : Bool) (x y : Hearing) → x.closes ≡ false → y.closes ≡ false → (if b then x else y).closes ≡ false
-either_still true x y h k = h
-either_still false x y h k = k
+either_still b x y h k = grind arith
 
 all_open : (t : Taker) (ws : Words) → list_any may_close_word ws ≡ false → (respond_words t ws).closes ≡ false
 unfolding respond_words
@@ -140,16 +125,11 @@ all_open t (w ∷ ws) h =
 
 either_none : (p : Word → Bool) (b : Bool) (x y : Words) → list_any p x ≡ false → list_any p y ≡ false →
     list_any p (if b then x else y) ≡ false
-either_none p true x y h k = h
-either_none p false x y h k = k
+either_none p b x y h k = grind arith
 
 pub acting_none : (p : Word → Bool) (words : Words) → list_any p words ≡ false → list_any p (acting_words words) ≡ false
 unfolding acting_words
-acting_none p [] h = refl
-acting_none p (w ∷ ws) h =
-    let q = neither (p w) (list_any p ws) h in
-    either_none p (list_any is_restart_word ws) ws (ws ++ w ∷ []) q.1
-    (list_any-append p ws (w ∷ []) ∙ none_closes _ _ q.1 (none_closes (p w) false q.0 refl))
+acting_none p words h = grind (arith, neither, either_none, list_any-append, none_closes)
 
 -- ---- the words of a TSDU
 
@@ -157,16 +137,14 @@ pub words_open : (t : Taker) (words : Words) → list_any may_close_word words �
 words_open t words h = all_open t (acting_words words) (acting_none may_close_word words h)
 
 pub not_true : (b : Bool) → not b ≡ true → b ≡ false
-not_true true h = absurd (cc)
-not_true false h = refl
+not_true b h = grind arith
 
 pub words_silent : (t : Taker) (words : Words) → closes_alone words ≡ true → (respond_tsdu t words).closes ≡ true →
     (respond_tsdu t words).reply ≡ None
 words_silent t [] h c = let o = words_open t [] refl in absurd (cc)
 words_silent t (w ∷ []) h c = subst (λ (x : Hearing). x.closes ≡ true → x.reply ≡ None) (sym (word_alone t w)) (word_closes_last t w).silent
     c
-words_silent t (w ∷ v ∷ ws) h c =
-    let o = words_open t (w ∷ v ∷ ws) (not_true (list_any may_close_word (w ∷ v ∷ ws)) h) in absurd (cc)
+words_silent t (w ∷ v ∷ ws) h c = grind (arith, words_open, not_true)
 
 pub words_end : (t : Taker) (words : Words) → (respond_tsdu t words).closes ≡ true → is_ended (respond_tsdu t words).next.state.phase ≡ true
 words_end t words = all_end t (acting_words words)
@@ -195,12 +173,10 @@ octets_alone octets words e = closes_so words (alone_in_octets may_close opens_b
 -- ---- moves
 
 either_quiet : (b : Bool) (x y : Move) → x.closes ≡ false → y.closes ≡ false → (if b then x else y).closes ≡ false
-either_quiet true x y h k = h
-either_quiet false x y h k = k
+either_quiet b x y h k = grind arith
 
 answered_open : (s : Listener) (a : Answer) → (answered s a).closes ≡ false
-answered_open s (Ok step) = refl
-answered_open s (Err e) = refl
+answered_open s a = grind arith
 
 -- a call leaves the transport connection open, and so do its own events
 pub call_open : (s : Listener) (c : Call) → (react s (called c)).closes ≡ false
@@ -227,8 +203,7 @@ whole_ends s input h =
 came_silent : (s : Listener) (read : Result Words SpduFault) → ((words : Words) → read ≡ Ok words → closes_alone words ≡ true)
     → (react s (came_as read)).closes ≡ true → (react s (came_as read)).reply ≡ None
 unfolding react
-came_silent s (Ok words) h c = words_silent (taker_of s) words (h words refl) c
-came_silent s (Err fault) h c = absurd (let o = fault_open s.state fault in cc)
+came_silent s read h c = grind (arith, words_silent, fault_open)
 
 pub octets_silent : (s : Listener) (octets : List ℕ) → (react s (came octets)).closes ≡ true → (react s (came octets)).reply ≡ None
 octets_silent s octets = came_silent s (said_at octets) (octets_alone octets)

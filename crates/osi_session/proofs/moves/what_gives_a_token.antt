@@ -2,13 +2,11 @@
 use Rattle.std.proofs.Common.{◌≡◌, refl, sym, ◌∙◌, subst, Bool, true, false, not, ◌&&◌, ◌||◌, unwrap_or, Ok, if◌then◌else◌, arith}
 use Rattle.osi_session.specs.declared.sides.Sides.{Sides}
 use Rattle.osi_session.specs.Sides.{side_for, is_asker, settle, stated, of_asker, of_answerer}
-use Rattle.osi_session.proofs.Vocabulary.{or_left, or_right, and_parts, Answering, RestartDue, Ended, State, Tokens, FunctionalUnits, Token}
-use Rattle.osi_session.proofs.Vocabulary.{data_token, minor, major, release, has, set_of, each, no_token, is_within, without, united}
-use Rattle.osi_session.proofs.Vocabulary.{functional_units, both_units, available, restarted_at, without_tokens, Call, Accept, Refuse}
-use Rattle.osi_session.proofs.Vocabulary.{Give, Restart, RestartConfirm}
-use Rattle.osi_session.proofs.Vocabulary.{ReleaseAccept, Abort, Meaning, CN, AC, RF, GT, RS, RA}
-use Rattle.osi_session.proofs.Vocabulary.{DN, AB, Step, after, allowed, is_acceptable, stands, becomes, bad, respond_unit}
-use Rattle.osi_session.proofs.Vocabulary.{UnitFault, to_asker, to_answerer, call_gives, unit_gives, call_holds, unit_holds}
+use Rattle.osi_session.proofs.Vocabulary.{or_left, or_right, and_parts, State, Tokens, FunctionalUnits, Token, has, set_of, each, no_token}
+use Rattle.osi_session.proofs.Vocabulary.{is_within, without, united, functional_units, both_units, available, Call, Accept, Refuse, Give}
+use Rattle.osi_session.proofs.Vocabulary.{Restart, RestartConfirm, ReleaseAccept, Abort, Meaning, CN, AC, RF, GT, RS, RA, DN, AB, Step}
+use Rattle.osi_session.proofs.Vocabulary.{after, allowed, becomes, bad, respond_unit, UnitFault, to_asker, to_answerer, call_gives}
+use Rattle.osi_session.proofs.Vocabulary.{unit_gives, call_holds, unit_holds}
 use Rattle.osi_session.proofs.tables.what_an_accepted_call_has_passed.{passed}
 use Rattle.osi_session.proofs.tables.the_outcomes_of_each_input.{unit_cases}
 
@@ -18,17 +16,7 @@ pub has_set : (p : Token → Bool) (t : Token) → has (set_of p) t ≡ p t
 has_set p t = grind arith
 
 pub each_has : (p : Token → Bool) (t : Token) → each p ≡ true → p t ≡ true
-each_has p t h =
-    let a = and_parts (p data_token) (p minor && (p major && p release)) h in
-    let b = and_parts (p minor) (p major && p release) a.1 in
-    let c = and_parts (p major) (p release) b.1 in
-    by t a.0 b.0 c.0 c.1
-  where
-    by : (u : Token) → p data_token ≡ true → p minor ≡ true → p major ≡ true → p release ≡ true → p u ≡ true
-    by data_token d m g r = d
-    by minor d m g r = m
-    by major d m g r = g
-    by release d m g r = r
+each_has p t h = grind (arith, and_parts)
 
 within_has : (a b : Tokens) (t : Token) → is_within a b ≡ true → has a t ≡ true → has b t ≡ true
 unfolding is_within
@@ -89,45 +77,21 @@ to_other : (s : State) (units : FunctionalUnits) (sides : Sides) (t : Token) →
 to_other s units sides t h = or_right (has s.held t) (to_answerer units sides t) (sym (answerer_has units sides t) ∙ h)
 
 after_held : (s : State) (c : Call) (t : Token) → HeldBy (call_gives s c t) s t (after s c).held
-after_held s (Accept requirements serial sides sizes octets) t =
-    to_other s (functional_units requirements) (settle (functional_units requirements) s.wishes sides) t
-after_held s (Refuse refusal) t = none s t
-after_held s (Give tokens) t = less s tokens t
-after_held s (Restart n wishes octets) t = none s t
-after_held s (RestartConfirm sides octets) t = to_other s s.units (settle s.units s.wishes sides) t
-after_held s (ReleaseAccept octets) t = none s t
-after_held s (Abort octets) t = none s t
-after_held s _ t = kept s t
+after_held s c t = grind (arith, to_other, none, less, kept)
 
 pub call_held : (s : State) (c : Call) (x : Step) (t : Token) → allowed s c ≡ Ok x → has x.next.held t ≡ true →
     (has s.held t || call_gives s c t) ≡ true
-call_held s c x t e =
-    let q = passed s c x e in subst (λ (y : Step). HeldBy (call_gives s c t) s t y.next.held) (sym q.gives) (after_held s c t)
+call_held s c x t e = search (arith, passed, after_held)
 
 opened_held : (b : Bool) (s : State) (x y : State) (t : Token) → x.held ≡ s.held → y.held ≡ no_token →
     HeldBy false s t (if b then x else y).held
-opened_held true s x y t e f = subst (HeldBy false s t) (sym e) (kept s t)
-opened_held false s x y t e f = subst (HeldBy false s t) (sym f) (none s t)
+opened_held b s x y t e f = grind (arith, kept, none)
 
 restart_held : (b : Bool) (s x : State) (t : Token) → x.held ≡ no_token → HeldBy false s t (if b then x else s).held
-restart_held true s x t e = subst (HeldBy false s t) (sym e) (none s t)
-restart_held false s x t e = kept s t
+restart_held b s x t e = grind (arith, none, kept)
 
 becomes_held : (s : State) (u : Meaning) (t : Token) → HeldBy (unit_gives s u t) s t (becomes s u).held
-becomes_held s (CN version_2 requirements serial wishes from to sizes octets) t = opened_held (is_acceptable version_2 requirements sizes) s
-    (record s { phase = Answering; units = functional_units requirements; wishes = wishes; proposed = unwrap_or serial 0; sizes = sizes })
-    (without_tokens Ended s) t refl refl
-becomes_held s (AC version_2 requirements serial sides sizes octets) t =
-    let units = both_units s.units (functional_units requirements) in
-    to_one s units (stated units sides) t
-becomes_held s (RF reason octets) t = none s t
-becomes_held s (GT tokens) t = more s tokens t
-becomes_held s (RS kind n wishes octets) t = restart_held (stands s n) s
-    (record (without_tokens RestartDue s) { wishes = wishes; numbers = restarted_at n s.numbers }) t refl
-becomes_held s (RA n sides octets) t = to_one s s.units (stated s.units sides) t
-becomes_held s (DN octets) t = none s t
-becomes_held s (AB bits octets) t = none s t
-becomes_held s _ t = kept s t
+becomes_held s u t = grind (arith, opened_held, unwrap_or, to_one, none, more, restart_held, kept)
 
 same : (cause : Bool) (s : State) (t : Token) → HeldBy cause s t s.held
 same cause s t h = or_left (has s.held t) cause h
@@ -159,25 +123,20 @@ after_holds s (Abort octets) t = no_token_has t
 after_holds s _ t = refl
 
 pub call_holds_it : (s : State) (c : Call) (x : Step) (t : Token) → allowed s c ≡ Ok x → has x.next.held t ≡ call_holds s c t
-call_holds_it s c x t e =
-    let q = passed s c x e in subst (λ (y : Step). has y.next.held t ≡ call_holds s c t) (sym q.gives) (after_holds s c t)
+call_holds_it s c x t e = grind (arith, passed, after_holds)
 
 either_holds : (b : Bool) (x y : State) (t : Token) (p q : Bool) → has x.held t ≡ p → has y.held t ≡ q →
     has (if b then x else y).held t ≡ (if b then p else q)
-either_holds true x y t p q h k = h
-either_holds false x y t p q h k = k
+either_holds b x y t p q h k = grind arith
 
 -- after a good unit
 pub unit_holds_it : (s : State) (u : Meaning) (t : Token) → has (becomes s u).held t ≡ unit_holds s u t
-unit_holds_it s (CN version_2 requirements serial wishes from to sizes octets) t = either_holds (is_acceptable version_2 requirements sizes)
-    (record s { phase = Answering; units = functional_units requirements; wishes = wishes; proposed = unwrap_or serial 0; sizes = sizes })
-    (without_tokens Ended s) t _ _ refl (no_token_has t)
+unit_holds_it s (CN version_2 requirements serial wishes from to sizes octets) t = grind (arith, either_holds, unwrap_or, no_token_has)
 unit_holds_it s (AC version_2 requirements serial sides sizes octets) t =
     let units = both_units s.units (functional_units requirements) in asker_has units (stated units sides) t
 unit_holds_it s (RF reason octets) t = no_token_has t
 unit_holds_it s (GT tokens) t = united_has s.held tokens t
-unit_holds_it s (RS kind n wishes octets) t = either_holds (stands s n)
-    (record (without_tokens RestartDue s) { wishes = wishes; numbers = restarted_at n s.numbers }) s t _ _ (no_token_has t) refl
+unit_holds_it s (RS kind n wishes octets) t = grind (arith, either_holds, no_token_has)
 unit_holds_it s (RA n sides octets) t = asker_has s.units (stated s.units sides) t
 unit_holds_it s (DN octets) t = no_token_has t
 unit_holds_it s (AB bits octets) t = no_token_has t

@@ -1,11 +1,7 @@
 -- What leads to a phase in which tokens may be held.
 use Rattle.std.proofs.Common.{inl, inr, ◌≡◌, refl, sym, subst, Bool, true, false, ◌||◌, List, [], ◌∷◌, if◌then◌else◌, arith}
-use Rattle.osi_session.proofs.Vocabulary.{list_any, cases_Bool, or_left, or_right, Phase, Ready, MajorAsked, MajorDue, Releasing}
-use Rattle.osi_session.proofs.Vocabulary.{ReleaseDue, State, is_ready, is_major_asked, is_major_due, is_releasing, is_release_due, may_hold}
-use Rattle.osi_session.proofs.Vocabulary.{Call, Accept, Refuse, Major, MajorConfirm, Restart}
-use Rattle.osi_session.proofs.Vocabulary.{RestartConfirm, Release, ReleaseAccept, ReleaseRefuse, Abort, Meaning, CN, AC, RF}
-use Rattle.osi_session.proofs.Vocabulary.{MAP, MAA, RS, RA, FN, DN, NF, AB, Word, Words, as_message, Step, may_call, after}
-use Rattle.osi_session.proofs.Vocabulary.{is_expected, is_acceptable, stands, becomes, respond_unit, is_faulty, Taker, Hearing}
+use Rattle.osi_session.proofs.Vocabulary.{list_any, cases_Bool, or_left, or_right, Phase, State, may_hold, Call, Meaning, Word, Words}
+use Rattle.osi_session.proofs.Vocabulary.{as_message, Step, may_call, after, is_expected, becomes, respond_unit, is_faulty, Taker, Hearing}
 use Rattle.osi_session.proofs.Vocabulary.{word_verdict, respond_word, respond_words, acting_words, Input, called, taken, unread, opened}
 use Rattle.osi_session.proofs.Vocabulary.{refused, broken, Listener, taker_of, after_input, after_inputs, some_word, call_opens, unit_opens}
 use Rattle.osi_session.proofs.Vocabulary.{opens_connection}
@@ -28,21 +24,10 @@ open_before cause p q m h k = absurd (cc)
 
 chosen : (cause b : Bool) (p : Phase) (x y : State) → OpenedBy cause p x.phase → OpenedBy cause p y.phase →
     OpenedBy cause p (if b then x else y).phase
-chosen cause true p x y h k = h
-chosen cause false p x y h k = k
+chosen cause b p x y h k = grind arith
 
 after_opens : (s : State) (c : Call) → may_call s.phase c ≡ true → OpenedBy (call_opens c) s.phase (after s c).phase
-after_opens s (Accept requirements serial sides sizes octets) p = λ h k. refl
-after_opens s (Refuse refusal) p = λ h k. absurd (cc)
-after_opens s (Major octets) p = open_before _ s.phase MajorAsked (implied is_ready may_hold refl s.phase p)
-after_opens s (MajorConfirm octets) p = open_before _ s.phase Ready (implied is_major_due may_hold refl s.phase p)
-after_opens s (Restart n wishes octets) p = λ h k. absurd (cc)
-after_opens s (RestartConfirm sides octets) p = λ h k. refl
-after_opens s (Release octets) p = open_before _ s.phase Releasing (implied is_ready may_hold refl s.phase p)
-after_opens s (ReleaseAccept octets) p = λ h k. absurd (cc)
-after_opens s (ReleaseRefuse octets) p = open_before _ s.phase Ready (implied is_release_due may_hold refl s.phase p)
-after_opens s (Abort octets) p = λ h k. absurd (cc)
-after_opens s _ p = same _ s.phase
+after_opens s c p = grind (arith, open_before, implied, same)
 
 call_opened : (s : Listener) (c : Call) → OpenedBy (call_opens c) s.state.phase (after_input s (called c)).state.phase
 call_opened s c = call_cases (λ next. OpenedBy (call_opens c) s.state.phase next.phase) s c (same _ s.state.phase)
@@ -50,19 +35,7 @@ call_opened s c = call_cases (λ next. OpenedBy (call_opens c) s.state.phase nex
     (after_opens s.state c q.phase))
 
 becomes_opens : (s : State) (u : Meaning) → is_expected s.phase u ≡ true → OpenedBy (unit_opens u) s.phase (becomes s u).phase
-becomes_opens s (CN version_2 requirements serial wishes from to sizes octets) p =
-    chosen _ (is_acceptable version_2 requirements sizes) s.phase _ _ (λ h k. absurd (cc)) (λ h k. absurd (cc))
-becomes_opens s (AC version_2 requirements serial sides sizes octets) p = λ h k. refl
-becomes_opens s (RF reason octets) p = λ h k. absurd (cc)
-becomes_opens s (MAP n octets) p = open_before _ s.phase MajorDue (implied is_ready may_hold refl s.phase p)
-becomes_opens s (MAA n octets) p = open_before _ s.phase Ready (implied is_major_asked may_hold refl s.phase p)
-becomes_opens s (RS kind n wishes octets) p = chosen _ (stands s n) s.phase _ _ (λ h k. absurd (cc)) (same _ s.phase)
-becomes_opens s (RA n sides octets) p = λ h k. refl
-becomes_opens s (FN octets) p = open_before _ s.phase ReleaseDue (implied is_ready may_hold refl s.phase p)
-becomes_opens s (DN octets) p = λ h k. absurd (cc)
-becomes_opens s (NF octets) p = open_before _ s.phase Ready (implied is_releasing may_hold refl s.phase p)
-becomes_opens s (AB bits octets) p = λ h k. absurd (cc)
-becomes_opens s _ p = same _ s.phase
+becomes_opens s u p = search (arith, chosen, open_before, implied, same)
 
 unit_opened : (s : State) (u : Meaning) → OpenedBy (unit_opens u) s.phase (respond_unit s u).next.phase
 unit_opened s u = unit_cases (λ next. OpenedBy (unit_opens u) s.phase next.phase) s u (record {
@@ -87,8 +60,7 @@ word_opened t w = word_keeps (λ next. OpenedBy (unit_opens (as_message w)) t.st
 
 either_opened : (cause b : Bool) (p : Phase) (x y : Hearing) → OpenedBy cause p x.next.state.phase → OpenedBy cause p y.next.state.phase →
     OpenedBy cause p (if b then x else y).next.state.phase
-either_opened cause true p x y h k = h
-either_opened cause false p x y h k = k
+either_opened cause b p x y h k = grind arith
 
 abbrev word_opens : Word → Bool
 word_opens w = unit_opens (as_message w)

@@ -1,17 +1,15 @@
 -- What raises V(A), and that only a restart lowers it.
 use Rattle.std.proofs.Common.{◌≡◌, refl, sym, ◌∙◌, subst, ℕ, ◌+◌, ◌≤◌, Bool, true, false, not, ◌&&◌, ◌||◌, nat_le, nat_lt, List, [], ◌∷◌}
-use Rattle.std.proofs.Common.{Ok, Option, Some, None, if◌then◌else◌, arith}
+use Rattle.std.proofs.Common.{Ok, Option, if◌then◌else◌, arith}
 use Rattle.osi_spdu.specs.declared.fields.ResyncType.{ResyncType}
 use Rattle.osi_session.proofs.Vocabulary.{AllByRecursion, list_any, leb-true, and_parts, UnitFault, TokenSetting, State, Numbers}
-use Rattle.osi_session.proofs.Vocabulary.{point_sent, point_taken, minor_confirmed, major_confirmed, is_wait_cn, is_aborting, is_ended}
-use Rattle.osi_session.proofs.Vocabulary.{IsSound, AreOrdered, Call, Accept, Minor, MinorConfirm, Major}
-use Rattle.osi_session.proofs.Vocabulary.{MajorConfirm, Restart, Meaning, CN}
-use Rattle.osi_session.proofs.Vocabulary.{AC, MIP, MIA, MAP, MAA, RS, IsNumberedWord, Word, Words}
-use Rattle.osi_session.proofs.Vocabulary.{as_message, MinorConfirmed, BadUnit, Step, needs, after, allowed, AllHold, Outcome, si}
-use Rattle.osi_session.proofs.Vocabulary.{conditions, first_fault, is_expected, drops, is_acceptable, stands, becomes, bad, judged}
-use Rattle.osi_session.proofs.Vocabulary.{take_expected, respond_unit, is_faulty, AllMet, Taker, Hearing, word_verdict, respond_word}
-use Rattle.osi_session.proofs.Vocabulary.{respond_words, acting_words, Input, called, taken, unread, opened, refused, broken, Listener}
-use Rattle.osi_session.proofs.Vocabulary.{taker_of, after_input, after_inputs, HasNumbersInWords, call_renews, unit_renews, renews}
+use Rattle.osi_session.proofs.Vocabulary.{point_sent, point_taken, minor_confirmed, major_confirmed, is_wait_cn, IsSound, AreOrdered, Call}
+use Rattle.osi_session.proofs.Vocabulary.{Accept, Minor, MinorConfirm, Major, MajorConfirm, Restart, Meaning, CN, AC, MIP, MIA, MAP, MAA}
+use Rattle.osi_session.proofs.Vocabulary.{RS, IsNumberedWord, Word, Words, as_message, MinorConfirmed, BadUnit, Step, needs, after, allowed}
+use Rattle.osi_session.proofs.Vocabulary.{AllHold, Outcome, si, conditions, first_fault, stands, becomes, bad, judged, take_expected}
+use Rattle.osi_session.proofs.Vocabulary.{respond_unit, is_faulty, AllMet, Taker, Hearing, word_verdict, respond_word, respond_words}
+use Rattle.osi_session.proofs.Vocabulary.{acting_words, Input, called, taken, unread, opened, refused, broken, Listener, taker_of}
+use Rattle.osi_session.proofs.Vocabulary.{after_input, after_inputs, HasNumbersInWords, call_renews, unit_renews, renews}
 use Rattle.osi_session.proofs.tables.what_an_accepted_call_has_passed.{passed}
 use Rattle.osi_session.proofs.tsdu.what_the_words_of_a_tsdu_preserve.{word_sound}
 use Rattle.osi_session.proofs.tables.a_word_acts_as_its_message.{acts_alike, word_keeps, all_acting}
@@ -24,11 +22,7 @@ use Rattle.osi_session.proofs.runs.what_every_run_preserves.{input_sound}
 pub call_confirms : (s : State) (n : ℕ) (octets : List ℕ) (x : Step) → allowed s (MinorConfirm n octets) ≡ Ok x
     → (s.numbers.confirmed ≤ n) × (x.next.numbers.confirmed ≡ n + 1)
 unfolding minor_confirmed
-call_confirms s n octets x h =
-    let q = passed s (MinorConfirm n octets) x h in
-    let a = and_parts s.numbers.answers (nat_le s.numbers.confirmed n && nat_lt n s.numbers.next) q.needed.1.0 in
-    let from = leb-true s.numbers.confirmed n (and_parts (nat_le s.numbers.confirmed n) (nat_lt n s.numbers.next) a.1).0 in
-    (from, subst (λ (y : Step). y.next.numbers.confirmed ≡ n + 1) (sym q.gives) refl)
+call_confirms s n octets x h = grind (arith, passed, and_parts, leb-true)
 
 -- if a confirmation is indicated, it has raised V(A)
 abbrev Confirms : ℕ → List ℕ → Outcome → Type 0
@@ -36,21 +30,18 @@ Confirms n octets o = o.shown ≡ MinorConfirmed n octets ∷ [] → o.next.numb
 
 either : (n : ℕ) (octets : List ℕ) (b : Bool) (x y : Outcome) → Confirms n octets x → Confirms n octets y →
     Confirms n octets (if b then x else y)
-either n octets true x y h k = h
-either n octets false x y h k = k
+either n octets b x y h k = grind arith
 
 not_shown : (b : Bool) (n : ℕ) (octets : List ℕ) (fault : UnitFault) → (if b then [] else BadUnit fault ∷ []) ≡ MinorConfirmed n octets ∷
     [] → ⊥
-not_shown true n octets fault h = cc
-not_shown false n octets fault h = cc
+not_shown b n octets fault h = grind arith
 
 bad_confirms : (s : State) (n : ℕ) (octets : List ℕ) (fault : UnitFault) → Confirms n octets (bad s fault)
 bad_confirms s n octets fault h = absurd (not_shown (is_wait_cn s.phase) n octets fault h)
 
 judged_confirms : (s : State) (n : ℕ) (octets : List ℕ) (f : Option UnitFault) → Confirms n octets (judged s (MIA n octets) f)
 unfolding minor_confirmed
-judged_confirms s n octets None h = refl
-judged_confirms s n octets (Some f) h = bad_confirms s n octets f h
+judged_confirms s n octets f h = grind (arith, bad_confirms)
 
 expected_confirms : (s : State) (n : ℕ) (octets : List ℕ) → Confirms n octets (take_expected s (MIA n octets))
 unfolding take_expected
@@ -59,12 +50,7 @@ expected_confirms s n octets = judged_confirms s n octets (first_fault (si (MIA 
 pub unit_confirms : (s : State) (n : ℕ) (octets : List ℕ) → (respond_unit s (MIA n octets)).shown ≡ MinorConfirmed n octets ∷ []
     → (respond_unit s (MIA n octets)).next.numbers.confirmed ≡ n + 1
 unfolding respond_unit
-unit_confirms s n octets =
-    let u = MIA n octets in
-    either n octets (is_aborting s.phase) _ _ (λ h. absurd (cc))
-    (either n octets (is_ended s.phase) _ _ (λ h. absurd (cc))
-    (either n octets (drops s u) _ _ (λ h. absurd (cc))
-    (either n octets (not (is_expected s.phase u)) _ _ (bad_confirms s n octets _) (expected_confirms s n octets))))
+unit_confirms s n octets = grind (arith, either, bad_confirms, expected_confirms)
 
 -- ---- V(A) does not fall
 
@@ -75,8 +61,7 @@ same : (v : Numbers) → Rises v v
 same v = omega arith
 
 chosen_from : (b : Bool) (low x y : ℕ) → low ≤ x → low ≤ y → low ≤ (if b then x else y)
-chosen_from true low x y h k = h
-chosen_from false low x y h k = k
+chosen_from b low x y h k = grind arith
 
 sent_rises : (base : ℕ) (v : Numbers) → AreOrdered base v → Rises v (point_sent v)
 unfolding point_sent
@@ -106,19 +91,15 @@ after_rises s (Restart n wishes octets) r t h = absurd (cc)
 after_rises s _ r t h = same s.numbers
 
 chosen : (v : Numbers) (b : Bool) (x y : State) → Rises v x.numbers → Rises v y.numbers → Rises v (if b then x else y).numbers
-chosen v true x y h k = h
-chosen v false x y h k = k
+chosen v b x y h k = grind arith
 
 acknowledged : (s : State) (n : ℕ) (b : Bool) → (not s.numbers.answers && (nat_le s.numbers.confirmed n && b)) ≡ true →
     s.numbers.confirmed ≤ n
-acknowledged s n b h =
-    leb-true s.numbers.confirmed n
-    (and_parts (nat_le s.numbers.confirmed n) b (and_parts (not s.numbers.answers) (nat_le s.numbers.confirmed n && b) h).1).0
+acknowledged s n b h = grind (arith, leb-true, and_parts)
 
 becomes_rises : (s : State) (u : Meaning) → unit_renews u ≡ false → AllMet (conditions s u) → IsSound s →
     Rises s.numbers (becomes s u).numbers
-becomes_rises s (CN version_2 requirements serial wishes from to sizes octets) r t h =
-    chosen s.numbers (is_acceptable version_2 requirements sizes) _ _ (same s.numbers) (same s.numbers)
+becomes_rises s (CN version_2 requirements serial wishes from to sizes octets) r t h = grind (arith, chosen, same)
 becomes_rises s (AC version_2 requirements serial sides sizes octets) r t h = absurd (cc)
 becomes_rises s (MIP confirm n octets) r t h = taken_rises s.base s.numbers h.ordered
 becomes_rises s (MIA n octets) r t h = minor_rises n s.numbers (acknowledged s n _ t.1.0)
@@ -136,8 +117,7 @@ unit_rises s u r h = unit_cases (λ next. Rises s.numbers next.numbers) s u (rec
 })
 
 or_parts : (a b : Bool) → (a || b) ≡ false → (a ≡ false) × (b ≡ false)
-or_parts true b h = absurd (cc)
-or_parts false b h = (refl, h)
+or_parts a b h = grind arith
 
 word_rises : (t : Taker) (w : Word) → unit_renews (as_message w) ≡ false → IsSound t.state →
     Rises t.state.numbers (respond_word t w).next.state.numbers
@@ -146,8 +126,7 @@ word_rises t w r h = word_keeps (λ next. Rises t.state.numbers next.numbers) t 
 
 either_rises : (v : Numbers) (b : Bool) (x y : Hearing) → Rises v x.next.state.numbers → Rises v y.next.state.numbers →
     Rises v (if b then x else y).next.state.numbers
-either_rises v true x y h k = h
-either_rises v false x y h k = k
+either_rises v b x y h k = grind arith
 
 all_rises : (t : Taker) (ws : Words) → list_any (λ w. unit_renews (as_message w)) ws ≡ false → AllByRecursion IsNumberedWord ws →
     IsSound t.state
@@ -181,9 +160,7 @@ pub never_falls : (s : Listener) (inputs : List Input) → AllByRecursion HasNum
     → s.state.numbers.confirmed ≤ (after_inputs s inputs).state.numbers.confirmed
 never_falls s [] small r h = omega arith
 never_falls s (input ∷ inputs) small r h =
-    let one = input_rises s input r.0 small.0 h in
-    let more = never_falls (after_input s input) inputs small.1 r.1 (input_sound s input small.0 h) in
-    omega arith
+    grind (arith, input_rises, input_sound, never_falls (after_input s input) inputs small.1 r.1 (input_sound s input small.0 h))
 
 pub yielded : (s : State) (kind : ResyncType) (n : ℕ) (wishes : TokenSetting) (octets : List ℕ) → stands s n ≡ false
     → (respond_unit s (RS kind n wishes octets)).next.numbers ≡ s.numbers

@@ -1,13 +1,12 @@
 -- Each accepted call keeps the invariant of a session.
-use Rattle.std.proofs.Common.{◌≡◌, refl, sym, subst, ℕ, ◌≤◌, ◌<◌, Bool, true, false, Ok, arith, if◌then◌else◌}
+use Rattle.std.proofs.Common.{◌≡◌, refl, ℕ, ◌≤◌, ◌<◌, Bool, true, false, Ok, arith, if◌then◌else◌}
 use Rattle.osi_session.proofs.Vocabulary.{leb-true, ltb-true, and_parts, TokenSetting, TsduMaximumSize, are_sizes, Phase, Ready, MajorAsked}
-use Rattle.osi_session.proofs.Vocabulary.{Releasing, Restarting, Aborting, Ended, State, Numbers, FunctionalUnits, Tokens, functional_units}
-use Rattle.osi_session.proofs.Vocabulary.{has_points, point_sent, minor_confirmed, major_confirmed, restarted_at, in_major, is_restart_due}
-use Rattle.osi_session.proofs.Vocabulary.{may_hold, may_give, may_ask, is_ready, is_major_due, may_confirm_minor, is_wait_transport}
-use Rattle.osi_session.proofs.Vocabulary.{without_tokens, IsSound, AreOrdered, Call, Accept, Data, Give, Please, Minor}
-use Rattle.osi_session.proofs.Vocabulary.{MinorConfirm, Major, MajorConfirm, Restart, RestartConfirm, Release, ReleaseRefuse}
-use Rattle.osi_session.proofs.Vocabulary.{Abort, HasSerial, Step, opened_with, is_confirmable, is_restartable, last_number, needs, may_call}
-use Rattle.osi_session.proofs.Vocabulary.{after, allowed, AllHold}
+use Rattle.osi_session.proofs.Vocabulary.{Releasing, Restarting, Aborting, Ended, State, Numbers, FunctionalUnits, Tokens, point_sent}
+use Rattle.osi_session.proofs.Vocabulary.{minor_confirmed, restarted_at, in_major, is_restart_due, may_hold, is_ready, is_major_due}
+use Rattle.osi_session.proofs.Vocabulary.{may_confirm_minor, is_wait_transport, without_tokens, IsSound, AreOrdered, Call, Accept, Data}
+use Rattle.osi_session.proofs.Vocabulary.{Give, Please, Minor, MinorConfirm, Major, MajorConfirm, Restart, RestartConfirm, Release}
+use Rattle.osi_session.proofs.Vocabulary.{ReleaseRefuse, Abort, HasSerial, Step, opened_with, is_confirmable, is_restartable, last_number}
+use Rattle.osi_session.proofs.Vocabulary.{needs, may_call, after, allowed, AllHold}
 use Rattle.osi_session.proofs.tables.what_an_accepted_call_has_passed.{passed}
 use Rattle.osi_session.proofs.tables.what_is_true_of_each_phase.{implied, excluded}
 use Rattle.osi_session.proofs.values.what_sizes_are_agreed.{answered_are}
@@ -34,18 +33,12 @@ pub opened : (units : FunctionalUnits) (held : Tokens) (base : ℕ) (sizes : Tsd
 opened units held base sizes s h0 h1 h2 = grind (arith, from_ordered)
 
 base_small : (b : Bool) (serial : ℕ) → serial < 1000000 → (if b then serial else 0) ≤ 1000000
-base_small true serial h = omega arith
-base_small false serial h = omega arith
+base_small b serial h = grind arith
 
 minor_moved : (s : State) (n : ℕ) → is_confirmable s.numbers n ≡ true → may_confirm_minor s.phase ≡ true → IsSound s
     → IsSound (record s { numbers = minor_confirmed n s.numbers })
 unfolding minor_confirmed
-minor_moved s n c p h =
-    let a = (and_parts _ _ c).1 in
-    let from = leb-true s.numbers.confirmed n (and_parts _ _ a).0 in
-    let to = ltb-true n s.numbers.next (and_parts _ _ a).1 in
-    moved (minor_confirmed n s.numbers) s (minor_ordered s.base n s.numbers h.ordered from to) h.major
-    (excluded may_confirm_minor is_restart_due refl s.phase p) h
+minor_moved s n c p h = grind (arith, and_parts, leb-true, ltb-true, moved, minor_ordered, excluded)
 
 restart_moved : (s : State) (n : ℕ) (w : TokenSetting) → is_restartable s n ≡ true → IsSound s
     → IsSound (record (without_tokens Restarting s) { wishes = w; numbers = restarted_at n s.numbers })
@@ -66,34 +59,12 @@ restart_moved s n w r h =
 pub major_moved : (s : State) → s.numbers.next < 1000000 → IsSound s
     → IsSound (record s { phase = MajorAsked; numbers = point_sent s.numbers })
 unfolding point_sent
-major_moved s left h =
-    let from = h.ordered.confirmed_from in let to = h.ordered.confirmed_to in
-    record {
-      ordered = sent_ordered s.base s.numbers h.ordered left;
-      first = h.first;
-      major = λ k. omega arith;
-      restart = λ k. absurd (cc);
-      tokens = λ k. absurd (cc);
-      sizes = h.sizes;
-    }
-
-major_same : (s : State) → IsSound s → in_major s.phase ≡ true → s.base < (major_confirmed s.numbers).next
-unfolding major_confirmed
-major_same s h k = h.major k
+major_moved s left h = grind (arith, sent_ordered)
 
 pub after_sound : (s : State) (c : Call) → HasSerial c → may_call s.phase c ≡ true → AllHold (needs s c) → IsSound s → IsSound (after s c)
-after_sound s (Accept requirements serial sides sizes octets) small p t h =
-    opened _ _ _ _ s (base_small (has_points (functional_units requirements)) serial small.0) (answered_are s.sizes sizes h.sizes small.1) h
+after_sound s (Accept requirements serial sides sizes octets) small p t h = grind (arith, opened, base_small, answered_are)
 after_sound s (Data octets) small p t h = h
-after_sound s (Give tokens) small p t h =
-    record {
-      ordered = h.ordered;
-      first = h.first;
-      major = h.major;
-      restart = h.restart;
-      tokens = λ k. absurd (let m = implied may_give may_hold refl s.phase p in cc);
-      sizes = h.sizes;
-    }
+after_sound s (Give tokens) small p t h = grind (arith, implied)
 after_sound s (Please tokens octets) small p t h = h
 after_sound s (Minor confirm octets) small p t h =
     let left = leb-true s.numbers.next last_number t.1.1.0 in
@@ -105,19 +76,10 @@ after_sound s (MinorConfirm n octets) small p t h = minor_moved s n t.1.0 p h
 after_sound s (Major octets) small p t h =
     let left = leb-true s.numbers.next last_number t.1.1.0 in
     major_moved s (omega arith) h
-after_sound s (MajorConfirm octets) small p t h = holding_phase Ready (record s { numbers = major_confirmed s.numbers }) refl refl refl
-    (moved (major_confirmed s.numbers) s (major_ordered s.base s.numbers h.ordered) (major_same s h)
-    (excluded is_major_due is_restart_due refl s.phase p) h)
+after_sound s (MajorConfirm octets) small p t h =
+    grind (arith, holding_phase, moved, major_ordered s.base s.numbers h.ordered, excluded is_major_due is_restart_due refl s.phase p)
 after_sound s (Restart n wishes octets) small p t h = restart_moved s n _ t.1.0 h
-after_sound s (RestartConfirm sides octets) small p t h =
-    record {
-      ordered = h.ordered;
-      first = h.first;
-      major = λ k. absurd (cc);
-      restart = λ k. absurd (cc);
-      tokens = λ k. absurd (cc);
-      sizes = h.sizes;
-    }
+after_sound s (RestartConfirm sides octets) small p t h = grind arith
 after_sound s (Release octets) small p t h = holding_phase Releasing s refl refl refl h
 after_sound s (ReleaseRefuse octets) small p t h = holding_phase Ready s refl refl refl h
 after_sound s (Abort octets) small p t h = bare Aborting s refl refl h
@@ -125,20 +87,11 @@ after_sound s _ small p t h = bare Ended s refl refl h
 
 -- no call is allowed while the transport connection is awaited, and none goes back to that
 pub after_begun : (s : State) (c : Call) → may_call s.phase c ≡ true → is_wait_transport (after s c).phase ≡ false
-after_begun s (Data octets) p = excluded is_ready is_wait_transport refl s.phase p
-after_begun s (Give tokens) p = excluded may_give is_wait_transport refl s.phase p
-after_begun s (Please tokens octets) p = excluded may_ask is_wait_transport refl s.phase p
-after_begun s (Minor confirm octets) p = excluded is_ready is_wait_transport refl s.phase p
-after_begun s (MinorConfirm n octets) p = excluded may_confirm_minor is_wait_transport refl s.phase p
-after_begun s _ p = refl
+after_begun s c p = grind (arith, excluded)
 
 -- an accepted call keeps what is true at all times
 pub call_sound : (s : State) (c : Call) (x : Step) → HasSerial c → allowed s c ≡ Ok x → IsSound s → IsSound x.next
-call_sound s c x small h sound =
-    let q = passed s c x h in
-    subst (λ (y : Step). IsSound y.next) (sym q.gives) (after_sound s c small q.phase q.needed sound)
+call_sound s c x small h sound = grind (arith, after_sound, passed s c x h)
 
 pub call_begun : (s : State) (c : Call) (x : Step) → allowed s c ≡ Ok x → is_wait_transport x.next.phase ≡ false
-call_begun s c x h =
-    let q = passed s c x h in
-    subst (λ (y : Step). is_wait_transport y.next.phase ≡ false) (sym q.gives) (after_begun s c q.phase)
+call_begun s c x h = grind (arith, passed, after_begun)

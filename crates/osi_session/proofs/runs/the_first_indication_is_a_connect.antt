@@ -1,17 +1,15 @@
 -- The first indication of a side that awaits a CN is a Connect, and only a CN leads to it.
-use Rattle.std.proofs.Common.{◌⊎◌, inl, inr, ◌≡◌, refl, sym, ◌∙◌, ap, subst, ℕ, Bool, true, false, not, List, [], ◌∷◌, ◌++◌, Option, Some}
-use Rattle.std.proofs.Common.{None, Result, Ok, Err, if◌then◌else◌, arith}
-use Rattle.osi_session.specs.Shown.{Restart}
-use Rattle.osi_session.proofs.Vocabulary.{list_any, SpduFault, Kind, Zero, Two, category_of, Known, Meaning, CN, AB, RS, meaning_by}
-use Rattle.osi_session.proofs.Vocabulary.{names, said_at, Word, Words, UnitFault, Unexpected, Spelling, Phase, WaitCn}
-use Rattle.osi_session.proofs.Vocabulary.{State, Answer, unit_asks, asks_first, asks_for_connection, is_taken, is_wait_transport}
-use Rattle.osi_session.proofs.Vocabulary.{is_wait_cn, is_aborting, is_ended, is_over, may_abort, shows_loss, Taker, Hearing, word_verdict}
-use Rattle.osi_session.proofs.Vocabulary.{respond_word, respond_words, heard_then, acting_words, respond_tsdu, Input, called, taken, unread}
-use Rattle.osi_session.proofs.Vocabulary.{opened, refused, broken, came, came_as, Listener, Move, taker_of, answered}
-use Rattle.osi_session.proofs.Vocabulary.{react, after_input, Shown, BadUnit, Aborted, PeerAbort, is_connect, shows_connect, Outcome}
-use Rattle.osi_session.proofs.Vocabulary.{si, conditions, first_fault, is_expected, drops, stands, nothing, good, bad, judged}
-use Rattle.osi_session.proofs.Vocabulary.{take_expected, shown_for, in_aborting, in_ended, respond_unit, is_acceptable, Verdict}
-use Rattle.osi_session.proofs.Vocabulary.{verdict, enacted, is_faulty, respond_fault}
+use Rattle.std.proofs.Common.{◌⊎◌, inl, inr, ◌≡◌, refl, sym, ◌∙◌, subst, ℕ, Bool, true, false, not, List, [], ◌∷◌, ◌++◌, Option, Result, Ok}
+use Rattle.std.proofs.Common.{if◌then◌else◌, arith}
+use Rattle.osi_session.proofs.Vocabulary.{list_any, SpduFault, Kind, Zero, Two, category_of, Known, Meaning, CN, AB, meaning_by, said_at}
+use Rattle.osi_session.proofs.Vocabulary.{Word, Words, UnitFault, Unexpected, Spelling, Phase, WaitCn, State, Answer, unit_asks, asks_first}
+use Rattle.osi_session.proofs.Vocabulary.{asks_for_connection, is_taken, is_wait_transport, is_wait_cn, is_aborting, is_ended, is_over}
+use Rattle.osi_session.proofs.Vocabulary.{may_abort, shows_loss, Taker, Hearing, word_verdict, respond_word, respond_words, heard_then}
+use Rattle.osi_session.proofs.Vocabulary.{acting_words, respond_tsdu, Input, called, taken, unread, opened, refused, broken, came, came_as}
+use Rattle.osi_session.proofs.Vocabulary.{Listener, Move, taker_of, answered, react, after_input, Shown, BadUnit, is_connect, shows_connect}
+use Rattle.osi_session.proofs.Vocabulary.{Outcome, si, conditions, first_fault, is_expected, drops, nothing, good, bad, judged}
+use Rattle.osi_session.proofs.Vocabulary.{take_expected, shown_for, in_aborting, in_ended, respond_unit, Verdict, verdict, enacted}
+use Rattle.osi_session.proofs.Vocabulary.{is_faulty, respond_fault}
 use Rattle.osi_session.proofs.tables.units_that_are_alone.{StandsAlone, passes, stands_alone, alone_in_octets}
 use Rattle.osi_session.proofs.tsdu.the_answer_to_a_tsdu.{accepted_callable, stays_over}
 use Rattle.osi_session.proofs.moves.what_closes_the_connection.{neither, not_true, acting_none}
@@ -42,24 +40,19 @@ connects : (b : Bool) (x y : State) (i : Shown) → is_wait_cn x.phase ≡ false
 connects b x y i h0 h1 h2 o h3 h4 = grind (arith, ends)
 
 good_in : (s : State) (u : Meaning) → is_expected WaitCn u ≡ true → Begins (good s u)
-good_in s (CN version_2 requirements serial wishes from to sizes octets) h =
-    connects (is_acceptable version_2 requirements sizes) _ _ _ refl refl refl
-    (good s (CN version_2 requirements serial wishes from to sizes octets)) refl refl
+good_in s (CN version_2 requirements serial wishes from to sizes octets) h = grind (arith, connects)
 good_in s (AB bits octets) h = ends (good s (AB bits octets)) refl
 good_in s _ h = absurd (cc)
 
 good_at : (s : State) (u : Meaning) (p : Phase) → s.phase ≡ p → is_wait_cn p ≡ true → is_expected p u ≡ true → Begins (good s u)
-good_at s u WaitCn e w h = good_in s u h
-good_at s u _ e w h = absurd (cc)
+good_at s u p e w h = grind (arith, good_in)
 
 judged_begins : (s : State) (u : Meaning) (f : Option UnitFault) → is_wait_cn s.phase ≡ true → is_expected s.phase u ≡ true →
     Begins (judged s u f)
-judged_begins s u None w h = good_at s u s.phase refl w h
-judged_begins s u (Some fault) w h = ends (bad s fault) refl
+judged_begins s u f w h = grind (arith, good_at, ends)
 
 either : (b : Bool) (x y : Outcome) → (b ≡ true → Begins x) → (b ≡ false → Begins y) → Begins (if b then x else y)
-either true x y h k = h refl
-either false x y h k = k refl
+either b x y h k = grind arith
 
 unit_begins : (s : State) (u : Meaning) → is_wait_cn s.phase ≡ true → Begins (respond_unit s u)
 unfolding respond_unit take_expected
@@ -84,8 +77,7 @@ which : (p : Phase) → Which p
 which p = grind arith
 
 first_connect : (shown more : List Shown) → shows_connect shown ≡ true → shows_connect (shown ++ more) ≡ true
-first_connect [] more h = absurd (cc)
-first_connect (i ∷ shown) more h = h
+first_connect shown more h = grind arith
 
 abbrev Shows : Hearing → Type 0
 Shows h = shows_loss h.next.state.phase ≡ true → shows_connect h.shown ≡ true
@@ -93,17 +85,12 @@ Shows h = shows_loss h.next.state.phase ≡ true → shows_connect h.shown ≡ t
 then_shows : (t : Taker) (w : Word) (ws : Words) → Begins (outcome_in (respond_word t w)) → Which (respond_word t w).next.state.phase
     → (is_wait_cn (respond_word t w).next.state.phase ≡ true → Shows (respond_words (respond_word t w).next ws)) →
     Shows (heard_then (respond_word t w) (respond_words (respond_word t w).next ws))
-then_shows t w ws one (inl wait) more k =
-    ap (λ (l : List Shown). shows_connect (l ++ (respond_words (respond_word t w).next ws).shown)) (one.waits wait) ∙ more wait k
-then_shows t w ws one (inr (inl gone)) more k =
-    absurd (let v = excluded is_over shows_loss refl (respond_words (respond_word t w).next ws).next.state.phase
-    (stays_over (respond_word t w).next ws gone) in cc)
-then_shows t w ws one (inr (inr loss)) more k = first_connect (respond_word t w).shown (respond_words (respond_word t w).next ws).shown
-    (one.shows loss)
+then_shows t w ws one (inl wait) more k = grind arith
+then_shows t w ws one (inr (inl gone)) more k = grind (arith, excluded, stays_over (respond_word t w).next ws gone)
+then_shows t w ws one (inr (inr loss)) more k = grind (arith, first_connect)
 
 either_shows : (b : Bool) (x y : Hearing) → Shows x → Shows y → Shows (if b then x else y)
-either_shows true x y h k = h
-either_shows false x y h k = k
+either_shows b x y h k = grind arith
 
 words_show : (t : Taker) (ws : Words) → is_wait_cn t.state.phase ≡ true → Shows (respond_words t ws)
 unfolding respond_words
@@ -157,37 +144,28 @@ abbrev Hides : List Shown → Type 0
 Hides shown = shows_connect shown ≡ false
 
 either_hides : (b : Bool) (x y : List Shown) → Hides x → Hides y → Hides (if b then x else y)
-either_hides true x y h k = h
-either_hides false x y h k = k
+either_hides b x y h k = grind arith
 
 either_item : (b : Bool) (x y : Shown) → is_connect x ≡ false → is_connect y ≡ false → is_connect (if b then x else y) ≡ false
-either_item true x y h k = h
-either_item false x y h k = k
+either_item b x y h k = grind arith
 
 both_hide : (x y : List Shown) → Hides x → Hides y → Hides (x ++ y)
-both_hide [] y h k = k
-both_hide (i ∷ x) y h k = h
+both_hide x y h k = grind arith
 
 bad_hides : (s : State) (fault : UnitFault) → Hides (bad s fault).shown
 bad_hides s fault = either_hides (is_wait_cn s.phase) [] (BadUnit fault ∷ []) refl refl
 
 good_hides : (s : State) (u : Meaning) → unit_asks u ≡ false → Hides (shown_for s u)
-good_hides s (CN version_2 requirements serial wishes from to sizes octets) h = absurd (cc)
-good_hides s (RS kind n wishes octets) h = either_hides (stands s n) (Restart n wishes octets ∷ []) [] refl refl
-good_hides s (AB bits octets) h =
-    either_hides (is_wait_cn s.phase) [] _ refl (either_item (names bits 2) (Aborted octets) (PeerAbort bits) refl refl)
-good_hides s _ h = refl
+good_hides s u h = grind (arith, either_hides, either_item)
 
 aborting_hides : (s : State) (u : Meaning) → Hides (in_aborting s u).shown
 aborting_hides s u = grind arith
 
 ended_hides : (s : State) (u : Meaning) → Hides (in_ended s u).shown
-ended_hides s (AB bits octets) = refl
-ended_hides s _ = refl
+ended_hides s u = grind arith
 
 either_outcome : (b : Bool) (x y : Outcome) → Hides x.shown → Hides y.shown → Hides (if b then x else y).shown
-either_outcome true x y h k = h
-either_outcome false x y h k = k
+either_outcome b x y h k = grind arith
 
 enacted_hides : (s : State) (u : Meaning) (v : Verdict) → unit_asks u ≡ false → Hides (enacted s u v).shown
 enacted_hides s u v h0 = grind (arith, either_outcome, aborting_hides, ended_hides, bad_hides, good_hides)
@@ -203,8 +181,7 @@ word_hides t w h = word_does (λ o. Hides o.shown) t w (record {
 })
 
 either_heard : (b : Bool) (x y : Hearing) → Hides x.shown → Hides y.shown → Hides (if b then x else y).shown
-either_heard true x y h k = h
-either_heard false x y h k = k
+either_heard b x y h k = grind arith
 
 words_hide : (t : Taker) (ws : Words) → list_any (passes unit_asks) ws ≡ false → Hides (respond_words t ws).shown
 unfolding respond_words
@@ -230,20 +207,17 @@ asks_alone : StandsAlone unit_asks
 asks_alone = record { item = item_asks; behind = behind_asks; plain = λ octets. refl }
 
 first_asks : (t : Taker) (w : Word) (b : Bool) → passes unit_asks w ≡ b → shows_connect (respond_tsdu t (w ∷ [])).shown ≡ true → b ≡ true
-first_asks t w true e k = refl
-first_asks t w false e k = absurd (let h = tsdu_hides t (w ∷ []) (rw e refl) in cc)
+first_asks t w b e k = grind (arith, tsdu_hides)
 
 tsdu_asks : (t : Taker) (words : Words) → stands_alone unit_asks words ≡ true → shows_connect (respond_tsdu t words).shown ≡ true →
     asks_first words ≡ true
 tsdu_asks t words h0 h1 = grind (arith, tsdu_hides, first_asks, passes, not_true)
 
 either_move : (b : Bool) (x y : Move) → Hides x.shown → Hides y.shown → Hides (if b then x else y).shown
-either_move true x y h k = h
-either_move false x y h k = k
+either_move b x y h k = grind arith
 
 answered_hides : (l : Listener) (a : Answer) → Hides (answered l a).shown
-answered_hides l (Ok step) = refl
-answered_hides l (Err e) = refl
+answered_hides l a = grind arith
 
 fault_hides : (l : Listener) (fault : SpduFault) → Hides (react l (unread fault)).shown
 unfolding react respond_fault
@@ -259,8 +233,7 @@ only_taken l input k = taken_only l input (is_taken input) refl k
 came_asks : (l : Listener) (read : Result Words SpduFault) → ((words : Words) → read ≡ Ok words → stands_alone unit_asks words ≡ true)
     → shows_connect (react l (came_as read)).shown ≡ true → asks_for_connection (came_as read) ≡ true
 unfolding react
-came_asks l (Ok words) h k = tsdu_asks (taker_of l) words (h words refl) k
-came_asks l (Err fault) h k = absurd (let n = fault_hides l fault in cc)
+came_asks l read h k = grind (arith, tsdu_asks, fault_hides)
 
 pub octets_ask : (l : Listener) (octets : List ℕ) → shows_connect (react l (came octets)).shown ≡ true →
     asks_for_connection (came octets) ≡ true

@@ -1,12 +1,11 @@
 -- What every run of a session preserves.
-use Rattle.std.proofs.Common.{◌≡◌, refl, sym, subst, ℕ, true, false, ◌||◌, List, [], ◌∷◌, map, Err, arith}
+use Rattle.std.proofs.Common.{◌≡◌, refl, true, false, ◌||◌, List, [], ◌∷◌, map, Err, arith}
 use Rattle.osi_session.specs.declared.faults.CallError.TheVariants as error
-use Rattle.osi_session.proofs.Vocabulary.{AllByRecursion, Phase, Connecting, Aborting, Ended, Numbers, State, from_base}
-use Rattle.osi_session.proofs.Vocabulary.{is_wait_transport, is_wait_cn, is_aborting, is_ended, is_over, is_restart_due, in_major, IsSound}
-use Rattle.osi_session.proofs.Vocabulary.{AreOrdered, Call, Meaning, allowed, respond_unit, Opening, awaiting}
-use Rattle.osi_session.proofs.Vocabulary.{asking, Input, called, taken, unread, opened, refused, broken, Listener, taker_of, react}
-use Rattle.osi_session.proofs.Vocabulary.{after_input, after_inputs, HasNumbers, HasNumbersInWords, IsFresh, listening, in_words, Taker}
-use Rattle.osi_session.proofs.Vocabulary.{respond_word, respond_tsdu, Said, AreNumbered, AreNumberedWords, Word, Words, says}
+use Rattle.osi_session.proofs.Vocabulary.{AllByRecursion, Phase, Connecting, Aborting, Ended, State, is_wait_transport, is_aborting}
+use Rattle.osi_session.proofs.Vocabulary.{is_ended, is_over, IsSound, Call, Meaning, allowed, respond_unit, Opening, awaiting, asking}
+use Rattle.osi_session.proofs.Vocabulary.{Input, called, taken, unread, opened, refused, broken, Listener, taker_of, react, after_input}
+use Rattle.osi_session.proofs.Vocabulary.{after_inputs, HasNumbers, HasNumbersInWords, IsFresh, in_words, Taker, respond_word, respond_tsdu}
+use Rattle.osi_session.proofs.Vocabulary.{Said, AreNumbered, AreNumberedWords, Word, Words, says}
 use Rattle.osi_session.proofs.runs.the_invariant_in_memory.{first_small}
 use Rattle.osi_session.specs.Moves as whole
 use Rattle.osi_session.proofs.runs.no_unit_goes_back_to_awaiting.{Begins}
@@ -54,9 +53,7 @@ all_in_numbers (input ∷ inputs) h = (in_numbers input h.0, all_in_numbers inpu
 
 pub whole_sound : (s : whole.Standing) (inputs : List whole.Input) → AllByRecursion HasNumbers inputs → IsSound s.state →
     IsSound (whole.after_inputs s inputs).state
-whole_sound s inputs has h =
-    subst (λ (l : Listener). IsSound l.state) (run_as_whole s inputs)
-    (inputs_sound (listening s) (map in_words inputs) (all_in_numbers inputs has) h)
+whole_sound s inputs has h = grind (arith, run_as_whole, inputs_sound, all_in_numbers)
 
 pub awaiting_fresh : IsFresh awaiting
 awaiting_fresh = record { phase = refl; held = refl; base = refl; numbers = refl; first = omega arith; sizes = refl }
@@ -65,19 +62,7 @@ pub asking_fresh : (o : Opening) → IsFresh (asking o)
 asking_fresh o = grind (arith, first_small, user_sizes)
 
 pub fresh_sound : (s : State) → IsFresh s → IsSound s
-fresh_sound s h =
-    let major = excluded (λ p. is_wait_transport p || is_wait_cn p) in_major refl s.phase h.phase in
-    let restart = excluded (λ p. is_wait_transport p || is_wait_cn p) is_restart_due refl s.phase h.phase in
-    let base = sym h.base in
-    record {
-      ordered = subst (λ (v : Numbers). AreOrdered s.base v) (sym h.numbers)
-          (subst (λ (b : ℕ). AreOrdered b (from_base 0)) base (from_ordered 0 (omega arith)));
-      first = h.first;
-      major = λ k. absurd (cc);
-      restart = λ k. absurd (cc);
-      tokens = λ k. h.held;
-      sizes = h.sizes;
-    }
+fresh_sound s h = grind (arith, excluded, from_ordered)
 
 -- ---- what is over stays over
 

@@ -1,7 +1,7 @@
 -- Data that is lent in parts has the TSDUs in which it is sent.
 -- For `in_parts` and `in_one` of lending.
-use Rattle.std.proofs.Common.{◌≡◌, ◌∙◌, refl, sym, ap, ℕ, zero, suc, ◌-◌, ◌<◌, ◌≤◌, Bool, true, false, nat_le, List, [], ◌∷◌, ◌++◌, length}
-use Rattle.std.proofs.Common.{take, drop, arith, if◌then◌else◌}
+use Rattle.std.proofs.Common.{◌≡◌, refl, ℕ, zero, suc, ◌-◌, ◌<◌, ◌≤◌, Bool, true, false, List, [], ◌∷◌, ◌++◌, length, take, drop, arith}
+use Rattle.std.proofs.Common.{if◌then◌else◌}
 use Rattle.std.proofs.lemmas.Bool.{lt-leb}
 use Rattle.osi_message.specs.Parting.{pieces, later_parts, parts_of}
 use Rattle.osi_message.specs.Words.{part_head}
@@ -15,35 +15,23 @@ use Rattle.osi_session.specs.Lent.{headed}
 later_if : (b : Bool) (size : ℕ) (o : List ℕ) (os lent : List (List ℕ)) → IsCons os → lent ≡ octets_of (later_parts os) →
     (if b then (part_head Last ++ o) ∷ [] else (part_head Middle ++ take size o) ∷ lent)
     ≡ octets_of (later_parts (if b then o ∷ [] else take size o ∷ os))
-later_if true size o os lent c e = refl
-later_if false size o os lent c e =
-    ap (λ (ts : List (List ℕ)). (part_head Middle ++ take size o) ∷ ts) e ∙ ap octets_of (sym (middle_of (take size o) os c))
+later_if b size o os lent c e = grind (arith, octets_of, middle_of)
 
 -- those after the first
 later_lent : (fuel size : ℕ) (o : List ℕ) →
     headed fuel (part_head Middle) (part_head Middle) (part_head Last) size o ≡ octets_of (later_parts (pieces fuel size o))
 later_lent zero size o = refl
-later_lent (suc fuel) size o =
-    later_if (nat_le (length o) size) size o (pieces fuel size (drop size o))
-    (headed fuel (part_head Middle) (part_head Middle) (part_head Last) size (drop size o)) (some_piece fuel size (drop size o))
-    (later_lent fuel size (drop size o))
+later_lent (suc fuel) size o = grind (arith, later_if, some_piece, later_lent fuel size (drop size o))
 
 all_lent : (n size : ℕ) (o : List ℕ) → 0 < n → size < length o →
     headed n (part_head First) (part_head Middle) (part_head Last) size o ≡ octets_of (parts_of (pieces n size o))
-all_lent zero size o some long = absurd (omega arith)
-all_lent (suc n) size o some long =
-    let no : nat_le (length o) size ≡ false = lt-leb (length o) size long in
-    rw no (ap (λ (ts : List (List ℕ)). (part_head First ++ take size o) ∷ ts) (later_lent n size (drop size o)))
+all_lent n size o some long = grind (arith, lt-leb, later_lent)
 
 pub parted : (limit : ℕ) (o : List ℕ) → is_size limit ≡ true → is_whole limit o ≡ false →
     headed (length o) (part_head First) (part_head Middle) (part_head Last) (limit - 7) o ≡ tsdus_of limit (DT o)
-parted limit o size h =
-    let long = more_octets limit o size h in
-    all_lent (length o) (limit - 7) o (omega arith) long ∙ sym (sent_parted limit o h)
+parted limit o size h = grind (arith, more_octets, all_lent, sent_parted)
 
 -- ---- one TSDU
 
 pub alone : (fuel size : ℕ) (head middle last o : List ℕ) → length o ≤ size → headed fuel head middle last size o ≡ (last ++ o) ∷ []
-alone zero size head middle last o short = refl
-alone (suc fuel) size head middle last o short =
-    let yes : nat_le (length o) size ≡ true = le-leb (length o) size short in rw yes refl
+alone fuel size head middle last o short = grind (arith, le-leb)

@@ -1,7 +1,7 @@
 -- Data for which one TSDU has room now is accepted, and sent in one TSDU.
 -- For `goes_whole` of sessions.
-use Rattle.std.proofs.Common.{◌≡◌, refl, subst, ◌<◌, ◌≤◌, ℕ, ◌+◌, ◌-◌, ◌==◌, Bool, true, false, ◌&&◌, ◌||◌, nat_le, nat_lt, List, length}
-use Rattle.std.proofs.Common.{if◌then◌else◌, Ok, arith}
+use Rattle.std.proofs.Common.{◌≡◌, refl, ◌<◌, ◌≤◌, ℕ, ◌+◌, ◌-◌, ◌==◌, Bool, true, ◌&&◌, ◌||◌, nat_le, nat_lt, List, length, if◌then◌else◌}
+use Rattle.std.proofs.Common.{Ok, arith}
 use Rattle.std.proofs.lemmas.Bool.{ltb-false}
 use Rattle.osi_message.specs.Tokens as token
 use Rattle.osi_session.proofs.Vocabulary.{and_parts, le-leb, lt-ltb, ltb-true, or_left, or_right, DT, is_whole, State, is_ready, has_right}
@@ -9,19 +9,12 @@ use Rattle.osi_session.proofs.Vocabulary.{allowed, Data, limit_of, most_data, mo
 use Rattle.osi_session.proofs.tables.what_an_accepted_call_has_passed.{accepted}
 
 if_some : (b : Bool) (m n : ℕ) → 0 < n → n ≤ (if b then m else 0) → (b ≡ true) × (n ≤ m)
-if_some true m n h k = (refl, k)
-if_some false m n h k = absurd (omega arith)
+if_some b m n h k = grind arith
 
 -- data within the room of a TSDU fits it, and is no longer than data may be
 within_if : (none long : Bool) (limit n : ℕ) → (limit == 0) ≡ none → nat_lt 1048576 limit ≡ long → 0 < n →
     n ≤ (if none || long then most_data else limit - 4) → ((limit == 0) || nat_le (4 + n) limit ≡ true) × (nat_le n most_data ≡ true)
-within_if true long limit n e f h k = (or_left (limit == 0) _ e, le-leb n 1048572 k)
-within_if false true limit n e f h k =
-    let l = ltb-true 1048576 limit f in
-    (or_right (limit == 0) _ (le-leb (4 + n) limit (omega arith)), le-leb n 1048572 k)
-within_if false false limit n e f h k =
-    let l = ltb-false 1048576 limit f in
-    (or_right (limit == 0) _ (le-leb (4 + n) limit (omega arith)), le-leb n 1048572 (omega arith))
+within_if none long limit n e f h k = grind (arith, or_left, le-leb, ltb-true, or_right, ltb-false)
 
 within : (limit n : ℕ) → 0 < n → n ≤ most_within limit → ((limit == 0) || nat_le (4 + n) limit ≡ true) × (nat_le n most_data ≡ true)
 unfolding most_within

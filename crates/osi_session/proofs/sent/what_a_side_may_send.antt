@@ -1,21 +1,20 @@
 -- What a side may send: calls that a phase refuses, and that its state keeps the invariant.
-use Rattle.std.proofs.Common.{◌≡◌, ◌∙◌, refl, sym, ap, subst, ℕ, ◌+◌, zero, suc, Bool, true, false, not, ◌&&◌, ◌||◌, ◌==◌, is_none}
-use Rattle.std.proofs.Common.{if◌then◌else◌, nat_le, List, [], ◌∷◌, length, Option, Some, None, Ok, Err, option_map, arith}
+use Rattle.std.proofs.Common.{◌≡◌, refl, subst, ℕ, ◌+◌, zero, suc, Bool, true, false, not, ◌&&◌, ◌||◌, ◌==◌, is_none, if◌then◌else◌, nat_le}
+use Rattle.std.proofs.Common.{List, [], ◌∷◌, length, Option, Some, None, Ok, option_map, arith}
 use Rattle.osi_session.specs.Counting.{taker_with, CountsCame}
 use Rattle.osi_session.specs.Breaches.{message_breach, word_breach}
 use Rattle.osi_session.specs.Calls.{refusal_with}
 use Rattle.osi_session.specs.Standing.{Seen, goes, said_within, Count, left_by, calling, fits_user_data, connecting, accepting_in, where_is}
 use Rattle.osi_session.specs.Standing.{said_message, seen_calling}
 use Rattle.osi_session.proofs.Vocabulary.{says, has_no_effect, begins_anew, and_parts, Phase, Releasing, is_over, is_wait_transport}
-use Rattle.osi_session.proofs.Vocabulary.{is_answering, is_ready, may_hold, State, FunctionalUnits, TokenSetting, TsduMaximumSize}
-use Rattle.osi_session.proofs.Vocabulary.{are_sizes, functional_units, both_units, has_points, has_data, IsSound, Call, Refuse, Data, Give}
-use Rattle.osi_session.proofs.Vocabulary.{Please, Minor, MinorConfirm, Major, MajorConfirm, Restart, RestartConfirm, ReleaseAccept}
-use Rattle.osi_session.proofs.Vocabulary.{ReleaseRefuse, Abort, HasSerial, Answer, Step, needs, may_call, met, after, most_of, octets_of}
-use Rattle.osi_session.proofs.Vocabulary.{each, has_right, names, Meaning, CN, AC, RF, DT, GT, PT, MIP, MIA, MAP, MAA, RS, RA, FN, DN, NF}
-use Rattle.osi_session.proofs.Vocabulary.{AB, AA, IsNumbered, IsSmall, said_at, meant_by, meant_numbered}
+use Rattle.osi_session.proofs.Vocabulary.{is_answering, may_hold, State, FunctionalUnits, TokenSetting, TsduMaximumSize, are_sizes}
+use Rattle.osi_session.proofs.Vocabulary.{has_points, has_data, IsSound, Call, Refuse, Data, Give, Please, Minor, MinorConfirm, Major}
+use Rattle.osi_session.proofs.Vocabulary.{MajorConfirm, Restart, ReleaseAccept, ReleaseRefuse, Abort, HasSerial, Answer, Step, may_call}
+use Rattle.osi_session.proofs.Vocabulary.{met, most_of, octets_of, names, Meaning, CN, AC, RF, DT, GT, PT, MIP, MIA, MAP, MAA, RS, RA, FN}
+use Rattle.osi_session.proofs.Vocabulary.{DN, NF, AB, AA, IsNumbered, IsSmall, said_at, meant_by, meant_numbered}
 use Rattle.osi_message.specs.declared.messages.Message.{Message}
 use Rattle.osi_session.specs.Respond.{is_restart}
-use Rattle.osi_session.specs.Sides.{stated, answers_wishes}
+use Rattle.osi_session.specs.Sides.{answers_wishes}
 use Rattle.osi_session.proofs.tables.what_an_accepted_call_has_passed.{over_calls, first_error_ok}
 use Rattle.osi_session.proofs.tables.what_is_true_of_each_phase.{excluded}
 use Rattle.osi_session.proofs.runs.the_invariant_in_memory.{at_first}
@@ -25,8 +24,7 @@ use Rattle.osi_session.proofs.runs.units_keep_the_invariant.{base_small, first_s
 use Rattle.osi_session.proofs.tsdu.what_the_words_of_a_tsdu_preserve.{octets_sound}
 
 either_way : (b : Bool) (o : Bool) → o ≡ true → (b ≡ true → o ≡ false) → b ≡ false
-either_way false o h k = refl
-either_way true o h k = let e = k refl in absurd (cc)
+either_way b o h k = grind arith
 
 -- no call is allowed if the connection is over
 pub over_refuses : (c : Call) (p : Phase) → is_over p ≡ true → may_call p c ≡ false
@@ -35,21 +33,15 @@ over_refuses c p h = either_way (may_call p c) (is_over p) h (over_calls c p)
 -- ---- the state after sending is sound
 
 if_some : (b : Bool) (o : Option State) (n : State) → (if b then o else None) ≡ Some n → (b ≡ true) × (o ≡ Some n)
-if_some true o n h = (refl, h)
-if_some false o n h = absurd (cc)
+if_some b o n h = grind arith
 
 answer_left : (a : Answer) (n : State) → left_by a ≡ Some n → (x : Step) × (a ≡ Ok x) × (x.next ≡ n)
-answer_left (Ok x) n h = (x, refl, cc)
-answer_left (Err e) n h = absurd (cc)
+answer_left a n h = grind arith
 
 met_gives : (s : State) (c : Call) (x : Step) (n : State) → HasSerial c → may_call s.phase c ≡ true → met s c ≡ Ok x → x.next ≡ n →
     IsSound s → IsSound n
 unfolding met
-met_gives s c x n small p e f h =
-    let t = first_error_ok (needs s c) _ x e in
-    let g : _ ≡ _ = t.1 in
-    let k : after s c ≡ n = cc in
-    subst IsSound k (after_sound s c small p t.0 h)
+met_gives s c x n small p e f h = search (arith, first_error_ok, after_sound)
 
 pub calling_left : (s : State) (c : Call) (n : State) → HasSerial c → calling s c ≡ Some n → IsSound s → IsSound n
 calling_left s c n small e h =
@@ -61,8 +53,7 @@ where_left : (b : Bool) (s : State) (c : Call) (n : State) → HasSerial c → w
 where_left b s c n small e h = calling_left s c n small (if_some b (calling s c) n e).1 h
 
 is_left : (b : Bool) (x n : State) → (if b then Some x else None) ≡ Some n → (b ≡ true) × (x ≡ n)
-is_left true x n h = (refl, cc)
-is_left false x n h = absurd (cc)
+is_left b x n h = grind arith
 
 connecting_left : (s : State) (requirements : ℕ) (serial : Option ℕ) (wishes : TokenSetting) (sizes : TsduMaximumSize) (octets : List ℕ)
     (n : State) → IsSmall serial
@@ -93,10 +84,8 @@ accepting_left units s version_2 serial sides sizes octets n small e h =
     (opened _ _ _ _ s (base_small (has_points units) serial s.proposed small h.first) (smaller_are s.sizes sizes h.sizes r.1) h)
 
 pub said_sound : (s : State) (m : Meaning) (n : State) → IsNumbered m → said_message s m ≡ Some n → IsSound s → IsSound n
-said_sound s (CN version_2 requirements serial wishes from to sizes octets) n small e h =
-    connecting_left s requirements serial wishes sizes octets n small e h
-said_sound s (AC version_2 requirements serial sides sizes octets) n small e h =
-    accepting_left (both_units s.units (functional_units requirements)) s version_2 serial sides sizes octets n small e h
+said_sound s (CN version_2 requirements serial wishes from to sizes octets) n small e h = search (arith, connecting_left)
+said_sound s (AC version_2 requirements serial sides sizes octets) n small e h = search (arith, accepting_left)
 said_sound s (RF reason octets) n small e h = calling_left s (Refuse (refusal_with octets)) n tt e h
 said_sound s (DT octets) n small e h = calling_left s (Data octets) n tt e h
 said_sound s (GT tokens) n small e h = calling_left s (Give tokens) n tt e h
@@ -106,11 +95,8 @@ said_sound s (MIA k octets) n small e h = calling_left s (MinorConfirm k octets)
 said_sound s (MAP k octets) n small e h = where_left (k == s.numbers.next) s (Major octets) n tt e h
 said_sound s (MAA k octets) n small e h = where_left (k + 1 == s.numbers.next) s (MajorConfirm octets) n tt e h
 said_sound s (RS kind k wishes octets) n small e h = where_left (is_restart kind) s (Restart k wishes octets) n tt e h
-said_sound s (RA k sides octets) n small e h =
-    where_left ((k == s.numbers.next) && answers_wishes s.units s.wishes sides) s (RestartConfirm (stated s.units sides) octets) n tt e h
-said_sound s (FN octets) n small e h =
-    let a = is_left (is_ready s.phase && (fits_user_data octets && each (has_right s))) _ n e in
-    subst IsSound a.1 (holding_phase Releasing s refl refl refl h)
+said_sound s (RA k sides octets) n small e h = search (arith, where_left)
+said_sound s (FN octets) n small e h = grind (arith, is_left, holding_phase Releasing s refl refl refl h)
 said_sound s (DN octets) n small e h = calling_left s (ReleaseAccept octets) n tt e h
 said_sound s (NF octets) n small e h = calling_left s (ReleaseRefuse octets) n tt e h
 said_sound s (AB bits octets) n small e h = where_left (not (names bits 4)) s (Abort octets) n tt e h
@@ -132,8 +118,7 @@ so_many None = None
 so_many (Some n) = Some (some_octets n)
 
 pub so_many_are : (n : Option ℕ) → option_map length (so_many n) ≡ n
-so_many_are None = refl
-so_many_are (Some n) = ap Some (some_len n)
+so_many_are n = grind (arith, some_len)
 
 pub count_sound : (s : State) (n : Option ℕ) (tsdu : List ℕ) (c : Count) → CountsCame s n (said_at tsdu) c → IsSound s → IsSound c.state
 count_sound s n tsdu c k h =
@@ -151,42 +136,21 @@ message_sound s m n e h = said_sound s (meant_by m) n (meant_numbered m) e h
 pub said_by_message : (s x : Seen) (v n : State) (m : Meaning) (a b : Bool) → v ≡ s.state → a ≡ has_no_effect m → a ≡ false →
     b ≡ not (is_none s.sent || not (begins_anew m)) → b ≡ false
     → said_message v m ≡ Some n → x ≡ goes s n → said_within s (says m) ≡ Some x
-said_by_message s x v n m a b w e f g h k l =
-    let p : has_no_effect m ≡ false = sym e ∙ f in
-    let q : (is_none s.sent || not (begins_anew m)) ≡ true = un_not (is_none s.sent || not (begins_anew m)) (sym g ∙ h) in
-    let r : said_message s.state m ≡ Some n = ap (λ (y : State). said_message y m) (sym w) ∙ k in
-    rw (p, q, r) (ap Some (sym l))
-  where
-    un_not : (y : Bool) → not y ≡ false → y ≡ true
-    un_not true z = refl
-    un_not false z = absurd (cc)
+said_by_message s x v n m a b w e f g h k l = grind arith
 
 -- ---- a message that may not be sent
 
 pub none_where : (b : Bool) (o : Option State) → o ≡ None → where_is b o ≡ None
-none_where true o h = h
-none_where false o h = refl
+none_where b o h = grind arith
 
 none_if : (b : Bool) (s : Seen) (o : Option State) → o ≡ None → (if b then option_map (goes s) o else None) ≡ None
-none_if true s o h = ap (option_map (goes s)) h
-none_if false s o h = refl
+none_if b s o h = grind arith
 
 pub not_said : (s : Seen) (v : State) (m : Meaning) (a : Bool) → v ≡ s.state → a ≡ has_no_effect m → a ≡ false → said_message v m ≡ None →
     said_within s (says m) ≡ None
-not_said s v m a w e f k =
-    let p : has_no_effect m ≡ false = sym e ∙ f in
-    let r : said_message s.state m ≡ None = ap (λ (y : State). said_message y m) (sym w) ∙ k in
-    rw p (none_if (is_none s.sent || not (begins_anew m)) s (said_message s.state m) r)
+not_said s v m a w e f k = grind (arith, none_if)
 
 -- and one that breaks no rule
 pub breaks_none : (s : Seen) (v : State) (m : Meaning) (a b : Bool) → v ≡ s.state → a ≡ has_no_effect m → a ≡ false →
     b ≡ not (is_none s.sent || not (begins_anew m)) → b ≡ false → None ≡ message_breach v m → None ≡ word_breach s (says m)
-breaks_none s v m a b w e f g h k =
-    let p : has_no_effect m ≡ false = sym e ∙ f in
-    let q : (is_none s.sent || not (begins_anew m)) ≡ true = un_not (is_none s.sent || not (begins_anew m)) (sym g ∙ h) in
-    let r : message_breach s.state m ≡ None = sym (k ∙ ap (λ (y : State). message_breach y m) w) in
-    rw (p, q, r) refl
-  where
-    un_not : (y : Bool) → not y ≡ false → y ≡ true
-    un_not true z = refl
-    un_not false z = absurd (cc)
+breaks_none s v m a b w e f g h k = grind arith

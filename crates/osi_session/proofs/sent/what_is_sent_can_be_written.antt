@@ -1,16 +1,14 @@
 -- What an accepted call sends, and the answer to a TSDU, can be written.
-use Rattle.std.proofs.Common.{◌≡◌, refl, sym, subst, ℕ, ◌<◌, Bool, true, false, not, ◌&&◌, nat_le, nat_lt, List, [], ◌∷◌, length, Option}
-use Rattle.std.proofs.Common.{Some, None, Ok, if◌then◌else◌, arith}
+use Rattle.std.proofs.Common.{◌≡◌, refl, sym, subst, ℕ, ◌<◌, Bool, true, not, ◌&&◌, List, [], ◌∷◌, length, Option, Some, None, Ok}
+use Rattle.std.proofs.Common.{if◌then◌else◌, arith}
 use Rattle.osi_spdu.specs.declared.selectors.Selector.{Selector}
-use Rattle.osi_session.proofs.Vocabulary.{are_sizes, leb-true, ltb-true, and_parts, UnitFault, Opening, State, functional_units}
-use Rattle.osi_session.proofs.Vocabulary.{has_points, has_data, is_aborting, is_ended, Call, Accept, Minor}
-use Rattle.osi_session.proofs.Vocabulary.{MinorConfirm, Major, MajorConfirm, Restart, RestartConfirm}
-use Rattle.osi_session.proofs.Vocabulary.{HasSerial, Meaning, CN, RF, AB, AA, selector_octets, IsSmall, IsNumbered, Said, asked_for}
-use Rattle.osi_session.proofs.Vocabulary.{IsSound, Step, last_number, needs, may_call, sends, allowed, AllHold, Outcome, si, conditions}
-use Rattle.osi_session.proofs.Vocabulary.{first_fault, is_expected, drops, reply_for, first_reply, judged, take_expected, in_aborting}
-use Rattle.osi_session.proofs.Vocabulary.{in_ended, respond_unit, is_faulty, verdict, respond_all, acting, respond, user_data_of, IsAddress}
-use Rattle.osi_session.proofs.Vocabulary.{IsAddressed, IsSendable, is_of_version_2, is_sized, called, Listener, react, CanBeSent, Word}
-use Rattle.osi_session.proofs.Vocabulary.{Words, Taker, Hearing, word_verdict, respond_word, respond_words, acting_words, respond_tsdu}
+use Rattle.osi_session.proofs.Vocabulary.{are_sizes, leb-true, ltb-true, and_parts, UnitFault, Opening, State, functional_units, has_data}
+use Rattle.osi_session.proofs.Vocabulary.{Call, HasSerial, Meaning, CN, RF, AB, AA, selector_octets, IsSmall, IsNumbered, Said, asked_for}
+use Rattle.osi_session.proofs.Vocabulary.{IsSound, Step, needs, may_call, sends, allowed, AllHold, Outcome, si, conditions, first_fault}
+use Rattle.osi_session.proofs.Vocabulary.{reply_for, first_reply, judged, take_expected, in_aborting, in_ended, respond_unit, respond_all}
+use Rattle.osi_session.proofs.Vocabulary.{acting, respond, user_data_of, IsAddress, IsAddressed, IsSendable, is_of_version_2, is_sized}
+use Rattle.osi_session.proofs.Vocabulary.{called, Listener, react, CanBeSent, Word, Words, Taker, Hearing, respond_word, respond_words}
+use Rattle.osi_session.proofs.Vocabulary.{acting_words, respond_tsdu}
 use Rattle.osi_session.proofs.moves.the_move_of_each_input.{call_reply}
 use Rattle.osi_session.proofs.tables.a_word_acts_as_its_message.{outcome_in, word_does}
 use Rattle.osi_session.proofs.tables.what_the_table_of_calls_answers.{sent_short}
@@ -18,46 +16,24 @@ use Rattle.osi_session.proofs.tables.what_an_accepted_call_has_passed.{passed}
 use Rattle.osi_session.proofs.values.what_sizes_are_agreed.{answered_are, user_sizes}
 
 sends_version : (s : State) (c : Call) → is_of_version_2 (sends s c) ≡ true
-sends_version s (Accept requirements serial sides sizes octets) = refl
-sends_version s _ = refl
+sends_version s c = grind arith
 
 sends_addressed : (s : State) (c : Call) → IsAddressed (sends s c)
-sends_addressed s (Accept requirements serial sides sizes octets) = tt
-sends_addressed s _ = tt
+sends_addressed s c = grind arith
 
 serial_small : (b : Bool) (serial : ℕ) → serial < 1000000 → IsSmall (if b then Some serial else None)
-serial_small true serial h = omega arith
-serial_small false serial h = tt
+serial_small b serial h = grind arith
 
 sends_numbered : (s : State) (c : Call) → HasSerial c → may_call s.phase c ≡ true → AllHold (needs s c) → IsSound s → IsNumbered (sends s c)
-sends_numbered s (Accept requirements serial sides sizes octets) small p t h =
-    serial_small (has_points (functional_units requirements)) serial small.0
-sends_numbered s (Minor confirm octets) small p t h = leb-true s.numbers.next last_number t.1.1.0
-sends_numbered s (MinorConfirm n octets) small p t h =
-    let a = and_parts s.numbers.answers (nat_le s.numbers.confirmed n && nat_lt n s.numbers.next) t.1.0 in
-    let to = ltb-true n s.numbers.next (and_parts (nat_le s.numbers.confirmed n) (nat_lt n s.numbers.next) a.1).1 in
-    let last = h.ordered.last in omega arith
-sends_numbered s (Major octets) small p t h = leb-true s.numbers.next last_number t.1.1.0
-sends_numbered s (MajorConfirm octets) small p t h = let last = h.ordered.last in omega arith
-sends_numbered s (Restart n wishes octets) small p t h = leb-true n last_number (and_parts _ _ (and_parts _ _ t.1.0).1).0
-sends_numbered s (RestartConfirm sides octets) small p t h = let last = h.restart p in omega arith
-sends_numbered s _ small p t h = tt
+sends_numbered s c small p t h = grind (arith, serial_small, leb-true, and_parts, ltb-true)
 
 sends_sized : (s : State) (c : Call) → HasSerial c → IsSound s → is_sized (sends s c) ≡ true
-sends_sized s (Accept requirements serial sides sizes octets) small h = answered_are s.sizes sizes h.sizes small.1
-sends_sized s _ small h = refl
+sends_sized s c small h = grind (arith, answered_are)
 
 -- what an accepted call sends can be sent
 pub sent_sendable : (s : State) (c : Call) (x : Step) → IsSound s → HasSerial c → allowed s c ≡ Ok x → IsSendable x.sent
 sent_sendable s c x sound small h =
-    let q = passed s c x h in
-    record {
-      version = subst (λ (y : Step). is_of_version_2 y.sent ≡ true) (sym q.gives) (sends_version s c);
-      numbered = subst (λ (y : Step). IsNumbered y.sent) (sym q.gives) (sends_numbered s c small q.phase q.needed sound);
-      sized = subst (λ (y : Step). is_sized y.sent ≡ true) (sym q.gives) (sends_sized s c small sound);
-      addressed = subst (λ (y : Step). IsAddressed y.sent) (sym q.gives) (sends_addressed s c);
-      short = sent_short s c x h;
-    }
+    grind (arith, sends_numbered, passed s c x h, sends_version s c, sends_sized s c small sound, sends_addressed s c, sent_short s c x h)
 
 pub call_sendable : (s : Listener) (c : Call) (x : Step) → IsSound s.state → HasSerial c → allowed s.state c ≡ Ok x →
     CanBeSent (react s (called c)).reply
@@ -66,8 +42,7 @@ call_sendable s c x sound small h = subst CanBeSent (sym (call_reply s c x h)) (
 -- ---- what a caller asks for
 
 address : (selector : Option Selector) → IsAddress (selector_octets selector)
-address None = tt
-address (Some s) = s.short
+address selector = grind arith
 
 pub asked_sendable : (o : Opening) → length o.user_data.now < 65000 → IsSendable (asked_for o)
 unfolding user_data_of
@@ -88,8 +63,7 @@ unfolding user_data_of
 accept_sendable = record { version = refl; numbered = tt; sized = refl; addressed = tt; short = omega arith }
 
 either : (b : Bool) (x y : Option Meaning) → CanBeSent x → CanBeSent y → CanBeSent (if b then x else y)
-either true x y h k = h
-either false x y h k = k
+either b x y h k = grind arith
 
 reply_sendable : (u : Meaning) → CanBeSent (reply_for u)
 reply_sendable (CN version_2 requirements serial wishes from to sizes octets) =
@@ -102,8 +76,7 @@ abbrev Replies : Outcome → Type 0
 Replies o = CanBeSent o.reply
 
 either_replies : (b : Bool) (x y : Outcome) → Replies x → Replies y → Replies (if b then x else y)
-either_replies true x y h k = h
-either_replies false x y h k = k
+either_replies b x y h k = grind arith
 
 judged_replies : (s : State) (u : Meaning) (f : Option UnitFault) → Replies (judged s u f)
 judged_replies s u None = reply_sendable u
@@ -122,23 +95,15 @@ ended_replies s _ = tt
 
 unit_replies : (s : State) (u : Meaning) → Replies (respond_unit s u)
 unfolding respond_unit
-unit_replies s u =
-    either_replies (is_aborting s.phase) _ _ (aborting_replies s u)
-    (either_replies (is_ended s.phase) _ _ (ended_replies s u)
-    (either_replies (drops s u) _ _ tt
-    (either_replies (not (is_expected s.phase u)) _ _ (abort_sendable 5) (expected_replies s u))))
+unit_replies s u = grind (arith, either_replies, aborting_replies, ended_replies, abort_sendable, expected_replies)
 
 first_sendable : (a b : Option Meaning) → CanBeSent a → CanBeSent b → CanBeSent (first_reply a b)
-first_sendable None b h k = k
-first_sendable (Some m) b h k = h
+first_sendable a b h k = grind arith
 
 all_replies : (s : State) (us : List Meaning) → Replies (respond_all s us)
 unfolding respond_all
 all_replies s [] = tt
-all_replies s (u ∷ us) =
-    either_replies (is_faulty (verdict s u)) _ _ (unit_replies s u)
-    (first_sendable (respond_unit s u).reply (respond_all (respond_unit s u).next us).reply
-    (unit_replies s u) (all_replies (respond_unit s u).next us))
+all_replies s (u ∷ us) = grind (arith, either_replies, unit_replies, first_sendable, all_replies (respond_unit s u).next us)
 
 -- what a TSDU is answered by can be sent
 pub reply_can_be_sent : (s : State) (said : Said) (m : Meaning) → (respond s said).reply ≡ Some m → IsSendable m
@@ -150,16 +115,12 @@ word_replies : (t : Taker) (w : Word) → Replies (outcome_in (respond_word t w)
 word_replies t w = word_does Replies t w (record { acts = λ u a. unit_replies t.state u; bad = λ fault o. abort_sendable 5; rests = tt })
 
 either_answered : (b : Bool) (x y : Hearing) → CanBeSent x.reply → CanBeSent y.reply → CanBeSent (if b then x else y).reply
-either_answered true x y h k = h
-either_answered false x y h k = k
+either_answered b x y h k = grind arith
 
 all_answered : (t : Taker) (ws : Words) → CanBeSent (respond_words t ws).reply
 unfolding respond_words
 all_answered t [] = tt
-all_answered t (w ∷ ws) =
-    either_answered (is_faulty (word_verdict t w)) _ _ (word_replies t w)
-    (first_sendable (respond_word t w).reply (respond_words (respond_word t w).next ws).reply (word_replies t w)
-    (all_answered (respond_word t w).next ws))
+all_answered t (w ∷ ws) = grind (arith, either_answered, word_replies, first_sendable, all_answered (respond_word t w).next ws)
 
 -- what the words of a TSDU are answered by can be sent
 pub words_answer : (t : Taker) (words : Words) (m : Meaning) → (respond_tsdu t words).reply ≡ Some m → IsSendable m

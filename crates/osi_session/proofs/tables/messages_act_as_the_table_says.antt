@@ -1,23 +1,20 @@
 -- If nothing is joined, messages have the effect that the table of units gives. Also the effect of a TSDU of one word.
-use Rattle.std.proofs.Common.{◌≡◌, refl, sym, ◌∙◌, ap, ℕ, Bool, true, false, not, ◌||◌, if◌then◌else◌, List, [], ◌∷◌, ◌++◌, map, Option}
-use Rattle.std.proofs.Common.{Some, None, Ok, Err, inl, inr, arith}
+use Rattle.std.proofs.Common.{◌≡◌, refl, sym, ◌∙◌, ap, ℕ, Bool, true, false, ◌||◌, if◌then◌else◌, List, [], ◌∷◌, ◌++◌, map, Option, Some}
+use Rattle.std.proofs.Common.{None, inl, inr, arith}
 use Rattle.osi_session.specs.Moves as whole
-use Rattle.osi_session.proofs.Vocabulary.{list_any, cases_Bool, append-nil, State, Phase, UnitFault, Unexpected, BadEnclosure, Answer}
-use Rattle.osi_session.proofs.Vocabulary.{is_over, is_aborting, Outcome, nothing, Condition, si, conditions}
-use Rattle.osi_session.proofs.Vocabulary.{first_fault, is_expected, drops, is_resynchronize, first_reply, Verdict, over, dropped}
-use Rattle.osi_session.proofs.Vocabulary.{faulty, by_fault, verdict, is_faulty, enacted, respond_unit, respond_all, acting, respond}
-use Rattle.osi_session.proofs.Vocabulary.{and_then, Meaning, GT, no_token, Said, words_of, Word, Words, says}
-use Rattle.osi_session.proofs.Vocabulary.{Taker, drops_parts, kept_in, word_verdict, Hearing, heard}
+use Rattle.osi_session.proofs.Vocabulary.{list_any, cases_Bool, append-nil, State, Phase, UnitFault, Answer, is_over, is_aborting, Outcome}
+use Rattle.osi_session.proofs.Vocabulary.{nothing, Condition, first_fault, is_resynchronize, first_reply, Verdict, over, dropped, verdict}
+use Rattle.osi_session.proofs.Vocabulary.{is_faulty, enacted, respond_unit, respond_all, acting, respond, and_then, Meaning, GT, no_token}
+use Rattle.osi_session.proofs.Vocabulary.{Said, words_of, Word, Words, says, Taker, drops_parts, kept_in, word_verdict, Hearing, heard}
 use Rattle.osi_session.proofs.Vocabulary.{enacted_word, respond_word, respond_words, heard_then, idle, is_restart_word, acting_words}
-use Rattle.osi_session.proofs.Vocabulary.{respond_tsdu, Listener, Move, react, after_input, after_inputs, taken, answered}
-use Rattle.osi_session.proofs.Vocabulary.{rests, listening, standing_of, in_words, is_apart, joins}
+use Rattle.osi_session.proofs.Vocabulary.{respond_tsdu, Listener, Move, react, after_input, after_inputs, taken, answered, rests, listening}
+use Rattle.osi_session.proofs.Vocabulary.{standing_of, in_words, is_apart, joins}
 use Rattle.osi_session.proofs.tables.the_verdict_on_a_unit.{enacts, empty_item}
 
 -- ---- what is kept
 
 none_either : (b : Bool) → (if◌then◌else◌ {A = Option (List ℕ)} b None None) ≡ None
-none_either true = refl
-none_either false = refl
+none_either b = grind arith
 
 pub kept_none : (p : Phase) → kept_in p None ≡ None
 kept_none p = none_either (drops_parts p)
@@ -31,8 +28,7 @@ kept_gone p joined h = rw h refl
 either_twice : (b : Bool) (joined : Option (List ℕ)) →
     (if◌then◌else◌ {A = Option (List ℕ)} b None (if◌then◌else◌ {A = Option (List ℕ)} b None joined)) ≡
     (if◌then◌else◌ {A = Option (List ℕ)} b None joined)
-either_twice true joined = refl
-either_twice false joined = refl
+either_twice b joined = grind arith
 
 pub kept_twice : (p : Phase) (joined : Option (List ℕ)) → kept_in p (kept_in p joined) ≡ kept_in p joined
 kept_twice p joined = either_twice (drops_parts p) joined
@@ -44,10 +40,7 @@ passes_true n [] f = refl
 passes_true n (c ∷ cs) f = ap (λ r. if c.0 then r else Some (c.1 n)) (passes_true n cs f)
 
 pub plain_verdict : (s : State) (u : Meaning) → word_verdict (record { state = s; joined = None }) (says u) ≡ verdict s u
-plain_verdict s u =
-    ap (λ f. if is_over s.phase then over else if drops s u then dropped else if not (is_expected s.phase u) then
-    faulty (Unexpected (si u)) else by_fault f)
-    (passes_true (si u) (conditions s u) BadEnclosure)
+plain_verdict s u = grind (arith, passes_true)
 
 plain_enacted : (s : State) (u : Meaning) (v : Verdict) →
     enacted_word (record { state = s; joined = None }) (says u) v ≡ heard None (enacted s u v)
@@ -65,9 +58,7 @@ word_at t w v e = ap (enacted_word t w) e
 
 pub heard_none : (o : Outcome) →
     heard None o ≡ record { next = record { state = o.next; joined = None }; shown = o.shown; reply = o.reply; closes = o.closes }
-heard_none o = let k =
-    kept_none o.next.phase in
-    λ i. record { next = record { state = o.next; joined = k i }; shown = o.shown; reply = o.reply; closes = o.closes }
+heard_none o = grind (arith, kept_none)
 
 plain_next : (s : State) (u : Meaning) →
     (respond_word (record { state = s; joined = None }) (says u)).next ≡ record { state = (respond_unit s u).next; joined = None }
@@ -107,16 +98,11 @@ says_at_end [] u = refl
 says_at_end (v ∷ us) u = ap (λ ws. says v ∷ ws) (says_at_end us u)
 
 says_either : (b : Bool) (us vs : List Meaning) → (if b then map says us else map says vs) ≡ map says (if b then us else vs)
-says_either true us vs = refl
-says_either false us vs = refl
+says_either b us vs = grind arith
 
 pub plain_acting : (said : Said) → acting_words (map says said) ≡ map says (acting said)
 unfolding acting_words acting
-plain_acting [] = refl
-plain_acting (u ∷ us) =
-    ap (λ b. if b then map says us else map says us ++ says u ∷ []) (some_restart us)
-    ∙ ap (λ ws. if list_any is_resynchronize us then map says us else ws) (says_at_end us u)
-    ∙ says_either (list_any is_resynchronize us) us (us ++ u ∷ [])
+plain_acting said = grind (arith, some_restart, says_at_end, says_either)
 
 pub plain_tsdu : (s : State) (said : Said) →
     respond_tsdu (record { state = s; joined = None }) (map says said) ≡ heard None (respond s said)
@@ -126,27 +112,11 @@ plain_tsdu s said = ap (respond_words (record { state = s; joined = None })) (pl
 
 answer_joins : (l : Listener) (a : Answer) → kept_in l.state.phase l.joined ≡ l.joined →
     answered l a ≡ joins l.joined (whole.answered (standing_of l) a)
-answer_joins l (Ok x) k = refl
-answer_joins l (Err e) k =
-    λ i. record {
-      next = record { state = l.state; waiting = l.waiting; joined = sym k i };
-      shown = [];
-      reply = None;
-      closes = false;
-      error = Some e;
-    }
+answer_joins l a k = grind arith
 
 either_joins : (l : Listener) (b : Bool) (m : Move) (n : whole.Move) → kept_in l.state.phase l.joined ≡ l.joined → m ≡ joins l.joined n →
     (if b then m else rests l) ≡ joins l.joined (if b then n else whole.rests (standing_of l))
-either_joins l true m n k h = h
-either_joins l false m n k h =
-    λ i. record {
-      next = record { state = l.state; waiting = l.waiting; joined = sym k i };
-      shown = [];
-      reply = None;
-      closes = false;
-      error = None;
-    }
+either_joins l b m n k h = grind arith
 
 -- all but the words of a TSDU do to a session what they do over whole messages, and keep what the phase keeps
 pub others : (l : Listener) (input : whole.Input) → kept_in l.state.phase l.joined ≡ l.joined → is_apart input ≡ true →
@@ -157,15 +127,7 @@ others l input h0 h1 = grind (arith, answer_joins, either_joins)
 messages_move : (s : whole.Standing) (said : Said) →
     react (listening s) (taken (map says said)) ≡ joins None (whole.react s (whole.taken said))
 unfolding react whole.react
-messages_move s said =
-    ap (λ (h : Hearing). let m : Move = record {
-      next = record { state = h.next.state; waiting = s.waiting; joined = h.next.joined };
-      shown = h.shown;
-      reply = h.reply;
-      closes = h.closes;
-      error = None;
-    } in m)
-    (plain_tsdu s.state said)
+messages_move s said = grind (arith, plain_tsdu)
 
 -- and if nothing is joined, so do messages
 pub moves_as_whole : (s : whole.Standing) (input : whole.Input) → react (listening s) (in_words input) ≡ joins None (whole.react s input)
@@ -186,8 +148,7 @@ next_as_whole s input = ap (λ (m : Move). m.next) (moves_as_whole s input) ∙ 
 pub run_as_whole : (s : whole.Standing) (inputs : List whole.Input) →
     after_inputs (listening s) (map in_words inputs) ≡ listening (whole.after_inputs s inputs)
 run_as_whole s [] = refl
-run_as_whole s (input ∷ inputs) =
-    ap (λ (l : Listener). after_inputs l (map in_words inputs)) (next_as_whole s input) ∙ run_as_whole (whole.after_input s input) inputs
+run_as_whole s (input ∷ inputs) = grind (arith, next_as_whole, run_as_whole (whole.after_input s input) inputs)
 
 -- ---- a TSDU of one word
 
@@ -206,8 +167,7 @@ unfolding respond_word
 word_kept t w = enacted_kept t w (word_verdict t w)
 
 both_nothing : (b : Bool) (s : State) → (if b then nothing s else nothing s) ≡ nothing s
-both_nothing true s = refl
-both_nothing false s = refl
+both_nothing b s = grind arith
 
 empty_word : (t : Taker) → respond_word t (says (GT no_token)) ≡ heard t.joined (nothing t.state)
 empty_word t = elim (cases_Bool (is_over t.state.phase)) [
@@ -216,17 +176,13 @@ empty_word t = elim (cases_Bool (is_over t.state.phase)) [
 ]
 
 reply_none : (r : Option Meaning) → first_reply r None ≡ r
-reply_none None = refl
-reply_none (Some m) = refl
+reply_none r = grind arith
 
 or_false : (b : Bool) → (b || false) ≡ b
-or_false true = refl
-or_false false = refl
+or_false b = grind arith
 
 then_quiet : (h : Hearing) (next : Taker) → next ≡ h.next → heard_then h (idle next) ≡ h
-then_quiet h next k =
-    let shown = append-nil h.shown in let reply = reply_none h.reply in let closes = or_false h.closes in
-    λ i. record { next = k i; shown = shown i; reply = reply i; closes = closes i }
+then_quiet h next k = grind (arith, append-nil, reply_none, or_false)
 
 pub one_word : (t : Taker) (w : Word) → respond_words t (w ∷ []) ≡ respond_word t w
 unfolding respond_words
@@ -251,14 +207,12 @@ word_alone t w = one_word t w
 
 either_words : (b : Bool) (t : Taker) (x y : Words) (h : Hearing) → respond_words t x ≡ h → respond_words t y ≡ h →
     respond_words t (if b then x else y) ≡ h
-either_words true t x y h e k = e
-either_words false t x y h e k = k
+either_words b t x y h e k = grind arith
 
 -- after a token item that names no token a word does what it does alone
 pub word_behind : (t : Taker) (w : Word) → respond_tsdu t (says (GT no_token) ∷ w ∷ []) ≡ respond_word t w
 unfolding acting_words
-word_behind t w = either_words (is_restart_word w || false) t (w ∷ []) (w ∷ says (GT no_token) ∷ []) (respond_word t w) (one_word t w)
-    (two_words t w)
+word_behind t w = grind (arith, either_words, one_word, two_words)
 
 -- a message as a word has the effect of the message
 pub words_of_message : (t : Taker) (m : Meaning) → respond_tsdu t (words_of m) ≡ respond_word t (says m)

@@ -8,13 +8,12 @@ use Rattle.osi_session.specs.declared.plans.SentPoint.{SentPoint}
 use Rattle.osi_session.specs.declared.plans.SentPoint.TheVariants as point
 use Rattle.osi_session.specs.Shown.{Data, Minor}
 use Rattle.osi_session.proofs.Vocabulary.{and_from, and_parts, AllHold, Answer, Test, after, fits_limit, most_of, most_user_data, octets_of}
-use Rattle.osi_session.proofs.Vocabulary.{sends, all_hold, advanced, after_input, call_for, has_next, in_state, may_advance, may_call}
-use Rattle.osi_session.proofs.Vocabulary.{needs, SpduFault, Meaning, DT, MIP, MIA, GT, tsdus_of, no_token, Words, says, Indication}
-use Rattle.osi_session.proofs.Vocabulary.{Numbers, Phase, Ready, Releasing, State, Step, allowed, Call, HasSerial, Taker, heard}
-use Rattle.osi_session.proofs.Vocabulary.{joined_octets, kept_in, respond_came, Listener, called, react, came_as, taker_of, point_taken}
-use Rattle.osi_session.proofs.Vocabulary.{minor_confirmed, is_ready, takes_data, respond_unit, shows, take_expected, in_numbers, only_shows}
-use Rattle.osi_session.proofs.Vocabulary.{PlansPoint, limit_of, Shown, MinorConfirmed, shown_by, IsSound, IsNumberedWord, Word}
-use Rattle.osi_session.proofs.Vocabulary.{respond_word, moved}
+use Rattle.osi_session.proofs.Vocabulary.{sends, all_hold, advanced, after_input, call_for, has_next, may_advance, may_call, needs}
+use Rattle.osi_session.proofs.Vocabulary.{SpduFault, Meaning, DT, MIP, MIA, GT, tsdus_of, no_token, Words, says, Indication, Numbers, Phase}
+use Rattle.osi_session.proofs.Vocabulary.{State, Step, allowed, Call, HasSerial, heard, joined_octets, kept_in, respond_came, Listener}
+use Rattle.osi_session.proofs.Vocabulary.{called, react, came_as, taker_of, point_taken, minor_confirmed, is_ready, takes_data}
+use Rattle.osi_session.proofs.Vocabulary.{respond_unit, shows, take_expected, in_numbers, only_shows, PlansPoint, limit_of, Shown}
+use Rattle.osi_session.proofs.Vocabulary.{MinorConfirmed, shown_by, IsSound, IsNumberedWord, Word, respond_word, moved}
 use Rattle.osi_session.proofs.moves.the_move_of_each_input.{came_is, call_errs, call_next, call_passes, call_sends}
 use Rattle.osi_session.proofs.tables.what_an_accepted_call_has_passed.{accepted, passed}
 use Rattle.osi_session.proofs.sent.what_is_sent_can_be_written.{call_sendable}
@@ -25,9 +24,7 @@ use Rattle.osi_session.proofs.tables.messages_act_as_the_table_says.{kept_none, 
 data_in : (s : State) (octets : List ℕ) (p : Phase) → s.phase ≡ p → takes_data p ≡ true → s.held.data_token ≡ false →
     respond_unit s (DT octets) ≡ shows s (Data octets)
 unfolding respond_unit take_expected
-data_in s octets Ready e h k = rw (e, k) refl
-data_in s octets Releasing e h k = rw (e, k) refl
-data_in s octets _ e h k = absurd (cc)
+data_in s octets p e h k = grind arith
 
 -- expected data is indicated, and changes nothing
 pub data_is_shown : (s : State) (octets : List ℕ) → takes_data s.phase ≡ true → s.held.data_token ≡ false →
@@ -38,8 +35,7 @@ point_in : (s : State) (n : ℕ) (p : Phase) → s.phase ≡ p → is_ready p �
     s.held.minor ≡ false
     → (n == s.numbers.next) ≡ true → respond_unit s (MIP true n []) ≡ shows (record s { numbers = point_taken s.numbers }) (Minor n true [])
 unfolding respond_unit take_expected
-point_in s n Ready e r u d m k = rw (e, u, d, m, k) refl
-point_in s n _ e r u d m k = absurd (cc)
+point_in s n p e r u d m k = grind arith
 
 -- an expected point is indicated, and changes only the numbers
 pub point_is_shown : (s : State) (n : ℕ) → is_ready s.phase ≡ true → s.units.minor ≡ true → s.held.data_token ≡ false → s.held.minor ≡ false
@@ -51,8 +47,7 @@ ack_in : (s : State) (n : ℕ) (p : Phase) → s.phase ≡ p → is_ready p ≡ 
     → nat_lt n s.numbers.next ≡ true →
     respond_unit s (MIA n []) ≡ shows (record s { numbers = minor_confirmed n s.numbers }) (MinorConfirmed n [])
 unfolding respond_unit take_expected
-ack_in s n Ready e r u a k l = rw (e, u, a, k, l) refl
-ack_in s n _ e r u a k l = absurd (cc)
+ack_in s n p e r u a k l = grind arith
 
 -- and so is a confirmation
 pub ack_is_shown : (s : State) (n : ℕ) → is_ready s.phase ≡ true → s.units.minor ≡ true → s.numbers.answers ≡ false →
@@ -71,19 +66,15 @@ pub unit_comes : (s : State) (u : Meaning) (v : Numbers) (i : Shown) (read : Res
     read ≡ Ok (says (GT no_token) ∷ says u ∷ [])
     → respond_unit s u ≡ shows (record s { numbers = v }) i →
     respond_came (record { state = s; joined = None }) read ≡ heard None (shows (record s { numbers = v }) i)
-unit_comes s u v i read e h =
-    let t : Taker = record { state = s; joined = None } in
-    ap (respond_came t) e ∙ word_behind t (says u) ∙ word_comes s u v i h
+unit_comes s u v i read e h = grind (arith, word_behind, word_comes s u v i h)
 
 none_joined : (j : Option (List ℕ)) (b : Bool) → b ≡ is_some j → b ≡ false → j ≡ None
-none_joined None b h k = refl
-none_joined (Some x) b h k = absurd (cc)
+none_joined j b h k = grind arith
 
 comes_to : (s : State) (j : Option (List ℕ)) (b : Bool) (v : Numbers) (i : Indication) (read : Result Words SpduFault) → b ≡ is_some j
     → (b ≡ false) × (respond_came (record { state = s; joined = None }) read ≡ heard None (shows (record s { numbers = v }) (shown_by i)))
     → respond_came (record { state = s; joined = j }) read ≡ heard None (shows (record s { numbers = v }) (shown_by i))
-comes_to s j b v i read n h = ap (λ (x : Option (List ℕ)). respond_came (record { state = s; joined = x }) read) (none_joined j b n h.0) ∙
-    h.1
+comes_to s j b v i read n h = grind (arith, none_joined)
 
 -- what a session does with it
 point_moves : (s : State) (w : Option Meaning) (j : Option (List ℕ)) (b : Bool) (v : Numbers) (i : Indication)
@@ -91,22 +82,14 @@ point_moves : (s : State) (w : Option Meaning) (j : Option (List ℕ)) (b : Bool
     → (b ≡ false) × (respond_came (record { state = s; joined = None }) read ≡ heard None (shows (record s { numbers = v }) (shown_by i)))
     → (let l : Listener = record { state = s; waiting = w; joined = j } in react l (came_as read) ≡ only_shows (in_numbers l v)
     (shown_by i))
-point_moves s w j b v i read n h =
-    let l : Listener = record { state = s; waiting = w; joined = j } in
-    let x : State = record s { numbers = v } in
-    let g : kept_in x.phase None ≡ j = kept_none x.phase ∙ sym (none_joined j b n h.0) in
-    came_is l read (heard None (shows x (shown_by i))) (comes_to s j b v i read n h) ∙
-    (λ k. only_shows (record { state = x; waiting = w; joined = g k }) (shown_by i))
+point_moves s w j b v i read n h = grind (arith, kept_none, none_joined, came_is, comes_to)
 
 pub point_shows : (l : Listener) (s : State) (w : Option Meaning) (j : Option (List ℕ)) (b : Bool) (v : Numbers) (i : Indication)
     (read : Result Words SpduFault)
     → (let y : Listener = record { state = s; waiting = w; joined = j } in y ≡ l) → b ≡ is_some j
     → (b ≡ false) × (respond_came (record { state = s; joined = None }) read ≡ heard None (shows (record s { numbers = v }) (shown_by i)))
     → react l (came_as read) ≡ only_shows (record { state = record s { numbers = v }; waiting = w; joined = j }) (shown_by i)
-point_shows l s w j b v i read view n h =
-    subst (λ (x : Listener). react x (came_as read) ≡ only_shows (record { state = record s { numbers = v }; waiting = w; joined = j })
-    (shown_by i)) view
-    (point_moves s w j b v i read n h)
+point_shows l s w j b v i read view n h = grind (arith, point_moves s w j b v i read n h)
 
 -- the same of a word alone
 pub word_shows : (l : Listener) (s : State) (w : Option Meaning) (j : Option (List ℕ)) (b : Bool) (v : Numbers) (i : Indication)
@@ -115,10 +98,7 @@ pub word_shows : (l : Listener) (s : State) (w : Option Meaning) (j : Option (Li
     → (b ≡ false) × (respond_word (record { state = s; joined = None }) word ≡ heard None (shows (record s { numbers = v }) (shown_by i)))
     → moved l (respond_word (taker_of l) word) ≡ only_shows (record { state = record s { numbers = v }; waiting = w; joined = j })
     (shown_by i)
-word_shows l s w j b v i word view n h =
-    let read : Result Words SpduFault = Ok (says (GT no_token) ∷ word ∷ []) in
-    sym (came_is l read (respond_word (taker_of l) word) (word_behind (taker_of l) word))
-    ∙ point_shows l s w j b v i read view n (h.0, word_behind (record { state = s; joined = None }) word ∙ h.1)
+word_shows l s w j b v i word view n h = grind (arith, came_is, word_behind, point_shows)
 
 -- and its state is sound
 pub point_leaves : (s : State) (w : Option Meaning) (j : Option (List ℕ)) (b : Bool) (v : Numbers) (i : Indication) (word : Word) →
@@ -148,27 +128,22 @@ held_all (t ∷ ts) h = let a = and_parts _ _ h in (a.0, held_all ts a.1)
 -- the user data of a call for a point changes nothing but what is sent
 same_after : (s : State) (p : SentPoint) (confirm : Bool) (octets : List ℕ) →
     after s (call_for p confirm octets) ≡ after s (call_for p true [])
-same_after s (point.Minor n) confirm octets = refl
-same_after s (point.Confirmation n) confirm octets = refl
+same_after s p confirm octets = grind arith
 
 same_phase : (s : State) (p : SentPoint) (confirm : Bool) (octets : List ℕ) →
     may_call s.phase (call_for p confirm octets) ≡ may_call s.phase (call_for p true [])
-same_phase s (point.Minor n) confirm octets = refl
-same_phase s (point.Confirmation n) confirm octets = refl
+same_phase s p confirm octets = grind arith
 
 same_needs : (s : State) (p : SentPoint) (confirm : Bool) (octets : List ℕ) →
     needs s (call_for p confirm octets) ≡ needs s (call_for p true [])
-same_needs s (point.Minor n) confirm octets = refl
-same_needs s (point.Confirmation n) confirm octets = refl
+same_needs s p confirm octets = grind arith
 
 point_serial : (p : SentPoint) (confirm : Bool) (octets : List ℕ) → HasSerial (call_for p confirm octets)
-point_serial (point.Minor n) confirm octets = tt
-point_serial (point.Confirmation n) confirm octets = tt
+point_serial p confirm octets = grind arith
 
 sized_point : (p : SentPoint) (confirm : Bool) (octets : List ℕ) → nat_le (length octets) most_user_data ≡ true
     → nat_le (length (octets_of (call_for p confirm octets))) (most_of (call_for p confirm octets)) ≡ true
-sized_point (point.Minor n) confirm octets h = h
-sized_point (point.Confirmation n) confirm octets h = h
+sized_point p confirm octets h = grind arith
 
 goes_to : (s : State) (p : SentPoint) (confirm : Bool) (octets : List ℕ) (x : Step) → allowed s (call_for p confirm octets) ≡ Ok x →
     x.next ≡ after s (call_for p true [])
@@ -176,10 +151,7 @@ goes_to s p confirm octets x h = ap (λ (y : Step). y.next) (passed s _ x h).giv
 
 goes_from : (s : State) (p : SentPoint) (confirm : Bool) (octets : List ℕ) (x : Step) → has_next s p ≡ true →
     allowed s (call_for p confirm octets) ≡ Ok x → may_advance s p ≡ true
-goes_from s p confirm octets x n h =
-    let q = passed s _ x h in
-    and_from _ _ (sym (same_phase s p confirm octets) ∙ q.phase)
-    (and_from _ _ n (ap all_hold (sym (same_needs s p confirm octets)) ∙ all_held _ q.needed))
+goes_from s p confirm octets x n h = search (arith, passed, and_from, same_phase, same_needs, all_held)
 
 -- what is accepted is the step of the table
 accepts_point : (l : Listener) (c : Call) → (react l (called c)).error ≡ None → (x : Step) × (allowed l.state c ≡ Ok x)
@@ -192,15 +164,11 @@ accepts_point l c h = by (allowed l.state c) refl
 pub point_steps : (l : Listener) (p : SentPoint) (confirm : Bool) (octets : List ℕ) →
     (react l (called (call_for p confirm octets))).error ≡ None
     → after_input l (called (call_for p confirm octets)) ≡ advanced l p
-point_steps l p confirm octets h =
-    let a = accepts_point l (call_for p confirm octets) h in
-    call_next l (call_for p confirm octets) a.0 a.1 ∙ ap (in_state l) (goes_to l.state p confirm octets a.0 a.1)
+point_steps l p confirm octets h = grind (arith, accepts_point, call_next, goes_to)
 
 pub point_may : (l : Listener) (p : SentPoint) (confirm : Bool) (octets : List ℕ) → has_next l.state p ≡ true
     → (react l (called (call_for p confirm octets))).error ≡ None → may_advance l.state p ≡ true
-point_may l p confirm octets n h =
-    let a = accepts_point l (call_for p confirm octets) h in
-    goes_from l.state p confirm octets a.0 n a.1
+point_may l p confirm octets n h = search (arith, accepts_point, goes_from)
 
 pub point_accepted : (l : Listener) (p : SentPoint) (confirm : Bool) (octets : List ℕ) → may_advance l.state p ≡ true
     → nat_le (length octets) most_user_data ≡ true →
@@ -221,12 +189,10 @@ point_accepted l p confirm octets m size limit =
 -- ---- a session goes on after a point that is sent: its numbers change, and nothing else
 
 numbers_alone : (s : State) (p : SentPoint) → after s (call_for p true []) ≡ record s { numbers = (after s (call_for p true [])).numbers }
-numbers_alone s (point.Minor n) = refl
-numbers_alone s (point.Confirmation n) = refl
+numbers_alone s p = grind arith
 
 some_after : (b : Bool) (v n : Numbers) → Some v ≡ (if b then Some n else None) → (b ≡ true) × (v ≡ n)
-some_after true v n h = (refl, (cc))
-some_after false v n h = absurd (cc)
+some_after b v n h = grind arith
 
 goes_on_to : (s : State) (p : SentPoint) (v : Numbers) →
     Some v ≡ (if may_advance s p then Some (after s (call_for p true [])).numbers else None)
@@ -236,21 +202,14 @@ goes_on_to s p v h = ap (λ (n : Numbers). record s { numbers = n }) (some_after
 pub advance_sound : (s : State) (p : SentPoint) (v : Numbers) →
     Some v ≡ (if may_advance s p then Some (after s (call_for p true [])).numbers else None)
     → IsSound s → IsSound (record s { numbers = v })
-advance_sound s p v h sound =
-    let a = and_parts _ _ (some_after (may_advance s p) v _ h).0 in
-    subst IsSound (sym (goes_on_to s p v h))
-    (after_sound s (call_for p true []) (point_serial p true []) a.0 (held_all _ (and_parts _ _ a.1).1) sound)
+advance_sound s p v h sound = grind (arith, and_parts, some_after, goes_on_to, after_sound, point_serial, held_all)
 
 pub advance_leaves : (l : Listener) (s : State) (w : Option Meaning) (j : Option (List ℕ)) (p : SentPoint) (v : Numbers)
     → (let y : Listener = record { state = s; waiting = w; joined = j } in y ≡ l) → kept_in s.phase j ≡ j
     → Some v ≡ (if may_advance s p then Some (after s (call_for p true [])).numbers else None)
     → (may_advance l.state p ≡ true) ×
     (let y : Listener = record { state = record s { numbers = v }; waiting = w; joined = j } in y ≡ advanced l p)
-advance_leaves l s w j p v view kept h =
-    let here : Listener = record { state = s; waiting = w; joined = j } in
-    subst (λ (y : Listener). (may_advance y.state p ≡ true) ×
-    (let z : Listener = record { state = record s { numbers = v }; waiting = w; joined = j } in z ≡ advanced y p)) view
-    ((some_after (may_advance s p) v _ h).0, stays_in s (record s { numbers = v }) w j kept ∙ ap (in_state here) (goes_on_to s p v h))
+advance_leaves l s w j p v view kept h = grind (arith, some_after, stays_in, goes_on_to)
 
 planned_here : (l : Listener) (p : PlannedPoint) (confirm : Bool) (octets : List ℕ) (x : Step) → has_next l.state p.point ≡ true
     → allowed l.state (call_for p.point confirm octets) ≡ Ok x → IsSound l.state → p.sent ≡ tsdus_of (limit_of l.state) x.sent →
@@ -270,8 +229,7 @@ pub point_planned : (l : Listener) (s : State) (w : Option Meaning) (j : Option 
     → allowed s (call_for p.point confirm octets) ≡ Ok x → IsSound s → p.sent ≡ tsdus_of (limit_of s) x.sent →
     PlansPoint l (call_for p.point confirm octets) p
 point_planned l s w j p confirm octets x view n h sound sent =
-    subst (λ (y : Listener). PlansPoint y (call_for p.point confirm octets) p) view
-    (planned_here (record { state = s; waiting = w; joined = j }) p confirm octets x n h sound sent)
+    search (arith, planned_here (record { state = s; waiting = w; joined = j }) p confirm octets x n h sound sent)
 
 pub point_passes : (l : Listener) (s : State) (w : Option Meaning) (j : Option (List ℕ)) (c : Call) (x : Step) →
     (let y : Listener = record { state = s; waiting = w; joined = j } in y ≡ l)

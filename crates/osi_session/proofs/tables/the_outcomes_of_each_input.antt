@@ -1,8 +1,8 @@
 -- The outcomes of each input.
-use Rattle.std.proofs.Common.{◌≡◌, refl, ℕ, Bool, true, false, not, Option, Some, None, Ok, Err, if◌then◌else◌, arith}
+use Rattle.std.proofs.Common.{◌≡◌, refl, ℕ, Bool, true, false, not, Option, None, Ok, if◌then◌else◌, arith}
 use Rattle.osi_session.proofs.Vocabulary.{SpduFault, Connecting, Aborting, Ended, UnitFault, State, is_wait_transport, is_aborting}
-use Rattle.osi_session.proofs.Vocabulary.{is_ended, is_over, without_tokens, Call, Meaning, AB, Words, Step, Answer, allowed, Outcome}
-use Rattle.osi_session.proofs.Vocabulary.{si, conditions, first_fault, is_expected, drops, becomes, judged, take_expected, in_aborting}
+use Rattle.osi_session.proofs.Vocabulary.{is_ended, is_over, without_tokens, Call, Meaning, Words, Step, Answer, allowed, Outcome, si}
+use Rattle.osi_session.proofs.Vocabulary.{conditions, first_fault, is_expected, drops, becomes, judged, take_expected, in_aborting}
 use Rattle.osi_session.proofs.Vocabulary.{in_ended, respond_unit, AllMet, respond_fault, respond_tsdu, called, taken, unread, opened}
 use Rattle.osi_session.proofs.Vocabulary.{refused, broken, Listener, Move, taker_of, answered, react, after_input}
 use Rattle.osi_session.proofs.runs.units_keep_the_invariant.{all_met}
@@ -10,8 +10,7 @@ use Rattle.osi_session.proofs.runs.units_keep_the_invariant.{all_met}
 -- a call is accepted, or changes nothing
 answer_cases : (P : State → Type 0) (s : Listener) (c : Call) (a : Answer) → allowed s.state c ≡ a
     → P s.state → ((x : Step) → allowed s.state c ≡ Ok x → P x.next) → P (answered s a).next.state
-answer_cases P s c (Ok x) e h k = k x e
-answer_cases P s c (Err d) e h k = h
+answer_cases P s c a e h k = grind arith
 
 pub call_cases : (P : State → Type 0) (s : Listener) (c : Call) → P s.state
     → ((x : Step) → allowed s.state c ≡ Ok x → P x.next) → P (after_input s (called c)).state
@@ -28,13 +27,11 @@ pub record Leaves (P : State → Type 0) (s : State) (u : Meaning) : Type 0 wher
       P (becomes s u)
 
 either : (P : State → Type 0) (b : Bool) (x y : Outcome) → (b ≡ true → P x.next) → (b ≡ false → P y.next) → P (if b then x else y).next
-either P true x y h k = h refl
-either P false x y h k = k refl
+either P b x y h k = grind arith
 
 judged_cases : (P : State → Type 0) (s : State) (u : Meaning) (f : Option UnitFault) → P (without_tokens Aborting s) →
     (f ≡ None → P (becomes s u)) → P (judged s u f).next
-judged_cases P s u None h k = k refl
-judged_cases P s u (Some f) h k = h
+judged_cases P s u f h k = grind arith
 
 expected_cases : (P : State → Type 0) (s : State) (u : Meaning) → P (without_tokens Aborting s) →
     (AllMet (conditions s u) → P (becomes s u)) → P (take_expected s u).next
@@ -45,12 +42,10 @@ aborting_cases : (P : State → Type 0) (s : State) (u : Meaning) → P s → P 
 aborting_cases P s u h0 h1 = grind arith
 
 ended_cases : (P : State → Type 0) (s : State) (u : Meaning) → P s → P (in_ended s u).next
-ended_cases P s (AB bits octets) h = h
-ended_cases P s _ h = h
+ended_cases P s u h = grind arith
 
 pub not_false : (b : Bool) → not b ≡ false → b ≡ true
-not_false true h = refl
-not_false false h = absurd (cc)
+not_false b h = grind arith
 
 pub unit_cases : (P : State → Type 0) (s : State) (u : Meaning) → Leaves P s u → P (respond_unit s u).next
 unfolding respond_unit
@@ -73,8 +68,7 @@ unfolding react
 taken_cases P s words h = h
 
 awaited : (P : State → Type 0) (b : Bool) (x s : Move) → (b ≡ true → P x.next.state) → P s.next.state → P (if b then x else s).next.state
-awaited P true x s h k = h refl
-awaited P false x s h k = k
+awaited P b x s h k = grind arith
 
 -- the transport connection is awaited, or nothing changes
 pub opened_cases : (P : State → Type 0) (s : Listener) → (is_wait_transport s.state.phase ≡ true → P (without_tokens Connecting s.state))

@@ -1,13 +1,12 @@
 -- The verdict on a unit, and on a token item that names no token.
-use Rattle.std.proofs.Common.{◌≡◌, refl, sym, ◌∙◌, ap, subst, Bool, true, false, not, ◌&&◌, ◌||◌, List, [], ◌∷◌, ◌++◌, Option}
-use Rattle.std.proofs.Common.{Some, None, if◌then◌else◌, arith}
+use Rattle.std.proofs.Common.{◌≡◌, refl, sym, ◌∙◌, ap, subst, Bool, true, false, not, ◌||◌, List, [], ◌∷◌, ◌++◌, Option, None}
+use Rattle.std.proofs.Common.{if◌then◌else◌, arith}
 use Rattle.osi_session.proofs.Vocabulary.{cases_Bool, append-nil, Aborting, UnitFault, Unexpected, State, no_token, is_empty, is_aborting}
-use Rattle.osi_session.proofs.Vocabulary.{is_ended, is_over, without_tokens, Meaning, CN, GT, AB, list_any, alone, behind}
-use Rattle.osi_session.proofs.Vocabulary.{functional_units, has_data, are_sizes, said_of, Outcome, Condition, si, conditions}
-use Rattle.osi_session.proofs.Vocabulary.{first_fault, drops, nothing, bad, judged, take_expected, in_aborting, in_ended}
+use Rattle.osi_session.proofs.Vocabulary.{is_ended, is_over, without_tokens, Meaning, GT, alone, behind, said_of, Outcome, Condition, si}
+use Rattle.osi_session.proofs.Vocabulary.{conditions, first_fault, drops, nothing, bad, judged, take_expected, in_aborting, in_ended}
 use Rattle.osi_session.proofs.Vocabulary.{has_no_effect, is_token_item, is_resynchronize, reply_for, first_reply, replies_abort}
-use Rattle.osi_session.proofs.Vocabulary.{respond_unit, and_then, Verdict, dropped, faulty, fine, by_fault, verdict, enacted}
-use Rattle.osi_session.proofs.Vocabulary.{is_faulty, AllMet, IsGood, respond_all, acting, respond}
+use Rattle.osi_session.proofs.Vocabulary.{respond_unit, and_then, Verdict, dropped, faulty, fine, by_fault, verdict, enacted, is_faulty}
+use Rattle.osi_session.proofs.Vocabulary.{AllMet, IsGood, respond_all, acting, respond}
 use Rattle.osi_session.proofs.tables.what_is_true_of_each_phase.{implied, every_is}
 
 live : (s : State) (u : Meaning) (d x : Bool) (f : Option UnitFault) →
@@ -44,19 +43,13 @@ unfolding respond_unit
 no_effect s u h0 = grind (arith, same_of)
 
 reply_none : (r : Option Meaning) → first_reply r None ≡ r
-reply_none None = refl
-reply_none (Some m) = refl
+reply_none r = grind arith
 
 or_false : (b : Bool) → (b || false) ≡ b
-or_false true = refl
-or_false false = refl
+or_false b = grind arith
 
 pub and_nothing : (o : Outcome) → and_then o (nothing o.next) ≡ o
-and_nothing o =
-    let shown = append-nil o.shown in
-    let reply = reply_none o.reply in
-    let closes = or_false o.closes in
-    λ i. record { next = o.next; shown = shown i; reply = reply i; closes = closes i }
+and_nothing o = grind (arith, append-nil, reply_none, or_false)
 
 -- a unit by itself
 pub one : (s : State) (u : Meaning) → respond_all s (u ∷ []) ≡ respond_unit s u
@@ -64,8 +57,7 @@ unfolding respond_all
 one s u = grind (arith, and_nothing)
 
 same_rest : (b : Bool) (o p q : Outcome) → p ≡ q → (if b then o else and_then o p) ≡ (if b then o else and_then o q)
-same_rest true o p q h = refl
-same_rest false o p q h = ap (and_then o) h
+same_rest b o p q h = grind arith
 
 -- after other units a token item that names no token changes nothing
 pub behind_all : (s : State) (us : List Meaning) (item : Meaning) → has_no_effect item ≡ true →
@@ -76,15 +68,13 @@ behind_all s (u ∷ us) item h = same_rest (is_faulty (verdict s u)) (respond_un
 
 either : (b : Bool) (s : State) (x y : List Meaning) (o : Outcome) → respond_all s x ≡ o → respond_all s y ≡ o →
     respond_all s (if b then x else y) ≡ o
-either true s x y o h k = h
-either false s x y o h k = k
+either b s x y o h k = grind arith
 
 -- in front of units it changes nothing
 pub in_front_of_all : (s : State) (item : Meaning) (units : List Meaning) → has_no_effect item ≡ true →
     respond s (item ∷ units) ≡ respond_all s units
 unfolding acting
-in_front_of_all s item units h = either (list_any is_resynchronize units) s units (units ++ item ∷ []) (respond_all s units) refl
-    (behind_all s units item h)
+in_front_of_all s item units h = grind (arith, either, behind_all)
 
 pub in_front : (s : State) (item u : Meaning) → has_no_effect item ≡ true → respond s (behind item u) ≡ respond_unit s u
 in_front s item u h = in_front_of_all s item (u ∷ []) h ∙ one s u
@@ -126,8 +116,7 @@ two s u item h0 = grind (arith, after_bad, one)
 
 choice : (b : Bool) (s : State) (x y : List Meaning) (o p : Outcome) → respond_all s x ≡ o → respond_all s y ≡ p
     → respond_all s (if b || false then x else y) ≡ (if b then o else p)
-choice true s x y o p h k = h
-choice false s x y o p h k = k
+choice b s x y o p h k = grind arith
 
 -- a token item acts after the unit after it, and in front of an RS it does not act
 pub item_and_unit : (s : State) (item u : Meaning) → is_token_item item ≡ true →
@@ -140,26 +129,20 @@ item_and_unit s item u t = choice (is_resynchronize u) s (u ∷ []) (u ∷ item 
 
 no_abort_if : (b : Bool) (x y : Option Meaning) → replies_abort x ≡ false → replies_abort y ≡ false →
     replies_abort (if b then x else y) ≡ false
-no_abort_if true x y h k = h
-no_abort_if false x y h k = k
+no_abort_if b x y h k = grind arith
 
 pub good_reply : (u : Meaning) → replies_abort (reply_for u) ≡ false
-good_reply (CN version_2 requirements serial wishes from to sizes octets) =
-    no_abort_if (not version_2) _ _ refl (no_abort_if (not (has_data (functional_units requirements) && are_sizes sizes)) _ _ refl refl)
-good_reply (AB bits octets) = refl
-good_reply _ = refl
+good_reply u = grind (arith, no_abort_if)
 
 aborting_reply : (s : State) (u : Meaning) → replies_abort (in_aborting s u).reply ≡ false
 aborting_reply s u = grind arith
 
 ended_reply : (s : State) (u : Meaning) → replies_abort (in_ended s u).reply ≡ false
-ended_reply s (AB bits octets) = refl
-ended_reply s _ = refl
+ended_reply s u = grind arith
 
 over_reply : (b : Bool) (x y : Outcome) → replies_abort x.reply ≡ false → replies_abort y.reply ≡ false →
     replies_abort (if b then x else y).reply ≡ false
-over_reply true x y h k = h
-over_reply false x y h k = k
+over_reply b x y h k = grind arith
 
 pub enacted_reply : (s : State) (u : Meaning) (v : Verdict) → replies_abort (enacted s u v).reply ≡ is_faulty v
 enacted_reply s u v = grind (arith, over_reply, aborting_reply, ended_reply, good_reply)

@@ -1,11 +1,10 @@
 -- Two restarts that cross: which of them takes effect.
-use Rattle.std.proofs.Common.{inl, inr, ◌⊎◌, ◌≡◌, refl, sym, ◌∙◌, ap, ℕ, ◌≤◌, ◌<◌, Bool, true, false, not, ◌&&◌, List, None, if◌then◌else◌}
-use Rattle.std.proofs.Common.{arith}
+use Rattle.std.proofs.Common.{inl, inr, ◌⊎◌, ◌≡◌, refl, sym, ◌∙◌, ap, ℕ, ◌≤◌, ◌<◌, Bool, true, false, not, List, None, if◌then◌else◌, arith}
 use Rattle.osi_spdu.specs.declared.fields.ResyncType.TheVariants.{Restart}
 use Rattle.osi_session.specs.Restarts.{HasAsked, AreCrossed, after_restart}
-use Rattle.osi_session.proofs.Vocabulary.{lt-ltb, le-ltb, le-leb, eq-eqb, ne_eqb, cases_order, TokenSetting, State, is_aborting, is_ended}
-use Rattle.osi_session.proofs.Vocabulary.{is_restarting, is_restart_due, takes_restart, restarted_at, lower, no_token, GT, RS, Outcome, si}
-use Rattle.osi_session.proofs.Vocabulary.{conditions, first_fault, judged, stands, becomes, good, take_expected, respond_unit}
+use Rattle.osi_session.proofs.Vocabulary.{lt-ltb, le-ltb, le-leb, eq-eqb, ne_eqb, cases_order, TokenSetting, State, is_restarting}
+use Rattle.osi_session.proofs.Vocabulary.{is_restart_due, restarted_at, lower, no_token, GT, RS, Outcome, si, conditions, first_fault}
+use Rattle.osi_session.proofs.Vocabulary.{stands, becomes, good, take_expected, respond_unit}
 use Rattle.osi_session.proofs.tables.what_is_true_of_each_phase.{implied, excluded}
 use Rattle.osi_session.proofs.tables.the_verdict_on_a_unit.{in_front, empty_item}
 
@@ -17,18 +16,12 @@ lower_stands s n r lt = let a = lt-ltb n s.numbers.next lt in rw (r, a) refl
 -- a higher one does not
 higher_yields : (s : State) (n : ℕ) → is_restarting s.phase ≡ true → s.numbers.next < n → stands s n ≡ false
 unfolding stands
-higher_yields s n r lt =
-    let a = le-ltb n s.numbers.next (omega arith) in
-    let b = ne_eqb n s.numbers.next (λ e. omega arith) in
-    rw (r, a, b) refl
+higher_yields s n r lt = grind (arith, le-ltb, ne_eqb)
 
 -- and its own number takes effect if it is not the caller
 equal_stands : (s : State) (n : ℕ) → is_restarting s.phase ≡ true → n ≡ s.numbers.next → stands s n ≡ not s.is_caller
 unfolding stands
-equal_stands s n r e =
-    let a = le-ltb n s.numbers.next (omega arith) in
-    let b = eq-eqb n s.numbers.next e in
-    rw (r, a, b) refl
+equal_stands s n r e = grind (arith, le-ltb, eq-eqb)
 
 -- ---- one of two restarts takes effect
 
@@ -47,28 +40,16 @@ of_lower a b x y lt = (lower_stands b a.numbers.next y.phase lt, higher_yields a
 -- ---- what both sides become
 
 other : (b : Bool) (x y : Outcome) → b ≡ false → (if b then x else y) ≡ y
-other true x y h = absurd (cc)
-other false x y h = refl
+other b x y h = grind arith
 
 expected : (s : State) (n : ℕ) (wishes : TokenSetting) (octets : List ℕ) → HasAsked s → s.base ≤ n →
     first_fault (si (RS Restart n wishes octets)) (conditions s (RS Restart n wishes octets)) ≡ None
-expected s n wishes octets x from =
-    let r = x.phase in
-    let u = x.selected in
-    let b = le-leb s.base n from in
-    rw (u, b, r) refl
+expected s n wishes octets x from = grind (arith, le-leb)
 
 good_restart : (s : State) (n : ℕ) (wishes : TokenSetting) (octets : List ℕ) → HasAsked s → s.base ≤ n →
     respond_unit s (RS Restart n wishes octets) ≡ good s (RS Restart n wishes octets)
 unfolding respond_unit take_expected
-good_restart s n wishes octets x from =
-    let r = x.phase in
-    let a = excluded is_restarting is_aborting refl s.phase r in
-    let e = excluded is_restarting is_ended refl s.phase r in
-    let t = implied is_restarting takes_restart refl s.phase r in
-    let d : (is_restarting s.phase && false) ≡ false = rw r refl in
-    other (is_aborting s.phase) _ _ a ∙ other (is_ended s.phase) _ _ e ∙ other (is_restarting s.phase && false) _ _ d
-    ∙ other (not (takes_restart s.phase)) _ _ (ap not t) ∙ ap (judged s (RS Restart n wishes octets)) (expected s n wishes octets x from)
+good_restart s n wishes octets x from = grind (arith, excluded, implied, other, expected)
 
 taken : (s : State) (n : ℕ) (wishes : TokenSetting) (octets : List ℕ) → HasAsked s → s.base ≤ n →
     after_restart s n wishes octets ≡ becomes s (RS Restart n wishes octets)

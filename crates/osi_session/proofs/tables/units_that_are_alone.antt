@@ -1,13 +1,12 @@
 -- Units that are alone in a TSDU: those of category 1 (X.225 section 6.3.7).
-use Rattle.std.proofs.Common.{◌≡◌, refl, subst, ℕ, Bool, true, false, not, ◌||◌, List, [], ◌∷◌, Option, Some, None, Result, Ok, Err}
-use Rattle.std.proofs.Common.{arith}
+use Rattle.std.proofs.Common.{◌≡◌, refl, subst, ℕ, Bool, true, false, not, ◌||◌, List, [], ◌∷◌, Option, Result, Ok, arith}
 use Rattle.osi_spdu.specs.declared.kinds.Category.{Category}
 use Rattle.osi_spdu.specs.Spelling.{AreBehind}
 use Rattle.osi_spdu.proofs.basics.the_steps_of_reading.{bind_ok, ok_is}
 use Rattle.osi_spdu.proofs.tsdu.units_and_tsdus_are_read.{behind_stands}
-use Rattle.osi_session.proofs.Vocabulary.{list_any, SpduFault, Kind, Zero, Two, category_of, Known, Contents, Units, Placed, unit_at}
-use Rattle.osi_session.proofs.Vocabulary.{contents_of, behind_at, ended, continued, tsdu_at, Meaning, DT, Place, meaning_by, meaning}
-use Rattle.osi_session.proofs.Vocabulary.{place_of, word_at, word, said_by_units, said_if_read, said_at, Word, Words, as_message}
+use Rattle.osi_session.proofs.Vocabulary.{list_any, SpduFault, Kind, Zero, Two, category_of, Known, Contents, Units, Placed, contents_of}
+use Rattle.osi_session.proofs.Vocabulary.{behind_at, ended, continued, tsdu_at, Meaning, DT, Place, meaning_by, meaning, place_of, word_at}
+use Rattle.osi_session.proofs.Vocabulary.{word, said_by_units, said_if_read, said_at, Word, Words, as_message}
 
 -- a test that passes no token item and no unit of category 2
 pub record StandsAlone (p : Meaning → Bool) : Type 0 where
@@ -31,8 +30,7 @@ none_passes a b h k = rw (h, k) refl
 
 word_passes : (p : Meaning → Bool) → StandsAlone p → (place : Option Place) (unit : Contents) → p (meaning unit) ≡ false →
     passes p (word_at place unit) ≡ false
-word_passes p a None unit h = h
-word_passes p a (Some place) unit h = a.plain unit.information
+word_passes p a place unit h = grind arith
 
 behind_word : (p : Meaning → Bool) → StandsAlone p → (unit : Contents) → category_of unit.kind ≡ Two → passes p (word unit) ≡ false
 unfolding word meaning
@@ -51,8 +49,7 @@ none_alone p words h0 = grind arith
 
 ended_alone : (p : Meaning → Bool) (at : ℕ) (octets : List ℕ) (unit : Contents) (units : Units) → ended at octets unit ≡ Ok units →
     IsAlone p units
-ended_alone p at [] unit units e = subst (IsAlone p) (ok_is (unit ∷ []) units e) refl
-ended_alone p at (b ∷ octets) unit units e = absurd (cc)
+ended_alone p at octets unit units e = grind (arith, ok_is)
 
 continued_alone : (p : Meaning → Bool) → StandsAlone p → (first : Placed) (units : Units) (category : Category)
     → category_of first.kind ≡ category → continued category first ≡ Ok units → IsAlone p units
@@ -66,15 +63,11 @@ continued_alone p a first units _ same e = ended_alone p first.end first.rest (c
 
 units_alone : (p : Meaning → Bool) → StandsAlone p → (octets : List ℕ) (units : Units) → tsdu_at octets ≡ Ok units → IsAlone p units
 unfolding tsdu_at
-units_alone p a octets units e =
-    let b = bind_ok (unit_at false 0 octets) (λ unit. continued (category_of unit.kind) unit) units e in
-    continued_alone p a b.0 units (category_of b.0.kind) refl b.2
+units_alone p a octets units e = grind (arith, bind_ok, continued_alone)
 
 read_alone : (p : Meaning → Bool) (read : Result Units SpduFault) (words : Words) → ((units : Units) → read ≡ Ok units → IsAlone p units)
     → said_if_read read ≡ Ok words → stands_alone p words ≡ true
-read_alone p (Ok units) words h e = let same : said_by_units units ≡ words =
-    cc in subst (λ (x : Words). stands_alone p x ≡ true) same (h units refl)
-read_alone p (Err fault) words h e = absurd (cc)
+read_alone p read words h e = grind arith
 
 -- the same for octets
 pub alone_in_octets : (p : Meaning → Bool) → StandsAlone p → (octets : List ℕ) (words : Words) → said_at octets ≡ Ok words →

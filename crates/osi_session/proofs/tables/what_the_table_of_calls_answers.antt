@@ -1,12 +1,10 @@
 -- The table of calls never returns `OutOfMemory`, and a call sends no more user data than fits.
-use Rattle.std.proofs.Common.{◌≡◌, refl, sym, ap, subst, ◌<◌, Bool, true, false, not, ◌&&◌, nat_le, List, [], ◌∷◌, length, Ok, Err, arith}
+use Rattle.std.proofs.Common.{◌≡◌, refl, sym, ap, subst, ◌<◌, Bool, true, false, nat_le, List, [], ◌∷◌, length, Ok, Err, arith}
 use Rattle.std.proofs.Common.{if◌then◌else◌}
 use Rattle.osi_session.specs.declared.faults.CallError.TheVariants as error
-use Rattle.osi_session.proofs.Vocabulary.{refusal_octets, leb-true, CallError, State, is_over, Call, Accept, Refuse, Data, Give, Please}
-use Rattle.osi_session.proofs.Vocabulary.{Minor, MinorConfirm, Major, MajorConfirm, Restart, RestartConfirm, Release, ReleaseAccept}
-use Rattle.osi_session.proofs.Vocabulary.{ReleaseRefuse, Abort, Test, Step, Answer, first_error, needs, may_call, octets_of, most_of, after}
-use Rattle.osi_session.proofs.Vocabulary.{sends, met, sized, allowed, fits_limit, is_memory, Refused, RefusedBy, Meaning, user_data_of}
-use Rattle.osi_session.proofs.Vocabulary.{called, Listener, react}
+use Rattle.osi_session.proofs.Vocabulary.{leb-true, CallError, State, is_over, Call, Test, Step, Answer, first_error, needs, may_call}
+use Rattle.osi_session.proofs.Vocabulary.{octets_of, most_of, after, sends, met, sized, allowed, fits_limit, is_memory, Refused, RefusedBy}
+use Rattle.osi_session.proofs.Vocabulary.{Meaning, user_data_of, called, Listener, react}
 use Rattle.osi_session.proofs.moves.the_move_of_each_input.{call_errs, call_passes}
 use Rattle.osi_session.proofs.tables.what_an_accepted_call_has_passed.{first_error_ok, passed}
 
@@ -16,13 +14,11 @@ AllNamed (t ∷ ts) = (is_memory t.1 ≡ false) × AllNamed ts
 
 if_named : (b : Bool) (a : Answer) (d e : CallError) → is_memory d ≡ false → (a ≡ Err e → is_memory e ≡ false)
     → (if b then a else Err d) ≡ Err e → is_memory e ≡ false
-if_named true a d e n k h = k h
-if_named false a d e n k h = let same : d ≡ e = cc in subst (λ (x : CallError). is_memory x ≡ false) same n
+if_named b a d e n k h = grind arith
 
 else_named : (b : Bool) (a : Answer) (d e : CallError) → is_memory d ≡ false → (a ≡ Err e → is_memory e ≡ false)
     → (if b then Err d else a) ≡ Err e → is_memory e ≡ false
-else_named false a d e n k h = k h
-else_named true a d e n k h = let same : d ≡ e = cc in subst (λ (x : CallError). is_memory x ≡ false) same n
+else_named b a d e n k h = grind arith
 
 tests_named : (ts : List Test) (a : Answer) (e : CallError) → AllNamed ts → (a ≡ Err e → is_memory e ≡ false)
     → first_error ts a ≡ Err e → is_memory e ≡ false
@@ -30,32 +26,18 @@ tests_named [] a e n k h = k h
 tests_named (t ∷ ts) a e n k h = if_named t.0 (first_error ts a) t.1 e n.0 (tests_named ts a e n.1 k) h
 
 needs_named : (s : State) (c : Call) → AllNamed (needs s c)
-needs_named s (Accept requirements serial sides sizes octets) = (refl, tt)
-needs_named s (Data octets) = (refl, (refl, tt))
-needs_named s (Give tokens) = (refl, (refl, (refl, tt)))
-needs_named s (Please tokens octets) = (refl, (refl, (refl, tt)))
-needs_named s (Minor confirm octets) = (refl, (refl, (refl, tt)))
-needs_named s (MinorConfirm n octets) = (refl, (refl, tt))
-needs_named s (Major octets) = (refl, (refl, (refl, tt)))
-needs_named s (Restart n wishes octets) = (refl, (refl, tt))
-needs_named s (Release octets) = (refl, tt)
-needs_named s (ReleaseRefuse octets) = (refl, tt)
-needs_named s _ = tt
+needs_named s c = grind arith
 
 met_named : (s : State) (c : Call) (e : CallError) → met s c ≡ Err e → is_memory e ≡ false
 unfolding met
 met_named s c e h = tests_named (needs s c) _ e (needs_named s c) (λ k. absurd (cc)) h
 
 sized_named : (fits : Bool) (a : Answer) (e : CallError) → (a ≡ Err e → is_memory e ≡ false) → sized fits a ≡ Err e → is_memory e ≡ false
-sized_named fits (Ok x) e k h = if_named fits (Ok x) error.TooLong e refl (λ l. absurd (cc)) h
-sized_named fits (Err d) e k h = k h
+sized_named fits a e k h = grind (arith, if_named)
 
 pub allowed_named : (s : State) (c : Call) (e : CallError) → allowed s c ≡ Err e → is_memory e ≡ false
 unfolding allowed
-allowed_named s c e h =
-    else_named (is_over s.phase) _ error.Ended e refl
-    (else_named (not (may_call s.phase c)) _ error.BadState e refl
-    (sized_named (nat_le (length (octets_of c)) (most_of c) && fits_limit s c (sends s c)) (met s c) e (met_named s c e))) h
+allowed_named s c e h = search (arith, else_named, sized_named, met_named)
 
 -- an error of the table is answered as it is
 pub refused : (s : Listener) (c : Call) (e : CallError) → allowed s.state c ≡ Err e → Refused e (react s (called c)).error
@@ -67,20 +49,7 @@ wanting s c x h = call_passes s c x h
 
 sends_short : (s : State) (c : Call) → nat_le (length (octets_of c)) (most_of c) ≡ true → length (user_data_of (sends s c)) < 65000
 unfolding user_data_of
-sends_short s (Accept requirements serial sides sizes octets) h = let k = leb-true (length octets) 10240 h in omega arith
-sends_short s (Refuse refusal) h = let k = leb-true (length (refusal_octets refusal)) 10240 h in omega arith
-sends_short s (Please tokens octets) h = let k = leb-true (length octets) 10240 h in omega arith
-sends_short s (Minor confirm octets) h = let k = leb-true (length octets) 10240 h in omega arith
-sends_short s (MinorConfirm n octets) h = let k = leb-true (length octets) 10240 h in omega arith
-sends_short s (Major octets) h = let k = leb-true (length octets) 10240 h in omega arith
-sends_short s (MajorConfirm octets) h = let k = leb-true (length octets) 10240 h in omega arith
-sends_short s (Restart n wishes octets) h = let k = leb-true (length octets) 10240 h in omega arith
-sends_short s (RestartConfirm sides octets) h = let k = leb-true (length octets) 10240 h in omega arith
-sends_short s (Release octets) h = let k = leb-true (length octets) 10240 h in omega arith
-sends_short s (ReleaseAccept octets) h = let k = leb-true (length octets) 10240 h in omega arith
-sends_short s (ReleaseRefuse octets) h = let k = leb-true (length octets) 10240 h in omega arith
-sends_short s (Abort octets) h = let k = leb-true (length octets) 10240 h in omega arith
-sends_short s _ h = omega arith
+sends_short s c h = grind (arith, leb-true)
 
 abbrev met_step : State → Call → Step
 met_step s c = record { next = after s c; sent = sends s c }

@@ -1,6 +1,6 @@
 -- A part if data is expected, and if it is discarded.
-use Rattle.std.proofs.Common.{◌≡◌, refl, sym, ◌∙◌, ap, ℕ, Bool, true, false, not, ◌⊎◌, if◌then◌else◌, nat_le, List, ◌++◌, length}
-use Rattle.std.proofs.Common.{Option, Some, None, arith}
+use Rattle.std.proofs.Common.{◌≡◌, refl, ◌∙◌, ap, ℕ, Bool, true, false, not, ◌⊎◌, if◌then◌else◌, nat_le, List, ◌++◌, length, Option, Some}
+use Rattle.std.proofs.Common.{None, arith}
 use Rattle.osi_session.proofs.Vocabulary.{State, Unexpected, TokenHeld, is_restarting, is_over, is_aborting, takes_data, most_data, nothing}
 use Rattle.osi_session.proofs.Vocabulary.{si, over, dropped, faulty, fine, by_fault, verdict, is_faulty, Place, DT, says, part}
 use Rattle.osi_session.proofs.Vocabulary.{joined_octets, is_in_place, word_verdict, heard, respond_word, discards, IsNoFault}
@@ -18,14 +18,10 @@ pub record Expects (s : State) : Type 0 where
 pub part_fine : (s : State) (joined : Option (List ℕ)) (place : Place) (o : List ℕ) → Expects s → is_in_place joined place ≡ true
     → nat_le (length (joined_octets joined ++ o)) most_data ≡ true →
     word_verdict (record { state = s; joined = joined }) (part place o) ≡ fine
-part_fine s joined place o e placed short =
-    let v = excluded takes_data is_over refl s.phase e.phase in let r = excluded takes_data is_restarting refl s.phase e.phase in
-    let x = e.phase in let t = e.token in rw (v, r, x, t, placed, short) refl
+part_fine s joined place o e placed short = grind (arith, excluded)
 
 pub data_fine : (s : State) (o : List ℕ) → Expects s → word_verdict (record { state = s; joined = None }) (says (DT o)) ≡ fine
-data_fine s o e =
-    let v = excluded takes_data is_over refl s.phase e.phase in let r = excluded takes_data is_restarting refl s.phase e.phase in
-    let x = e.phase in let t = e.token in rw (v, r, x, t) refl
+data_fine s o e = grind (arith, excluded)
 
 when_expected : (o : List ℕ) (x h : Bool) →
     is_faulty (if not x then faulty (Unexpected (si (DT o))) else by_fault (if not h then None else Some (TokenHeld (si (DT o))))) ≡ false →
@@ -39,15 +35,12 @@ at_phase s o v r = rw (v, r) refl
 
 -- if the whole data is no fault, and is not discarded, it is expected
 pub expects : (s : State) (o : List ℕ) → is_over s.phase ≡ false → is_restarting s.phase ≡ false → IsNoFault s o → Expects s
-expects s o v r h =
-    let z = when_expected o (takes_data s.phase) s.held.data_token (sym (ap is_faulty (at_phase s o v r)) ∙ h) in
-    record { phase = z.0; token = z.1 }
+expects s o v r h = grind (arith, when_expected, at_phase)
 
 -- ---- if it is discarded
 
 either_nothing : (b : Bool) (s : State) → (if b then nothing s else nothing s) ≡ nothing s
-either_nothing true s = refl
-either_nothing false s = refl
+either_nothing b s = grind arith
 
 part_over : (s : State) (place : Place) (o : List ℕ) → is_over s.phase ≡ true →
     respond_word (record { state = s; joined = None }) (part place o) ≡ heard None (nothing s)

@@ -1,11 +1,8 @@
 -- How many indications a TSDU has.
-use Rattle.std.proofs.Common.{sym, subst, ℕ, ◌+◌, ◌≤◌, Bool, true, false, List, [], ◌∷◌, ◌++◌, length}
-use Rattle.std.proofs.Common.{if◌then◌else◌, arith}
-use Rattle.osi_session.proofs.Vocabulary.{list_any, length-append, State, is_wait_cn, Meaning, CN}
-use Rattle.osi_session.proofs.Vocabulary.{RS, AB, AA, Word, Words, Taker, Hearing, word_verdict}
-use Rattle.osi_session.proofs.Vocabulary.{respond_word, respond_words, is_restart_word, acting_words, respond_tsdu, Shown, Outcome}
-use Rattle.osi_session.proofs.Vocabulary.{is_acceptable, stands, shown_for, in_aborting, in_ended, respond_unit, Verdict}
-use Rattle.osi_session.proofs.Vocabulary.{faulty, verdict, enacted, is_faulty}
+use Rattle.std.proofs.Common.{sym, subst, ℕ, ◌+◌, ◌≤◌, Bool, List, [], ◌∷◌, ◌++◌, length, if◌then◌else◌, arith}
+use Rattle.osi_session.proofs.Vocabulary.{length-append, State, Meaning, AA, Word, Words, Taker, Hearing, word_verdict, respond_word}
+use Rattle.osi_session.proofs.Vocabulary.{respond_words, acting_words, respond_tsdu, Shown, Outcome, shown_for, in_aborting, in_ended}
+use Rattle.osi_session.proofs.Vocabulary.{respond_unit, Verdict, faulty, verdict, enacted, is_faulty}
 use Rattle.osi_session.proofs.tables.the_verdict_on_a_unit.{enacts}
 use Rattle.osi_session.proofs.tables.a_word_acts_as_its_message.{word_does}
 
@@ -13,26 +10,19 @@ abbrev AtMost : ℕ → List Shown → Type 0
 AtMost n shown = length shown ≤ n
 
 either : (b : Bool) (n : ℕ) (x y : List Shown) → AtMost n x → AtMost n y → AtMost n (if b then x else y)
-either true n x y h k = h
-either false n x y h k = k
+either b n x y h k = grind arith
 
 either_shows : (b : Bool) (n : ℕ) (x y : Outcome) → AtMost n x.shown → AtMost n y.shown → AtMost n (if b then x else y).shown
-either_shows true n x y h k = h
-either_shows false n x y h k = k
+either_shows b n x y h k = grind arith
 
 good_shows : (s : State) (u : Meaning) → AtMost 1 (shown_for s u)
-good_shows s (CN version_2 requirements serial wishes from to sizes octets) =
-    either (is_acceptable version_2 requirements sizes) 1 _ _ (omega arith) (omega arith)
-good_shows s (RS kind n wishes octets) = either (stands s n) 1 _ _ (omega arith) (omega arith)
-good_shows s (AB bits octets) = either (is_wait_cn s.phase) 1 _ _ (omega arith) (omega arith)
-good_shows s _ = omega arith
+good_shows s u = grind (arith, either)
 
 aborting_shows : (s : State) (u : Meaning) → AtMost 1 (in_aborting s u).shown
 aborting_shows s u = grind arith
 
 ended_shows : (s : State) (u : Meaning) → AtMost 1 (in_ended s u).shown
-ended_shows s (AB bits octets) = omega arith
-ended_shows s _ = omega arith
+ended_shows s u = grind arith
 
 enacted_shows : (s : State) (u : Meaning) (v : Verdict) → AtMost 1 (enacted s u v).shown
 enacted_shows s u v = grind (arith, either_shows, aborting_shows, ended_shows, either, good_shows)
@@ -50,8 +40,7 @@ word_shows t w =
     (record { acts = λ u a. unit_shows t.state u; bad = λ fault o. enacted_shows t.state AA (faulty fault); rests = omega arith })
 
 either_heard : (b : Bool) (n : ℕ) (x y : Hearing) → AtMost n x.shown → AtMost n y.shown → AtMost n (if b then x else y).shown
-either_heard true n x y h k = h
-either_heard false n x y h k = k
+either_heard b n x y h k = grind arith
 
 all_show : (t : Taker) (ws : Words) → length (respond_words t ws).shown ≤ length ws
 unfolding respond_words
@@ -63,15 +52,11 @@ all_show t (w ∷ ws) =
     either_heard (is_faulty (word_verdict t w)) (length (w ∷ ws)) _ _ (omega arith) (omega arith)
 
 either_long : (b : Bool) (n : ℕ) (x y : Words) → length x ≤ n → length y ≤ n → length (if b then x else y) ≤ n
-either_long true n x y h k = h
-either_long false n x y h k = k
+either_long b n x y h k = grind arith
 
 acting_len : (words : Words) → length (acting_words words) ≤ length words
 unfolding acting_words
-acting_len [] = omega arith
-acting_len (first ∷ words) =
-    either_long (list_any is_restart_word words) (length (first ∷ words)) _ _ (omega arith)
-    (omega (arith, length-append words (first ∷ [])))
+acting_len words = grind (arith, either_long, length-append)
 
 -- and a TSDU at most one for each word
 pub words_show : (t : Taker) (words : Words) → length (respond_tsdu t words).shown ≤ length words

@@ -1,13 +1,11 @@
 -- If memory is needed for one word, it is needed for all: a word that indicates and sends nothing joins no less.
-use Rattle.std.proofs.Common.{◌≡◌, ◌∙◌, refl, sym, ap, subst, ℕ, ◌≤◌, ◌<◌, Bool, true, false, not, ◌&&◌, ◌||◌, if◌then◌else◌, nat_lt, List}
-use Rattle.std.proofs.Common.{[], ◌∷◌, ◌++◌, length, Option, Some, None, arith}
-use Rattle.osi_session.proofs.Vocabulary.{is_none, cases_Bool, and_parts, ltb-true, lt-ltb, length-append, are_sizes, UnitFault, Unexpected}
-use Rattle.osi_session.proofs.Vocabulary.{State, is_over, may_hold, nothing, becomes, good, bad, stands, is_nil, is_silent, first_reply}
-use Rattle.osi_session.proofs.Vocabulary.{Verdict, over, dropped, faulty, fine, by_fault, first_fault, is_faulty, drops, is_expected, si}
-use Rattle.osi_session.proofs.Vocabulary.{Shown, functional_units, has_data, Meaning, CN, DT, PT, RS}
-use Rattle.osi_session.proofs.Vocabulary.{AB, AA, First, Middle, Last, Word, Words, says, part, as_message, Taker, Hearing}
-use Rattle.osi_session.proofs.Vocabulary.{joined_octets, kept_in, word_conditions, word_verdict, heard, heard_then, respond_word}
-use Rattle.osi_session.proofs.Vocabulary.{respond_words, takes_room}
+use Rattle.std.proofs.Common.{◌≡◌, refl, sym, ap, subst, ℕ, ◌≤◌, ◌<◌, Bool, true, false, not, ◌&&◌, ◌||◌, if◌then◌else◌, nat_lt, List, []}
+use Rattle.std.proofs.Common.{◌∷◌, ◌++◌, length, Option, Some, None, arith}
+use Rattle.osi_session.proofs.Vocabulary.{is_none, cases_Bool, and_parts, ltb-true, lt-ltb, length-append, UnitFault, State, is_over}
+use Rattle.osi_session.proofs.Vocabulary.{may_hold, nothing, becomes, good, bad, is_nil, is_silent, first_reply, Verdict, over, dropped}
+use Rattle.osi_session.proofs.Vocabulary.{faulty, fine, by_fault, Shown, Meaning, First, Middle, Last, Word, Words, says, part, Taker}
+use Rattle.osi_session.proofs.Vocabulary.{Hearing, joined_octets, kept_in, word_verdict, heard, heard_then, respond_word, respond_words}
+use Rattle.osi_session.proofs.Vocabulary.{takes_room}
 use Rattle.osi_session.proofs.tsdu.the_effect_of_a_word.{fine_holds, first_is, middle_is, last_is, kept_held}
 use Rattle.osi_session.proofs.tsdu.what_is_joined.{InPhase}
 use Rattle.osi_session.proofs.tsdu.the_verdict_while_joining.{bad_loud}
@@ -23,43 +21,32 @@ size joined = length (joined_octets joined)
 -- ---- what needs memory
 
 takes_by : (q : Bool) (m n : ℕ) → (not q || nat_lt m n) ≡ true → q ≡ true → m < n
-takes_by true m n h k = ltb-true m n h
-takes_by false m n h k = absurd (cc)
+takes_by q m n h k = grind (arith, ltb-true)
 
 by_takes : (q : Bool) (m n : ℕ) → (q ≡ true → m < n) → (not q || nat_lt m n) ≡ true
-by_takes true m n h = lt-ltb m n (h refl)
-by_takes false m n h = refl
+by_takes q m n h = grind (arith, lt-ltb)
 
 none_after : (r t : Option Meaning) → is_none (first_reply r t) ≡ true → (is_none r ≡ true) × (is_none t ≡ true)
-none_after None t h = (refl, h)
-none_after (Some m) t h = absurd (cc)
+none_after r t h = grind arith
 
 nil_after : (a b : List Shown) → is_nil (a ++ b) ≡ true → (is_nil a ≡ true) × (is_nil b ≡ true)
 nil_after [] b h = (refl, h)
 nil_after (i ∷ a) b h = absurd (cc)
 
 both_true : (a b : Bool) → a ≡ true → b ≡ true → (a && b) ≡ true
-both_true true b h k = k
-both_true false b h k = absurd (cc)
+both_true a b h k = grind arith
 
 -- what is quiet together is quiet in each
 pub quiet_both : (a b : Hearing) → quiet (heard_then a b) ≡ true → (quiet a ≡ true) × (quiet b ≡ true)
-quiet_both a b h =
-    let p = and_parts (is_nil (a.shown ++ b.shown)) (is_none (first_reply a.reply b.reply)) h in
-    let s = nil_after a.shown b.shown p.0 in
-    let r = none_after a.reply b.reply p.1 in
-    (both_true (is_nil a.shown) (is_none a.reply) s.0 r.0, both_true (is_nil b.shown) (is_none b.reply) s.1 r.1)
+quiet_both a b h = grind (arith, and_parts, nil_after, none_after, both_true)
 
 pub takes_then : (j : Option (List ℕ)) (a b : Hearing) → takes_room j a ≡ true →
     (quiet b ≡ true → size a.next.joined ≤ size b.next.joined) → takes_room j (heard_then a b) ≡ true
-takes_then j a b h g = by_takes (quiet (heard_then a b)) (size j) (size b.next.joined)
-    (λ q. let p = quiet_both a b q in let x = takes_by (quiet a) (size j) (size a.next.joined) h p.0 in let y = g p.1 in omega arith)
+takes_then j a b h g = grind (arith, by_takes, quiet_both, takes_by)
 
 pub takes_behind : (j : Option (List ℕ)) (a b : Hearing) → (quiet a ≡ true → size j ≤ size a.next.joined) →
     takes_room a.next.joined b ≡ true → takes_room j (heard_then a b) ≡ true
-takes_behind j a b g h = by_takes (quiet (heard_then a b)) (size j) (size b.next.joined)
-    (λ q. let p = quiet_both a b q in let x = takes_by (quiet b) (size a.next.joined) (size b.next.joined) h p.1 in let y = g p.0 in
-    omega arith)
+takes_behind j a b g h = grind (arith, by_takes, quiet_both, takes_by)
 
 -- ---- a good unit that shows and sends nothing changes nothing
 
@@ -69,53 +56,35 @@ connect_quiet : (v d : Bool) (s a b : State) (i : Shown) (r t : Meaning) →
 connect_quiet v d s a b i r t h0 = grind arith
 
 restart_quiet : (b : Bool) (s a : State) (i : Shown) → (is_nil (if b then i ∷ [] else []) && true) ≡ true → (if b then a else s) ≡ s
-restart_quiet true s a i h = absurd (cc)
-restart_quiet false s a i h = refl
+restart_quiet b s a i h = grind arith
 
 not_both : (b : Bool) → (b && false) ≡ true → ⊥
-not_both true h = cc
-not_both false h = cc
+not_both b h = grind arith
 
 quiet_good : (s : State) (u : Meaning) → is_silent (good s u) ≡ true → becomes s u ≡ s
-quiet_good s (CN version_2 requirements serial wishes from to sizes octets) h =
-    connect_quiet version_2 (has_data (functional_units requirements) && are_sizes sizes) s _ _ _ _ _ h
-quiet_good s (DT octets) h = refl
-quiet_good s (PT tokens octets) h = refl
-quiet_good s (RS kind n wishes octets) h = restart_quiet (stands s n) s _ _ h
-quiet_good s (AB bits octets) h = absurd (not_both _ h)
-quiet_good s AA h = refl
-quiet_good s _ h = absurd (cc)
+quiet_good s u h = grind (arith, connect_quiet, restart_quiet, not_both)
 
 -- ---- a quiet word joins no less
 
 kept_size : (s next : State) (j : Option (List ℕ)) → kept_in s.phase j ≡ j → next ≡ s → size j ≤ size (kept_in next.phase j)
-kept_size s next j k e =
-    let p : kept_in next.phase j ≡ j = ap (λ (x : State). kept_in x.phase j) e ∙ k in
-    let q : size (kept_in next.phase j) ≡ size j = ap size p in omega arith
+kept_size s next j k e = grind arith
 
 gone : (b : Bool) → b ≡ false → not b ≡ true
-gone false h = refl
-gone true h = absurd (cc)
+gone b h = grind arith
 
 gone_size : (t : Taker) → InPhase t → is_over t.state.phase ≡ true → size t.joined ≡ 0
-gone_size t k o =
-    ap size (sym k ∙ kept_gone t.state.phase t.joined (gone (may_hold t.state.phase) (excluded is_over may_hold refl t.state.phase o)))
+gone_size t k o = grind (arith, kept_gone, gone, excluded)
 
 early_grows : (t : Taker) (w : Word) (octets : List ℕ) → may_hold t.state.phase ≡ true →
     respond_word t w ≡ heard (Some (joined_octets t.joined ++ octets)) (nothing t.state)
     → size t.joined ≤ size (respond_word t w).next.joined
-early_grows t w octets m e =
-    let p : size (respond_word t w).next.joined ≡ length (joined_octets t.joined ++ octets)
-    = ap (λ (h : Hearing). size h.next.joined) e ∙ ap size (kept_held t.state.phase (Some (joined_octets t.joined ++ octets)) m) in
-    let n = length-append (joined_octets t.joined) octets in omega arith
+early_grows t w octets m e = grind (arith, kept_held, length-append)
 
 abbrev Grows : Option (List ℕ) → Hearing → Type 0
 Grows j h = quiet h ≡ true → size j ≤ size h.next.joined
 
 fine_grows : (t : Taker) (w : Word) → InPhase t → word_verdict t w ≡ fine → Grows t.joined (respond_word t w)
-fine_grows t (says u) k e =
-    subst (Grows t.joined) (sym (word_at t (says u) fine e))
-    (λ q. kept_size t.state (becomes t.state u) t.joined k (quiet_good t.state u q))
+fine_grows t (says u) k e = grind (arith, kept_size, quiet_good, word_at t (says u) fine e)
 fine_grows t (part First octets) k e = λ q. early_grows t (part First octets) octets (fine_holds t First octets e) (first_is t octets e)
 fine_grows t (part Middle octets) k e = λ q. early_grows t (part Middle octets) octets (fine_holds t Middle octets e) (middle_is t octets e)
 fine_grows t (part Last octets) k e = subst (Grows t.joined) (sym (last_is t octets e)) (λ q. absurd (cc))
@@ -129,10 +98,7 @@ loud_or s fault h = let k = bad_loud s fault in cc
 
 live_grows : (t : Taker) (w : Word) (v : Verdict) → InPhase t → is_over t.state.phase ≡ false → word_verdict t w ≡ v →
     Grows t.joined (respond_word t w)
-live_grows t w over k o e =
-    let b = over_by (is_over t.state.phase) (drops t.state (as_message w)) (is_expected t.state.phase (as_message w))
-    (Unexpected (si (as_message w)))
-    (first_fault (si (as_message w)) (word_conditions t w)) e in λ q. absurd (cc)
+live_grows t w over k o e = grind (arith, over_by)
 live_grows t w dropped k o e = subst (Grows t.joined) (sym (word_at t w dropped e)) (λ q. kept_size t.state t.state t.joined k refl)
 live_grows t w (faulty fault) k o e = subst (Grows t.joined) (sym (word_at t w (faulty fault) e)) (λ q. absurd (loud_or t.state fault q))
 live_grows t w fine k o e = fine_grows t w k e
@@ -148,32 +114,22 @@ both_grow : (j : Option (List ℕ)) (a b : Hearing) → Grows j a → Grows a.ne
 both_grow j a b g h = λ q. let p = quiet_both a b q in let x = g p.0 in let y = h p.1 in omega arith
 
 either_grows : (c : Bool) (j : Option (List ℕ)) (a b : Hearing) → Grows j a → Grows j b → Grows j (if c then a else b)
-either_grows true j a b g h = g
-either_grows false j a b g h = h
+either_grows c j a b g h = grind arith
 
 words_grow : (t : Taker) (ws : Words) → InPhase t → Grows t.joined (respond_words t ws)
 unfolding respond_words
 words_grow t [] k = λ q. omega arith
 words_grow t (w ∷ ws) k =
-    either_grows (is_faulty (word_verdict t w)) t.joined (respond_word t w)
-    (heard_then (respond_word t w) (respond_words (respond_word t w).next ws))
-    (word_grows t w k)
-    (both_grow t.joined (respond_word t w) (respond_words (respond_word t w).next ws) (word_grows t w k)
-    (words_grow (respond_word t w).next ws (word_in_phase t w)))
+    search (arith, either_grows, word_grows, both_grow, word_in_phase, words_grow (respond_word t w).next ws (word_in_phase t w))
 
 either_takes : (c : Bool) (j : Option (List ℕ)) (a b : Hearing) → takes_room j a ≡ true → takes_room j b ≡ true →
     takes_room j (if c then a else b) ≡ true
-either_takes true j a b g h = g
-either_takes false j a b g h = h
+either_takes c j a b g h = grind arith
 
 pub word_takes : (t : Taker) (w : Word) (ws : Words) → takes_room t.joined (respond_word t w) ≡ true →
     takes_room t.joined (respond_words t (w ∷ ws)) ≡ true
 unfolding respond_words
-word_takes t w ws h =
-    either_takes (is_faulty (word_verdict t w)) t.joined (respond_word t w)
-    (heard_then (respond_word t w) (respond_words (respond_word t w).next ws))
-    h (takes_then t.joined (respond_word t w) (respond_words (respond_word t w).next ws) h
-    (words_grow (respond_word t w).next ws (word_in_phase t w)))
+word_takes t w ws h = search (arith, either_takes, takes_then, words_grow (respond_word t w).next ws (word_in_phase t w), word_in_phase t w)
 
 -- ---- so far
 
@@ -187,5 +143,4 @@ pub none_so_far : (t : Taker) (h : Hearing) → h ≡ record { next = t; shown =
 none_so_far t h e k = subst (SoFar t.joined) (sym e) (record { grows = λ q. omega arith; phase = k })
 
 pub word_so_far : (j : Option (List ℕ)) (h : Hearing) (w : Word) → SoFar j h → SoFar j (heard_then h (respond_word h.next w))
-word_so_far j h w s =
-    record { grows = both_grow j h (respond_word h.next w) s.grows (word_grows h.next w s.phase); phase = word_in_phase h.next w }
+word_so_far j h w s = search (arith, both_grow, word_grows, word_in_phase)

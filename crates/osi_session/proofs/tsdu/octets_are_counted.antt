@@ -5,13 +5,11 @@ use Rattle.osi_session.specs.declared.joining.PartVerdict.TheVariants as is
 use Rattle.osi_session.specs.Counting.{no_octets, count_by, count_by_idle, taker_with, Counts, CountsAll, CountsCame}
 use Rattle.osi_session.specs.Standing.{Count, counted}
 use Rattle.osi_session.proofs.Vocabulary.{SpduFault, respond_fault, Words, first_reply, replies_abort, heard_then, idle, is_restart_word}
-use Rattle.osi_session.proofs.Vocabulary.{respond_tsdu, length-append, le-leb, leb-true, State, UnitFault, Unexpected, TokenHeld}
-use Rattle.osi_session.proofs.Vocabulary.{Taker, respond_came}
-use Rattle.osi_session.proofs.Vocabulary.{BadEnclosure, DataTooLong, most_data, is_over, is_restarting, takes_data, nothing, bad, Outcome}
-use Rattle.osi_session.proofs.Vocabulary.{Verdict, over, dropped, faulty, fine, by_fault, is_faulty, enacted, first_fault, conditions}
-use Rattle.osi_session.proofs.Vocabulary.{is_expected, drops, si, Hearing, joined_octets, drops_parts, begins_anew, is_in_place, is_last}
-use Rattle.osi_session.proofs.Vocabulary.{word_verdict, heard, respond_word, told_of, Meaning, DT, Place, First, Middle, Last, Word, says}
-use Rattle.osi_session.proofs.Vocabulary.{part}
+use Rattle.osi_session.proofs.Vocabulary.{respond_tsdu, length-append, le-leb, leb-true, State, UnitFault, Unexpected, TokenHeld, Taker}
+use Rattle.osi_session.proofs.Vocabulary.{respond_came, BadEnclosure, DataTooLong, most_data, is_over, is_restarting, takes_data, nothing}
+use Rattle.osi_session.proofs.Vocabulary.{bad, Outcome, Verdict, over, dropped, faulty, fine, is_faulty, enacted, si, Hearing}
+use Rattle.osi_session.proofs.Vocabulary.{joined_octets, is_in_place, is_last, word_verdict, heard, respond_word, told_of, Meaning, DT}
+use Rattle.osi_session.proofs.Vocabulary.{Place, Word, says, part}
 use Rattle.osi_session.proofs.tsdu.the_verdict_while_joining.{part_verdict}
 use Rattle.osi_session.proofs.tsdu.words_one_after_the_other.{Leads, tsdu_begins, goes_on, stops, ends_restarted, ends_with_item}
 use Rattle.osi_session.proofs.tsdu.the_effect_of_a_word.{word_told, message_is, part_dropped, part_bad, first_is, middle_is, last_is}
@@ -20,38 +18,27 @@ use Rattle.osi_session.proofs.tsdu.the_effect_of_a_word.{word_told, message_is, 
 
 kept_map : (b : Bool) (j : Option (List ℕ)) →
     option_map length (if◌then◌else◌ {A = Option (List ℕ)} b None j) ≡ (if◌then◌else◌ {A = Option ℕ} b None (option_map length j))
-kept_map true j = refl
-kept_map false j = refl
+kept_map b j = grind arith
 
 pub heard_counted : (j : Option (List ℕ)) (o : Outcome) → counted (heard j o) ≡ count_by (option_map length j) o
-heard_counted j o = let k = kept_map (drops_parts o.next.phase) j in
-    λ i. record { state = o.next; joined = k i; reply = o.reply; closes = o.closes }
+heard_counted j o = grind (arith, kept_map)
 
 -- this many octets are joined
 heard_so_many : (j : Option (List ℕ)) (n : Option ℕ) (o : Outcome) → option_map length j ≡ n → counted (heard j o) ≡ count_by n o
 heard_so_many j n o e = heard_counted j o ∙ ap (λ (m : Option ℕ). count_by m o) e
 
 none_same : (j : Option (List ℕ)) (n : Option ℕ) → option_map length j ≡ n → is_none j ≡ is_none (no_octets n)
-none_same None None e = refl
-none_same (Some x) (Some n) e = refl
-none_same None (Some n) e = absurd (cc)
-none_same (Some x) None e = absurd (cc)
+none_same j n e = grind arith
 
 -- ---- a message
 
 verdict_same : (s : State) (j k : Option (List ℕ)) (u : Meaning) → is_none j ≡ is_none k →
     word_verdict (taker_with s j) (says u) ≡ word_verdict (taker_with s k) (says u)
-verdict_same s j k u e =
-    ap (λ (b : Bool). if is_over s.phase then over else if drops s u then dropped else if not (is_expected s.phase u) then
-    faulty (Unexpected (si u))
-    else by_fault (first_fault (si u) (conditions s u ++ (b || not (begins_anew u), BadEnclosure) ∷ []))) e
+verdict_same s j k u e = grind arith
 
 pub message_counts : (s : State) (n : Option ℕ) (k : Option (List ℕ)) (u : Meaning) (o : Outcome) (c : Count) → k ≡ no_octets n
     → enacted s u (word_verdict (taker_with s k) (says u)) ≡ o → c ≡ count_by n o → Counts s n (says u) c
-message_counts s n k u o c e h d = λ j f.
-    ap counted (message_is (taker_with s j) u)
-    ∙ ap (λ (v : Verdict). counted (heard j (enacted s u v))) (verdict_same s j k u (none_same j n f ∙ ap is_none (sym e)))
-    ∙ ap (λ (x : Outcome). counted (heard j x)) h ∙ heard_so_many j n o f ∙ sym d
+message_counts s n k u o c e h d = grind (arith, message_is, verdict_same, none_same, heard_so_many)
 
 -- ---- a part
 
@@ -75,15 +62,7 @@ long_by : (n : ℕ) (v r e h p a b : Bool) → a ≡ false → is.Good ≡ told_
 long_by n v r e h p a b h0 h1 = grind arith
 
 place_same : (j k : Option (List ℕ)) (place : Place) → is_none j ≡ is_none k → is_in_place j place ≡ is_in_place k place
-place_same j k First e = e
-place_same None None Middle e = refl
-place_same (Some x) (Some y) Middle e = refl
-place_same None (Some y) Middle e = absurd (cc)
-place_same (Some x) None Middle e = absurd (cc)
-place_same None None Last e = refl
-place_same (Some x) (Some y) Last e = refl
-place_same None (Some y) Last e = absurd (cc)
-place_same (Some x) None Last e = absurd (cc)
+place_same j k place e = grind arith
 
 -- whether what a part leaves fits
 abbrev fits : Option (List ℕ) → List ℕ → Bool
@@ -99,39 +78,24 @@ by_place s k place o b = part_by (si (DT o)) (is_over s.phase) (is_restarting s.
 
 verdict_at : (s : State) (j k : Option (List ℕ)) (place : Place) (o : List ℕ) → is_none j ≡ is_none k →
     told_at s j place o ≡ by_place s k place o (fits j o)
-verdict_at s j k place o e =
-    part_verdict (taker_with s j) place o
-    ∙ ap (λ (p : Bool). part_by (si (DT o)) (is_over s.phase) (is_restarting s.phase) (takes_data s.phase) s.held.data_token p (fits j o))
-    (place_same j k place e)
+verdict_at s j k place o e = grind (arith, part_verdict, place_same)
 
 len_of : (j : Option (List ℕ)) (n : Option ℕ) (o : List ℕ) → option_map length j ≡ n →
     length (joined_octets j ++ o) ≡ unwrap_or n 0 + length o
-len_of None None o e = grind arith
-len_of (Some x) (Some n) o e = let f : length x ≡ n = cc in length-append x o ∙ ap (λ (m : ℕ). m + length o) f
-len_of None (Some n) o e = absurd (cc)
-len_of (Some x) None o e = absurd (cc)
+len_of j n o e = grind (arith, length-append)
 
 none_len : (n : Option ℕ) (o : List ℕ) → length (joined_octets (no_octets n) ++ o) ≡ length o
-none_len None o = refl
-none_len (Some n) o = refl
+none_len n o = grind arith
 
 not_leb : (a b m : ℕ) → b ≤ a → nat_le b m ≡ false → nat_le a m ≡ false
 not_leb a b m h e = grind (arith, leb-true)
 
 shorter : (j : Option (List ℕ)) (n : Option ℕ) (o : List ℕ) → option_map length j ≡ n → fits (no_octets n) o ≡ false → fits j o ≡ false
-shorter j n o e h =
-    let a = len_of j n o e in let b = none_len n o in
-    not_leb (length (joined_octets j ++ o)) (length (joined_octets (no_octets n) ++ o)) most_data (omega arith) h
+shorter j n o e h = grind (arith, len_of, none_len, not_leb)
 
 pub dropped_counts : (s : State) (n : Option ℕ) (k : Option (List ℕ)) (place : Place) (o : List ℕ) (c : Count) → k ≡ no_octets n
     → is.Dropped ≡ told_of (word_verdict (taker_with s k) (part place o)) → c ≡ count_by n (nothing s) → Counts s n (part place o) c
-dropped_counts s n k place o c e h d = λ j f.
-    let same = none_same j n f ∙ ap is_none (sym e) in
-    let told = dropped_by (si (DT o)) (is_over s.phase) (is_restarting s.phase) (takes_data s.phase) s.held.data_token (is_in_place k place)
-    (fits j o) (fits k o)
-    (h ∙ ap told_of (verdict_at s k k place o refl)) in
-    ap counted (part_dropped (taker_with s j) place o (told ∙ ap told_of (sym (verdict_at s j k place o same)))) ∙
-    heard_so_many j n (nothing s) f ∙ sym d
+dropped_counts s n k place o c e h d = grind (arith, none_same, dropped_by, verdict_at, part_dropped, heard_so_many)
 
 pub bad_counts : (s : State) (n : Option ℕ) (k : Option (List ℕ)) (place : Place) (o : List ℕ) (fault : UnitFault) (c : Count) →
     k ≡ no_octets n
@@ -166,23 +130,13 @@ left_of : (s : State) (j : Option (List ℕ)) (n : Option ℕ) (place : Place) (
     word_verdict (taker_with s j) (part place o) ≡ fine
     → total ≡ unwrap_or n 0 + length o →
     counted (respond_word (taker_with s j) (part place o)) ≡ count_by (if is_last place then None else Some total) (nothing s)
-left_of s j n First o total f v t = ap counted (first_is (taker_with s j) o v) ∙ heard_so_many (Some (joined_octets j ++ o)) (Some total)
-    (nothing s) (ap Some (len_of j n o f ∙ sym t))
-left_of s j n Middle o total f v t = ap counted (middle_is (taker_with s j) o v) ∙ heard_so_many (Some (joined_octets j ++ o)) (Some total)
-    (nothing s) (ap Some (len_of j n o f ∙ sym t))
-left_of s j n Last o total f v t = ap counted (last_is (taker_with s j) o v) ∙ heard_counted None (nothing s)
+left_of s j n place o total f v t = grind (arith, first_is, heard_so_many, len_of, middle_is, last_is, heard_counted)
 
 pub good_counts : (s : State) (n : Option ℕ) (k : Option (List ℕ)) (place : Place) (o : List ℕ) (total : ℕ) (c : Count) → k ≡ no_octets n
     → is.Good ≡ told_of (word_verdict (taker_with s k) (part place o)) → unwrap_or n 0 + length o ≤ most_data →
     total ≡ unwrap_or n 0 + length o
     → c ≡ count_by (if is_last place then None else Some total) (nothing s) → Counts s n (part place o) c
-good_counts s n k place o total c e h l t d = λ j f.
-    let same = none_same j n f ∙ ap is_none (sym e) in
-    let short : fits j o ≡ true = rw (len_of j n o f) (le-leb (unwrap_or n 0 + length o) most_data l) in
-    let told = fine_by (si (DT o)) (is_over s.phase) (is_restarting s.phase) (takes_data s.phase) s.held.data_token (is_in_place k place)
-    (fits j o) (fits k o) short
-    (h ∙ ap told_of (verdict_at s k k place o refl)) in
-    left_of s j n place o total f (verdict_at s j k place o same ∙ told) t ∙ sym d
+good_counts s n k place o total c e h l t d = grind (arith, none_same, len_of, le-leb, unwrap_or, fine_by, verdict_at, left_of)
 
 -- ---- words one after the other
 
@@ -191,8 +145,7 @@ abbrev pub count_then : Count → Count → Count
 count_then a b = record { state = b.state; joined = b.joined; reply = first_reply a.reply b.reply; closes = a.closes || b.closes }
 
 here : (s c : Count) (w : Word) (h : Hearing) → Counts s.state s.joined w c → counted h ≡ s → counted (respond_word h.next w) ≡ c
-here s c w h k e =
-    let now = subst (λ (x : Count). Counts x.state x.joined w c) (sym e) k in now h.next.joined refl
+here s c w h k e = grind arith
 
 pub then_bad : (s c : Count) (w : Word) (b : Bool) → Counts s.state s.joined w c → b ≡ replies_abort c.reply → (h : Hearing) →
     counted h ≡ s → b ≡ is_faulty (word_verdict h.next w)
@@ -230,9 +183,7 @@ walks_begin s n c item first us units e i b = λ j f. record {
 pub walks_turn : (s : State) (n : Option ℕ) (words : Words) (c : Count) (restarts : Bool) (item u v : Word) (us units : Words) →
     WalksAll s n words c restarts item us
     → us ≡ v ∷ units → u ≡ v → WalksAll s n words c restarts item (u ∷ units)
-walks_turn s n words c restarts item u v us units w e i =
-    subst (λ (x : Word). WalksAll s n words c restarts item (x ∷ units)) (sym i)
-    (subst (λ (xs : Words). WalksAll s n words c restarts item xs) e w)
+walks_turn s n words c restarts item u v us units w e i = grind arith
 
 abbrev pub Tells : Count → Word → Bool → Type 0
 Tells c w b = (h : Hearing) → counted h ≡ c → b ≡ is_faulty (word_verdict h.next w)
@@ -275,11 +226,7 @@ walks_restarted s n words c restarts item us w e r = λ j f.
 pub walks_item : (s : State) (n : Option ℕ) (words : Words) (c next : Count) (restarts : Bool) (item : Word) (us : Words) →
     WalksAll s n words c restarts item us
     → us ≡ [] → restarts ≡ false → LeavesBehind c item next → CountsAll s n words next
-walks_item s n words c next restarts item us w e r l = λ j f.
-    let x = w j f in
-    let leads = subst (λ (y : Bool). Leads (respond_tsdu (taker_with s j) words) x.heard y item []) r
-    (subst (λ (xs : Words). Leads (respond_tsdu (taker_with s j) words) x.heard restarts item xs) e x.leads) in
-    ap counted (sym (ends_with_item (respond_tsdu (taker_with s j) words) x.heard item leads)) ∙ l x.heard x.counts
+walks_item s n words c next restarts item us w e r l = grind (arith, ends_with_item)
 
 -- ---- a TSDU
 
@@ -295,5 +242,4 @@ counts_alone s n came w c acts counts = λ j e. ap counted (acts (taker_with s j
 -- and so has a TSDU of units
 pub counts_lone : (s : State) (n : Option ℕ) (words : Words) (w v : Word) (c : Count) →
     ((t : Taker) → respond_tsdu t words ≡ respond_word t v) → w ≡ v → Counts s n w c → CountsAll s n words c
-counts_lone s n words w v c acts e counts =
-    λ j h. ap counted (acts (taker_with s j) ∙ ap (respond_word (taker_with s j)) (sym e)) ∙ counts j h
+counts_lone s n words w v c acts e counts = grind arith

@@ -1,13 +1,12 @@
 -- The parts of one Data, with calls of their taker between, and the whole Data after the calls alone.
 use Rattle.std.proofs.Common.{◌≡◌, refl, sym, ◌∙◌, ap, subst, ℕ, ◌≤◌, true, false, not, ◌&&◌, ◌⊎◌, List, [], ◌∷◌, ◌++◌, length}
 use Rattle.std.proofs.Common.{map, Option, Some, None, Result, Ok, Err, inl, inr, arith}
-use Rattle.osi_session.proofs.Vocabulary.{cases_Bool, and_parts, length-append, SpduFault, State, Phase, is_answering, is_major_due}
-use Rattle.osi_session.proofs.Vocabulary.{is_restart_due, is_release_due, takes_data, most_data, Step, Answer}
-use Rattle.osi_session.proofs.Vocabulary.{allowed, needs, may_call, after, has_right, AllHold, Call, Accept, Data, Give, Please}
-use Rattle.osi_session.proofs.Vocabulary.{Minor, MinorConfirm, Major, MajorConfirm, RestartConfirm, Release}
-use Rattle.osi_session.proofs.Vocabulary.{ReleaseRefuse, available, FunctionalUnits, Tokens, Place, First, Middle, Last, Meaning, DT}
-use Rattle.osi_session.proofs.Vocabulary.{GT, said_at, IsSendable, words_of, no_token, without, Words, says, part, part_octets}
-use Rattle.osi_session.proofs.Vocabulary.{written, user_data_of, drops_parts, kept_in, respond_word, discards, IsNoFault, Input, called}
+use Rattle.osi_session.proofs.Vocabulary.{cases_Bool, and_parts, length-append, SpduFault, State, is_major_due, is_restart_due}
+use Rattle.osi_session.proofs.Vocabulary.{is_release_due, takes_data, most_data, Step, Answer, allowed, needs, may_call, after, has_right}
+use Rattle.osi_session.proofs.Vocabulary.{AllHold, Call, Accept, Data, Give, Please, Minor, MinorConfirm, Major, MajorConfirm}
+use Rattle.osi_session.proofs.Vocabulary.{RestartConfirm, Release, ReleaseRefuse, available, FunctionalUnits, Tokens, Place, First, Middle}
+use Rattle.osi_session.proofs.Vocabulary.{Last, Meaning, DT, GT, said_at, IsSendable, words_of, no_token, without, Words, says, part}
+use Rattle.osi_session.proofs.Vocabulary.{part_octets, written, user_data_of, kept_in, respond_word, discards, IsNoFault, Input, called}
 use Rattle.osi_session.proofs.Vocabulary.{taken, came, came_as, Listener, Move, rests, moved, answered, react, after_input, after_inputs}
 use Rattle.osi_session.proofs.Vocabulary.{Act, comes, calls, part_comes, act_in_words, act_in_octets, calls_in, AreParts, AreAlike}
 use Rattle.osi_session.proofs.Vocabulary.{AreSilent, IsOfProfile, HasProfile}
@@ -46,8 +45,7 @@ unfolding without
 given_away held tokens h = rw h refl
 
 after_leaves : (s : State) (c : Call) → may_call s.phase c ≡ true → AllHold (needs s c) → Awaits s → Leaves (after s c)
-after_leaves s (Accept requirements serial sides sizes octets) m n a =
-    absurd (let z = excluded takes_data is_answering refl s.phase a.expects.phase in cc)
+after_leaves s (Accept requirements serial sides sizes octets) m n a = grind (arith, excluded)
 after_leaves s (Data octets) m n a = inl a
 after_leaves s (Give tokens) m n a = still s _ refl a.expects.phase (given_away s.held tokens a.expects.token) a.profile
 after_leaves s (Please tokens octets) m n a = inl a
@@ -86,24 +84,14 @@ record CallStep (s : State) (waiting : Option Meaning) (joined begun : Option (L
 
 call_alike : (s : State) (waiting : Option Meaning) (joined : Option (List ℕ)) (answer : Answer) →
     AreAlike (answered (at s waiting joined) answer) (answered (at s waiting None) answer)
-call_alike s waiting joined (Ok x) = record { shown = refl; reply = refl; closes = refl; error = refl }
-call_alike s waiting joined (Err e) = record { shown = refl; reply = refl; closes = refl; error = refl }
+call_alike s waiting joined answer = grind arith
 
 alike_is : (s : State) (waiting : Option Meaning) (joined : Option (List ℕ)) (c : Call) (answer : Answer) → allowed s c ≡ answer →
     AreAlike (react (at s waiting joined) (called c)) (react (at s waiting None) (called c))
-alike_is s waiting joined c answer e =
-    subst (λ (m : Move). AreAlike m (react (at s waiting None) (called c))) (sym (call_is (at s waiting joined) c answer e))
-    (subst (AreAlike (answered (at s waiting joined) answer)) (sym (call_is (at s waiting None) c answer e))
-    (call_alike s waiting joined answer))
+alike_is s waiting joined c answer e = grind (arith, call_is, call_alike)
 
 leaves_stands : (s : State) (joined begun : Option (List ℕ)) → joined ≡ begun → Leaves s → Stands s (kept_in s.phase joined) begun
-leaves_stands s joined begun e h = elim h [
-  | inl a ↦ inl (a, expected_keeps s joined a.expects ∙ e)
-  | inr d ↦ inr (d, gone s.phase joined d)
-]
-  where
-    gone : (p : Phase) (joined : Option (List ℕ)) → discards p ≡ true → kept_in p joined ≡ None
-    gone p joined d = kept_gone p joined (implied discards drops_parts refl p d)
+leaves_stands s joined begun e h = grind (arith, expected_keeps, kept_gone, implied)
 
 stands_then : (s : State) (joined begun : Option (List ℕ)) (c : Call) (x : Step) → allowed s c ≡ Ok x → Stands s joined begun →
     Stands x.next (kept_in x.next.phase joined) begun
@@ -122,24 +110,14 @@ call_step s waiting joined begun c (Ok x) e st = record {
   alike = alike_is s waiting joined c (Ok x) e;
   stands = stands_then s joined begun c x e st;
 }
-call_step s waiting joined begun c (Err f) e st = record {
-  state = s;
-  now = joined;
-  is = ap (λ (m : Move). m.next) (call_is (at s waiting joined) c (Err f) e);
-  whole = ap (λ (m : Move). m.next) (call_is (at s waiting None) c (Err f) e);
-  alike = alike_is s waiting joined c (Err f) e;
-  stands = st;
-}
+call_step s waiting joined begun c (Err f) e st = grind (arith, call_is, alike_is)
 
 -- ---- a part of it
 
 part_moves : (s : State) (waiting : Option Meaning) (joined : Option (List ℕ)) (place : Place) (o : List ℕ) →
     react (at s waiting joined) (part_comes place o) ≡ moved (at s waiting joined)
     (respond_word (record { state = s; joined = joined }) (part place o))
-part_moves s waiting joined place o =
-    taken_is (at s waiting joined) (says (GT no_token) ∷ part place o ∷ [])
-    (respond_word (record { state = s; joined = joined }) (part place o))
-    (word_behind (record { state = s; joined = joined }) (part place o))
+part_moves s waiting joined place o = grind (arith, taken_is, word_behind)
 
 part_rests : (s : State) (waiting : Option Meaning) (joined now : Option (List ℕ)) (place : Place) (o : List ℕ) →
     Joins s joined (part place o) now →
@@ -155,9 +133,7 @@ record PartStep (s : State) (waiting : Option Meaning) (joined : Option (List �
 discarded_step : (s : State) (waiting : Option Meaning) (joined : Option (List ℕ)) (place : Place) (o : List ℕ) (begun : Option (List ℕ)) →
     discards s.phase ≡ true → joined ≡ None →
     PartStep s waiting joined place o begun
-discarded_step s waiting joined place o begun d e =
-    subst (λ (k : Option (List ℕ)). PartStep s waiting k place o begun) (sym e)
-    (record { now = None; is = part_rests s waiting None None place o (discarded_is s place o d); stands = inr (d, refl) })
+discarded_step s waiting joined place o begun d e = grind (arith, part_rests, discarded_is)
 
 first_step : (s : State) (waiting : Option Meaning) (joined : Option (List ℕ)) (o : List ℕ) → length o ≤ most_data → Stands s joined None →
     PartStep s waiting joined First o (Some o)
@@ -186,8 +162,7 @@ whole_comes octets = taken (words_of (DT octets))
 
 whole_moves : (s : State) (waiting : Option Meaning) (o : List ℕ) →
     react (at s waiting None) (whole_comes o) ≡ moved (at s waiting None) (respond_word (record { state = s; joined = None }) (says (DT o)))
-whole_moves s waiting o = taken_is (at s waiting None) (words_of (DT o)) (respond_word (record { state = s; joined = None }) (says (DT o)))
-    (words_of_message (record { state = s; joined = None }) (DT o))
+whole_moves s waiting o = grind (arith, taken_is, words_of_message)
 
 last_word : (s : State) (joined : Option (List ℕ)) (front last : List ℕ) → Stands s joined (Some front) →
     length (front ++ last) ≤ most_data →
@@ -198,10 +173,7 @@ last_word s joined front last h0 h1 = grind (arith, last_joined, expects, last_d
 last_moves : (s : State) (waiting : Option Meaning) (joined : Option (List ℕ)) (front last : List ℕ) → Stands s joined (Some front) →
     length (front ++ last) ≤ most_data →
     react (at s waiting joined) (part_comes Last last) ≡ react (at s waiting None) (whole_comes (front ++ last))
-last_moves s waiting joined front last st short =
-    part_moves s waiting joined Last last
-    ∙ ap (moved (at s waiting None)) (last_word s joined front last st short)
-    ∙ sym (whole_moves s waiting (front ++ last))
+last_moves s waiting joined front last st short = grind (arith, part_moves, last_word, whole_moves)
 
 -- ---- all of them
 
@@ -212,8 +184,7 @@ some_is a b h = cc
 grows : (acts : List Act) (b front : List ℕ) → AreParts (Some b) acts front → length b ≤ length front
 grows [] b front h = let e : b ≡ front = some_is b front h in let l = ap length e in omega arith
 grows (calls c ∷ acts) b front h = grows acts b front h
-grows (comes Middle o ∷ acts) b front h =
-    let g = grows acts (b ++ o) front h in let l = length-append b o in omega arith
+grows (comes Middle o ∷ acts) b front h = grind (arith, length-append, grows acts (b ++ o) front h)
 grows _ b front h = absurd h
 
 runs : (s : State) (waiting : Option Meaning) (joined begun : Option (List ℕ)) (acts : List Act) (front last : List ℕ) →
@@ -257,9 +228,7 @@ pub parts_do_as_whole : (l : Listener) (acts : List Act) (front last : List ℕ)
     length (front ++ last) ≤ most_data → AreParts None acts front →
     react (after_inputs l (map act_in_words acts)) (part_comes Last last) ≡ react (after_inputs l (calls_in acts))
     (taken (words_of (DT (front ++ last))))
-parts_do_as_whole l acts front last e f fit short h =
-    subst (λ (k : Option (List ℕ)). Same acts front last (at l.state l.waiting k)) (sym e)
-    (runs l.state l.waiting None None acts front last (starts l.state (front ++ last) fit f) h short)
+parts_do_as_whole l acts front last e f fit short h = grind (arith, runs, starts)
 
 -- ---- in octets
 
@@ -271,8 +240,7 @@ came_in_words read place octets = ap (λ (r : Result Words SpduFault). came_as r
 
 acts_in_words : ReadAsParts → (acts : List Act) → map act_in_octets acts ≡ map act_in_words acts
 acts_in_words read [] = refl
-acts_in_words read (comes place octets ∷ acts) = ap (λ (i : Input). i ∷ map act_in_octets acts) (came_in_words read place octets) ∙
-    ap (λ (is : List Input). part_comes place octets ∷ is) (acts_in_words read acts)
+acts_in_words read (comes place octets ∷ acts) = grind (arith, came_in_words, acts_in_words read acts)
 acts_in_words read (calls c ∷ acts) = ap (λ (is : List Input). called c ∷ is) (acts_in_words read acts)
 
 pub octets_do_as_whole : ReadAsParts → (l : Listener) (acts : List Act) (front last : List ℕ) →
@@ -282,25 +250,14 @@ pub octets_do_as_whole : ReadAsParts → (l : Listener) (acts : List Act) (front
     react (after_inputs l (map act_in_octets acts)) (came (part_octets Last last)) ≡ react (after_inputs l (calls_in acts))
     (came (written (DT (front ++ last))))
 octets_do_as_whole read l acts front last whole e f fit short h =
-    ap (λ (is : List Input). react (after_inputs l is) (came (part_octets Last last))) (acts_in_words read acts)
-    ∙ ap (react (after_inputs l (map act_in_words acts))) (came_in_words read Last last)
-    ∙ parts_do_as_whole l acts front last e f fit short h
-    ∙ ap (λ (r : Result Words SpduFault). react (after_inputs l (calls_in acts)) (came_as r)) (sym whole)
+    grind (arith, acts_in_words read acts, came_in_words read Last last, parts_do_as_whole l acts front last e f fit short h)
 
 -- ---- until the last part
 
 quiet_part : ReadAsParts → (l m : Listener) (now : Listener) (place : Place) (o : List ℕ) (acts : List Act) →
     react l (part_comes place o) ≡ rests now → AreSilent now m acts →
     AreSilent l m (comes place o ∷ acts)
-quiet_part read l m now place o acts e h =
-    let same = ap (react l) (came_in_words read place o) ∙ e in (
-      record {
-        shown = ap (λ (move : Move). move.shown) same;
-        reply = ap (λ (move : Move). move.reply) same;
-        closes = ap (λ (move : Move). move.closes) same;
-      },
-      subst (λ (move : Move). AreSilent move.next m acts) (sym same) h,
-    )
+quiet_part read l m now place o acts e h = grind (arith, came_in_words)
 
 silent_run : ReadAsParts → (s : State) (waiting : Option Meaning) (joined begun : Option (List ℕ)) (acts : List Act) (front : List ℕ) →
     Stands s joined begun → AreParts begun acts front →

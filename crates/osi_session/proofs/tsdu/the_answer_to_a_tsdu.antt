@@ -2,19 +2,15 @@
 -- accepted.
 use Rattle.std.proofs.Common.{◌⊎◌, inl, inr, ◌≡◌, refl, sym, ◌∙◌, ap, subst, ℕ, Bool, true, false, not, ◌&&◌, ◌||◌, List, [], ◌∷◌, Option}
 use Rattle.std.proofs.Common.{Some, None, unwrap_or, Result, Ok, Err, if◌then◌else◌, arith}
-use Rattle.osi_session.proofs.Vocabulary.{list_any, SpduFault, TokenSetting, TsduMaximumSize, are_sizes, Meaning, CN, RF, AB, AA}
-use Rattle.osi_session.proofs.Vocabulary.{said_at, Word, Words, as_message, UnitFault, Spelling, Unexpected, Phase, WaitTransport}
-use Rattle.osi_session.proofs.Vocabulary.{Answering, Ended, State, is_wait_transport, is_wait_cn, is_answering, is_ready}
-use Rattle.osi_session.proofs.Vocabulary.{is_major_due, is_release_due, is_restart_due, is_aborting, is_ended, is_over}
-use Rattle.osi_session.proofs.Vocabulary.{may_give, may_ask, may_confirm_minor, may_restart, may_abort, Call, Accept, Refuse, Give}
-use Rattle.osi_session.proofs.Vocabulary.{Please, MinorConfirm, MajorConfirm, Restart, RestartConfirm, ReleaseAccept}
-use Rattle.osi_session.proofs.Vocabulary.{ReleaseRefuse, Abort, Step, may_call, allowed, may_close, may_close_word, closes_alone, is_answer}
-use Rattle.osi_session.proofs.Vocabulary.{awaits_close, Taker, Hearing, word_verdict, respond_word, respond_words, heard_then, acting_words}
-use Rattle.osi_session.proofs.Vocabulary.{respond_tsdu, respond_came, Input, called, taken, unread, opened, refused, broken, is_opened}
-use Rattle.osi_session.proofs.Vocabulary.{came_as, came, Listener, taker_of, react, after_input, without_tokens, functional_units, has_data}
-use Rattle.osi_session.proofs.Vocabulary.{Outcome, si, conditions, first_fault, is_expected, drops, nothing, good, bad, becomes, judged}
-use Rattle.osi_session.proofs.Vocabulary.{take_expected, in_aborting, in_ended, respond_unit, first_reply, and_then, over, verdict, enacted}
-use Rattle.osi_session.proofs.Vocabulary.{is_faulty, respond_fault}
+use Rattle.osi_session.proofs.Vocabulary.{list_any, SpduFault, TokenSetting, TsduMaximumSize, Meaning, CN, RF, AB, AA, said_at, Word, Words}
+use Rattle.osi_session.proofs.Vocabulary.{as_message, UnitFault, Spelling, Unexpected, Phase, WaitTransport, Answering, State}
+use Rattle.osi_session.proofs.Vocabulary.{is_wait_transport, is_wait_cn, is_aborting, is_ended, is_over, may_abort, Call, Step, may_call}
+use Rattle.osi_session.proofs.Vocabulary.{allowed, may_close, may_close_word, closes_alone, is_answer, awaits_close, Taker, Hearing}
+use Rattle.osi_session.proofs.Vocabulary.{word_verdict, respond_word, respond_words, heard_then, acting_words, respond_tsdu, respond_came}
+use Rattle.osi_session.proofs.Vocabulary.{Input, called, taken, unread, opened, refused, broken, is_opened, came_as, came, Listener}
+use Rattle.osi_session.proofs.Vocabulary.{taker_of, react, after_input, functional_units, Outcome, si, conditions, first_fault, is_expected}
+use Rattle.osi_session.proofs.Vocabulary.{drops, nothing, good, bad, becomes, judged, take_expected, in_aborting, in_ended, respond_unit}
+use Rattle.osi_session.proofs.Vocabulary.{first_reply, and_then, over, verdict, enacted, is_faulty, respond_fault}
 use Rattle.osi_session.proofs.moves.what_closes_the_connection.{neither, acting_none, not_true, words_open, octets_alone, fault_open}
 use Rattle.osi_session.proofs.tables.what_an_accepted_call_has_passed.{passed}
 use Rattle.osi_session.proofs.tables.what_is_true_of_each_phase.{implied, excluded}
@@ -42,15 +38,13 @@ sends_one : (o : Outcome) (u : Meaning) → o.reply ≡ Some u → is_answer u �
 sends_one o u h0 h1 h2 = grind arith
 
 either : (b : Bool) (x y : Outcome) → (b ≡ true → Answers x) → (b ≡ false → Answers y) → Answers (if b then x else y)
-either true x y h k = h refl
-either false x y h k = k refl
+either b x y h k = grind arith
 
 aborting_answers : (s : State) (u : Meaning) → Answers (in_aborting s u)
 aborting_answers s u = grind (arith, silent)
 
 ended_answers : (s : State) (u : Meaning) → is_over s.phase ≡ true → Answers (in_ended s u)
-ended_answers s (AB bits octets) h = sends_one _ AA refl refl h
-ended_answers s _ h = silent _ refl
+ended_answers s u h = grind (arith, sends_one, silent)
 
 -- a CN that cannot be accepted
 refused_over : (version_2 transfers : Bool) (x y : State) (m : Meaning) → is_over y.phase ≡ true
@@ -64,10 +58,7 @@ becomes_answering s requirements serial wishes sizes =
     record s { phase = Answering; units = functional_units requirements; wishes = wishes; proposed = unwrap_or serial 0; sizes = sizes }
 
 good_answers : (s : State) (u : Meaning) → Answers (good s u)
-good_answers s (CN version_2 requirements serial wishes from to sizes octets) = record {
-  last = λ m e. refused_over version_2 (has_data (functional_units requirements) && are_sizes sizes)
-      (becomes_answering s requirements serial wishes sizes) (without_tokens Ended s) m refl e;
-}
+good_answers s (CN version_2 requirements serial wishes from to sizes octets) = search (arith, refused_over)
 good_answers s (AB bits octets) = sends_one _ AA refl refl refl
 good_answers s _ = silent _ refl
 
@@ -75,8 +66,7 @@ bad_answers : (s : State) (fault : UnitFault) → Answers (bad s fault)
 bad_answers s fault = sends_one _ (AB 5 []) refl refl refl
 
 judged_answers : (s : State) (u : Meaning) (f : Option UnitFault) → Answers (judged s u f)
-judged_answers s u None = good_answers s u
-judged_answers s u (Some fault) = bad_answers s fault
+judged_answers s u f = grind (arith, good_answers, bad_answers)
 
 expected_answers : (s : State) (u : Meaning) → Answers (take_expected s u)
 unfolding take_expected
@@ -102,8 +92,7 @@ pub stays_over : (t : Taker) (ws : Words) → is_over t.state.phase ≡ true →
 stays_over t ws h = all_keep (λ r. is_over r.phase ≡ true) (λ w. Unit {0}) t ws (λ r w q. word_over r w) (any_word ws) h
 
 either_sent : (a b : Option Meaning) (m : Meaning) → first_reply a b ≡ Some m → (a ≡ Some m) ⊎ (b ≡ Some m)
-either_sent None b m h = inr h
-either_sent (Some u) b m h = inl h
+either_sent a b m h = grind arith
 
 -- the answer to a word, and what follows
 then_answers : (first second : Outcome) → Answers first → (is_over first.next.phase ≡ true → is_over second.next.phase ≡ true)
@@ -116,8 +105,7 @@ then_answers first second h stays k = record {
 }
 
 either_heard : (b : Bool) (x y : Hearing) → Answers (outcome_in x) → Answers (outcome_in y) → Answers (outcome_in (if b then x else y))
-either_heard true x y h k = h
-either_heard false x y h k = k
+either_heard b x y h k = grind arith
 
 all_answer : (t : Taker) (ws : Words) → Answers (outcome_in (respond_words t ws))
 unfolding respond_words
@@ -150,8 +138,7 @@ aborting_still : (s : State) (u : Meaning) → may_close u ≡ false → in_abor
 aborting_still s u h0 = grind arith
 
 ended_still : (s : State) (u : Meaning) → may_close u ≡ false → in_ended s u ≡ nothing s
-ended_still s (AB bits octets) h = absurd (cc)
-ended_still s _ h = refl
+ended_still s u h = grind arith
 
 over_still : (s : State) (u : Meaning) → may_close u ≡ false → enacted s u over ≡ nothing s
 over_still s u h0 = grind (arith, aborting_still, ended_still)
@@ -162,8 +149,7 @@ over_verdict s u o = rw o refl
 -- if a session is over, a word does what its message does
 over_word : (t : Taker) (w : Word) → is_over t.state.phase ≡ true → outcome_in (respond_word t w) ≡ respond_unit t.state (as_message w)
 over_word t w o =
-    ap outcome_in (word_at t w over (rw o refl))
-    ∙ sym (enacts t.state (as_message w) ∙ ap (enacted t.state (as_message w)) (over_verdict t.state (as_message w) o))
+    grind (arith, outcome_in, word_at t w over (rw o refl), enacts t.state (as_message w), over_verdict t.state (as_message w) o)
 
 word_still : (t : Taker) (w : Word) → is_over t.state.phase ≡ true → may_close_word w ≡ false →
     outcome_in (respond_word t w) ≡ nothing t.state
@@ -210,8 +196,7 @@ abbrev AcceptsAbort : Outcome → Type 0
 AcceptsAbort o = (m : Meaning) → o.reply ≡ Some m → m ≡ AA
 
 ended_accepts : (s : State) (u : Meaning) → AcceptsAbort (in_ended s u)
-ended_accepts s (AB bits octets) m e = cc
-ended_accepts s _ m e = absurd (cc)
+ended_accepts s u m e = grind arith
 
 not_aborting : (p : Phase) → is_ended p ≡ true → is_aborting p ≡ false
 not_aborting p h = excluded is_ended is_aborting refl p h
@@ -233,8 +218,7 @@ read_over P s (Err fault) o h n k = subst P (sym (over_fault s.state fault o)) n
 reply_read : (s : Listener) (read : Result Words SpduFault) →
     (react s (came_as read)).reply ≡ (outcome_in (respond_came (taker_of s) read)).reply
 unfolding react
-reply_read s (Ok words) = refl
-reply_read s (Err fault) = refl
+reply_read s read = grind arith
 
 aborting_over : (p : Phase) → is_aborting p ≡ true → is_over p ≡ true
 aborting_over p h = implied is_aborting is_over refl p h
@@ -263,35 +247,27 @@ left_open s o h = record { awaits = λ c. absurd (cc) }
 
 either_awaited : (s : State) (b : Bool) (x y : Outcome) → (b ≡ true → Awaited s x) → (b ≡ false → Awaited s y) →
     Awaited s (if b then x else y)
-either_awaited s true x y h k = h refl
-either_awaited s false x y h k = k refl
+either_awaited s b x y h k = grind arith
 
 good_awaited : (s : State) (u : Meaning) → is_expected s.phase u ≡ true → Awaited s (good s u)
 good_awaited s u h0 = grind (arith, implied, left_open)
 
 judged_awaited : (s : State) (u : Meaning) (f : Option UnitFault) → is_expected s.phase u ≡ true → Awaited s (judged s u f)
-judged_awaited s u None x = good_awaited s u x
-judged_awaited s u (Some fault) x = left_open s _ refl
+judged_awaited s u f x = grind (arith, good_awaited, left_open)
 
 expected_awaited : (s : State) (u : Meaning) → is_expected s.phase u ≡ true → Awaited s (take_expected s u)
 unfolding take_expected
 expected_awaited s u x = judged_awaited s u (first_fault (si u) (conditions s u)) x
 
 ended_awaited : (s : State) (u : Meaning) → Awaited s (in_ended s u)
-ended_awaited s (AB bits octets) = left_open s _ refl
-ended_awaited s _ = left_open s _ refl
+ended_awaited s u = grind (arith, left_open)
 
 aborting_awaited : (s : State) (u : Meaning) → is_aborting s.phase ≡ true → Awaited s (in_aborting s u)
 aborting_awaited s u a = record { awaits = λ c. implied is_aborting awaits_close refl s.phase a }
 
 unit_awaited : (s : State) (u : Meaning) → Awaited s (respond_unit s u)
 unfolding respond_unit
-unit_awaited s u =
-    either_awaited s (is_aborting s.phase) _ _ (λ a. aborting_awaited s u a) (λ a.
-    either_awaited s (is_ended s.phase) _ _ (λ e. ended_awaited s u) (λ e.
-    either_awaited s (drops s u) _ _ (λ d. left_open s _ refl) (λ d.
-    either_awaited s (not (is_expected s.phase u)) _ _ (λ x. left_open s _ refl)
-    (λ x. expected_awaited s u (not_false (is_expected s.phase u) x)))))
+unit_awaited s u = grind (arith, either_awaited, aborting_awaited, ended_awaited, left_open, expected_awaited, not_false)
 
 word_awaited : (t : Taker) (w : Word) → Awaited t.state (outcome_in (respond_word t w))
 word_awaited t w =
@@ -314,25 +290,13 @@ octets_awaited s octets = read_awaited s (said_at octets) (octets_alone octets)
 -- ---- in which phases a call is accepted
 
 callable : (c : Call) (p : Phase) → may_call p c ≡ true → may_abort p ≡ true
-callable (Accept requirements serial sides sizes octets) p h = implied is_answering may_abort refl p h
-callable (Refuse refusal) p h = implied is_answering may_abort refl p h
-callable (Give tokens) p h = implied may_give may_abort refl p h
-callable (Please tokens octets) p h = implied may_ask may_abort refl p h
-callable (MinorConfirm n octets) p h = implied may_confirm_minor may_abort refl p h
-callable (MajorConfirm octets) p h = implied is_major_due may_abort refl p h
-callable (Restart n wishes octets) p h = implied may_restart may_abort refl p h
-callable (RestartConfirm sides octets) p h = implied is_restart_due may_abort refl p h
-callable (ReleaseAccept octets) p h = implied is_release_due may_abort refl p h
-callable (ReleaseRefuse octets) p h = implied is_release_due may_abort refl p h
-callable (Abort octets) p h = h
-callable _ p h = implied is_ready may_abort refl p h
+callable c p h = grind (arith, implied)
 
 pub accepted_callable : (s : State) (c : Call) (x : Step) → allowed s c ≡ Ok x → may_abort s.phase ≡ true
 accepted_callable s c x h = callable c s.phase (passed s c x h).phase
 
 pub callable_open : (p : Phase) → may_abort p ≡ true → (is_wait_transport p ≡ false) × (is_wait_cn p ≡ false) × (is_over p ≡ false)
-callable_open p h =
-    (excluded may_abort is_wait_transport refl p h, excluded may_abort is_wait_cn refl p h, excluded may_abort is_over refl p h)
+callable_open p h = grind (arith, excluded)
 
 -- ---- while the transport connection is awaited
 
@@ -340,16 +304,13 @@ abbrev Waits : State → Type 0
 Waits s = (is_wait_transport s.phase || is_over s.phase) ≡ true
 
 waits_in : (p : Phase) → is_wait_transport p ≡ true → p ≡ WaitTransport
-waits_in WaitTransport h = refl
-waits_in _ h = absurd (cc)
+waits_in p h = grind arith
 
 good_waits : (s : State) (u : Meaning) → is_expected WaitTransport u ≡ true → Waits (becomes s u)
-good_waits s (AB bits octets) x = refl
-good_waits s _ x = absurd (cc)
+good_waits s u x = grind arith
 
 either_is : (a b : Bool) → (a || b) ≡ true → b ≡ false → a ≡ true
-either_is true b h k = refl
-either_is false b h k = absurd (cc)
+either_is a b h k = grind arith
 
 unit_waits : (s : State) (u : Meaning) → Waits s → Waits (respond_unit s u).next
 unit_waits s u h = unit_cases Waits s u (record {

@@ -1,14 +1,14 @@
 -- The effect of a word, from its result in memory.
-use Rattle.std.proofs.Common.{◌≡◌, ◌∙◌, refl, sym, ap, subst, ℕ, ◌<◌, Bool, true, false, not, ◌&&◌, ◌||◌, if◌then◌else◌, nat_le, nat_lt}
-use Rattle.std.proofs.Common.{List, [], ◌∷◌, ◌++◌, length, Option, Some, None, is_none, arith}
+use Rattle.std.proofs.Common.{◌≡◌, ◌∙◌, refl, sym, ap, subst, ℕ, ◌<◌, Bool, true, false, not, ◌&&◌, ◌||◌, if◌then◌else◌, nat_lt, List, []}
+use Rattle.std.proofs.Common.{◌∷◌, ◌++◌, length, Option, Some, None, is_none, arith}
 use Rattle.osi_session.specs.declared.joining.PartVerdict.TheVariants as is
 use Rattle.osi_session.specs.Shown.{Data}
 use Rattle.osi_session.proofs.Vocabulary.{lt-ltb, length-append, append-nil, State, UnitFault, Heard, Unexpected, TokenHeld, BadEnclosure}
-use Rattle.osi_session.proofs.Vocabulary.{DataTooLong, most_data, is_over, is_restarting, takes_data, may_hold, Phase, nothing}
-use Rattle.osi_session.proofs.Vocabulary.{shows, bad, Verdict, over, dropped, faulty, fine, is_faulty, enacted, is_silent, is_nil, si}
-use Rattle.osi_session.proofs.Vocabulary.{replies_abort, Taker, Hearing, joined_octets, kept_in, is_in_place, word_verdict, joined_by}
-use Rattle.osi_session.proofs.Vocabulary.{good_word, heard, enacted_word, respond_word, told_of, hearing_of, takes_room, outcome_of}
-use Rattle.osi_session.proofs.Vocabulary.{Meaning, DT, Place, First, Middle, Last, Word, says, part}
+use Rattle.osi_session.proofs.Vocabulary.{DataTooLong, takes_data, may_hold, Phase, nothing, shows, bad, Verdict, over, dropped, faulty}
+use Rattle.osi_session.proofs.Vocabulary.{fine, is_faulty, enacted, is_silent, is_nil, replies_abort, Taker, Hearing, joined_octets}
+use Rattle.osi_session.proofs.Vocabulary.{kept_in, is_in_place, word_verdict, joined_by, good_word, heard, enacted_word, respond_word}
+use Rattle.osi_session.proofs.Vocabulary.{told_of, hearing_of, takes_room, outcome_of, Meaning, Place, First, Middle, Last, Word, says}
+use Rattle.osi_session.proofs.Vocabulary.{part}
 use Rattle.osi_session.proofs.tsdu.the_verdict_while_joining.{part_verdict}
 use Rattle.osi_session.proofs.tables.what_is_true_of_each_phase.{implied}
 use Rattle.osi_session.proofs.tables.the_verdict_on_a_unit.{enacted_reply, good_reply}
@@ -32,15 +32,12 @@ loud_takes joined h e = rw e refl
 
 pub message_takes : (t : Taker) (u : Meaning) → is_silent (enacted t.state u (word_verdict t (says u))) ≡ false →
     takes_room t.joined (respond_word t (says u)) ≡ true
-message_takes t u h =
-    subst (λ (x : Hearing). takes_room t.joined x ≡ true) (sym (message_is t u))
-    (loud_takes t.joined (heard t.joined (enacted t.state u (word_verdict t (says u)))) h)
+message_takes t u h = grind (arith, message_is, loud_takes)
 
 -- ---- a part
 
 enacted_over : (b : Bool) (s : State) → (if b then nothing s else nothing s) ≡ nothing s
-enacted_over true s = refl
-enacted_over false s = refl
+enacted_over b s = grind arith
 
 -- a part that does nothing
 pub part_dropped : (t : Taker) (place : Place) (octets : List ℕ) → is.Dropped ≡ told_of (word_verdict t (part place octets)) →
@@ -53,13 +50,7 @@ pub part_bad : (t : Taker) (place : Place) (octets : List ℕ) (fault : UnitFaul
     is.Bad fault ≡ told_of (word_verdict t (part place octets)) →
     respond_word t (part place octets) ≡ heard t.joined (bad t.state fault)
 unfolding respond_word
-part_bad t place octets fault e = by (word_verdict t (part place octets)) e
-  where
-    by : (v : Verdict) → is.Bad fault ≡ told_of v → enacted_word t (part place octets) v ≡ heard t.joined (bad t.state fault)
-    by over e = absurd (cc)
-    by dropped e = absurd (cc)
-    by (faulty other) e = let same : fault ≡ other = cc in ap (λ f. heard t.joined (bad t.state f)) (sym same)
-    by fine e = absurd (cc)
+part_bad t place octets fault e = grind arith
 
 pub part_fine : (t : Taker) (place : Place) (octets : List ℕ) → is.Good ≡ told_of (word_verdict t (part place octets)) →
     word_verdict t (part place octets) ≡ fine
@@ -78,22 +69,17 @@ fine_by n v r e h p s h0 = grind arith
 
 passed : (t : Taker) (place : Place) (octets : List ℕ) → word_verdict t (part place octets) ≡ fine →
     (takes_data t.state.phase ≡ true) × (is_in_place t.joined place ≡ true)
-passed t place octets e = fine_by (si (DT octets)) (is_over t.state.phase) (is_restarting t.state.phase) (takes_data t.state.phase)
-    t.state.held.data_token
-    (is_in_place t.joined place) (nat_le (length (joined_octets t.joined ++ octets)) most_data) (sym (part_verdict t place octets) ∙ e)
+passed t place octets e = grind (arith, fine_by, part_verdict)
 
 pub fine_holds : (t : Taker) (place : Place) (octets : List ℕ) → word_verdict t (part place octets) ≡ fine → may_hold t.state.phase ≡ true
 fine_holds t place octets e = implied takes_data may_hold refl t.state.phase (passed t place octets e).0
 
 first_joins : (joined : Option (List ℕ)) (octets : List ℕ) → is_none joined ≡ true → octets ≡ joined_octets joined ++ octets
-first_joins None octets h = refl
-first_joins (Some x) octets h = absurd (cc)
+first_joins joined octets h = grind arith
 
 pub first_is : (t : Taker) (octets : List ℕ) → word_verdict t (part First octets) ≡ fine →
     respond_word t (part First octets) ≡ heard (Some (joined_octets t.joined ++ octets)) (nothing t.state)
-first_is t octets e =
-    part_is t First octets e ∙ ap (λ (o : List ℕ). heard (Some o) (nothing t.state))
-    (first_joins t.joined octets (passed t First octets e).1)
+first_is t octets e = grind (arith, part_is, first_joins, passed)
 
 pub middle_is : (t : Taker) (octets : List ℕ) → word_verdict t (part Middle octets) ≡ fine →
     respond_word t (part Middle octets) ≡ heard (Some (joined_octets t.joined ++ octets)) (nothing t.state)
@@ -118,10 +104,7 @@ longer x u h = let n = length-append x u in lt-ltb (length x) (length (x ++ u)) 
 
 pub early_takes : (s : State) (joined : Option (List ℕ)) (octets : List ℕ) → may_hold s.phase ≡ true → 0 < length octets →
     takes_room joined (heard (Some (joined_octets joined ++ octets)) (nothing s)) ≡ true
-early_takes s joined octets m h =
-    ap (λ (k : Option (List ℕ)). nat_lt (length (joined_octets joined)) (length (joined_octets k)))
-    (kept_held s.phase (Some (joined_octets joined ++ octets)) m)
-    ∙ longer (joined_octets joined) octets h
+early_takes s joined octets m h = grind (arith, kept_held, longer)
 
 -- ---- a bad word is one that is answered by AB
 

@@ -1,12 +1,12 @@
 -- The joined octets of an unfinished SSDU, and the verdict on a word.
-use Rattle.std.proofs.Common.{◌≡◌, ◌∙◌, refl, sym, ap, subst, ℕ, ◌+◌, Bool, true, false, not, ◌&&◌, ◌||◌, if◌then◌else◌, nat_le, List, []}
-use Rattle.std.proofs.Common.{◌∷◌, ◌++◌, length, Option, Some, None, is_none, Result, arith}
+use Rattle.std.proofs.Common.{◌≡◌, refl, sym, ap, ℕ, ◌+◌, Bool, true, false, not, ◌&&◌, ◌||◌, if◌then◌else◌, nat_le, List, [], ◌∷◌, ◌++◌}
+use Rattle.std.proofs.Common.{length, Option, Some, None, is_none, Result, arith}
 use Rattle.osi_session.specs.declared.reactions.Reaction.{Reaction}
 use Rattle.osi_session.proofs.Vocabulary.{length-append, State, UnitFault, Unexpected, TokenHeld, BadEnclosure, DataTooLong, is_over}
-use Rattle.osi_session.proofs.Vocabulary.{is_restarting, takes_data, most_data, Outcome, Condition, si, conditions, first_fault}
-use Rattle.osi_session.proofs.Vocabulary.{is_expected, drops, bad, Verdict, over, dropped, faulty, fine, by_fault, verdict, is_faulty}
-use Rattle.osi_session.proofs.Vocabulary.{enacted, respond_unit, replies_abort, is_silent, is_nil, kind_of, Kind, si_of, Taker}
-use Rattle.osi_session.proofs.Vocabulary.{joined_octets, begins_anew, is_in_place, word_verdict, Reacts, Meaning, DT, Place, says, part}
+use Rattle.osi_session.proofs.Vocabulary.{is_restarting, takes_data, most_data, Outcome, Condition, si, first_fault, drops, bad, Verdict}
+use Rattle.osi_session.proofs.Vocabulary.{over, dropped, faulty, fine, by_fault, verdict, is_faulty, enacted, respond_unit, replies_abort}
+use Rattle.osi_session.proofs.Vocabulary.{is_silent, is_nil, kind_of, Kind, si_of, Taker, joined_octets, begins_anew, is_in_place}
+use Rattle.osi_session.proofs.Vocabulary.{word_verdict, Reacts, Meaning, DT, Place, says, part}
 use Rattle.osi_session.proofs.tables.the_verdict_on_a_unit.{enacts, told_bad}
 
 pub length_both : (a b : List ℕ) → nat_le (length a + length b) 1048572 ≡ nat_le (length (a ++ b)) most_data
@@ -21,10 +21,7 @@ passes_true n (c ∷ cs) b f h = ap (λ r. if c.0 then r else Some (c.1 n)) (pas
 -- if nothing is unfinished, or if it may occur within an SSDU, a message is judged by itself
 pub plain_verdict : (t : Taker) (u : Meaning) → (is_none t.joined || not (begins_anew u)) ≡ true →
     word_verdict t (says u) ≡ verdict t.state u
-plain_verdict t u h =
-    ap (λ f. if is_over t.state.phase then over else if drops t.state u then dropped else if not (is_expected t.state.phase u) then
-    faulty (Unexpected (si u)) else by_fault f)
-    (passes_true (si u) (conditions t.state u) (is_none t.joined || not (begins_anew u)) BadEnclosure h)
+plain_verdict t u h = grind (arith, passes_true)
 
 -- ---- a part
 
@@ -41,9 +38,7 @@ pub part_verdict : (t : Taker) (place : Place) (octets : List ℕ) → word_verd
     faulty (TokenHeld (si (DT octets)))
     else if not (is_in_place t.joined place) then faulty (BadEnclosure (si (DT octets)))
     else if not (nat_le (length (joined_octets t.joined ++ octets)) most_data) then faulty (DataTooLong (si (DT octets))) else fine)
-part_verdict t place octets = part_by (si (DT octets)) (is_over t.state.phase) (is_restarting t.state.phase) (takes_data t.state.phase)
-    t.state.held.data_token
-    (is_in_place t.joined place) (nat_le (length (joined_octets t.joined ++ octets)) most_data)
+part_verdict t place octets = grind (arith, part_by)
 
 -- ---- a message that may not occur within an SSDU, within one
 
@@ -51,16 +46,7 @@ ends_false : (n : ℕ) (cs : List Condition) (b : Bool) (f : ℕ → UnitFault) 
     by_fault (first_fault n (cs ++ (b, f) ∷ [])) ≡ (if is_faulty (by_fault (first_fault n cs)) then by_fault (first_fault n cs) else
     faulty (f n))
 ends_false n [] b f h = rw h refl
-ends_false n (c ∷ cs) b f h = by c.0 (ends_false n cs b f h)
-  where
-    by : (x : Bool) →
-        by_fault (first_fault n (cs ++ (b, f) ∷ [])) ≡ (if is_faulty (by_fault (first_fault n cs)) then by_fault (first_fault n cs) else
-        faulty (f n))
-        → by_fault (if x then first_fault n (cs ++ (b, f) ∷ []) else Some (c.1 n))
-        ≡ (if is_faulty (by_fault (if x then first_fault n cs else Some (c.1 n))) then
-        by_fault (if x then first_fault n cs else Some (c.1 n)) else faulty (f n))
-    by true k = k
-    by false k = refl
+ends_false n (c ∷ cs) b f h = grind (arith, ends_false n cs b f h)
 
 misplaced_by : (v d e : Bool) (f g : UnitFault) (p q : Verdict) → q ≡ (if is_faulty p then p else faulty g) →
     (if v then over else if d then dropped else if not e then faulty f else q)
@@ -72,27 +58,20 @@ misplaced_by v d e f g p q h0 = grind arith
 pub misplaced_verdict : (t : Taker) (u : Meaning) → (is_none t.joined || not (begins_anew u)) ≡ false →
     word_verdict t (says u) ≡ (if (is_over t.state.phase || drops t.state u) || is_faulty (verdict t.state u) then verdict t.state u else
     faulty (BadEnclosure (si u)))
-misplaced_verdict t u h = misplaced_by (is_over t.state.phase) (drops t.state u) (is_expected t.state.phase u) (Unexpected (si u))
-    (BadEnclosure (si u))
-    (by_fault (first_fault (si u) (conditions t.state u))) _
-    (ends_false (si u) (conditions t.state u) (is_none t.joined || not (begins_anew u)) BadEnclosure h)
+misplaced_verdict t u h = grind (arith, misplaced_by, ends_false)
 
 pub misplaced_stays : (s : State) (u : Meaning) (o : Outcome) (d b : Bool) (f : UnitFault) → respond_unit s u ≡ o →
     b ≡ replies_abort o.reply → (d || b) ≡ true →
     enacted s u (if d || is_faulty (verdict s u) then verdict s u else faulty f) ≡ o
-misplaced_stays s u o d b f h k w =
-    ap (λ (x : Bool). enacted s u (if x then verdict s u else faulty f)) (ap (λ (x : Bool). d || x) (sym (told_bad s u o b h k)) ∙ w) ∙
-    sym (enacts s u) ∙ h
+misplaced_stays s u o d b f h k w = grind (arith, told_bad, enacts)
 
 pub misplaced_turns : (s : State) (u : Meaning) (o : Outcome) (d b : Bool) (f : UnitFault) → respond_unit s u ≡ o →
     b ≡ replies_abort o.reply → (d || b) ≡ false →
     enacted s u (if d || is_faulty (verdict s u) then verdict s u else faulty f) ≡ bad s f
-misplaced_turns s u o d b f h k w =
-    ap (λ (x : Bool). enacted s u (if x then verdict s u else faulty f)) (ap (λ (x : Bool). d || x) (sym (told_bad s u o b h k)) ∙ w)
+misplaced_turns s u o d b f h k w = grind (arith, told_bad)
 
 and_false : (b : Bool) → (b && false) ≡ false
-and_false true = refl
-and_false false = refl
+and_false b = grind arith
 
 pub bad_loud : (s : State) (f : UnitFault) → is_silent (bad s f) ≡ false
 bad_loud s f = and_false (is_nil (bad s f).shown)
@@ -104,19 +83,15 @@ misplaced_loud s u d f h0 = grind (arith, enacts, bad_loud)
 -- ---- what a message does, by its verdict among words
 
 chosen_none : (b : Bool) (k : Kind) → None ≡ (if b then None else Some k) → b ≡ true
-chosen_none true k h = refl
-chosen_none false k h = absurd (cc)
+chosen_none b k h = grind arith
 
 chosen_some : (b : Bool) (k j : Kind) → Some j ≡ (if b then None else Some k) → (b ≡ false) × (j ≡ k)
-chosen_some true k j h = absurd (cc)
-chosen_some false k j h = (refl, cc)
+chosen_some b k j h = search arith
 
 pub reacts_plain : {E : Type 0} (r : Result Reaction E) (t : Taker) (u : Meaning) (o : Option Kind) → Reacts r (respond_unit t.state u)
     → o ≡ None → o ≡ (if is_none t.joined || not (begins_anew u) then None else Some (kind_of u)) →
     Reacts r (enacted t.state u (word_verdict t (says u)))
-reacts_plain r t u o k n h =
-    let p = chosen_none (is_none t.joined || not (begins_anew u)) (kind_of u) (sym n ∙ h) in
-    subst (λ (x : Outcome). Reacts r x) (enacts t.state u ∙ ap (enacted t.state u) (sym (plain_verdict t u p))) k
+reacts_plain r t u o k n h = grind (arith, chosen_none, enacts, plain_verdict)
 
 abbrev pub misplaced_as : State → Meaning → Kind → Verdict
 misplaced_as s u k = if (is_over s.phase || drops s u) || is_faulty (verdict s u) then verdict s u else faulty (BadEnclosure (si_of k))
@@ -125,7 +100,4 @@ pub reacts_misplaced : {E : Type 0} (r : Result Reaction E) (t : Taker) (u : Mea
     Reacts r (enacted t.state u (misplaced_as t.state u j))
     → o ≡ Some j → o ≡ (if is_none t.joined || not (begins_anew u) then None else Some (kind_of u)) →
     Reacts r (enacted t.state u (word_verdict t (says u)))
-reacts_misplaced r t u o j k n h =
-    let p = chosen_some (is_none t.joined || not (begins_anew u)) (kind_of u) j (sym n ∙ h) in
-    subst (λ (x : Outcome). Reacts r x) (ap (λ (i : Kind). enacted t.state u (misplaced_as t.state u i)) p.1 ∙
-    ap (enacted t.state u) (sym (misplaced_verdict t u p.0))) k
+reacts_misplaced r t u o j k n h = grind (arith, chosen_some, misplaced_verdict)

@@ -1,12 +1,9 @@
 -- What the receiver of parts has joined, whatever its user calls between them: their octets, or nothing if it discards
 -- data. Nothing is assumed of its functional units: that the data is no fault is known from elsewhere.
-use Rattle.std.proofs.Common.{◌≡◌, refl, sym, ◌∙◌, ap, subst, ℕ, ◌≤◌, Bool, true, false, not, ◌||◌, ◌⊎◌, if◌then◌else◌, List, [], ◌++◌}
-use Rattle.std.proofs.Common.{length, Option, Some, None, Ok, inl, inr, arith}
-use Rattle.osi_session.proofs.Vocabulary.{cases_Bool, le-leb, State, Phase, is_answering, is_ready, is_major_due, is_restarting}
-use Rattle.osi_session.proofs.Vocabulary.{is_restart_due, is_release_due, is_over, may_hold, may_give, may_ask, may_confirm_minor}
-use Rattle.osi_session.proofs.Vocabulary.{takes_data, Step, allowed, may_call, after, most_data, Call, Accept, Refuse, Data, Give, Please}
-use Rattle.osi_session.proofs.Vocabulary.{Minor, MinorConfirm, Major, MajorConfirm, Restart, RestartConfirm, Release, ReleaseAccept}
-use Rattle.osi_session.proofs.Vocabulary.{ReleaseRefuse, Abort, nothing, fine, Place, First, Middle, Last, DT, Word, says, part}
+use Rattle.std.proofs.Common.{◌≡◌, refl, sym, ◌∙◌, subst, ℕ, ◌≤◌, Bool, true, false, not, ◌||◌, ◌⊎◌, if◌then◌else◌, List, [], ◌++◌, length}
+use Rattle.std.proofs.Common.{Option, Some, None, Ok, inl, inr, arith}
+use Rattle.osi_session.proofs.Vocabulary.{cases_Bool, le-leb, State, Phase, is_restarting, is_over, may_hold, takes_data, Step, allowed}
+use Rattle.osi_session.proofs.Vocabulary.{may_call, after, most_data, Call, nothing, fine, Place, First, Middle, Last, DT, Word, says, part}
 use Rattle.osi_session.proofs.Vocabulary.{drops_parts, kept_in, heard, respond_word, IsKeptIn, discards, IsJoinedAs, IsNoFault, IsJoined}
 use Rattle.osi_session.proofs.tables.what_is_true_of_each_phase.{implied, excluded}
 use Rattle.osi_session.proofs.tables.what_an_accepted_call_has_passed.{passed}
@@ -17,49 +14,26 @@ use Rattle.osi_session.proofs.tables.messages_act_as_the_table_says.{word_at, ke
 
 -- an end that discards data goes on discarding it, whatever its user calls: only an abort is allowed
 after_discards : (s : State) (c : Call) → may_call s.phase c ≡ true → discards s.phase ≡ true → discards (after s c).phase ≡ true
-after_discards s (Accept requirements serial sides sizes octets) m d = absurd (let z = excluded discards is_answering refl s.phase d in cc)
-after_discards s (Refuse refusal) m d = refl
-after_discards s (Major octets) m d = absurd (let z = excluded discards is_ready refl s.phase d in cc)
-after_discards s (MajorConfirm octets) m d = absurd (let z = excluded discards is_major_due refl s.phase d in cc)
-after_discards s (Restart k wishes octets) m d = refl
-after_discards s (RestartConfirm sides octets) m d = absurd (let z = excluded discards is_restart_due refl s.phase d in cc)
-after_discards s (Release octets) m d = absurd (let z = excluded discards is_ready refl s.phase d in cc)
-after_discards s (ReleaseAccept octets) m d = refl
-after_discards s (ReleaseRefuse octets) m d = absurd (let z = excluded discards is_release_due refl s.phase d in cc)
-after_discards s (Abort octets) m d = refl
-after_discards s _ m d = d
+after_discards s c m d = grind (arith, excluded)
 
 pub goes_on_discarding : (s : State) (c : Call) (x : Step) → allowed s c ≡ Ok x → discards s.phase ≡ true → discards x.next.phase ≡ true
-goes_on_discarding s c x h d = let p =
-    passed s c x h in subst (λ (y : Step). discards y.next.phase ≡ true) (sym p.gives) (after_discards s c p.phase d)
+goes_on_discarding s c x h d = grind (arith, passed, after_discards)
 
 -- it leaves a phase that keeps parts, or one that discards data
 abbrev keeps_or_discards : Phase → Bool
 keeps_or_discards p = may_hold p || discards p
 
 after_keeps : (s : State) (c : Call) → may_call s.phase c ≡ true → keeps_or_discards (after s c).phase ≡ true
-after_keeps s (Data octets) m = implied is_ready keeps_or_discards refl s.phase m
-after_keeps s (Give tokens) m = implied may_give keeps_or_discards refl s.phase m
-after_keeps s (Please tokens octets) m = implied may_ask keeps_or_discards refl s.phase m
-after_keeps s (Minor confirm octets) m = implied is_ready keeps_or_discards refl s.phase m
-after_keeps s (MinorConfirm k octets) m = implied may_confirm_minor keeps_or_discards refl s.phase m
-after_keeps s _ m = refl
+after_keeps s c m = grind (arith, implied)
 
 by_phase : (holds gone : Bool) (joined begun : Option (List ℕ)) → (holds || gone) ≡ true → joined ≡ begun →
     ((if◌then◌else◌ {A = Option (List ℕ)} (not holds) None joined) ≡ begun) ⊎
     (((if◌then◌else◌ {A = Option (List ℕ)} (not holds) None joined) ≡ None) × (gone ≡ true))
-by_phase true gone joined begun h e = inl e
-by_phase false gone joined begun h e = inr (refl, h)
+by_phase holds gone joined begun h e = grind arith
 
 pub call_keeps : (s : State) (joined begun : Option (List ℕ)) (c : Call) (x : Step) → allowed s c ≡ Ok x → IsJoinedAs s joined begun →
     IsJoinedAs x.next (kept_in x.next.phase joined) begun
-call_keeps s joined begun c x h k =
-    let p = passed s c x h in
-    elim k [
-      | inl e ↦ by_phase (may_hold x.next.phase) (discards x.next.phase) joined begun
-          (ap (λ (y : Step). keeps_or_discards y.next.phase) p.gives ∙ after_keeps s c p.phase) e
-      | inr d ↦ inr (ap (kept_in x.next.phase) d.0 ∙ kept_none x.next.phase, goes_on_discarding s c x h d.1)
-    ]
+call_keeps s joined begun c x h k = search (arith, passed, by_phase, after_keeps, kept_none, goes_on_discarding)
 
 -- ---- a part arrives, if the whole data would be no fault
 
@@ -73,16 +47,7 @@ neither p h0 = grind arith
 which_way : (s : State) (joined begun : Option (List ℕ)) (o : List ℕ) → IsKeptIn s.phase joined → IsNoFault s o →
     IsJoinedAs s joined begun →
     ((discards s.phase ≡ true) × (joined ≡ None)) ⊎ (Expects s × (joined ≡ begun))
-which_way s joined begun o kept fit j = elim (cases_Bool (discards s.phase)) [
-  | inl d ↦ inl (d, gone_is s.phase joined d kept)
-  | inr d ↦ (let n = neither s.phase d in inr (
-    expects s o n.1 n.0 fit,
-    elim j [
-      | inl e ↦ e
-      | inr g ↦ absurd (let h = g.1 in cc)
-    ],
-  ))
-]
+which_way s joined begun o kept fit j = grind (arith, cases_Bool, gone_is, neither, expects)
 
 unseen : (s : State) (joined : Option (List ℕ)) → IsKeptIn s.phase joined →
     heard joined (nothing s) ≡ record { next = record { state = s; joined = joined }; shown = []; reply = None; closes = false }
@@ -161,7 +126,4 @@ pub last_arrives : (s : State) (joined : Option (List ℕ)) (front last : List �
     IsJoinedAs s joined (Some front) →
     respond_word (record { state = s; joined = joined }) (part Last last) ≡ respond_word (record { state = s; joined = None })
     (says (DT (front ++ last)))
-last_arrives s joined front last short kept fit j = elim (which_way s joined (Some front) (front ++ last) kept fit j) [
-  | inl d ↦ subst (DoesWhole s front last) (sym d.1) (last_discarded s front last d.0)
-  | inr e ↦ subst (DoesWhole s front last) (sym e.1) (last_joined s front last short e.0)
-]
+last_arrives s joined front last short kept fit j = grind (arith, which_way, last_discarded, last_joined)

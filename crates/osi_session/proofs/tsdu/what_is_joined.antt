@@ -1,19 +1,17 @@
 -- What is joined at all times: it is kept by the phase, and at most as much as one Data.
-use Rattle.std.proofs.Common.{◌≡◌, refl, ap, subst, ℕ, ◌≤◌, Bool, true, false, not, if◌then◌else◌, nat_le, List, [], ◌∷◌, ◌++◌, length}
-use Rattle.std.proofs.Common.{Option, Some, None, Result, Ok, Err, arith}
-use Rattle.osi_session.proofs.Vocabulary.{is_some, leb-true, length-append, SpduFault, BadEnclosure, DataTooLong, Phase, State, most_data}
-use Rattle.osi_session.proofs.Vocabulary.{Answer, may_hold, Condition, si, conditions, first_fault, Verdict, fine, is_faulty, respond_fault}
-use Rattle.osi_session.proofs.Vocabulary.{Place, DT, said_at, Word, Words, part, as_message, Taker, joined_octets, drops_parts, kept_in}
-use Rattle.osi_session.proofs.Vocabulary.{is_in_place, enclosure_conditions, word_conditions, word_verdict, joined_by, Hearing}
-use Rattle.osi_session.proofs.Vocabulary.{enacted_word, respond_word, respond_words, acting_words, respond_tsdu, respond_came, IsKeptIn}
-use Rattle.osi_session.proofs.Vocabulary.{IsKept, Input, Listener, Move, in_state, answered, react, after_input, after_inputs}
+use Rattle.std.proofs.Common.{◌≡◌, refl, ap, subst, ℕ, ◌≤◌, Bool, true, not, if◌then◌else◌, List, [], ◌∷◌, ◌++◌, length, Option, None}
+use Rattle.std.proofs.Common.{Result, Err, arith}
+use Rattle.osi_session.proofs.Vocabulary.{is_some, leb-true, length-append, SpduFault, Phase, State, most_data, Answer, may_hold, Condition}
+use Rattle.osi_session.proofs.Vocabulary.{si, first_fault, Verdict, fine, is_faulty, respond_fault, Place, said_at, Word, Words, part}
+use Rattle.osi_session.proofs.Vocabulary.{as_message, Taker, joined_octets, drops_parts, kept_in, word_conditions, word_verdict, joined_by}
+use Rattle.osi_session.proofs.Vocabulary.{Hearing, enacted_word, respond_word, respond_words, acting_words, respond_tsdu, respond_came}
+use Rattle.osi_session.proofs.Vocabulary.{IsKeptIn, IsKept, Input, Listener, Move, in_state, answered, react, after_input, after_inputs}
 use Rattle.osi_session.proofs.tables.messages_act_as_the_table_says.{kept_twice, word_kept}
 
 -- ---- what each word leaves, words leave
 
 either_left : (P : Taker → Type 0) (b : Bool) (x y : Hearing) → P x.next → P y.next → P (if b then x else y).next
-either_left P true x y h k = h
-either_left P false x y h k = k
+either_left P b x y h k = grind arith
 
 all_leave : (P : Taker → Type 0) (t : Taker) (ws : Words) → ((r : Taker) (w : Word) → P r → P (respond_word r w).next) → P t →
     P (respond_words t ws).next
@@ -36,8 +34,7 @@ pub fault_in_phase : (t : Taker) (fault : SpduFault) → InPhase (respond_came t
 fault_in_phase t fault = kept_twice (respond_fault t.state fault).next.phase t.joined
 
 read_in_phase : (t : Taker) (read : Result Words SpduFault) → InPhase t → InPhase (respond_came t read).next
-read_in_phase t (Ok words) h = words_in_phase t words h
-read_in_phase t (Err fault) h = fault_in_phase t fault
+read_in_phase t read h = grind (arith, words_in_phase, fault_in_phase)
 
 pub octets_in_phase : (t : Taker) (tsdu : List ℕ) (h : Hearing) → respond_came t (said_at tsdu) ≡ h → InPhase t → InPhase h.next
 octets_in_phase t tsdu h e k = subst (λ (x : Hearing). InPhase x.next) e (read_in_phase t (said_at tsdu) k)
@@ -48,8 +45,7 @@ abbrev pub Few : Option (List ℕ) → Type 0
 Few joined = length (joined_octets joined) ≤ most_data
 
 few_either : (b : Bool) (joined : Option (List ℕ)) → Few joined → Few (if◌then◌else◌ {A = Option (List ℕ)} b None joined)
-few_either true joined h = omega arith
-few_either false joined h = h
+few_either b joined h = grind arith
 
 pub kept_few : (p : Phase) (joined : Option (List ℕ)) → Few joined → Few (kept_in p joined)
 kept_few p joined h = few_either (drops_parts p) joined h
@@ -60,26 +56,12 @@ all_pass t w h0 = grind arith
 
 back_passes : (n : ℕ) (cs ds : List Condition) → first_fault n (cs ++ ds) ≡ None → first_fault n ds ≡ None
 back_passes n [] ds h = h
-back_passes n (c ∷ cs) ds h = by c.0 h (back_passes n cs ds)
-  where
-    by : (b : Bool) → (if b then first_fault n (cs ++ ds) else Some (c.1 n)) ≡ None →
-        (first_fault n (cs ++ ds) ≡ None → first_fault n ds ≡ None) → first_fault n ds ≡ None
-    by true h k = k h
-    by false h k = absurd (cc)
+back_passes n (c ∷ cs) ds h = grind (arith, back_passes n cs ds)
 
 -- so a good part is short enough
 part_short : (t : Taker) (place : Place) (octets : List ℕ) → word_verdict t (part place octets) ≡ fine →
     length (joined_octets t.joined ++ octets) ≤ most_data
-part_short t place octets e =
-    leb-true (length (joined_octets t.joined ++ octets)) most_data
-    (second (is_in_place t.joined place) (nat_le (length (joined_octets t.joined ++ octets)) most_data)
-    (back_passes (si (DT octets)) (conditions t.state (DT octets)) (enclosure_conditions t.joined (part place octets))
-    (all_pass t (part place octets) e)))
-  where
-    second : (a b : Bool) → first_fault (si (DT octets)) ((a, BadEnclosure) ∷ (b, DataTooLong) ∷ []) ≡ None → b ≡ true
-    second true true h = refl
-    second true false h = absurd (cc)
-    second false b h = absurd (cc)
+part_short t place octets e = grind (arith, leb-true, back_passes, all_pass)
 
 joined_few : (t : Taker) (w : Word) → word_verdict t w ≡ fine → Few t.joined → Few (joined_by t.joined w)
 joined_few t w h0 h1 = grind (arith, part_short, length-append)
@@ -98,8 +80,7 @@ pub fault_few : (t : Taker) (fault : SpduFault) → Few t.joined → Few (respon
 fault_few t fault h = kept_few (respond_fault t.state fault).next.phase t.joined h
 
 read_few : (t : Taker) (read : Result Words SpduFault) → Few t.joined → Few (respond_came t read).next.joined
-read_few t (Ok words) h = words_few t words h
-read_few t (Err fault) h = fault_few t fault h
+read_few t read h = grind (arith, words_few, fault_few)
 
 pub octets_few : (t : Taker) (tsdu : List ℕ) (h : Hearing) → respond_came t (said_at tsdu) ≡ h → Few t.joined → Few h.next.joined
 octets_few t tsdu h e k = subst (λ (x : Hearing). Few x.next.joined) e (read_few t (said_at tsdu) k)
@@ -110,12 +91,10 @@ stepped : (l : Listener) (s : State) → IsKept l → IsKept (in_state l s)
 stepped l s h = record { phase = kept_twice s.phase l.joined; few = kept_few s.phase l.joined h.few }
 
 answer_kept : (l : Listener) (a : Answer) → IsKept l → IsKept (answered l a).next
-answer_kept l (Ok x) h = stepped l x.next h
-answer_kept l (Err e) h = h
+answer_kept l a h = grind (arith, stepped)
 
 awaited_kept : (b : Bool) (m n : Move) → IsKept m.next → IsKept n.next → IsKept (if b then m else n).next
-awaited_kept true m n h k = h
-awaited_kept false m n h k = k
+awaited_kept b m n h k = grind arith
 
 pub input_kept : (l : Listener) (input : Input) → IsKept l → IsKept (after_input l input)
 unfolding react

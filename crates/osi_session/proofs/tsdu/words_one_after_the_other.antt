@@ -1,7 +1,7 @@
 -- The words of a TSDU take effect one after the other: what a loop over its units has done so far, and what is still to act.
 -- For `take_each` of grouping and `count_each` of counting.
 use Rattle.std.proofs.Common.{◌≡◌, refl, sym, ◌∙◌, ap, subst, ℕ, Bool, true, false, ◌||◌, List, [], ◌∷◌, ◌++◌, Option, Some, None, Result}
-use Rattle.std.proofs.Common.{Ok, Err, if◌then◌else◌, arith}
+use Rattle.std.proofs.Common.{if◌then◌else◌, arith}
 use Rattle.osi_spdu.specs.declared.behind.Behind.{Behind}
 use Rattle.osi_spdu.specs.declared.units.Spdu.{Spdu}
 use Rattle.osi_session.proofs.Vocabulary.{OnErr, list_any, append_assoc, append-nil, GivesBehind, units_behind, Reactions, hearing_of_all}
@@ -12,20 +12,14 @@ use Rattle.osi_session.proofs.tsdu.memory_for_one_word.{SoFar, none_so_far, word
 use Rattle.osi_session.proofs.tables.messages_act_as_the_table_says.{one_word}
 
 or_again : (a b c : Bool) → (a || (b || c)) ≡ ((a || b) || c)
-or_again true b c = refl
-or_again false b c = refl
+or_again a b c = grind arith
 
 reply_again : (a b c : Option Meaning) → first_reply a (first_reply b c) ≡ first_reply (first_reply a b) c
-reply_again None b c = refl
-reply_again (Some m) b c = refl
+reply_again a b c = grind arith
 
 -- messages that are received one after the other
 then_again : (o p q : Hearing) → heard_then o (heard_then p q) ≡ heard_then (heard_then o p) q
-then_again o p q =
-    let shown = sym (append_assoc o.shown p.shown q.shown) in
-    let reply = reply_again o.reply p.reply q.reply in
-    let closes = or_again o.closes p.closes q.closes in
-    λ i. record { next = q.next; shown = shown i; reply = reply i; closes = closes i }
+then_again o p q = grind (arith, append_assoc, reply_again, or_again)
 
 -- what is still to act: these units, and after them the item unless one of them is an RS, or one before them was
 abbrev pub acting_behind : Bool → Word → Words → Words
@@ -75,25 +69,17 @@ stops want o restarts item u us h bad =
 pub takes : (j : Option (List ℕ)) (want o : Hearing) (restarts : Bool) (item u : Word) (us : Words) → SoFar j o →
     Leads want o restarts item (u ∷ us)
     → takes_room o.next.joined (respond_word o.next u) ≡ true → takes_room j want ≡ true
-takes j want o restarts item u us s h room =
-    let rest = acting_behind (restarts || is_restart_word u) item us in
-    let e = ap (λ (xs : Words). heard_then o (respond_words o.next xs)) (taken_next restarts item u us) in
-    subst (λ (p : Hearing). takes_room j p ≡ true) (sym e ∙ h)
-    (takes_behind j o (respond_words o.next (u ∷ rest)) s.grows (word_takes o.next u rest room))
+takes j want o restarts item u us s h room = grind (arith, taken_next, takes_behind, word_takes)
 
 -- no unit is left
 or_false : (b : Bool) → (b || false) ≡ b
-or_false true = refl
-or_false false = refl
+or_false b = grind arith
 
 reply_none : (r : Option Meaning) → first_reply r None ≡ r
-reply_none None = refl
-reply_none (Some m) = refl
+reply_none r = grind arith
 
 then_idle : (h : Hearing) → heard_then h (idle h.next) ≡ h
-then_idle h =
-    let shown = append-nil h.shown in let reply = reply_none h.reply in let closes = or_false h.closes in
-    λ i. record { next = h.next; shown = shown i; reply = reply i; closes = closes i }
+then_idle h = grind (arith, append-nil, reply_none, or_false)
 
 pub ends_restarted : (want o : Hearing) (item : Word) → Leads want o true item [] → o ≡ want
 unfolding respond_words
@@ -104,8 +90,7 @@ ends_with_item want o item h = sym (ap (heard_then o) (one_word o.next item)) �
 
 pub item_takes : (j : Option (List ℕ)) (want o : Hearing) (item : Word) → SoFar j o → Leads want o false item [] →
     takes_room o.next.joined (respond_word o.next item) ≡ true → takes_room j want ≡ true
-item_takes j want o item s h room =
-    subst (λ (p : Hearing). takes_room j p ≡ true) (ends_with_item want o item h) (takes_behind j o (respond_word o.next item) s.grows room)
+item_takes j want o item s h room = grind (arith, ends_with_item, takes_behind)
 
 -- ---- a TSDU of more words than one
 
@@ -134,35 +119,25 @@ walks_begin t r item first us units e k m i b = record {
 pub walks_turn : (want : Hearing) (j : Option (List ℕ)) (r : Reactions) (restarts : Bool) (item u v : Word) (us units : Words) →
     Walks want j r restarts item us
     → us ≡ v ∷ units → u ≡ v → Walks want j r restarts item (u ∷ units)
-walks_turn want j r restarts item u v us units w e i =
-    subst (λ (x : Word). Walks want j r restarts item (x ∷ units)) (sym i) (subst (λ (xs : Words). Walks want j r restarts item xs) e w)
+walks_turn want j r restarts item u v us units w e i = grind arith
 
 pub walks_on : (want : Hearing) (j : Option (List ℕ)) (r next : Reactions) (restarts now : Bool) (item u : Word) (us : Words) →
     Walks want j r restarts item (u ∷ us)
     → is_faulty (word_verdict (hearing_of_all j r).next u) ≡ false →
     hearing_of_all j next ≡ heard_then (hearing_of_all j r) (respond_word (hearing_of_all j r).next u)
     → (next.first ≡ None → next.more.items ≡ []) → now ≡ (restarts || is_restart_word u) → Walks want j next now item us
-walks_on want j r next restarts now item u us w good e ordered n = record {
-  leads = subst (λ (b : Bool). Leads want (hearing_of_all j next) b item us) (sym n)
-      (subst (λ (o : Hearing). Leads want o (restarts || is_restart_word u) item us) (sym e)
-      (goes_on want (hearing_of_all j r) restarts item u us w.leads good));
-  so_far = subst (SoFar j) (sym e) (word_so_far j (hearing_of_all j r) u w.so_far);
-  ordered = ordered;
-}
+walks_on want j r next restarts now item u us w good e ordered n =
+    grind (arith, goes_on want (hearing_of_all j r) restarts item u us w.leads good, word_so_far j (hearing_of_all j r) u w.so_far)
 
 -- if no word is left
 pub walks_end : (want : Hearing) (j : Option (List ℕ)) (r : Reactions) (restarts b : Bool) (item : Word) (us : Words) →
     Walks want j r restarts item us
     → us ≡ [] → restarts ≡ b → Leads want (hearing_of_all j r) b item []
-walks_end want j r restarts b item us w e h =
-    subst (λ (x : Bool). Leads want (hearing_of_all j r) x item []) h
-    (subst (λ (xs : Words). Leads want (hearing_of_all j r) restarts item xs) e w.leads)
+walks_end want j r restarts b item us w e h = grind arith
 
 pub on_err : {A E P : Type 0} (r : Result A E) → P → OnErr r P
-on_err (Ok x) p = tt
-on_err (Err e) p = p
+on_err r p = grind arith
 
 -- if no unit was given there is none
 pub behind_none : (old new : Behind) (r : Option Spdu) → GivesBehind old r new → ((u : Spdu) → r ≡ Some u → ⊥) → units_behind old ≡ []
-behind_none old new None h k = h.0
-behind_none old new (Some u) h k = absurd (k u refl)
+behind_none old new r h k = grind arith

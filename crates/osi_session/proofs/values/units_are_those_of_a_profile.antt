@@ -1,17 +1,15 @@
 -- The functional units of a session are those of a profile.
-use Rattle.std.proofs.Common.{◌≡◌, refl, sym, ◌∙◌, ap, subst, ℕ, ◌==◌, Bool, true, false, not, ◌&&◌, ◌||◌, List, [], ◌∷◌, Ok, if◌then◌else◌}
-use Rattle.std.proofs.Common.{arith}
+use Rattle.std.proofs.Common.{◌≡◌, refl, ℕ, Bool, true, false, not, ◌&&◌, ◌||◌, List, [], ◌∷◌, Ok, if◌then◌else◌, arith}
 use Rattle.std.proofs.lemmas.Nat.{and_assoc, and_le_r}
-use Rattle.osi_session.proofs.Vocabulary.{unit_bits, eqb-true, and_parts, bit_and, names, Meaning, CN, AC, RF, MAP}
-use Rattle.osi_session.proofs.Vocabulary.{MAA, RS, RA, FN, DN, NF, AB, Word, are_sizes, Opening, FunctionalUnits, State, Step, may_call}
-use Rattle.osi_session.proofs.Vocabulary.{needs, after, allowed, AllHold, Call, Accept, Refuse}
-use Rattle.osi_session.proofs.Vocabulary.{Major, MajorConfirm, Restart, RestartConfirm, Release, ReleaseAccept, ReleaseRefuse, Abort, Taker}
-use Rattle.osi_session.proofs.Vocabulary.{respond_word, Input, called, taken, unread, opened, refused, broken, Listener, taker_of}
-use Rattle.osi_session.proofs.Vocabulary.{after_input, after_inputs, IsOfProfile, has_profile, HasProfile, is_wait_transport, is_connecting}
-use Rattle.osi_session.proofs.Vocabulary.{is_ready, is_major_asked, is_major_due, is_releasing, is_release_due, is_restarting}
-use Rattle.osi_session.proofs.Vocabulary.{is_restart_due, takes_restart, may_restart, is_expected, conditions, is_acceptable, stands}
-use Rattle.osi_session.proofs.Vocabulary.{becomes, respond_unit, AllMet, awaiting, asking, functional_units, both_units, units_within}
-use Rattle.osi_session.proofs.Vocabulary.{has_data, is_profile}
+use Rattle.osi_session.proofs.Vocabulary.{unit_bits, eqb-true, and_parts, bit_and, names, Meaning, CN, AC, RF, MAP, MAA, RS, RA, FN, DN, NF}
+use Rattle.osi_session.proofs.Vocabulary.{AB, Word, are_sizes, Opening, FunctionalUnits, State, Step, may_call, needs, after, allowed}
+use Rattle.osi_session.proofs.Vocabulary.{AllHold, Call, Accept, Refuse, Major, MajorConfirm, Restart, RestartConfirm, Release}
+use Rattle.osi_session.proofs.Vocabulary.{ReleaseAccept, ReleaseRefuse, Abort, Taker, respond_word, Input, called, taken, unread, opened}
+use Rattle.osi_session.proofs.Vocabulary.{refused, broken, Listener, taker_of, after_input, after_inputs, IsOfProfile, has_profile}
+use Rattle.osi_session.proofs.Vocabulary.{HasProfile, is_wait_transport, is_connecting, is_ready, is_major_asked, is_major_due}
+use Rattle.osi_session.proofs.Vocabulary.{is_releasing, is_release_due, is_restarting, is_restart_due, takes_restart, may_restart}
+use Rattle.osi_session.proofs.Vocabulary.{is_expected, conditions, stands, becomes, respond_unit, AllMet, awaiting, asking}
+use Rattle.osi_session.proofs.Vocabulary.{functional_units, both_units, units_within, has_data, is_profile}
 use Rattle.osi_session.proofs.tables.what_an_accepted_call_has_passed.{passed}
 use Rattle.osi_session.proofs.tables.what_is_true_of_each_phase.{implied}
 use Rattle.osi_session.proofs.tables.the_outcomes_of_each_input.{call_cases, unit_cases, taken_cases, fault_cases, opened_cases}
@@ -24,24 +22,11 @@ no_bits : (n : ℕ) → bit_and n 0 ≡ 0
 no_bits n = let e = and_le_r n 0 in omega arith
 
 no_duplex : (bits : ℕ) → bit_and bits 185 ≡ bits → names bits 2 ≡ false
-no_duplex bits e =
-    let none : bit_and bits 2 ≡ 0 = ap (λ (n : ℕ). bit_and n 2) (sym e) ∙ and_assoc 2 bits 185 ∙ no_bits bits in
-    ap (λ (n : ℕ). n == 2) none
+no_duplex bits e = grind (arith, and_assoc, no_bits)
 
 pub profile_of : (bits : ℕ) → is_profile bits ≡ true → IsOfProfile (functional_units bits)
 unfolding is_profile
-profile_of bits h = by (bits == 2) refl h
-  where
-    alone : IsOfProfile (functional_units 2)
-    alone = record { duplex = refl; alone = λ d. (refl, refl, refl, refl) }
-
-    by : (b : Bool) → (bits == 2) ≡ b → (b || ((bit_and bits 185 == bits) && names bits 1)) ≡ true → IsOfProfile (functional_units bits)
-    by true e k = subst (λ (n : ℕ). IsOfProfile (functional_units n)) (sym (eqb-true bits 2 e)) alone
-    by false e k =
-        let p = and_parts (bit_and bits 185 == bits) (names bits 1) k in
-        let half = p.1 in
-        let none = no_duplex bits (eqb-true (bit_and bits 185) bits p.0) in
-        record { duplex = none ∙ sym (ap not half); alone = λ d. absurd (cc) }
+profile_of bits h = grind (arith, eqb-true, and_parts, no_duplex)
 
 -- ---- the units of an AC, in those that were asked for
 
@@ -49,8 +34,7 @@ both_duplex : (half duplex b d : Bool) → duplex ≡ not half → ((half && b) 
 both_duplex half duplex b d h0 h1 = grind arith
 
 first_of : (a b : Bool) → (a && b) ≡ true → a ≡ true
-first_of true b h = refl
-first_of false b h = absurd (cc)
+first_of a b h = grind arith
 
 none_of : (a b : Bool) → a ≡ false → (a && b) ≡ false
 none_of a b h = rw h refl
@@ -62,8 +46,7 @@ both_profile a b h0 h1 = grind (arith, both_duplex, first_of, none_of)
 -- ---- what each input leaves
 
 chosen : (b : Bool) (x y : State) → HasProfile x → HasProfile y → HasProfile (if b then x else y)
-chosen true x y h k = h
-chosen false x y h k = k
+chosen b x y h k = grind arith
 
 after_profile : (s : State) (c : Call) → may_call s.phase c ≡ true → AllHold (needs s c) → HasProfile s → HasProfile (after s c)
 after_profile s (Accept requirements serial sides sizes octets) m n h = λ k.
@@ -80,14 +63,11 @@ after_profile s (Abort octets) m n h = λ k. absurd (cc)
 after_profile s _ m n h = h
 
 call_profile : (s : State) (c : Call) (x : Step) → allowed s c ≡ Ok x → HasProfile s → HasProfile x.next
-call_profile s c x e h =
-    let p = passed s c x e in
-    subst (λ (y : Step). HasProfile y.next) (sym p.gives) (after_profile s c p.phase p.needed h)
+call_profile s c x e h = search (arith, passed, after_profile)
 
 becomes_profile : (s : State) (u : Meaning) → is_expected s.phase u ≡ true → AllMet (conditions s u) → HasProfile s →
     HasProfile (becomes s u)
-becomes_profile s (CN version_2 requirements serial wishes from to sizes octets) x m h =
-    chosen (is_acceptable version_2 requirements sizes) _ _ (λ k. absurd (cc)) (λ k. absurd (cc))
+becomes_profile s (CN version_2 requirements serial wishes from to sizes octets) x m h = grind (arith, chosen)
 becomes_profile s (AC version_2 requirements serial sides sizes octets) x m h = λ k.
     let a = and_parts version_2 (has_data (both_units s.units (functional_units requirements)) && are_sizes sizes) m.0 in
     let b = and_parts (has_data (both_units s.units (functional_units requirements))) (are_sizes sizes) a.1 in

@@ -1,9 +1,9 @@
 -- Digits of numbers, written and read.
-use Rattle.std.proofs.Common.{◌⊎◌, inl, inr, ◌≡◌, ℕ, zero, suc, ◌+◌, ◌-◌, ◌*◌, ◌/◌, ◌%◌, ◌^◌, ◌<◌, ◌≤◌, Bool, true, false, ◌&&◌, ltb, leb}
-use Rattle.std.proofs.Common.{eqb, List, [], ◌∷◌, length, get_or, drop, Option, Some, None, refl, sym, ap, ◌∙◌, arith}
-use Rattle.osi_spdu.proofs.Vocabulary.{list_all, cases_Bool, and_parts, and_from, and_left, and_right, eqb-true, eq-eqb, ne_eqb, le-leb}
-use Rattle.osi_spdu.proofs.Vocabulary.{lt-ltb, lt-leb, le-ltb, drop_more, drop_all, length-drop, common_steps, significant, six_digits}
-use Rattle.osi_spdu.proofs.Vocabulary.{digits_of, decimal_from, decimal, is_digit, is_numeral, numeral}
+use Rattle.std.proofs.Common.{inl, inr, ◌≡◌, ℕ, suc, ◌+◌, ◌-◌, ◌*◌, ◌%◌, ◌^◌, ◌<◌, ◌≤◌, Bool, true, false, ltb, leb, eqb, List, [], ◌∷◌}
+use Rattle.std.proofs.Common.{length, get_or, drop, Some, refl, sym, ap, ◌∙◌, arith}
+use Rattle.osi_spdu.proofs.Vocabulary.{list_all, cases_Bool, and_parts, and_from, eqb-true, eq-eqb, ne_eqb, le-leb, lt-ltb, drop_more}
+use Rattle.osi_spdu.proofs.Vocabulary.{drop_all, length-drop, common_steps, significant, six_digits, digits_of, decimal_from, decimal}
+use Rattle.osi_spdu.proofs.Vocabulary.{is_digit, numeral}
 
 -- a leading zero is dropped
 pub significant_step : (xs : List ℕ) (i : ℕ) → i + 1 < length xs → get_or xs i 0 ≡ 48 →
@@ -54,16 +54,7 @@ digit_from d low high = and_from (leb 48 d) (ltb d 58) (le-leb 48 d low) (lt-ltb
 pub reading_step : (digits : List ℕ) (i number d : ℕ) → i < length digits → d ≡ get_or digits i 0 → 48 ≤ d → d ≤ 57 →
     IsReading digits i number → IsReading digits (i + 1) (number * 10 + (d - 48))
 unfolding decimal_from
-reading_step digits i number d lt is low high r =
-    let here : drop i digits ≡ d ∷ drop (i + 1) digits = drop_more digits i 0 lt ∙ ap (λ (x : ℕ). x ∷ drop (i + 1) digits) (sym is) in
-    let turned : 10 * number + (d - 48) ≡ number * 10 + (d - 48) = omega arith in
-    let yes : is_digit d ≡ true = digit_from d low high in
-    let power : 10 ^ (i + 1) ≡ 10 * 10 ^ i = grind (arith, common_steps) in
-    record {
-      value = ap (λ (n : ℕ). decimal_from n (drop (i + 1) digits)) (sym turned) ∙ sym (ap (decimal_from number) here) ∙ r.value;
-      good = sym (ap (list_all is_digit) here ∙ rw yes refl) ∙ r.good;
-      small = (let s = r.small in omega arith);
-    }
+reading_step digits i number d lt is low high r = grind (arith, drop_more, digit_from, common_steps)
 
 pub reading_end : (digits : List ℕ) (number : ℕ) → 0 < length digits → length digits ≤ 6 → IsReading digits (length digits) number →
     numeral digits ≡ Some number
@@ -88,28 +79,19 @@ unfolding significant
 significant_all [] h = refl
 significant_all (d ∷ []) h = h
 significant_all (d ∷ e ∷ xs) h =
-    elim (cases_Bool (eqb d 48)) [
-      | inl t ↦ rw t (significant_all (e ∷ xs) (and_parts (is_digit d) (list_all is_digit (e ∷ xs)) h).1)
-      | inr f ↦ rw f h
-    ]
+    grind (arith, cases_Bool, eqb, and_parts, significant_all (e ∷ xs) (and_parts (is_digit d) (list_all is_digit (e ∷ xs)) h).1)
 
 significant_len : (xs : List ℕ) → 0 < length xs → (0 < length (significant xs)) × (length (significant xs) ≤ length xs)
 unfolding significant
 significant_len [] h = absurd (omega arith)
 significant_len (d ∷ []) h = (omega arith, omega arith)
-significant_len (d ∷ e ∷ xs) h =
-    let r = significant_len (e ∷ xs) (omega arith) in
-    elim (cases_Bool (eqb d 48)) [
-      | inl t ↦ rw t (r.0, omega (arith, r.1))
-      | inr f ↦ rw f (omega arith, omega arith)
-    ]
+significant_len (d ∷ e ∷ xs) h = grind (arith, cases_Bool, eqb, significant_len (e ∷ xs) (omega arith))
 
 digit_low : (k : ℕ) → is_digit (k % 10 + 48) ≡ true
 digit_low k = digit_from (k % 10 + 48) (omega arith) (omega arith)
 
 six_all : (n : ℕ) → list_all is_digit (six_digits n) ≡ true
-six_all n = rw (digit_low (n / 100000), digit_low (n / 10000), digit_low (n / 1000), digit_low (n / 100), digit_low (n / 10), digit_low n)
-    refl
+six_all n = grind (arith, digit_low)
 
 six_value : (n : ℕ) → n ≤ 999999 → decimal (six_digits n) ≡ n
 unfolding decimal_from

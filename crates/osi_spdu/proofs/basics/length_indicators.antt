@@ -1,9 +1,9 @@
 -- Length indicators, read and written.
 use Rattle.std.proofs.Common.{◌⊎◌, inl, inr, ◌≡◌, ℕ, suc, ◌+◌, ◌*◌, ◌/◌, ◌%◌, ◌<◌, ◌≤◌, Bool, true, false, cond, ltb, eqb, List, [], ◌∷◌}
-use Rattle.std.proofs.Common.{◌++◌, length, take, drop, Ok, refl, sym, ap, subst, arith}
+use Rattle.std.proofs.Common.{◌++◌, length, take, drop, Ok, sym, ap, subst, arith}
 use Rattle.osi_spdu.proofs.Vocabulary.{cases_lt, ltb-false, le-ltb, eqb-true, eqb-false, ne_eqb, take_at, drop_at, take-append-drop}
 use Rattle.osi_spdu.proofs.Vocabulary.{length-append, length-take, length-drop, length-take-le, get_or-drop, get_or-take, get_or_past}
-use Rattle.osi_spdu.proofs.Vocabulary.{IsOctets, LengthPastEnd, Measured, counted_at, long_at, measured_at, length_octets, HasLength}
+use Rattle.osi_spdu.proofs.Vocabulary.{IsOctets, Measured, counted_at, long_at, measured_at, length_octets, HasLength}
 use Rattle.osi_spdu.proofs.basics.the_steps_of_reading.{guard_ok, ok_is}
 
 pub octets-drop : (n : ℕ) (octets : List ℕ) → IsOctets octets → IsOctets (drop n octets)
@@ -26,10 +26,7 @@ pub record IsMeasured (m : Measured) (octets : List ℕ) : Type 0 where
 
 counted_ok : (at used n : ℕ) (octets : List ℕ) (m : Measured) → counted_at at used n octets ≡ Ok m →
     (n ≤ length octets) × (m ≡ (let r : Measured = record { used = used; value = take n octets; rest = drop n octets } in r))
-counted_ok at used n octets m e =
-    let made : Measured = record { used = used; value = take n octets; rest = drop n octets } in
-    let g = guard_ok (ltb (length octets) n) (LengthPastEnd at) m (Ok made) e in
-    (ltb-false (length octets) n g.0, sym (ok_is made m g.1))
+counted_ok at used n octets m e = grind (arith, guard_ok, ltb, ltb-false, ok_is)
 
 long_ok : (at : ℕ) (octets : List ℕ) (m : Measured) → IsOctets octets → long_at at octets ≡ Ok m → IsMeasured m (255 ∷ octets)
 unfolding long_at
@@ -59,8 +56,7 @@ short_ok at n octets m h0 h1 h2 =
     grind (arith, counted_ok, length-take-le, IsMeasured, take-append-drop, octets-take, octets-drop, length-drop)
 
 pub chosen : {A : Type 0} (b : Bool) (x y z : A) → cond b x y ≡ z → ((b ≡ true) × (x ≡ z)) ⊎ ((b ≡ false) × (y ≡ z))
-chosen true x y z e = inl (refl, e)
-chosen false x y z e = inr (refl, e)
+chosen b x y z e = grind arith
 
 pub measured_ok : (at : ℕ) (octets : List ℕ) (m : Measured) → IsOctets octets → measured_at at octets ≡ Ok m → IsMeasured m octets
 unfolding measured_at

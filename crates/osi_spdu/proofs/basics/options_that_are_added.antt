@@ -1,5 +1,5 @@
 -- Adding an option to another, if at most one of them is Some; the same for a list of options.
-use Rattle.std.proofs.Common.{◌≡◌, ℕ, Bool, true, false, cond, List, [], ◌∷◌, Option, Some, None, refl, sym, subst, arith}
+use Rattle.std.proofs.Common.{◌≡◌, ℕ, Bool, true, cond, List, [], ◌∷◌, Option, Some, None, arith}
 use Rattle.osi_spdu.specs.Spelling.{Sole}
 
 -- `after` is `before` with this option; at most one of the two is Some
@@ -17,12 +17,10 @@ first (None ∷ xs) = first xs
 first (Some v ∷ xs) = Some v
 
 pub sole_one : (o : Option (List ℕ)) → Sole (o ∷ []) o
-sole_one None = refl
-sole_one (Some v) = (refl, refl)
+sole_one o = grind arith
 
 pub sole_same : (o p : Option (List ℕ)) → Sole (o ∷ []) p → p ≡ o
-sole_same None p h = h
-sole_same (Some v) p h = h.0
+sole_same o p h = grind arith
 
 pub sole_step : (m k k' : Option (List ℕ)) (xs : List (Option (List ℕ))) (o : Option (List ℕ)) → Joins m k k' → Sole (k ∷ m ∷ xs) o →
     Sole (k' ∷ xs) o
@@ -41,8 +39,7 @@ sole_first (None ∷ xs) o h = sole_first xs o h
 sole_first (Some v ∷ xs) o h = h.0
 
 joins_none : (m o : Option (List ℕ)) → o ≡ m → Joins m None o
-joins_none None o e = e
-joins_none (Some v) o e = (refl, e)
+joins_none m o e = grind arith
 
 pub sole_split : (k : Option (List ℕ)) (xs : List (Option (List ℕ))) (o : Option (List ℕ)) → Sole (k ∷ xs) o →
     Sole xs (first xs) × Joins (first xs) k o
@@ -57,8 +54,7 @@ pub joins_both : (p m k kg k' : Option (List ℕ)) → Joins p k kg → Joins m 
 joins_both p m k kg k' h j = sole_split k (p ∷ m ∷ []) k' (sole_back p k kg (m ∷ []) k' h (sole_join m kg (m ∷ []) k' (sole_one m) j))
 
 first_one : (m : Option (List ℕ)) → first (m ∷ []) ≡ m
-first_one None = refl
-first_one (Some v) = refl
+first_one m = grind arith
 
 -- both at once is one after the other
 pub joins_apart : (p m g k k' : Option (List ℕ)) → Sole (p ∷ m ∷ []) g → Joins g k k' → Joins p k (merged k p) × Joins m (merged k p) k'
@@ -67,16 +63,13 @@ joins_apart p m g k k' h0 h1 = grind (arith, sole_join, sole_joins, sole_step, m
 -- ---- a value put at a slot
 
 pub put_joins : (b : Bool) (v : List ℕ) (k : Option (List ℕ)) → (b ≡ true → k ≡ None) → Joins (cond b (Some v) None) k (cond b (Some v) k)
-put_joins true v k h = (h refl, refl)
-put_joins false v k h = refl
+put_joins b v k h = grind arith
 
 pub joins_put : (b : Bool) (v : List ℕ) (k k' : Option (List ℕ)) → Joins (cond b (Some v) None) k k' → k' ≡ cond b (Some v) k
-joins_put true v k k' j = j.1
-joins_put false v k k' j = j
+joins_put b v k k' j = grind arith
 
 pub joins_free : (b : Bool) (v : List ℕ) (k k' : Option (List ℕ)) → b ≡ true → Joins (cond b (Some v) None) k k' → k ≡ None
-joins_free true v k k' e j = j.0
-joins_free false v k k' e j = absurd cc
+joins_free b v k k' e j = grind arith
 
 pub joins_merged : (b : Bool) (v : List ℕ) (k : Option (List ℕ)) → Joins (cond b (Some v) None) k (merged k (cond b (Some v) None)) →
     merged k (cond b (Some v) None) ≡ cond b (Some v) k

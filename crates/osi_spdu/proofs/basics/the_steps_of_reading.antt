@@ -1,10 +1,7 @@
 -- The steps of a reading function.
 use Rattle.std.proofs.Common.{◌≡◌, ℕ, Bool, true, false, cond, List, Option, Some, None, Result, Ok, Err, refl, sym, ap, ◌∙◌, eqb}
-use Rattle.osi_spdu.proofs.Vocabulary.{is_some, find, eqb-true, eq-eqb, SpduFault, Code, ConnectionIdentifier, ConnectAcceptItem}
-use Rattle.osi_spdu.proofs.Vocabulary.{CalledReference, CallingReference, CommonReference, AdditionalReference, SyncType, TokenItem}
-use Rattle.osi_spdu.proofs.Vocabulary.{TransportDisconnect, ProtocolOptions, UserRequirements, TsduMaximumSize, Version, InitialNumber}
-use Rattle.osi_spdu.proofs.Vocabulary.{Enclosure, TokenSetting, ResyncType, Number, Reflect, Reason, CallingSelector, CalledSelector}
-use Rattle.osi_spdu.proofs.Vocabulary.{UserData, ExtendedUserData, number_of, is_same, every_code, ◌>>=◌}
+use Rattle.osi_spdu.proofs.Vocabulary.{is_some, find, eqb-true, eq-eqb, SpduFault, Code, ConnectionIdentifier, number_of, is_same}
+use Rattle.osi_spdu.proofs.Vocabulary.{every_code, ◌>>=◌}
 
 -- the value of a step that did not fail
 pub bind_ok : {A B : Type 0} (r : Result A SpduFault) (f : A → Result B SpduFault) (y : B) → (r >>= f) ≡ Ok y →

@@ -1,14 +1,12 @@
 -- The first fault of parameters, units and TSDUs is the one that reading returns.
-use Rattle.std.proofs.Common.{◌⊎◌, inl, inr, ◌≡◌, ℕ, zero, suc, ◌+◌, ◌*◌, ◌/◌, ◌%◌, ◌<◌, ◌≤◌, Bool, true, false, cond, ltb, eqb, List, []}
-use Rattle.std.proofs.Common.{◌∷◌, ◌++◌, length, map, take, drop, Option, Some, None, Result, Ok, Err, refl, sym, ap, subst, ◌∙◌}
-use Rattle.std.proofs.Common.{append_assoc, add-zero, arith}
+use Rattle.std.proofs.Common.{◌⊎◌, inl, inr, ◌≡◌, ℕ, zero, suc, ◌+◌, ◌<◌, ◌≤◌, Bool, true, cond, ltb, eqb, List, [], ◌∷◌, ◌++◌, length, map}
+use Rattle.std.proofs.Common.{Option, Some, None, Result, Ok, Err, refl, sym, ap, subst, ◌∙◌, append_assoc, add-zero, arith}
 use Rattle.osi_spdu.proofs.Vocabulary.{is_some, flat_map, AllByRecursion, length-append, drop_at, IsOctets, SpduFault, LengthPastEnd}
-use Rattle.osi_spdu.proofs.Vocabulary.{DuplicateParameter, BadValue, MissingParameter, Code, Kind, number_of, is_group, slot_of, codes_of}
-use Rattle.osi_spdu.proofs.Vocabulary.{members_of, canonical_in, Known, nothing, put, ◌>>=◌, Measured, counted_at, long_at, measured_at}
-use Rattle.osi_spdu.proofs.Vocabulary.{Taking, params_at, params_of, code_among, judged, stored, member_taken, in_group, parameter_taken}
-use Rattle.osi_spdu.proofs.Vocabulary.{in_unit, all_there, length_octets, Part, part_octets, Sole, IsPart, MeansInGroup, MeansInUnit}
-use Rattle.osi_spdu.proofs.Vocabulary.{indicator_len, HasNoValue, IsValueFault, Failing, IsItemFault, IsLevelFault, FailsInGroup}
-use Rattle.osi_spdu.proofs.Vocabulary.{FailsInUnit, IsFirstMissing}
+use Rattle.osi_spdu.proofs.Vocabulary.{BadValue, MissingParameter, Code, Kind, number_of, is_group, slot_of, codes_of, members_of, Known}
+use Rattle.osi_spdu.proofs.Vocabulary.{nothing, put, ◌>>=◌, Measured, counted_at, long_at, measured_at, Taking, params_at, params_of}
+use Rattle.osi_spdu.proofs.Vocabulary.{code_among, judged, stored, member_taken, in_group, parameter_taken, in_unit, all_there}
+use Rattle.osi_spdu.proofs.Vocabulary.{length_octets, Part, part_octets, Sole, IsPart, MeansInGroup, MeansInUnit, indicator_len, HasNoValue}
+use Rattle.osi_spdu.proofs.Vocabulary.{IsValueFault, Failing, IsItemFault, IsLevelFault, FailsInGroup, FailsInUnit, IsFirstMissing}
 use Rattle.osi_spdu.proofs.basics.options_that_are_added.{merged, sole_one, sole_same, sole_back, sole_step, sole_joins}
 use Rattle.osi_spdu.proofs.basics.the_steps_of_reading.{bind_of, ok_is, guard_ok, is_none_of, none_is}
 use Rattle.osi_spdu.proofs.basics.length_indicators.{IsMeasured, octets-tail, octets-drop, measured_ok, measured_again, chosen}
@@ -30,17 +28,11 @@ never A x f e = cc
 -- ---- lengths
 
 counted_bad : (at used n : ℕ) (octets : List ℕ) (f : SpduFault) → counted_at at used n octets ≡ Err f → f ≡ LengthPastEnd at
-counted_bad at used n octets f e =
-    let made : Measured = record { used = used; value = take n octets; rest = drop n octets } in
-    elim (chosen (ltb (length octets) n) (Err (LengthPastEnd at)) (Ok made) (Err f) e) [
-      | inl q ↦ sym (fault_is Measured (LengthPastEnd at) f q.1)
-      | inr q ↦ absurd (never Measured made f q.1)
-    ]
+counted_bad at used n octets f e = grind (arith, chosen, ltb, fault_is, never)
 
 long_bad : (at : ℕ) (octets : List ℕ) (f : SpduFault) → long_at at octets ≡ Err f → f ≡ LengthPastEnd at
 unfolding long_at
-long_bad at (high ∷ low ∷ octets) f e = counted_bad at 3 (256 * high + low) octets f e
-long_bad at _ f e = sym (fault_is Measured (LengthPastEnd at) f e)
+long_bad at octets f e = grind (arith, counted_bad, fault_is)
 
 pub measured_bad : (at : ℕ) (octets : List ℕ) (f : SpduFault) → measured_at at octets ≡ Err f → f ≡ LengthPastEnd at
 unfolding measured_at
@@ -67,8 +59,7 @@ pub record IsCounted (at : ℕ) (octets : List ℕ) (m : Measured) : Type 0 wher
   pub used : m.used ≡ indicator_len is.long
 
 pub same_len : (long : Bool) → lengths.indicator_len long ≡ indicator_len long
-same_len true = refl
-same_len false = refl
+same_len long = grind arith
 
 pub counted_is : (at : ℕ) (octets : List ℕ) (m : Measured) → IsOctets octets → measured_at at octets ≡ Ok m → IsCounted at octets m
 counted_is at octets m fits e =
@@ -82,8 +73,7 @@ counted_is at octets m fits e =
 
 judged_bad : (at : ℕ) (c : Code) (known : Known) (o : Option (List ℕ)) (f : SpduFault) → judged at c known o ≡ Err f →
     (o ≡ None) × (f ≡ BadValue (number_of c) at)
-judged_bad at c known None f e = (refl, sym (fault_is Known (BadValue (number_of c) at) f e))
-judged_bad at c known (Some form) f e = absurd (never Known (put (slot_of c) form known) f e)
+judged_bad at c known o f e = grind (arith, fault_is, never)
 
 stored_bad : (kind : Kind) (at : ℕ) (c : Code) (value : List ℕ) (known : Known) (f : SpduFault) → stored kind at c value known ≡ Err f →
     IsValueFault kind at c value known f
@@ -145,8 +135,7 @@ fault_later means failing at before mid p octets rest f whole is joins level =
 len_of_part : (code : ℕ) (long : Bool) (value : List ℕ) (gives : Known) →
     length (part_octets (let p : Part = record { code = code; long = long; value = value; gives = gives } in p)) ≡ 1 + indicator_len
     long + length value
-len_of_part code true value gives = omega (arith, length-append (255 ∷ length value / 256 ∷ length value % 256 ∷ []) value)
-len_of_part code false value gives = omega arith
+len_of_part code long value gives = grind (arith, length-append)
 
 abbrev Later : Taking → (ℕ → List ℕ → Known → Type 0) → Failing → ℕ → SpduFault → Type 0
 Later taking means failing n f = (at : ℕ) (known : Known) (octets : List ℕ) → length octets ≤ n → IsOctets octets →
@@ -159,13 +148,7 @@ taken_bad : (taking : Taking) (means : ℕ → List ℕ → Known → Type 0) (f
     → (r >>= λ k. params_at taking n (at + (1 + m.used + length m.value)) k m.rest) ≡ Err f → Later taking means failing n f →
     Level means failing at before (code ∷ octets) f
 taken_bad taking means failing follows fails n at before code octets f le fits m q (Err g) t e later =
-    let is = counted_is at octets m (octets-tail code octets fits) q in
-    let same : g ≡ f = fault_is Known g f e in
-    let bad = fails.fails at (at + (1 + m.used)) code m.value before f is.is.value_octets
-    (t ∙ ap (λ (x : SpduFault). failed {A = Known} x) same) in
-    let bad' : failing at (at + (1 + indicator_len is.is.long)) code m.value before f =
-    subst (λ (u : ℕ). failing at (at + (1 + u)) code m.value before f) is.used bad in
-    fault_here means failing at before (code ∷ octets) f (inr (is.is.long, m.value, m.rest, (is.is.counted, is.is.parts), bad'))
+    grind (arith, fault_here, counted_is at octets m (octets-tail code octets fits) q)
 taken_bad taking means failing follows fails n at before code octets f le fits m q (Ok mid) t e later =
     let is = counted_is at octets m (octets-tail code octets fits) q in
     let one = follows.takes at (at + (1 + m.used)) code m.value before mid is.is.value_octets t in
@@ -189,9 +172,7 @@ item_bad : (taking : Taking) (means : ℕ → List ℕ → Known → Type 0) (fa
 item_bad taking means failing follows fails n at before code octets f le fits (Err g) q e later =
     fault_here means failing at before (code ∷ octets) f
     (inl (no_value at octets g q, sym (fault_is Known g f e) ∙ measured_bad at octets g q))
-item_bad taking means failing follows fails n at before code octets f le fits (Ok m) q e later =
-    taken_bad taking means failing follows fails n at before code octets f le fits m q (taking at (at + (1 + m.used)) code m.value before)
-    refl e later
+item_bad taking means failing follows fails n at before code octets f le fits (Ok m) q e later = grind (arith, taken_bad)
 
 level_found : (taking : Taking) (means : ℕ → List ℕ → Known → Type 0) (failing : Failing) → Follows taking means → Fails taking failing →
     (n at : ℕ) (before : Known) (octets : List ℕ) (f : SpduFault)
@@ -308,10 +289,7 @@ stored_group kind at c value known group free = rw (none_is (known (slot_of c)) 
 stored_free : (kind : Kind) (at : ℕ) (c : Code) (value : List ℕ) (known more : Known) → stored kind at c value known ≡ Ok more →
     known (slot_of c) ≡ None
 unfolding stored
-stored_free kind at c value known more e =
-    is_none_of (known (slot_of c))
-    (guard_ok (is_some (known (slot_of c))) (DuplicateParameter (number_of c) at) more (judged at c known (canonical_in kind c value))
-    e).0
+stored_free kind at c value known more e = grind (arith, is_none_of, guard_ok)
 
 abbrev InUnit : Kind → ℕ → ℕ → Code → List ℕ → Known → SpduFault → Type 0
 InUnit kind at body c value known f =

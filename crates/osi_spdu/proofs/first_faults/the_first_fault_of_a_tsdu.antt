@@ -2,9 +2,9 @@
 use Rattle.std.proofs.Common.{◌⊎◌, inl, inr, ◌≡◌, ℕ, zero, suc, ◌+◌, ◌≤◌, Bool, true, false, List, [], ◌∷◌, ◌++◌, length, Result, Ok, Err}
 use Rattle.std.proofs.Common.{refl, sym, ap, subst, ◌∙◌, append_assoc, add-zero, arith}
 use Rattle.osi_spdu.proofs.Vocabulary.{AllByRecursion, cases_Bool, length-append, drop_at, IsOctets, SpduFault, TrailingOctets, Category}
-use Rattle.osi_spdu.proofs.Vocabulary.{Zero, One, Two, category_of, kind_named, may_stand, Contents, Units, ◌>>=◌, Placed, unit_at}
-use Rattle.osi_spdu.proofs.Vocabulary.{contents_of, takes_rest, Next, next_if, next_at, behind_at, crowded, ended, continued, tsdu_at}
-use Rattle.osi_spdu.proofs.Vocabulary.{AreBehind, AreUnits, IsUnitFault, IsCrowded, IsFaultBehind, IsFaultAfter, IsFirstFault}
+use Rattle.osi_spdu.proofs.Vocabulary.{Zero, One, Two, category_of, may_stand, Contents, Units, ◌>>=◌, Placed, unit_at, contents_of}
+use Rattle.osi_spdu.proofs.Vocabulary.{takes_rest, Next, next_if, next_at, behind_at, ended, continued, tsdu_at, AreBehind, AreUnits}
+use Rattle.osi_spdu.proofs.Vocabulary.{IsUnitFault, IsCrowded, IsFaultBehind, IsFaultAfter, IsFirstFault}
 use Rattle.osi_spdu.proofs.basics.the_steps_of_reading.{bind_of}
 use Rattle.osi_spdu.proofs.basics.length_indicators.{octets-drop}
 use Rattle.osi_spdu.proofs.tsdu.units_and_tsdus_are_read.{IsUnitAt, unit_found, unit_only, second_stands, two_second, informed_none}
@@ -18,11 +18,7 @@ read units = Ok units
 -- the end of a unit
 ends_at : (second : Bool) (at : ℕ) (octets : List ℕ) (p : Placed) → IsOctets octets → unit_at second at octets ≡ Ok p → (front : List ℕ) →
     octets ≡ front ++ p.rest → p.end ≡ at + length front
-ends_at second at octets p fits e front parts =
-    let whole = unit_end second at octets p fits e in
-    let len = ap length parts in
-    let both = length-append front p.rest in
-    omega arith
+ends_at second at octets p fits e front parts = grind (arith, unit_end second at octets p fits e, length-append front p.rest)
 
 behind_octets : (front rest : List ℕ) → IsOctets (front ++ rest) → IsOctets rest
 behind_octets front rest fits = subst IsOctets (drop_at front rest (length front) refl) (octets-drop (length front) (front ++ rest) fits)
@@ -31,14 +27,12 @@ behind_octets front rest fits = subst IsOctets (drop_at front rest (length front
 plain_next : (at : ℕ) (octets : List ℕ) (p : Placed) → unit_at true at octets ≡ Ok p → takes_rest p.kind ≡ false →
     next_at at octets ≡ Ok (record { unit = contents_of p []; end = p.end; rest = p.rest })
 unfolding next_at
-plain_next at octets p e plain =
-    bind_of (unit_at true at octets) (λ u. Ok (next_if (takes_rest u.kind) u)) p _ e (ap (λ (b : Bool). Ok (next_if b p)) plain)
+plain_next at octets p e plain = grind (arith, bind_of)
 
 data_next : (at : ℕ) (octets : List ℕ) (p : Placed) → unit_at true at octets ≡ Ok p → takes_rest p.kind ≡ true →
     next_at at octets ≡ Ok (record { unit = contents_of p p.rest; end = p.end + length p.rest; rest = [] })
 unfolding next_at
-data_next at octets p e data_unit =
-    bind_of (unit_at true at octets) (λ u. Ok (next_if (takes_rest u.kind) u)) p _ e (ap (λ (b : Bool). Ok (next_if b p)) data_unit)
+data_next at octets p e data_unit = grind (arith, bind_of)
 
 bad_next : (at : ℕ) (octets : List ℕ) (f : SpduFault) → unit_at true at octets ≡ Err f → next_at at octets ≡ Err f
 unfolding next_at
@@ -51,8 +45,7 @@ abbrev goes_on : ℕ → Next → Result Units SpduFault
 goes_on room n = with_first n (behind_at room n.end n.rest)
 
 others_bad : (n : Next) (others : Result Units SpduFault) (f : SpduFault) → with_first n others ≡ Err f → others ≡ Err f
-others_bad n (Ok us) f e = absurd (never Units (n.unit ∷ us) f e)
-others_bad n (Err g) f e = ap (λ (x : SpduFault). failed {A = Units} x) (fault_is Units g f e)
+others_bad n others f e = grind (arith, never, failed, fault_is)
 
 nothing_behind : (room at : ℕ) → behind_at room at [] ≡ Ok []
 unfolding behind_at
@@ -60,30 +53,17 @@ nothing_behind room at = refl
 
 ended_found : (end at : ℕ) (rest : List ℕ) (unit : Contents) (f : SpduFault) → end ≡ at → ended end rest unit ≡ Err f →
     (1 ≤ length rest) × (f ≡ TrailingOctets at)
-ended_found end at [] unit f e h = absurd (never Units (unit ∷ []) f h)
-ended_found end at (b ∷ rest) unit f e h = (omega arith, sym (fault_is Units (TrailingOctets end) f h) ∙ ap (λ (k : ℕ). TrailingOctets k) e)
+ended_found end at rest unit f e h = grind (arith, never, fault_is)
 
 ended_only : (end at : ℕ) (rest : List ℕ) (unit : Contents) (f : SpduFault) → end ≡ at → (1 ≤ length rest) × (f ≡ TrailingOctets at) →
     ended end rest unit ≡ Err f
-ended_only end at [] unit f e h = absurd (omega (arith, h.0))
-ended_only end at (b ∷ rest) unit f e h = ap (λ (g : SpduFault). failed {A = Units} g) (ap (λ (k : ℕ). TrailingOctets k) e ∙ sym h.1)
+ended_only end at rest unit f e h = grind (arith, failed)
 
 -- ---- the fault returned is the first
 
 fault_at_once : (room at : ℕ) (octets : List ℕ) (f : SpduFault) → 1 ≤ length octets →
     ((0 ≡ room) × IsCrowded at octets f) ⊎ ((1 ≤ room) × IsUnitFault true at octets f) → IsFaultBehind room at octets f
-fault_at_once room at octets f some bad = record {
-  units = [];
-  front = [];
-  rest = octets;
-  whole = refl;
-  are_units = refl;
-  behind = tt;
-  plain = tt;
-  few = omega arith;
-  some = some;
-  bad = subst (λ (k : ℕ). ((0 ≡ room) × IsCrowded k octets f) ⊎ ((1 ≤ room) × IsUnitFault true k octets f)) (sym (add-zero at)) bad;
-}
+fault_at_once room at octets f some bad = grind (arith, add-zero at)
 
 abbrev Bad : ℕ → ℕ → ℕ → List ℕ → SpduFault → Type 0
 Bad count room at rest f = ((count ≡ room) × IsCrowded at rest f) ⊎ ((1 + count ≤ room) × IsUnitFault true at rest f)
@@ -146,8 +126,7 @@ behind_found : (room at : ℕ) (octets : List ℕ) (f : SpduFault) → IsOctets 
     IsFaultBehind room at octets f
 unfolding behind_at
 behind_found room at [] f fits e = absurd (never Units [] f e)
-behind_found zero at (si ∷ octets) f fits e =
-    fault_at_once 0 at (si ∷ octets) f (omega arith) (inl (refl, sym (fault_is Units (crowded at (kind_named true si)) f e)))
+behind_found zero at (si ∷ octets) f fits e = grind (arith, fault_at_once, fault_is)
 behind_found (suc room) at (si ∷ octets) f fits e =
     behind_case room at si octets f fits e (λ at' o g h. behind_found room at' o f g h) (unit_at true at (si ∷ octets)) refl
 
@@ -163,8 +142,7 @@ after_found Two p front f fits ends not_two e = absurd (not_two refl)
 
 tsdu_case : (octets : List ℕ) (f : SpduFault) → IsOctets octets → (r : Result Placed SpduFault) → unit_at false 0 octets ≡ r →
     (r >>= λ unit. continued (category_of unit.kind) unit) ≡ Err f → IsFirstFault octets f
-tsdu_case octets f fits (Err g) q e =
-    inl (unit_fault_found false 0 octets f fits (q ∙ ap (λ (x : SpduFault). failed {A = Placed} x) (fault_is Units g f e)))
+tsdu_case octets f fits (Err g) q e = grind (arith, unit_fault_found, failed, fault_is)
 tsdu_case octets f fits (Ok p) q e =
     let is = unit_found false 0 octets p fits q in
     let ends : p.end ≡ length is.front = omega (arith, ends_at false 0 octets p fits q is.front is.parts) in
@@ -220,8 +198,7 @@ behind_only (suc room) at (unit ∷ units) front rest f s are plain few some fit
 after_stands : (category : Category) (at : ℕ) (rest : List ℕ) (f : SpduFault) → IsFaultAfter category at rest f →
     may_stand false category ≡ true
 unfolding may_stand
-after_stands Two at rest f h = absurd h
-after_stands _ at rest f h = refl
+after_stands category at rest f h = grind arith
 
 after_only : (category : Category) (p : Placed) (front : List ℕ) (f : SpduFault) → IsOctets p.rest → p.end ≡ length front →
     IsFaultAfter category (length front) p.rest f → continued category p ≡ Err f

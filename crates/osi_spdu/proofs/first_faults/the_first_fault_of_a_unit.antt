@@ -1,11 +1,10 @@
 -- The first fault of a unit is the one that reading returns.
-use Rattle.std.proofs.Common.{inl, inr, ◌≡◌, ℕ, ◌+◌, Bool, true, false, cond, List, [], ◌∷◌, ◌++◌, length, Option, Some, None, Result, Ok}
-use Rattle.std.proofs.Common.{Err, refl, sym, ap, subst, ◌∙◌, arith}
-use Rattle.osi_spdu.proofs.Vocabulary.{flat_map, cases_Bool, length-append, IsOctets, SpduFault, UnknownSi, LengthPastEnd, BadConcatenation}
-use Rattle.osi_spdu.proofs.Vocabulary.{Kind, category_of, required_of, kind_named, may_stand, Known, nothing, settled, ◌>>=◌, Measured}
-use Rattle.osi_spdu.proofs.Vocabulary.{measured_at, params_of, in_unit, all_there, Placed, placed_kind, unit_at, length_octets, part_octets}
-use Rattle.osi_spdu.proofs.Vocabulary.{Spells, MeansInUnit, indicator_len, FailsInUnit, IsLevelFault, IsBodyFault, IsNamedFault}
-use Rattle.osi_spdu.proofs.Vocabulary.{IsUnitFault}
+use Rattle.std.proofs.Common.{inl, inr, ◌≡◌, ℕ, ◌+◌, Bool, cond, List, [], ◌∷◌, ◌++◌, length, Option, Some, None, Result, Ok, Err, refl}
+use Rattle.std.proofs.Common.{sym, ap, subst, ◌∙◌, arith}
+use Rattle.osi_spdu.proofs.Vocabulary.{flat_map, cases_Bool, length-append, IsOctets, SpduFault, LengthPastEnd, BadConcatenation, Kind}
+use Rattle.osi_spdu.proofs.Vocabulary.{required_of, kind_named, Known, nothing, settled, ◌>>=◌, Measured, measured_at, params_of, in_unit}
+use Rattle.osi_spdu.proofs.Vocabulary.{all_there, Placed, placed_kind, unit_at, length_octets, part_octets, Spells, MeansInUnit}
+use Rattle.osi_spdu.proofs.Vocabulary.{indicator_len, FailsInUnit, IsLevelFault, IsBodyFault, IsNamedFault, IsUnitFault}
 use Rattle.osi_spdu.proofs.basics.the_steps_of_reading.{bind_ok, bind_of, ok_is}
 use Rattle.osi_spdu.proofs.basics.length_indicators.{octets-tail, measured_ok, measured_again}
 use Rattle.osi_spdu.proofs.basics.length_indicators as lengths
@@ -33,24 +32,12 @@ body_in kind at octets = measured_at at octets >>= λ m. value_in kind at m
 required_found : (kind : Kind) (at : ℕ) (m : Measured) (raw : Known) (f : SpduFault) (r : Result Known SpduFault) →
     all_there at (required_of kind) raw ≡ r → (r >>= λ whole. Ok (placed kind at m whole)) ≡ Err f
     → all_there at (required_of kind) raw ≡ Err f
-required_found kind at m raw f (Err g) q e = q ∙ ap (λ (x : SpduFault). failed {A = Known} x) (fault_is Placed g f e)
-required_found kind at m raw f (Ok whole) q e = absurd (never Placed (placed kind at m whole) f e)
+required_found kind at m raw f r q e = grind (arith, failed, fault_is, never)
 
 value_found : (kind : Kind) (at : ℕ) (octets : List ℕ) (m : Measured) (f : SpduFault) → IsOctets octets → measured_at at octets ≡ Ok m →
     (r : Result Known SpduFault) → params_of (in_unit kind) (at + (1 + m.used)) nothing m.value ≡ r
     → (r >>= λ raw. required_in kind at m raw) ≡ Err f → IsBodyFault kind at octets f
-value_found kind at octets m f fits q (Err g) t e =
-    let is = counted_is at octets m fits q in
-    let same : g ≡ f = fault_is Placed g f e in
-    let level = unit_level_found kind (at + (1 + m.used)) m.value f is.is.value_octets
-    (t ∙ ap (λ (x : SpduFault). failed {A = Known} x) same) in
-    inr (
-      is.is.long,
-      m.value,
-      m.rest,
-      (is.is.counted, is.is.parts),
-      inl (subst (λ (u : ℕ). IsLevelFault (MeansInUnit kind) (FailsInUnit kind) (at + (1 + u)) nothing m.value f) is.used level),
-    )
+value_found kind at octets m f fits q (Err g) t e = grind (arith, unit_level_found, counted_is at octets m fits q)
 value_found kind at octets m f fits q (Ok raw) t e =
     let is = counted_is at octets m fits q in
     let r = params_found (in_unit kind) (MeansInUnit kind) (unit_follows kind) (length m.value) (at + (1 + m.used)) nothing raw m.value
@@ -61,9 +48,7 @@ value_found kind at octets m f fits q (Ok raw) t e =
 
 body_found : (kind : Kind) (at : ℕ) (octets : List ℕ) (f : SpduFault) → IsOctets octets → (r : Result Measured SpduFault) →
     measured_at at octets ≡ r → (r >>= λ m. value_in kind at m) ≡ Err f → IsBodyFault kind at octets f
-body_found kind at octets f fits (Err g) q e = inl (no_value at octets g q, sym (fault_is Placed g f e) ∙ measured_bad at octets g q)
-body_found kind at octets f fits (Ok m) q e =
-    value_found kind at octets m f fits q (params_of (in_unit kind) (at + (1 + m.used)) nothing m.value) refl e
+body_found kind at octets f fits r q e = search (arith, no_value, fault_is, measured_bad, value_found)
 
 named_found : (second : Bool) (at : ℕ) (o : Option Kind) (octets : List ℕ) (f : SpduFault) → IsOctets octets →
     (placed_kind second at o >>= λ kind. body_in kind at octets) ≡ Err f → IsNamedFault second at o octets f
@@ -129,8 +114,7 @@ unit_fault_only second at (si ∷ octets) f fits h = named_only second at (kind_
 
 indicator_octets : (long : Bool) (value rest : List ℕ) →
     length (length_octets long (length value) ++ value ++ rest) ≡ indicator_len long + (length value + length rest)
-indicator_octets true value rest = omega (arith, length-append value rest)
-indicator_octets false value rest = omega (arith, length-append value rest)
+indicator_octets long value rest = grind (arith, length-append)
 
 pub unit_end : (second : Bool) (at : ℕ) (octets : List ℕ) (p : Placed) → IsOctets octets → unit_at second at octets ≡ Ok p →
     p.end + length p.rest ≡ at + length octets

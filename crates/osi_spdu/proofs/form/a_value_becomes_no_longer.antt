@@ -1,13 +1,9 @@
 -- The written form of a value is no longer than the octets that were read.
-use Rattle.std.proofs.Common.{inl, inr, ◌≡◌, ℕ, zero, suc, ◌+◌, ◌*◌, ◌/◌, ◌%◌, ◌^◌, ◌<◌, ◌≤◌, Bool, true, false, cond, ◌&&◌, List, [], ◌∷◌}
-use Rattle.std.proofs.Common.{length, Option, Some, None, option_map, refl, ap, subst, ◌-◌, add-zero, zero-add, eqb, ltb, leb, arith}
-use Rattle.osi_spdu.proofs.Vocabulary.{common_steps, list_all, cases_Bool, and_parts, ltb-true, leb-true, Code, Kind, ConnectionIdentifier}
-use Rattle.osi_spdu.proofs.Vocabulary.{ConnectAcceptItem, CalledReference, CallingReference, CommonReference, AdditionalReference, SyncType}
-use Rattle.osi_spdu.proofs.Vocabulary.{TokenItem, TransportDisconnect, ProtocolOptions, UserRequirements, TsduMaximumSize, Version}
-use Rattle.osi_spdu.proofs.Vocabulary.{InitialNumber, Enclosure, TokenSetting, ResyncType, Number, Reflect, Reason, CallingSelector}
-use Rattle.osi_spdu.proofs.Vocabulary.{CalledSelector, UserData, ExtendedUserData, significant, six_digits, digits_of, decimal_from}
-use Rattle.osi_spdu.proofs.Vocabulary.{decimal, is_digit, is_numeral, numeral, octet_if, kept_if, canonical, may_enclose, canonical_in}
-use Rattle.osi_spdu.proofs.Vocabulary.{token_bits, any_octet, as_it_is, is_setting}
+use Rattle.std.proofs.Common.{◌≡◌, ℕ, zero, suc, ◌+◌, ◌*◌, ◌^◌, ◌<◌, ◌≤◌, Bool, true, false, cond, ◌&&◌, List, [], ◌∷◌, length, Option}
+use Rattle.std.proofs.Common.{Some, None, option_map, refl, ap, subst, ◌-◌, add-zero, zero-add, eqb, ltb, leb, arith}
+use Rattle.osi_spdu.proofs.Vocabulary.{common_steps, list_all, cases_Bool, and_parts, ltb-true, leb-true, Code, Kind, significant}
+use Rattle.osi_spdu.proofs.Vocabulary.{six_digits, digits_of, decimal_from, decimal, is_digit, is_numeral, numeral, octet_if, kept_if}
+use Rattle.osi_spdu.proofs.Vocabulary.{canonical, canonical_in}
 
 -- ---- a value is written in no more octets than it was read in
 
@@ -15,8 +11,7 @@ one_shorter : (good : ℕ → Bool) (form : ℕ → ℕ) (value v : List ℕ) �
 one_shorter good form value v h0 = grind arith
 
 kept_shorter : (good : Bool) (value v : List ℕ) → kept_if good value ≡ Some v → length v ≤ length value
-kept_shorter true value v e = (let same : value ≡ v = cc in omega (arith, ap length same))
-kept_shorter false value v e = absurd cc
+kept_shorter good value v e = grind arith
 
 some_shorter : (value v : List ℕ) → (let o : Option (List ℕ) = Some value in o ≡ Some v) → length v ≤ length value
 some_shorter value v e = (let same : value ≡ v = cc in omega (arith, ap length same))
@@ -26,12 +21,7 @@ none_shorter value v e = (let same : [] ≡ v = cc in omega (arith, ap length sa
 
 pub significant_len : (xs : List ℕ) → length (significant xs) ≤ length xs
 unfolding significant
-significant_len (d ∷ e ∷ xs) =
-    let r = significant_len (e ∷ xs) in
-    elim (cases_Bool (eqb d 48)) [
-      | inl t ↦ rw t (omega arith)
-      | inr f ↦ rw f (omega arith)
-    ]
+significant_len (d ∷ e ∷ xs) = grind (arith, cases_Bool, eqb, significant_len (e ∷ xs))
 significant_len _ = omega arith
 
 -- a leading zero is not written
@@ -42,35 +32,11 @@ drop_zero d e xs n h l = rw h l
 few_digits : (n k : ℕ) → 1 ≤ k → k ≤ 6 → n < 10 ^ k → length (digits_of n) ≤ k
 unfolding digits_of
 few_digits n zero low high h = absurd (omega arith)
-few_digits n (suc zero) low high h =
-    drop_zero (n / 100000 % 10 + 48) (n / 10000 % 10 + 48) ((n / 1000 % 10 + 48) ∷ (n / 100 % 10 + 48) ∷ (n / 10 % 10 + 48) ∷
-    (n % 10 + 48) ∷ []) 1 (omega arith)
-    (drop_zero (n / 10000 % 10 + 48) (n / 1000 % 10 + 48) ((n / 100 % 10 + 48) ∷ (n / 10 % 10 + 48) ∷ (n % 10 + 48) ∷ []) 1 (omega arith)
-    (drop_zero (n / 1000 % 10 + 48) (n / 100 % 10 + 48) ((n / 10 % 10 + 48) ∷ (n % 10 + 48) ∷ []) 1 (omega arith)
-    (drop_zero (n / 100 % 10 + 48) (n / 10 % 10 + 48) ((n % 10 + 48) ∷ []) 1 (omega arith)
-    (drop_zero (n / 10 % 10 + 48) (n % 10 + 48) [] 1 (omega arith) (significant_len ((n % 10 + 48) ∷ []))))))
-few_digits n (suc (suc zero)) low high h =
-    drop_zero (n / 100000 % 10 + 48) (n / 10000 % 10 + 48) ((n / 1000 % 10 + 48) ∷ (n / 100 % 10 + 48) ∷ (n / 10 % 10 + 48) ∷
-    (n % 10 + 48) ∷ []) 2 (omega arith)
-    (drop_zero (n / 10000 % 10 + 48) (n / 1000 % 10 + 48) ((n / 100 % 10 + 48) ∷ (n / 10 % 10 + 48) ∷ (n % 10 + 48) ∷ []) 2 (omega arith)
-    (drop_zero (n / 1000 % 10 + 48) (n / 100 % 10 + 48) ((n / 10 % 10 + 48) ∷ (n % 10 + 48) ∷ []) 2 (omega arith)
-    (drop_zero (n / 100 % 10 + 48) (n / 10 % 10 + 48) ((n % 10 + 48) ∷ []) 2 (omega arith)
-    (significant_len ((n / 10 % 10 + 48) ∷ (n % 10 + 48) ∷ [])))))
-few_digits n (suc (suc (suc zero))) low high h =
-    drop_zero (n / 100000 % 10 + 48) (n / 10000 % 10 + 48) ((n / 1000 % 10 + 48) ∷ (n / 100 % 10 + 48) ∷ (n / 10 % 10 + 48) ∷
-    (n % 10 + 48) ∷ []) 3 (omega arith)
-    (drop_zero (n / 10000 % 10 + 48) (n / 1000 % 10 + 48) ((n / 100 % 10 + 48) ∷ (n / 10 % 10 + 48) ∷ (n % 10 + 48) ∷ []) 3 (omega arith)
-    (drop_zero (n / 1000 % 10 + 48) (n / 100 % 10 + 48) ((n / 10 % 10 + 48) ∷ (n % 10 + 48) ∷ []) 3 (omega arith)
-    (significant_len ((n / 100 % 10 + 48) ∷ (n / 10 % 10 + 48) ∷ (n % 10 + 48) ∷ []))))
-few_digits n (suc (suc (suc (suc zero)))) low high h =
-    drop_zero (n / 100000 % 10 + 48) (n / 10000 % 10 + 48) ((n / 1000 % 10 + 48) ∷ (n / 100 % 10 + 48) ∷ (n / 10 % 10 + 48) ∷
-    (n % 10 + 48) ∷ []) 4 (omega arith)
-    (drop_zero (n / 10000 % 10 + 48) (n / 1000 % 10 + 48) ((n / 100 % 10 + 48) ∷ (n / 10 % 10 + 48) ∷ (n % 10 + 48) ∷ []) 4 (omega arith)
-    (significant_len ((n / 1000 % 10 + 48) ∷ (n / 100 % 10 + 48) ∷ (n / 10 % 10 + 48) ∷ (n % 10 + 48) ∷ [])))
-few_digits n (suc (suc (suc (suc (suc zero))))) low high h =
-    drop_zero (n / 100000 % 10 + 48) (n / 10000 % 10 + 48) ((n / 1000 % 10 + 48) ∷ (n / 100 % 10 + 48) ∷ (n / 10 % 10 + 48) ∷
-    (n % 10 + 48) ∷ []) 5 (omega arith)
-    (significant_len ((n / 10000 % 10 + 48) ∷ (n / 1000 % 10 + 48) ∷ (n / 100 % 10 + 48) ∷ (n / 10 % 10 + 48) ∷ (n % 10 + 48) ∷ []))
+few_digits n (suc zero) low high h = grind (arith, drop_zero, significant_len)
+few_digits n (suc (suc zero)) low high h = grind (arith, drop_zero, significant_len)
+few_digits n (suc (suc (suc zero))) low high h = grind (arith, drop_zero, significant_len)
+few_digits n (suc (suc (suc (suc zero)))) low high h = grind (arith, drop_zero, significant_len)
+few_digits n (suc (suc (suc (suc (suc zero))))) low high h = grind (arith, drop_zero, significant_len)
 few_digits n (suc (suc (suc (suc (suc (suc k)))))) low high h = (let l = significant_len (six_digits n) in omega arith)
 
 -- n digits give a number below ten to the power n
@@ -103,24 +69,7 @@ numeral_shorter value v e = by (is_numeral value) refl e
 
 pub canonical_shorter : (c : Code) (value v : List ℕ) → canonical c value ≡ Some v → length v ≤ length value
 unfolding canonical
-canonical_shorter ConnectionIdentifier value v e = none_shorter value v e
-canonical_shorter ConnectAcceptItem value v e = none_shorter value v e
-canonical_shorter SyncType value v e = one_shorter any_octet (λ b. b % 2) value v e
-canonical_shorter TokenItem value v e = one_shorter any_octet token_bits value v e
-canonical_shorter TransportDisconnect value v e = one_shorter any_octet as_it_is value v e
-canonical_shorter ProtocolOptions value v e = one_shorter any_octet as_it_is value v e
-canonical_shorter UserRequirements value v e = kept_shorter (eqb (length value) 2) value v e
-canonical_shorter TsduMaximumSize value v e = kept_shorter (eqb (length value) 4) value v e
-canonical_shorter Version value v e = one_shorter any_octet as_it_is value v e
-canonical_shorter InitialNumber value v e = numeral_shorter value v e
-canonical_shorter Enclosure value v e = one_shorter (λ b. ltb b 4) as_it_is value v e
-canonical_shorter TokenSetting value v e = one_shorter is_setting as_it_is value v e
-canonical_shorter ResyncType value v e = one_shorter (λ b. ltb b 3) as_it_is value v e
-canonical_shorter Number value v e = numeral_shorter value v e
-canonical_shorter Reason value v e = kept_shorter (ltb 0 (length value)) value v e
-canonical_shorter CallingSelector value v e = kept_shorter (leb (length value) 16) value v e
-canonical_shorter CalledSelector value v e = kept_shorter (leb (length value) 16) value v e
-canonical_shorter _ value v e = some_shorter value v e
+canonical_shorter c value v e = grind (arith, none_shorter, one_shorter, kept_shorter, eqb, numeral_shorter, ltb, leb, some_shorter)
 
 -- what a unit of some kind takes as the value of a code is one
 pub canonical_from : (kind : Kind) (c : Code) (value v : List ℕ) → canonical_in kind c value ≡ Some v → canonical c value ≡ Some v

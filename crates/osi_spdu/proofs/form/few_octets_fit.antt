@@ -1,15 +1,13 @@
 -- Units whose values have few octets fit.
-use Rattle.std.proofs.Common.{inl, inr, ◌≡◌, ℕ, ◌+◌, ◌%◌, ◌≤◌, ◌∷◌, Bool, true, false, List, [], length, Option, Some, None, refl, sym, ap}
-use Rattle.std.proofs.Common.{subst, option_map, eqb, leb, ltb, arith}
+use Rattle.std.proofs.Common.{◌≡◌, ℕ, ◌+◌, ◌%◌, ◌≤◌, Bool, true, List, [], length, Option, Some, None, sym, ap, subst, option_map, eqb, leb}
+use Rattle.std.proofs.Common.{ltb, arith}
 use Rattle.osi_spdu.proofs.Vocabulary.{cases_Bool, eqb-true, leb-true, Code, ConnectionIdentifier, ConnectAcceptItem, SyncType, TokenItem}
 use Rattle.osi_spdu.proofs.Vocabulary.{TransportDisconnect, ProtocolOptions, UserRequirements, TsduMaximumSize, Version, InitialNumber}
 use Rattle.osi_spdu.proofs.Vocabulary.{Enclosure, TokenSetting, ResyncType, Number, CallingSelector, CalledSelector, ExtendedUserData, Kind}
-use Rattle.osi_spdu.proofs.Vocabulary.{GiveTokens, PleaseTokens, DataTransfer, NotFinished, Finish, Disconnect, Refuse, Connect, Accept}
-use Rattle.osi_spdu.proofs.Vocabulary.{Abort, AbortAccept, ResynchronizeAck, MajorSyncPoint, MajorSyncAck, MinorSyncPoint, MinorSyncAck}
-use Rattle.osi_spdu.proofs.Vocabulary.{Resynchronize, is_group, every_code, codes_of, members_of, six_digits, digits_of, numeral, octet_if}
-use Rattle.osi_spdu.proofs.Vocabulary.{kept_if, any_octet, as_it_is, token_bits, is_setting, canonical, Known, some_octets, Contents}
-use Rattle.osi_spdu.proofs.Vocabulary.{group_octets, value_octets, IsCanonical, UnitFits, value_len, free_len, Params, number_of}
-use Rattle.osi_spdu.proofs.Vocabulary.{reason_octets, place_of, cells_of, slots_of, known_of, count_of, lent_len}
+use Rattle.osi_spdu.proofs.Vocabulary.{every_code, codes_of, members_of, six_digits, digits_of, numeral, octet_if, kept_if, any_octet}
+use Rattle.osi_spdu.proofs.Vocabulary.{as_it_is, token_bits, is_setting, canonical, Known, some_octets, Contents, value_octets, IsCanonical}
+use Rattle.osi_spdu.proofs.Vocabulary.{UnitFits, value_len, free_len, Params, number_of, place_of, cells_of, slots_of, known_of, count_of}
+use Rattle.osi_spdu.proofs.Vocabulary.{lent_len}
 use Rattle.osi_spdu.proofs.form.values_in_memory_are_in_their_form.{params_canonical}
 use Rattle.osi_spdu.proofs.form.what_was_read_fits.{total, cost, member_cost, unit_cost, part_cost, total_less, group_len, body_len}
 use Rattle.osi_spdu.proofs.form.a_value_becomes_no_longer.{significant_len}
@@ -17,12 +15,10 @@ use Rattle.osi_spdu.proofs.form.a_value_becomes_no_longer.{significant_len}
 -- ---- values of few octets
 
 one_small : (good : ℕ → Bool) (form : ℕ → ℕ) (v w : List ℕ) → octet_if good form v ≡ Some w → length v ≤ 16
-one_small good form (b ∷ []) w e = omega arith
-one_small good form _ w e = absurd cc
+one_small good form v w e = grind arith
 
 kept_small : (good : Bool) (v w : List ℕ) → (good ≡ true → length v ≤ 16) → kept_if good v ≡ Some w → length v ≤ 16
-kept_small true v w h e = h refl
-kept_small false v w h e = absurd cc
+kept_small good v w h e = grind arith
 
 none_small : (v : List ℕ) → (let o : Option (List ℕ) = Some [] in o ≡ Some v) → length v ≤ 16
 none_small v e = (let same : [] ≡ v = cc in omega (arith, ap length same))
@@ -124,8 +120,7 @@ part_weight kind known c = grind (arith, unit_cost, total, value_weight)
 unit_weight : (kind : Kind) (known : Known) →
     total (λ c. weight known c + total (weight known) (members_of kind c)) (codes_of kind) ≤ total (weight known) every_code
 unfolding codes_of members_of
-unit_weight GiveTokens known = omega arith
-unit_weight _ known = omega arith
+unit_weight kind known = grind arith
 
 all_weight : (known : Known) → IsCanonical known → total (weight known) every_code ≤ 400 + free_len known
 unfolding free_len
@@ -163,8 +158,7 @@ some_less : (o : Option (List ℕ)) → value_len (some_octets o) ≤ count_of o
 some_less o = grind arith
 
 same_count : (o : Option (List ℕ)) → value_len o ≡ count_of o
-same_count None = refl
-same_count (Some v) = refl
+same_count o = grind arith
 
 params_free : (p : Params) → free_len (known_of p) ≤ lent_len p
 unfolding free_len known_of slots_of cells_of place_of number_of

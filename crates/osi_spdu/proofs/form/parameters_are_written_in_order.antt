@@ -1,6 +1,5 @@
 -- Writing parameters one after the other, by a loop.
-use Rattle.std.proofs.Common.{◌≡◌, ℕ, zero, suc, ◌+◌, ◌<◌, ◌≤◌, List, [], ◌∷◌, ◌++◌, length, drop, get_or, refl, sym, ap, ◌∙◌, append_assoc}
-use Rattle.std.proofs.Common.{arith}
+use Rattle.std.proofs.Common.{◌≡◌, ℕ, zero, suc, ◌+◌, ◌<◌, ◌≤◌, List, [], ◌∷◌, ◌++◌, length, drop, get_or, refl, ap, ◌∙◌, arith}
 use Rattle.osi_spdu.proofs.Vocabulary.{flat_map, length-append, append-nil, drop_more, drop_all, Code}
 
 pub piece_next : (f : Code → List ℕ) (codes : List Code) (i : ℕ) (c : Code) → i < length codes →

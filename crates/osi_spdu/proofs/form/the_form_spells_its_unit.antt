@@ -33,14 +33,12 @@ octets_if make c (Some v) = part_octets (make c v)
 whole_if : (make : Code → List ℕ → Part) (c : Code) (o : Option (List ℕ)) (octets : List ℕ) (parts : List Part) →
     octets ≡ flat_map part_octets parts
     → octets_if make c o ++ octets ≡ flat_map part_octets (part_if make c o parts)
-whole_if make c None octets parts e = e
-whole_if make c (Some v) octets parts e = ap (λ (t : List ℕ). part_octets (make c v) ++ t) e
+whole_if make c o octets parts e = grind arith
 
 parts_whole : (make : Code → List ℕ → Part) (known : Known) (codes : List Code) →
     flat_map (λ c. octets_if make c (known c)) codes ≡ flat_map part_octets (parts_of make known codes)
 parts_whole make known [] = refl
-parts_whole make known (c ∷ codes) =
-    whole_if make c (known c) (flat_map (λ d. octets_if make d (known d)) codes) (parts_of make known codes) (parts_whole make known codes)
+parts_whole make known (c ∷ codes) = grind (arith, whole_if, parts_whole make known codes)
 
 -- what makes each part one of the level
 abbrev Makes : (ℕ → List ℕ → Known → Type 0) → (Code → List ℕ → Part) → Known → List Code → Type 0
@@ -52,8 +50,7 @@ each_if : (means : ℕ → List ℕ → Known → Type 0) (make : Code → List 
     → ((v : List ℕ) → o ≡ Some v → length (part_octets (make c v)) < 65536 → IsPart means (make c v)) →
     length (octets_if make c o ++ octets) < 65536
     → AllByRecursion (IsPart means) parts → AllByRecursion (IsPart means) (part_if make c o parts)
-each_if means make c None octets parts h fits all = all
-each_if means make c (Some v) octets parts h fits all = (h v refl (omega (arith, length-append (part_octets (make c v)) octets)), all)
+each_if means make c o octets parts h fits all = grind (arith, length-append)
 
 parts_each : (means : ℕ → List ℕ → Known → Type 0) (make : Code → List ℕ → Part) (known : Known) (codes : List Code) →
     Makes means make known codes
@@ -76,8 +73,7 @@ given parts d = map (λ p. p.gives d) parts
 none_if : (make : Code → List ℕ → Part) (c : Code) (o : Option (List ℕ)) (parts : List Part) (d : Code) →
     ((v : List ℕ) → (make c v).gives d ≡ None)
     → Sole (given parts d) None → Sole (given (part_if make c o parts) d) None
-none_if make c None parts d g h = h
-none_if make c (Some v) parts d g h = subst (λ (x : Option (List ℕ)). Sole (x ∷ given parts d) None) (sym (g v)) h
+none_if make c o parts d g h = grind arith
 
 parts_none : (owner : Code → Code → Bool) (make : Code → List ℕ → Part) (known : Known) (codes : List Code) (d : Code) →
     Shares owner make known
@@ -88,23 +84,8 @@ parts_none owner make known (c ∷ codes) d g e =
     none_if make c (known c) (parts_of make known codes) d (λ v. g c v d ∙ ap (λ (b : Bool). cond b (known d) None) o.0)
     (parts_none owner make known codes d g o.1)
 
-sole_head : (o : Option (List ℕ)) (options : List (Option (List ℕ))) → Sole options None → Sole (o ∷ options) o
-sole_head None options h = h
-sole_head (Some v) options h = (refl, h)
-
-sole_if : (make : Code → List ℕ → Part) (c : Code) (o k : Option (List ℕ)) (parts : List Part) (d : Code) (b t : Bool) →
-    ((v : List ℕ) → (make c v).gives d ≡ cond b k None)
-    → Sole (given parts d) (cond t k None) → (b ≡ true → Sole (given parts d) None) →
-    Sole (given (part_if make c o parts) d) (cond ((b && is_some o) || t) k None)
-sole_if make c None k parts d true t g h n = h
-sole_if make c None k parts d false t g h n = h
-sole_if make c (Some v) k parts d true t g h n =
-    subst (λ (x : Option (List ℕ)). Sole (x ∷ given parts d) k) (sym (g v)) (sole_head k (given parts d) (n refl))
-sole_if make c (Some v) k parts d false t g h n = subst (λ (x : Option (List ℕ)). Sole (x ∷ given parts d) (cond t k None)) (sym (g v)) h
-
 pub once_tail : (b x y : Bool) → cond b (not x) y ≡ true → (b ≡ true → x ≡ false) × (b ≡ false → y ≡ true)
-once_tail true x y e = (λ h. not-true x e, λ h. absurd cc)
-once_tail false x y e = (λ h. absurd cc, λ h. e)
+once_tail b x y e = grind (arith, not-true)
 
 once_rest : (owner : Code → Code → Bool) (codes : List Code) (d : Code) → list_any (λ c. owner c d) codes ≡ false →
     once owner codes d ≡ true
@@ -115,12 +96,7 @@ once_rest owner (c ∷ codes) d e =
 
 pub tail_once : (owner : Code → Code → Bool) (c : Code) (codes : List Code) (d : Code) → once owner (c ∷ codes) d ≡ true →
     once owner codes d ≡ true
-tail_once owner c codes d e =
-    let o = once_tail (owner c d) (list_any (λ x. owner x d) codes) (once owner codes d) e in
-    elim (cases_Bool (owner c d)) [
-      | inl t ↦ once_rest owner codes d (o.0 t)
-      | inr f ↦ o.1 f
-    ]
+tail_once owner c codes d e = grind (arith, once_tail, once, cases_Bool, once_rest)
 
 -- a slot that no two codes own has the value of the one that is there
 parts_sole : (owner : Code → Code → Bool) (make : Code → List ℕ → Part) (known : Known) (codes : List Code) (d : Code) →
@@ -128,11 +104,7 @@ parts_sole : (owner : Code → Code → Bool) (make : Code → List ℕ → Part
     → Sole (given (parts_of make known codes) d) (cond (list_any (λ c. owner c d && is_some (known c)) codes) (known d) None)
 parts_sole owner make known [] d g e = refl
 parts_sole owner make known (c ∷ codes) d g e =
-    let o = once_tail (owner c d) (list_any (λ x. owner x d) codes) (once owner codes d) e in
-    sole_if make c (known c) (known d) (parts_of make known codes) d (owner c d) (list_any (λ x. owner x d && is_some (known x)) codes)
-    (λ v. g c v d)
-    (parts_sole owner make known codes d g (tail_once owner c codes d e))
-    (λ t. parts_none owner make known codes d g (o.0 t))
+    grind (arith, parts_none, parts_sole owner make known codes d g (tail_once owner c codes d e))
 
 -- ---- the values of a unit
 
@@ -152,37 +124,22 @@ may_be_enclosed kind known c v is e = elim (cases_Bool (is_same c Enclosure)) [
 
 canonical_there : (kind : Kind) (known : Known) → IsCanonical known → is_enclosed kind (known Enclosure) ≡ true → IsCanonicalIn kind known
 unfolding canonical_in
-canonical_there kind known is enclosed = record {
-  values = λ c v e. rw (may_be_enclosed kind known c v enclosed e) (is.values c v e);
-  slots = is.slots;
-  data_there = is.data_there;
-}
+canonical_there kind known is enclosed = grind (arith, may_be_enclosed)
 
 -- ---- a group
 
 own_slot : (kind : Kind) (known : Known) (c : Code) (v : List ℕ) → IsCanonicalIn kind known → known c ≡ Some v → slot_of c ≡ c
 unfolding slot_of
-own_slot kind known ExtendedUserData v is e = absurd (let h : None ≡ Some v = sym is.slots ∙ e in cc)
-own_slot kind known _ v is e = refl
+own_slot kind known c v is e = grind arith
 
 own_only : (known : Known) (c : Code) (v : List ℕ) (d : Code) → known c ≡ Some v → cond (is_same d c) (known d) None ≡ only c v d
-own_only known c v d e =
-    elim (cases_Bool (is_same d c)) [
-      | inl t ↦ rw t (ap known (same_true d c t) ∙ e)
-      | inr f ↦ rw f refl
-    ]
+own_only known c v d e = search (arith, cases_Bool, same_true)
 
 abbrev member_part : Known → Code → List ℕ → Part
 member_part known c v = record { code = number_of c; long = ltb 254 (length v); value = v; gives = λ d. cond (is_same d c) (known d) None }
 
 fitting : (code : ℕ) (v : List ℕ) → length (written_item code v) < 65536 → HasLength (ltb 254 (length v)) (length v)
-fitting code v fits = fitting_if (ltb 254 (length v)) refl
-  where
-    fitting_if : (b : Bool) → ltb 254 (length v) ≡ b → HasLength b (length v)
-    fitting_if true e =
-        (let l : length (written_item code v) < 65536 = fits in
-        omega (arith, length-append (code ∷ [] ++ length_octets (ltb 254 (length v)) (length v)) v))
-    fitting_if false e = (let l = ltb-false 254 (length v) e in omega arith)
+fitting code v fits = grind (arith, ltb, length-append, ltb-false)
 
 member_makes : (kind : Kind) (known : Known) (g : Code) → IsCanonicalIn kind known →
     Makes (MeansInGroup kind (members_of kind g)) (member_part known) known (members_of kind g)
@@ -195,28 +152,19 @@ member_makes kind known g is c v there e fits =
     (number_octet c, fitting (number_of c) v fits, rw found means)
 
 cond_none : (b : Bool) → cond b (let o : Option (List ℕ) = None in o) None ≡ None
-cond_none true = refl
-cond_none false = refl
+cond_none b = grind arith
 
 same_and_there : (known : Known) (d c : Code) (v : List ℕ) → known d ≡ Some v → (is_same d c && is_some (known c)) ≡ is_same d c
-same_and_there known d c v e =
-    elim (cases_Bool (is_same d c)) [
-      | inl t ↦ rw t (ap is_some (sym (ap known (same_true d c t)) ∙ e))
-      | inr f ↦ rw f refl
-    ]
+same_and_there known d c v e = grind (arith, cases_Bool, same_true)
 
 shown_member : (known : Known) (members : List Code) (d : Code) (o : Option (List ℕ)) → known d ≡ o
     → cond (list_any (λ c. is_same d c && is_some (known c)) members) (known d) None ≡ cond (among members d) (known d) None
-shown_member known members d None e =
-    ap (λ (k : Option (List ℕ)). cond (list_any (λ c. is_same d c && is_some (known c)) members) k None) e ∙
-    cond_none (list_any (λ c. is_same d c && is_some (known c)) members)
-    ∙ sym (ap (λ (k : Option (List ℕ)). cond (among members d) k None) e ∙ cond_none (among members d))
+shown_member known members d None e = grind (arith, cond, cond_none)
 shown_member known members d (Some v) e =
     ap (λ (p : Code → Bool). cond (list_any p members) (known d) None) (λ i c. (same_and_there known d c v e) i)
 
 member_same : (known : Known) (c : Code) (o : Option (List ℕ)) → member_octets c o ≡ octets_if (member_part known) c o
-member_same known c None = refl
-member_same known c (Some v) = refl
+member_same known c o = grind arith
 
 group_whole : (kind : Kind) (known : Known) (g : Code) →
     group_octets kind known g ≡ flat_map (λ c. octets_if (member_part known) c (known c)) (members_of kind g)
@@ -242,8 +190,7 @@ group_spelled kind known g is fits =
 
 group_sole : (b a : Bool) (k : Option (List ℕ)) → (b ≡ true → k ≡ Some []) → (b ≡ true → a ≡ false) →
     Sole (cond b (Some []) None ∷ cond a k None ∷ []) (cond (b || a) k None)
-group_sole true a k h n = subst (λ (x : Bool). Sole (Some [] ∷ cond x k None ∷ []) k) (sym (n refl)) (h refl, refl)
-group_sole false a k h n = sole_one (cond a k None)
+group_sole b a k h n = grind (arith, cond, sole_one)
 
 abbrev unit_part : Kind → Known → Code → List ℕ → Part
 unit_part kind known c v = record {
@@ -257,14 +204,7 @@ abbrev owned : Kind → Known → Code → Known
 owned kind known c = λ d. cond (owns kind c d) (known d) None
 
 owned_alone : (kind : Kind) (known : Known) (c : Code) (v : List ℕ) → is_group c ≡ false → known c ≡ Some v → owned kind known c ≡ only c v
-owned_alone kind known c v leaf e = λ i d. (one d) i
-  where
-    bare : (b : Bool) → (b || false) ≡ b
-    bare true = refl
-    bare false = refl
-
-    one : (d : Code) → owned kind known c d ≡ only c v d
-    one d = rw (members_none kind c leaf, bare (is_same d c)) (own_only known c v d e)
+owned_alone kind known c v leaf e = grind (arith, members_none, own_only)
 
 group_means : (kind : Kind) (known : Known) (c : Code) (v : List ℕ) → IsCanonicalIn kind known → is_group c ≡ true → known c ≡ Some v →
     length (group_octets kind known c) < 65536
@@ -322,9 +262,7 @@ unit_makes kind known is c v there e fits =
 shown_owned : (kind : Kind) (known : Known) (d : Code) (o : Option (List ℕ)) → known d ≡ o →
     (may_be_there kind known d || is_none (known d)) ≡ true
     → cond (list_any (λ c. owns kind c d && is_some (known c)) (codes_of kind)) (known d) None ≡ known d
-shown_owned kind known d None e formed =
-    ap (λ (k : Option (List ℕ)). cond (list_any (λ c. owns kind c d && is_some (known c)) (codes_of kind)) k None) e ∙
-    cond_none (list_any (λ c. owns kind c d && is_some (known c)) (codes_of kind)) ∙ sym e
+shown_owned kind known d None e formed = grind (arith, cond, owns, cond_none)
 shown_owned kind known d (Some v) e formed =
     let present : may_be_there kind known d ≡ true = elim (or_cases (may_be_there kind known d) (is_none (known d)) formed) [
       | inl t ↦ t
@@ -343,8 +281,7 @@ shown_owned kind known d (Some v) e formed =
 
 parameter_same : (kind : Kind) (known : Known) (c : Code) (o : Option (List ℕ)) →
     parameter_octets kind known c o ≡ octets_if (unit_part kind known) c o
-parameter_same kind known c None = refl
-parameter_same kind known c (Some v) = refl
+parameter_same kind known c o = grind arith
 
 body_whole : (kind : Kind) (known : Known) →
     body_octets kind known ≡ flat_map (λ c. octets_if (unit_part kind known) c (known c)) (codes_of kind)
@@ -374,17 +311,10 @@ all_some known (c ∷ codes) e =
     (let a = and_parts (is_some (known c)) (list_all (λ d. is_some (known d)) codes) e in (a.0, all_some known codes a.1))
 
 settled_option : (o : Option (List ℕ)) → (o ≡ Some [] → ⊥) → some_octets o ≡ o
-settled_option (Some []) h = absurd (h refl)
-settled_option _ h = refl
+settled_option o h = grind arith
 
 settled_same : (known : Known) → IsCanonical known → settled known ≡ known
-settled_same known is = λ i c. (one c) i
-  where
-    one : (c : Code) → settled known c ≡ known c
-    one c = elim (cases_Bool (is_same c UserData)) [
-      | inl t ↦ rw t (settled_option (known c) (λ h. is.data_there (sym (ap known (same_true c UserData t)) ∙ h)))
-      | inr f ↦ rw f refl
-    ]
+settled_same known is = grind (arith, cases_Bool, settled_option, same_true)
 
 pub unit_written : (unit : Contents) → IsFormedUnit unit → UnitFits unit → SpellsUnit unit (unit_octets unit)
 unfolding unit_octets is_formed
@@ -413,8 +343,7 @@ unit_written unit is fits =
 pub units_written : (units : Units) → AllByRecursion IsFormedUnit units → TsduFits units → AreUnits units (tsdu_octets units)
 unfolding tsdu_octets
 units_written [] is fits = refl
-units_written (unit ∷ units) is fits =
-    (unit_octets unit, tsdu_octets units, refl, unit_written unit is.0 fits.0, is.0.informed, units_written units is.1 fits.1)
+units_written (unit ∷ units) is fits = grind (arith, unit_written, units_written units is.1 fits.1)
 
 -- the written form spells its value
 pub tsdu_written : (units : Units) → IsFormedTsdu units → TsduFits units → IsOctets (tsdu_octets units) →

@@ -1,7 +1,7 @@
 -- Writing units one after the other, by a loop.
 use Rattle.std.proofs.Common.{◌≡◌, ℕ, ◌+◌, ◌*◌, ◌<◌, ◌≤◌, List, [], ◌∷◌, ◌++◌, length, refl, sym, ap, subst, ◌∙◌, append_assoc, arith}
-use Rattle.osi_spdu.proofs.Vocabulary.{AllByRecursion, length-append, append-nil, drop_at, IsOctets, Kind, DataTransfer, Contents, Units}
-use Rattle.osi_spdu.proofs.Vocabulary.{HasInformation, EndsTsdu, AreBehind, unit_octets, tsdu_octets, IsFormedUnit, UnitFits, TsduFits}
+use Rattle.osi_spdu.proofs.Vocabulary.{AllByRecursion, length-append, append-nil, drop_at, IsOctets, Kind, Contents, Units, HasInformation}
+use Rattle.osi_spdu.proofs.Vocabulary.{EndsTsdu, AreBehind, unit_octets, tsdu_octets, IsFormedUnit, UnitFits, TsduFits}
 use Rattle.osi_spdu.proofs.basics.length_indicators.{octets-drop}
 
 pub octets_none : (units : Units) → units ≡ [] → tsdu_octets units ≡ []
@@ -49,8 +49,7 @@ pub record IsCountingUnits (units : Units) (len : ℕ) (all : Units) : Type 0 wh
 
 plain_or_last : (kind : Kind) (information : List ℕ) (units : Units) → HasInformation kind information → EndsTsdu kind units →
     1 ≤ length units → length information ≡ 0
-plain_or_last DataTransfer information units h e some = absurd (omega (arith, ap length e))
-plain_or_last _ information units h e some = ap length h
+plain_or_last kind information units h e some = grind arith
 
 pub counting_start : (units : Units) → TsduFits units → AllByRecursion IsFormedUnit units → AreBehind units → length units ≤ 16 →
     IsCountingUnits units 0 units
@@ -64,24 +63,7 @@ pub record CountsNext (units : Units) (len : ℕ) (unit : Contents) (others all 
 
 counts_cons : (len : ℕ) (unit : Contents) (others all : Units) → IsCountingUnits (unit ∷ others) len all →
     CountsNext (unit ∷ others) len unit others all
-counts_cons len unit others all so_far =
-    let s = so_far.small (omega arith) in
-    let f = so_far.few in
-    let k = so_far.counted in
-    let n = len_next (unit ∷ others) others unit refl in
-    record {
-      fits = so_far.fits.0;
-      small = omega arith;
-      next = λ short. record {
-        counted = omega arith;
-        fits = so_far.fits.1;
-        formed = so_far.formed.1;
-        behind = so_far.behind.2;
-        few = omega arith;
-        small = λ some. (let p = plain_or_last unit.kind unit.information others so_far.formed.0.informed so_far.behind.1 some in
-            omega arith);
-      };
-    }
+counts_cons len unit others all so_far = grind (arith, len_next, plain_or_last)
 
 pub counts_next : (units : Units) (len : ℕ) (unit : Contents) (others all : Units) → units ≡ unit ∷ others → IsCountingUnits units len all →
     CountsNext units len unit others all

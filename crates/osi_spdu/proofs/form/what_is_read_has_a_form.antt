@@ -1,14 +1,12 @@
 -- Units that are read have a written form: they hold only parameters that they know, and all mandatory ones.
 use Rattle.std.proofs.Common.{◌⊎◌, inl, inr, ◌≡◌, ℕ, Bool, true, false, cond, not, ◌&&◌, ◌||◌, List, [], ◌∷◌, map, Option, Some, None, Ok}
-use Rattle.std.proofs.Common.{refl, sym, ap, subst, ◌∙◌, ltb, arith}
+use Rattle.std.proofs.Common.{refl, sym, ap, subst, ◌∙◌, arith}
 use Rattle.osi_spdu.proofs.Vocabulary.{is_some, is_none, IsSome, list_any, list_all, AllByRecursion, cases_Bool, and_parts, and_from}
-use Rattle.osi_spdu.proofs.Vocabulary.{or_left, or_right, not-true, IsOctets, Code, ConnectionIdentifier, ConnectAcceptItem, Enclosure}
-use Rattle.osi_spdu.proofs.Vocabulary.{UserData, ExtendedUserData, Kind, Connect, Resynchronize, ResynchronizeAck, MajorSyncPoint}
-use Rattle.osi_spdu.proofs.Vocabulary.{MajorSyncAck, MinorSyncPoint, MinorSyncAck, number_of, is_same, is_group, slot_of, every_code}
-use Rattle.osi_spdu.proofs.Vocabulary.{codes_of, members_of, references_of, required_of, octet_if, as_it_is, canonical, may_have_parts}
-use Rattle.osi_spdu.proofs.Vocabulary.{is_three, may_enclose, canonical_in, Known, settled, Contents, code_among, Placed, contents_of}
-use Rattle.osi_spdu.proofs.Vocabulary.{unit_at, Part, Sole, IsPart, Spells, only, MemberOf, MeansInGroup, GroupOf, ParameterOf, KnownOf}
-use Rattle.osi_spdu.proofs.Vocabulary.{MeansInUnit, SpellsUnit, among, may_be_there, is_enclosed, is_formed}
+use Rattle.osi_spdu.proofs.Vocabulary.{or_left, or_right, not-true, IsOctets, Code, Enclosure, UserData, ExtendedUserData, Kind, number_of}
+use Rattle.osi_spdu.proofs.Vocabulary.{is_same, is_group, slot_of, every_code, codes_of, members_of, references_of, required_of, octet_if}
+use Rattle.osi_spdu.proofs.Vocabulary.{as_it_is, canonical, may_enclose, canonical_in, Known, settled, Contents, code_among, Placed}
+use Rattle.osi_spdu.proofs.Vocabulary.{contents_of, unit_at, Part, Sole, IsPart, Spells, only, MemberOf, MeansInGroup, GroupOf, ParameterOf}
+use Rattle.osi_spdu.proofs.Vocabulary.{KnownOf, MeansInUnit, SpellsUnit, among, may_be_there, is_enclosed, is_formed}
 use Rattle.osi_spdu.proofs.basics.options_that_are_added.{Joins, first, sole_same, sole_split}
 use Rattle.osi_spdu.proofs.basics.the_steps_of_reading.{same_true, same_refl}
 use Rattle.osi_spdu.proofs.parameters.each_slot_has_one_code.{among_named, any_weaker}
@@ -18,16 +16,13 @@ use Rattle.osi_spdu.proofs.tsdu.units_and_tsdus_are_read.{unit_found}
 
 sole_of_head : (x : Option (List ℕ)) (xs : List (Option (List ℕ))) (o : Option (List ℕ)) (w : List ℕ) → x ≡ Some w → Sole (x ∷ xs) o →
     o ≡ Some w
-sole_of_head None xs o w e h = absurd cc
-sole_of_head (Some v) xs o w e h = h.0 ∙ e
+sole_of_head x xs o w e h = grind arith
 
 joins_some : (m k o : Option (List ℕ)) (w : List ℕ) → m ≡ Some w → Joins m k o → o ≡ Some w
-joins_some None k o w e j = absurd cc
-joins_some (Some v) k o w e j = j.1 ∙ e
+joins_some m k o w e j = grind arith
 
 joins_from : (m o : Option (List ℕ)) (v : List ℕ) → o ≡ Some v → Joins m None o → m ≡ Some v
-joins_from None o v e j = absurd (let h : None ≡ Some v = sym j ∙ e in cc)
-joins_from (Some w) o v e j = sym j.1 ∙ e
+joins_from m o v e j = grind arith
 
 -- a part that gives the value of a slot, and gives nothing but what is known
 record Source (means : ℕ → List ℕ → Known → Type 0) (raw : Known) (d : Code) (v : List ℕ) : Type 0 where
@@ -49,12 +44,7 @@ later means p parts raw d v once s = record {
 
 here : (means : ℕ → List ℕ → Known → Type 0) (p : Part) (parts : List Part) (raw : Known) (d : Code) (v w : List ℕ) → IsPart means p
     → ((c : Code) → Sole (p.gives c ∷ map (λ q. q.gives c) parts) (raw c)) → raw d ≡ Some v → p.gives d ≡ Some w → Source means raw d v
-here means p parts raw d v w is once e g = record {
-  part = p;
-  is_part = is;
-  gives_it = g ∙ sym (sole_of_head (p.gives d) (map (λ q. q.gives d) parts) (raw d) w g (once d)) ∙ e;
-  within = λ c x h. sole_of_head (p.gives c) (map (λ q. q.gives c) parts) (raw c) x h (once c);
-}
+here means p parts raw d v w is once e g = grind (arith, sole_of_head)
 
 pub option_cases : (o : Option (List ℕ)) → ((w : List ℕ) × (o ≡ Some w)) ⊎ (o ≡ None)
 option_cases None = inr refl
@@ -84,18 +74,15 @@ only_slot d s form v e = elim (cases_Bool (is_same d s)) [
 
 extended_unit : (kind : Kind) → among (codes_of kind) ExtendedUserData ≡ true → among (codes_of kind) UserData ≡ true
 unfolding codes_of number_of
-extended_unit Connect e = refl
-extended_unit _ e = absurd cc
+extended_unit kind e = grind arith
 
 slot_among : (kind : Kind) (c : Code) → among (codes_of kind) c ≡ true → among (codes_of kind) (slot_of c) ≡ true
 unfolding slot_of
-slot_among kind ExtendedUserData e = extended_unit kind e
-slot_among kind _ e = e
+slot_among kind c e = grind (arith, extended_unit)
 
 no_extended_reference : (kind : Kind) → among (references_of kind) ExtendedUserData ≡ false
 unfolding number_of
-no_extended_reference Connect = refl
-no_extended_reference _ = refl
+no_extended_reference kind = grind arith
 
 no_extended : (kind : Kind) (g : Code) → among (members_of kind g) ExtendedUserData ≡ false
 unfolding members_of number_of
@@ -103,8 +90,7 @@ no_extended kind g = grind (arith, no_extended_reference)
 
 pub member_slot : (kind : Kind) (g c : Code) → among (members_of kind g) c ≡ true → slot_of c ≡ c
 unfolding slot_of
-member_slot kind g ExtendedUserData e = absurd (let h : true ≡ false = sym e ∙ no_extended kind g in cc)
-member_slot kind g _ e = refl
+member_slot kind g c e = grind (arith, no_extended)
 
 -- a value that a group's parameter gives is one of its members
 member_source : (kind : Kind) (g : Code) (value v : List ℕ) (gives : Known) (d : Code) (o : Option Code) (n : ℕ) →
@@ -181,8 +167,7 @@ other_number h = omega arith
 
 enclosure_slot : (c : Code) → Enclosure ≡ slot_of c → c ≡ Enclosure
 unfolding slot_of
-enclosure_slot ExtendedUserData e = absurd (other_number (ap number_of e))
-enclosure_slot _ e = sym e
+enclosure_slot c e = grind (arith, other_number)
 
 no_group : is_group Enclosure ≡ true → ⊥
 unfolding is_group
@@ -194,8 +179,7 @@ no_user_data = refl
 
 no_enclosed_reference : (kind : Kind) → among (references_of kind) Enclosure ≡ false
 unfolding number_of
-no_enclosed_reference Connect = refl
-no_enclosed_reference _ = refl
+no_enclosed_reference kind = grind arith
 
 no_enclosed_member : (kind : Kind) (g : Code) → among (members_of kind g) Enclosure ≡ false
 unfolding members_of number_of
@@ -231,16 +215,13 @@ parameter_encloses kind c value v gives false group m e =
 
 unit_encloses : (kind : Kind) (value v : List ℕ) (gives : Known) (o : Option Code) → KnownOf kind value gives o → gives Enclosure ≡ Some v →
     is_enclosed kind (Some v) ≡ true
-unit_encloses kind value v gives None m e = absurd (let h : None ≡ Some v = sym (ap (λ (k : Known). k Enclosure) m) ∙ e in cc)
-unit_encloses kind value v gives (Some c) m e = parameter_encloses kind c value v gives (is_group c) refl m e
+unit_encloses kind value v gives o m e = grind (arith, parameter_encloses)
 
 enclosed : (kind : Kind) (raw : Known) (body : List ℕ) (o : Option (List ℕ)) → Spells (MeansInUnit kind) raw body → raw Enclosure ≡ o →
     is_enclosed kind o ≡ true
 unfolding MeansInUnit
 enclosed kind raw body None s e = refl
-enclosed kind raw body (Some v) s e =
-    let from = source (MeansInUnit kind) s.parts raw Enclosure v s.each s.once e in
-    unit_encloses kind from.part.value v from.part.gives (code_among (codes_of kind) from.part.code) from.is_part.2 from.gives_it
+enclosed kind raw body (Some v) s e = grind (arith, unit_encloses, source (MeansInUnit kind) s.parts raw Enclosure v s.each s.once e)
 
 -- ---- and so the unit is formed
 
@@ -259,12 +240,8 @@ pub any_at : (p : Code → Bool) (codes : List Code) (c : Code) → among codes 
 any_at p codes c there e = any_weaker (λ d. is_same c d) p codes (λ d t. ap p (sym (same_true c d t)) ∙ e) there
 
 there_from : (kind : Kind) (raw : Known) (d : Code) → IsOwned kind raw d → may_be_there kind (settled raw) d ≡ true
-there_from kind raw d (inl a) =
-    or_left (among (codes_of kind) d) (list_any (λ g. among (members_of kind g) d && is_some (settled raw g)) (codes_of kind)) a
-there_from kind raw d (inr q) =
-    or_right (among (codes_of kind) d) (list_any (λ g. among (members_of kind g) d && is_some (settled raw g)) (codes_of kind))
-    (any_at (λ g. among (members_of kind g) d && is_some (settled raw g)) (codes_of kind) q.0 q.1
-    (and_from (among (members_of kind q.0) d) (is_some (settled raw q.0)) q.2 (ap is_some (group_stays kind raw q.0 d q.2 q.3))))
+there_from kind raw d (inl a) = grind (arith, or_left)
+there_from kind raw d (inr q) = grind (arith, or_right, any_at, and_from, group_stays kind raw q.0 d q.2 q.3)
 
 settled_some : (raw : Known) (d : Code) (o : Option (List ℕ)) → raw d ≡ o →
     (is_none (settled raw d) ≡ true) ⊎ ((v : List ℕ) × (raw d ≡ Some v))

@@ -1,15 +1,12 @@
 -- What was read fits: its written form is no longer than the octets that were read.
-use Rattle.std.proofs.Common.{inl, inr, ◌≡◌, ℕ, ◌+◌, ◌/◌, ◌%◌, ◌<◌, ◌≤◌, Bool, true, false, cond, List, [], ◌∷◌, ◌++◌, length, map, Option}
-use Rattle.std.proofs.Common.{Some, None, refl, sym, ap, subst, ◌∙◌, ltb, arith}
+use Rattle.std.proofs.Common.{inl, inr, ◌≡◌, ℕ, ◌+◌, ◌<◌, ◌≤◌, Bool, true, false, cond, List, [], ◌∷◌, ◌++◌, length, map, Option, Some}
+use Rattle.std.proofs.Common.{None, refl, sym, ap, subst, ◌∙◌, ltb, arith}
 use Rattle.osi_spdu.proofs.Vocabulary.{flat_map, list_any, list_all, AllByRecursion, cases_Bool, or_cases, or_left, or_right, ltb-true}
-use Rattle.osi_spdu.proofs.Vocabulary.{le-ltb, lt-ltb, both_ways, length-append, Code, UserData, ExtendedUserData, Kind, GiveTokens}
-use Rattle.osi_spdu.proofs.Vocabulary.{PleaseTokens, DataTransfer, NotFinished, Finish, Disconnect, Refuse, Connect, Accept, Abort}
-use Rattle.osi_spdu.proofs.Vocabulary.{AbortAccept, ResynchronizeAck, MajorSyncPoint, MajorSyncAck, MinorSyncPoint, MinorSyncAck}
-use Rattle.osi_spdu.proofs.Vocabulary.{Resynchronize, number_of, is_same, is_group, slot_of, every_code, codes_of, members_of, Known}
-use Rattle.osi_spdu.proofs.Vocabulary.{nothing, some_octets, settled, Contents, Units, code_among, length_octets, HasLength, Part}
-use Rattle.osi_spdu.proofs.Vocabulary.{part_octets, Sole, IsPart, Spells, only, MemberOf, MeansInGroup, GroupOf, ParameterOf, KnownOf}
-use Rattle.osi_spdu.proofs.Vocabulary.{MeansInUnit, SpellsUnit, AreUnits, SpellsTsdu, written_item, among, written_code, member_octets}
-use Rattle.osi_spdu.proofs.Vocabulary.{group_octets, value_octets, parameter_octets, body_octets, UnitFits, TsduFits}
+use Rattle.osi_spdu.proofs.Vocabulary.{le-ltb, lt-ltb, both_ways, length-append, Code, Kind, number_of, is_same, is_group, slot_of}
+use Rattle.osi_spdu.proofs.Vocabulary.{every_code, codes_of, members_of, Known, nothing, some_octets, settled, Contents, Units, code_among}
+use Rattle.osi_spdu.proofs.Vocabulary.{length_octets, HasLength, Part, part_octets, Sole, IsPart, Spells, only, MemberOf, MeansInGroup}
+use Rattle.osi_spdu.proofs.Vocabulary.{GroupOf, ParameterOf, KnownOf, MeansInUnit, SpellsUnit, AreUnits, SpellsTsdu, written_item, among}
+use Rattle.osi_spdu.proofs.Vocabulary.{member_octets, group_octets, value_octets, parameter_octets, body_octets, UnitFits, TsduFits}
 use Rattle.osi_spdu.proofs.basics.options_that_are_added.{Joins, first, sole_one, sole_same, sole_split}
 use Rattle.osi_spdu.proofs.basics.the_steps_of_reading.{same_true, same_refl}
 use Rattle.osi_spdu.proofs.parameters.one_level_is_read.{JoinsAll}
@@ -89,8 +86,7 @@ spelled_cost code long v h0 = grind (arith, cases_Bool, length-append, le-ltb)
 -- ---- parts together
 
 joins_is : (m o : Option (List ℕ)) → Joins m None o → o ≡ m
-joins_is None o j = j
-joins_is (Some v) o j = j.1
+joins_is m o j = grind arith
 
 -- a cost that adds up over values that do not meet
 record IsCost (means : ℕ → List ℕ → Known → Type 0) (f : Known → Code → ℕ) (codes : List Code) (Good : Known → Type 0) : Type 0 where
@@ -122,8 +118,7 @@ parts_cost means f codes Good is (p ∷ parts) known each sole =
 
 sole_head_is : (x : Option (List ℕ)) (xs : List (Option (List ℕ))) (o : Option (List ℕ)) (w : List ℕ) → x ≡ Some w → Sole (x ∷ xs) o →
     o ≡ Some w
-sole_head_is None xs o w e h = absurd cc
-sole_head_is (Some v) xs o w e h = h.0 ∙ e
+sole_head_is x xs o w e h = grind arith
 
 -- ---- a group
 
@@ -132,12 +127,10 @@ member_cost None = 0
 member_cost (Some v) = cost (length v)
 
 member_len : (c : Code) (o : Option (List ℕ)) → length (member_octets c o) ≡ member_cost o
-member_len c None = refl
-member_len c (Some v) = written_cost (number_of c) v
+member_len c o = grind (arith, written_cost)
 
 member_add : (m k o : Option (List ℕ)) → Joins m k o → member_cost o ≡ member_cost m + member_cost k
-member_add None k o j = (let e = ap member_cost j in omega arith)
-member_add (Some v) k o j = (let a = ap member_cost j.0 in let b = ap member_cost j.1 in omega arith)
+member_add m k o j = grind arith
 
 -- the value of a single slot
 only_cost : (f : Option (List ℕ) → ℕ) (s : Code) (form : List ℕ) (codes : List Code) → f None ≡ 0 →
@@ -152,16 +145,13 @@ only_cost f s form codes none single =
 
 member_part : (kind : Kind) (g : Code) (p : Part) (o : Option Code) → HasLength p.long (length p.value) → MemberOf kind p.value p.gives o
     → total (λ c. member_cost (p.gives c)) (members_of kind g) ≤ length (part_octets p)
-member_part kind g p None h m =
-    let z = total_zero (λ c. member_cost (p.gives c)) (members_of kind g) (λ c a. ap (λ (k : Known). member_cost (k c)) m) in
-    omega arith
+member_part kind g p None h m = grind (arith, total_zero)
 member_part kind g p (Some c) h m =
-    let same : total (λ d. member_cost (p.gives d)) (members_of kind g) ≡ total (λ d. member_cost (only (slot_of c) m.0 d))
-    (members_of kind g) = ap (λ (k : Known). total (λ d. member_cost (k d)) (members_of kind g)) m.2 in
-    let one = only_cost member_cost (slot_of c) m.0 (members_of kind g) refl (member_once kind g (slot_of c)) in
-    let less = cost_less (length m.0) (length p.value) (canonical_shorter c p.value m.0 (canonical_from kind c p.value m.0 m.1)) in
-    let s = spelled_cost p.code p.long p.value h in
-    omega arith
+    grind (
+      arith,
+      only_cost member_cost (slot_of c) m.0 (members_of kind g) refl (member_once kind g (slot_of c)),
+      canonical_shorter c p.value m.0 (canonical_from kind c p.value m.0 m.1),
+    )
 
 group_cost : (kind : Kind) (g : Code) →
     IsCost (MeansInGroup kind (members_of kind g)) (λ k c. member_cost (k c)) (members_of kind g) (λ k. Unit {0})
@@ -176,8 +166,7 @@ group_cost kind g = record {
 pub group_len : (kind : Kind) (known : Known) (g : Code) →
     length (group_octets kind known g) ≡ total (λ c. member_cost (known c)) (members_of kind g)
 unfolding group_octets
-group_len kind known g = total_flat (λ c. member_octets c (known c)) (members_of kind g) ∙
-    total_same (λ c. length (member_octets c (known c))) (λ c. member_cost (known c)) (members_of kind g) (λ c a. member_len c (known c))
+group_len kind known g = grind (arith, total_flat, total_same, member_len)
 
 group_fits : (kind : Kind) (known : Known) (g : Code) (value : List ℕ) → Spells (MeansInGroup kind (members_of kind g)) known value →
     length (group_octets kind known g) ≤ length value
@@ -196,8 +185,7 @@ unit_cost kind known c (Some v) = cost (length (value_octets kind known c v))
 
 unit_len : (kind : Kind) (known : Known) (c : Code) (o : Option (List ℕ)) →
     length (parameter_octets kind known c o) ≡ unit_cost kind known c o
-unit_len kind known c None = refl
-unit_len kind known c (Some v) = written_cost (number_of (written_code kind c v)) (value_octets kind known c v)
+unit_len kind known c o = grind (arith, written_cost)
 
 -- two codes of a unit that own the same slot are the same
 one_owner : (kind : Kind) (codes : List Code) (d a b : Code) → once (owns kind) codes d ≡ true → among codes a ≡ true →
@@ -226,23 +214,15 @@ KeepsGroups kind known = (g d : Code) (v : List ℕ) → among (codes_of kind) g
 member_owned : (kind : Kind) (g d : Code) → among (members_of kind g) d ≡ true → owns kind g d ≡ true
 member_owned kind g d m = or_right (is_same d g) (among (members_of kind g) d) m
 
-self_owned : (kind : Kind) (d : Code) → owns kind d d ≡ true
-self_owned kind d = or_left (is_same d d) (among (members_of kind d) d) (same_refl d)
-
 -- no member of a group is known outside it
 apart_from_unit : (kind : Kind) (g d : Code) → among (codes_of kind) g ≡ true → among (members_of kind g) d ≡ true →
     among (codes_of kind) d ≡ true → ⊥
-apart_from_unit kind g d hg m hd =
-    let same : g ≡ d = one_owner kind (codes_of kind) d g d (code_once kind d) hg hd (member_owned kind g d m) (self_owned kind d) in
-    both_ways (among (members_of kind g) g) (group_apart kind g) (subst (λ (x : Code). among (members_of kind g) x ≡ true) (sym same) m)
+apart_from_unit kind g d hg m hd = grind (arith, one_owner, code_once kind d, group_apart kind g)
 
 keeps_from : (kind : Kind) (raw : Known) (g d : Code) → among (codes_of kind) g ≡ true → among (members_of kind g) d ≡ true →
     IsOwned kind raw d → (w : List ℕ) × (raw g ≡ Some w)
 keeps_from kind raw g d hg m (inl hd) = absurd (apart_from_unit kind g d hg m hd)
-keeps_from kind raw g d hg m (inr q) =
-    let same : q.0 ≡ g = one_owner kind (codes_of kind) d q.0 g (code_once kind d) q.1 hg (member_owned kind q.0 d q.2)
-    (member_owned kind g d m) in
-    ([], sym (ap raw same) ∙ q.3)
+keeps_from kind raw g d hg m (inr q) = grind (arith, one_owner, code_once kind d, member_owned kind q.0 d q.2, member_owned kind g d m)
 
 keeps_groups : (kind : Kind) (parts : List Part) (raw : Known) → AllByRecursion (IsPart (MeansInUnit kind)) parts →
     ((c : Code) → Sole (map (λ p. p.gives c) parts) (raw c)) → KeepsGroups kind raw
@@ -269,9 +249,7 @@ stays_out kind x c d h0 h1 h2 h3 = grind (arith, option_cases)
 unit_add_at : (kind : Kind) (x y o : Known) (c : Code) (a b : Option (List ℕ)) → x c ≡ a → y c ≡ b → JoinsAll x y o → KeepsGroups kind x →
     KeepsGroups kind y → among (codes_of kind) c ≡ true
     → unit_cost kind o c (o c) ≡ unit_cost kind x c a + unit_cost kind y c b
-unit_add_at kind x y o c None None ex ey j kx ky hc =
-    let e : o c ≡ None = subst (λ (m : Option (List ℕ)). Joins m (y c) (o c)) ex (j c) ∙ ey in
-    ap (unit_cost kind o c) e
+unit_add_at kind x y o c None None ex ey j kx ky hc = grind arith
 unit_add_at kind x y o c None (Some v) ex ey j kx ky hc =
     let e : o c ≡ Some v = subst (λ (m : Option (List ℕ)). Joins m (y c) (o c)) ex (j c) ∙ ey in
     let same = value_same kind y o c v (λ d m. subst (λ (q : Option (List ℕ)). Joins q (y d) (o d)) (stays_out kind x c d kx hc m ex) (j d))
@@ -284,23 +262,20 @@ unit_add_at kind x y o c (Some w) None ex ey j kx ky hc =
     (λ d m. joins_is (x d) (o d) (subst (λ (k : Option (List ℕ)). Joins (x d) k (o d)) (stays_out kind y c d ky hc m ey) (j d))) in
     let at = ap (unit_cost kind o c) e in
     omega arith
-unit_add_at kind x y o c (Some w) (Some v) ex ey j kx ky hc =
-    absurd (let h = subst (λ (m : Option (List ℕ)). Joins m (y c) (o c)) ex (j c) in let z : Some v ≡ None = sym ey ∙ h.0 in cc)
+unit_add_at kind x y o c (Some w) (Some v) ex ey j kx ky hc = grind arith
 
 -- ---- one part of a unit
 
 codes_single : (kind : Kind) → list_all (once (λ c e. is_same e c) (codes_of kind)) every_code ≡ true
 unfolding number_of codes_of
-codes_single GiveTokens = refl
-codes_single _ = refl
+codes_single kind = grind arith
 
 code_single : (kind : Kind) (s : Code) → once (λ c e. is_same e c) (codes_of kind) s ≡ true
 code_single kind s = every_passes (once (λ c e. is_same e c) (codes_of kind)) s (codes_single kind)
 
 slot_leaf : (c : Code) → is_group c ≡ false → is_group (slot_of c) ≡ false
 unfolding is_group slot_of
-slot_leaf ExtendedUserData e = refl
-slot_leaf _ e = e
+slot_leaf c e = grind arith
 
 abbrev pub part_cost : Kind → Known → Code → ℕ
 part_cost kind known c = unit_cost kind known c (known c)
@@ -363,10 +338,7 @@ parameter_part kind p c false group hc h m = leaf_part kind p c group h m
 
 unit_part : (kind : Kind) (p : Part) (o : Option Code) → code_among (codes_of kind) p.code ≡ o → HasLength p.long (length p.value) →
     KnownOf kind p.value p.gives o → total (part_cost kind p.gives) (codes_of kind) ≤ length (part_octets p)
-unit_part kind p None named h m =
-    let z = total_zero (part_cost kind p.gives) (codes_of kind) (λ c a. absent_cost kind p.gives c (ap (λ (k : Known). k c) m)) in
-    omega arith
-unit_part kind p (Some c) named h m = parameter_part kind p c (is_group c) refl (among_named (codes_of kind) p.code c named) h m
+unit_part kind p o named h m = grind (arith, total_zero, absent_cost, parameter_part, among_named)
 
 whole_cost : (kind : Kind) → IsCost (MeansInUnit kind) (part_cost kind) (codes_of kind) (KeepsGroups kind)
 unfolding MeansInUnit
@@ -395,30 +367,16 @@ settled_value : (kind : Kind) (raw : Known) (c : Code) (v : List ℕ) →
 settled_value kind raw c v = grind (arith, cases_Bool, group_len, total_less, member_cost, settled_member)
 
 settled_cost : (kind : Kind) (raw : Known) (c : Code) (o : Option (List ℕ)) → unit_cost kind (settled raw) c o ≤ unit_cost kind raw c o
-settled_cost kind raw c None = omega arith
-settled_cost kind raw c (Some v) = settled_value kind raw c v
+settled_cost kind raw c o = grind (arith, settled_value)
 
 octets_cost : (kind : Kind) (raw : Known) (c : Code) (o : Option (List ℕ)) → unit_cost kind raw c (some_octets o) ≤ unit_cost kind raw c o
 octets_cost kind raw c o = grind arith
 
 settled_part : (kind : Kind) (raw : Known) (c : Code) → part_cost kind (settled raw) c ≤ part_cost kind raw c
-settled_part kind raw c = elim (cases_Bool (is_same c UserData)) [
-  | inl t ↦
-      let e : settled raw c ≡ some_octets (raw c) = ap (λ (b : Bool). cond b (some_octets (raw c)) (raw c)) t in
-      let at = ap (unit_cost kind (settled raw) c) e in
-      let x = settled_cost kind raw c (some_octets (raw c)) in
-      let y = octets_cost kind raw c (raw c) in
-      omega arith
-  | inr f ↦
-      let e : settled raw c ≡ raw c = ap (λ (b : Bool). cond b (some_octets (raw c)) (raw c)) f in
-      let at = ap (unit_cost kind (settled raw) c) e in
-      let x = settled_cost kind raw c (raw c) in
-      omega arith
-]
+settled_part kind raw c = grind (arith, cases_Bool, cond, settled_cost, octets_cost)
 
 body_short : (long : Bool) (n : ℕ) → HasLength long n → n < 65536
-body_short true n h = h
-body_short false n h = omega arith
+body_short long n h = grind arith
 
 unit_fits : (unit : Contents) (octets : List ℕ) → SpellsUnit unit octets → UnitFits unit
 unit_fits unit octets s =

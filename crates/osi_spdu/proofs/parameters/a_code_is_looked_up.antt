@@ -2,7 +2,7 @@
 use Rattle.std.proofs.Common.{inl, inr, ◌≡◌, ◌≤◌, ◌<◌, ℕ, false, List, [], ◌∷◌, Option, Some, None, refl, sym, ap, ◌∙◌, eqb, if◌then◌else◌}
 use Rattle.std.proofs.Common.{arith}
 use Rattle.osi_spdu.proofs.Vocabulary.{cases_Bool, eqb-true, eqb-false, ne_eqb, Code, number_of, is_same, every_code, code_among, among}
-use Rattle.osi_spdu.proofs.basics.the_steps_of_reading.{named, named_back, same_refl}
+use Rattle.osi_spdu.proofs.basics.the_steps_of_reading.{named, named_back}
 
 -- a number that names no code
 unknown : (n : ℕ) → (n ≡ 1 → ⊥) → (n ≡ 5 → ⊥) → (n ≡ 9 → ⊥) → (n ≡ 10 → ⊥) → (n ≡ 11 → ⊥) → (n ≡ 12 → ⊥) → (n ≡ 15 → ⊥) → (n ≡ 16 → ⊥) →
@@ -10,33 +10,7 @@ unknown : (n : ℕ) → (n ≡ 1 → ⊥) → (n ≡ 5 → ⊥) → (n ≡ 9 →
     (n ≡ 42 → ⊥) → (n ≡ 49 → ⊥) → (n ≡ 50 → ⊥) → (n ≡ 51 → ⊥) → (n ≡ 52 → ⊥) → (n ≡ 193 → ⊥) → (n ≡ 194 → ⊥)
     → code_among every_code n ≡ None
 unfolding number_of
-unknown n n1 n5 n9 n10 n11 n12 n15 n16 n17 n19 n20 n21 n22 n23 n25 n26 n27 n42 n49 n50 n51 n52 n193 n194 =
-    rw (
-      ne_eqb 1 n (λ e. n1 (sym e)),
-      ne_eqb 5 n (λ e. n5 (sym e)),
-      ne_eqb 9 n (λ e. n9 (sym e)),
-      ne_eqb 10 n (λ e. n10 (sym e)),
-      ne_eqb 11 n (λ e. n11 (sym e)),
-      ne_eqb 12 n (λ e. n12 (sym e)),
-      ne_eqb 15 n (λ e. n15 (sym e)),
-      ne_eqb 16 n (λ e. n16 (sym e)),
-      ne_eqb 17 n (λ e. n17 (sym e)),
-      ne_eqb 19 n (λ e. n19 (sym e)),
-      ne_eqb 20 n (λ e. n20 (sym e)),
-      ne_eqb 21 n (λ e. n21 (sym e)),
-      ne_eqb 22 n (λ e. n22 (sym e)),
-      ne_eqb 23 n (λ e. n23 (sym e)),
-      ne_eqb 25 n (λ e. n25 (sym e)),
-      ne_eqb 26 n (λ e. n26 (sym e)),
-      ne_eqb 27 n (λ e. n27 (sym e)),
-      ne_eqb 42 n (λ e. n42 (sym e)),
-      ne_eqb 49 n (λ e. n49 (sym e)),
-      ne_eqb 50 n (λ e. n50 (sym e)),
-      ne_eqb 51 n (λ e. n51 (sym e)),
-      ne_eqb 52 n (λ e. n52 (sym e)),
-      ne_eqb 193 n (λ e. n193 (sym e)),
-      ne_eqb 194 n (λ e. n194 (sym e)),
-    ) refl
+unknown n n1 n5 n9 n10 n11 n12 n15 n16 n17 n19 n20 n21 n22 n23 n25 n26 n27 n42 n49 n50 n51 n52 n193 n194 = grind (arith, ne_eqb)
 
 pub low_unknown : (n : ℕ) → n ≤ 52 → (n ≡ 1 → ⊥) → (n ≡ 5 → ⊥) → (n ≡ 9 → ⊥) → (n ≡ 10 → ⊥) → (n ≡ 11 → ⊥) → (n ≡ 12 → ⊥) → (n ≡ 15 → ⊥) →
     (n ≡ 16 → ⊥) → (n ≡ 17 → ⊥) → (n ≡ 19 → ⊥) → (n ≡ 20 → ⊥) → (n ≡ 21 → ⊥) → (n ≡ 22 → ⊥) → (n ≡ 23 → ⊥) → (n ≡ 25 → ⊥) → (n ≡ 26 → ⊥) →
@@ -71,25 +45,15 @@ named_number (d ∷ codes) n c e =
 other_code : (d c : Code) (codes : List Code) → is_same c d ≡ false → if_among (d ∷ codes) (Some c) ≡ if_among codes (Some c)
 other_code d c codes f = rw f refl
 
-this_code : (d : Code) (codes : List Code) → if_among (d ∷ codes) (Some d) ≡ Some d
-this_code d codes = rw (same_refl d) refl
-
 skipped : (n : ℕ) (d : Code) (codes : List Code) (o : Option Code) → named n ≡ o → eqb (number_of d) n ≡ false →
     if_among (d ∷ codes) o ≡ if_among codes o
 skipped n d codes None e f = refl
-skipped n d codes (Some c) e f =
-    let is : number_of c ≡ n = named_number every_code n c e in
-    other_code d c codes (ne_eqb (number_of c) (number_of d) (λ h. eqb-false (number_of d) n f (sym h ∙ is)))
+skipped n d codes (Some c) e f = grind (arith, other_code, ne_eqb, eqb-false, named_number every_code n c e)
 
 looked_by : (codes : List Code) (n : ℕ) (o : Option Code) → named n ≡ o → code_among codes n ≡ if_among codes o
 looked_by [] n None e = refl
 looked_by [] n (Some c) e = refl
-looked_by (d ∷ codes) n o e =
-    elim (cases_Bool (eqb (number_of d) n)) [
-      | inl t ↦ (let is : o ≡ Some d = sym e ∙ ap named (sym (eqb-true (number_of d) n t)) ∙ named_back d in
-          rw (t, is) (sym (this_code d codes)))
-      | inr f ↦ rw f (looked_by codes n o e ∙ sym (skipped n d codes o e f))
-    ]
+looked_by (d ∷ codes) n o e = grind (arith, eqb-true, named_back, skipped, looked_by codes n o e)
 
 pub looked_up : (codes : List Code) (n : ℕ) → code_among codes n ≡ if_among codes (code_among every_code n)
 looked_up codes n = looked_by codes n (named n) refl

@@ -1,11 +1,11 @@
 -- The contents of a group of a unit, which are counted once.
-use Rattle.std.proofs.Common.{inl, inr, ◌≡◌, ℕ, zero, suc, ◌<◌, ◌≤◌, true, List, [], ◌∷◌, ◌++◌, length, get_or, Option, Some, None, refl}
-use Rattle.std.proofs.Common.{sym, ap, subst, ltb, arith}
+use Rattle.std.proofs.Common.{inl, inr, ◌≡◌, ℕ, zero, suc, ◌<◌, ◌≤◌, true, List, [], ◌∷◌, ◌++◌, length, get_or, Option, refl, ap, subst}
+use Rattle.std.proofs.Common.{ltb, arith}
 use Rattle.osi_spdu.specs.declared.writing.GroupLengths.{GroupLengths}
 use Rattle.osi_spdu.proofs.Vocabulary.{is_some, option_map, flat_map, or_cases, or_left, or_right, length-append, Code}
-use Rattle.osi_spdu.proofs.Vocabulary.{ConnectionIdentifier, ConnectAcceptItem, Kind, DataTransfer, Two, is_same, is_group, number_of}
-use Rattle.osi_spdu.proofs.Vocabulary.{codes_of, category_of, Known, Contents, Units, length_octets, AreBehind, held, AreHeld, among}
-use Rattle.osi_spdu.proofs.Vocabulary.{written_item, group_octets, value_octets, parameter_octets, body_octets, written_code}
+use Rattle.osi_spdu.proofs.Vocabulary.{ConnectionIdentifier, ConnectAcceptItem, Kind, Two, is_same, is_group, number_of, codes_of}
+use Rattle.osi_spdu.proofs.Vocabulary.{category_of, Known, Contents, Units, length_octets, AreBehind, held, AreHeld, among, written_item}
+use Rattle.osi_spdu.proofs.Vocabulary.{group_octets, value_octets, parameter_octets, body_octets}
 use Rattle.osi_spdu.proofs.basics.the_steps_of_reading.{same_true, same_refl}
 
 -- a piece is no longer than all pieces
@@ -42,8 +42,7 @@ group_within kind known c knows group there =
 pub among_at : (codes : List Code) (i : ℕ) (c : Code) → i < length codes → among codes (get_or codes i c) ≡ true
 among_at [] i c lt = absurd (omega arith)
 among_at (d ∷ codes) zero c lt = or_left (is_same d d) (among codes d) (same_refl d)
-among_at (d ∷ codes) (suc i) c lt =
-    or_right (is_same (get_or codes i c) d) (among codes (get_or codes i c)) (among_at codes i c (omega arith))
+among_at (d ∷ codes) (suc i) c lt = grind (arith, or_right, among_at codes i c (omega arith))
 
 -- both groups are counted
 pub both_held : (lens : GroupLengths) (known : Known)
@@ -53,20 +52,16 @@ pub both_held : (lens : GroupLengths) (known : Known)
     lens.connect_accept_item ≡ length (group_octets lens.kind known ConnectAcceptItem))
     → AreHeld lens known
 unfolding held is_group
-both_held lens known first second ConnectionIdentifier knows group there = first knows there
-both_held lens known first second ConnectAcceptItem knows group there = second knows there
-both_held lens known first second _ knows group there = absurd cc
+both_held lens known first second h knows group there = grind arith
 
 -- a unit of category 2 knows no group
 no_references : (kind : Kind) → category_of kind ≡ Two → among (codes_of kind) ConnectionIdentifier ≡ true → ⊥
 unfolding category_of codes_of number_of
-no_references DataTransfer two knows = cc
-no_references _ two knows = cc
+no_references kind two knows = grind arith
 
 no_agreement : (kind : Kind) → category_of kind ≡ Two → among (codes_of kind) ConnectAcceptItem ≡ true → ⊥
 unfolding category_of codes_of number_of
-no_agreement DataTransfer two knows = cc
-no_agreement _ two knows = cc
+no_agreement kind two knows = grind arith
 
 no_group : (kind : Kind) (c : Code) → category_of kind ≡ Two → is_group c ≡ true → among (codes_of kind) c ≡ true → ⊥
 unfolding is_group
@@ -81,5 +76,4 @@ next_two units others unit e behind = (let h : AreBehind (unit ∷ others) = sub
 
 pub mapped_there : {A : Type 0} (f : A → List ℕ) (o : Option A) (k : Option (List ℕ)) → option_map f o ≡ k → is_some o ≡ true →
     is_some k ≡ true
-mapped_there f None k e there = absurd cc
-mapped_there f (Some x) k e there = ap is_some (sym e)
+mapped_there f o k e there = grind arith

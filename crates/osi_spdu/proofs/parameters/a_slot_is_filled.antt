@@ -1,14 +1,10 @@
 -- Filling a slot, and the values of slots.
-use Rattle.std.proofs.Common.{inl, inr, ◌≡◌, ◌==◌, ◌&&◌, ℕ, ◌<◌, Bool, true, false, List, [], ◌∷◌, length, get_or, set, Option, Some, None}
+use Rattle.std.proofs.Common.{inl, inr, ◌≡◌, ◌==◌, ◌&&◌, ℕ, ◌<◌, Bool, true, false, List, length, get_or, set, Option, Some, None}
 use Rattle.std.proofs.Common.{option_map, refl, sym, ap, ◌∙◌, get_or-set_other, get_or-set_same, eqb, ltb, arith}
 use Rattle.osi_spdu.specs.declared.tokens.TokenSet.{TokenSet}
-use Rattle.osi_spdu.proofs.Vocabulary.{slice_get, cases_Bool, ltb-true, lt-ltb, eq-eqb, Code, ConnectionIdentifier, ConnectAcceptItem}
-use Rattle.osi_spdu.proofs.Vocabulary.{CalledReference, CallingReference, CommonReference, AdditionalReference, SyncType, TokenItem}
-use Rattle.osi_spdu.proofs.Vocabulary.{TransportDisconnect, ProtocolOptions, UserRequirements, TsduMaximumSize, Version, InitialNumber}
-use Rattle.osi_spdu.proofs.Vocabulary.{Enclosure, TokenSetting, ResyncType, Number, Reflect, Reason, CallingSelector, CalledSelector}
-use Rattle.osi_spdu.proofs.Vocabulary.{UserData, ExtendedUserData, Params, number_of, is_same, slot_of, every_code, nothing, put}
-use Rattle.osi_spdu.proofs.Vocabulary.{some_octets, place_of, cells_of, filled, slots_of, known_of, no_params, present, count_of}
-use Rattle.osi_spdu.proofs.Vocabulary.{has_octets, token_octets, tokens_alone, token_bits, is_some}
+use Rattle.osi_spdu.proofs.Vocabulary.{slice_get, cases_Bool, ltb-true, lt-ltb, eq-eqb, Code, UserData, Params, number_of, is_same, slot_of}
+use Rattle.osi_spdu.proofs.Vocabulary.{every_code, nothing, put, some_octets, place_of, cells_of, filled, slots_of, known_of, no_params}
+use Rattle.osi_spdu.proofs.Vocabulary.{present, has_octets, token_octets, tokens_alone, token_bits, is_some}
 use Rattle.osi_spdu.proofs.basics.values_of_one_octet.{token_bits_again}
 use Rattle.osi_spdu.proofs.basics.the_steps_of_reading.{same_true, same_refl}
 
@@ -17,16 +13,14 @@ at_place n = slice_get every_code n
 
 placed_back : (c : Code) → at_place (place_of c) ≡ Some c
 unfolding at_place place_of
-placed_back ConnectionIdentifier = refl
-placed_back _ = refl
+placed_back c = grind arith
 
 place_one : (c d : Code) → place_of c ≡ place_of d → c ≡ d
 place_one c d e = (let h : Some c ≡ Some d = sym (placed_back c) ∙ ap at_place e ∙ placed_back d in cc)
 
 slot_within : (c : Code) → ltb (place_of (slot_of c)) 23 ≡ true
 unfolding place_of slot_of
-slot_within ConnectionIdentifier = refl
-slot_within _ = refl
+slot_within c = search arith
 
 cells_len : (p : Params) → length (cells_of p) ≡ 23
 unfolding cells_of
@@ -57,121 +51,46 @@ slots_put p q c v o e is = λ i d. (one d) i
 -- no parameter is there among none
 pub no_slots : slots_of no_params ≡ nothing
 unfolding slots_of cells_of place_of
-no_slots = λ i c. (none c) i
-  where
-    none : (c : Code) → get_or (cells_of no_params) (place_of c) None ≡ None
-    none ConnectionIdentifier = refl
-    none ConnectAcceptItem = refl
-    none CalledReference = refl
-    none CallingReference = refl
-    none CommonReference = refl
-    none AdditionalReference = refl
-    none SyncType = refl
-    none TokenItem = refl
-    none TransportDisconnect = refl
-    none ProtocolOptions = refl
-    none UserRequirements = refl
-    none TsduMaximumSize = refl
-    none Version = refl
-    none InitialNumber = refl
-    none Enclosure = refl
-    none TokenSetting = refl
-    none ResyncType = refl
-    none Number = refl
-    none Reflect = refl
-    none Reason = refl
-    none CallingSelector = refl
-    none CalledSelector = refl
-    none UserData = refl
-    none ExtendedUserData = refl
+no_slots = grind arith
 
 -- what is there, with no empty user data
 pub known_some : (p : Params) (c : Code) (v : List ℕ) → slots_of p c ≡ Some v → (is_same c UserData && (length v == 0)) ≡ false →
     known_of p c ≡ Some v
 unfolding known_of
-known_some p c v e test =
-    elim (cases_Bool (is_same c UserData)) [
-      | inl t ↦ rw (t, e) (some v (sym (ap (λ (b : Bool). b && eqb (length v) 0) t) ∙ test))
-      | inr f ↦ rw f e
-    ]
-  where
-    some : (v : List ℕ) → eqb (length v) 0 ≡ false → some_octets (Some v) ≡ Some v
-    some [] h = absurd cc
-    some (b ∷ v) h = refl
+known_some p c v e test = grind (arith, cases_Bool, eqb)
 
 pub known_none : (p : Params) (c : Code) → slots_of p c ≡ None → known_of p c ≡ None
 unfolding known_of
-known_none p c e =
-    elim (cases_Bool (is_same c UserData)) [
-      | inl t ↦ rw (t, e) refl
-      | inr f ↦ rw (f, e) refl
-    ]
+known_none p c e = grind (arith, cases_Bool)
 
 pub known_empty : (p : Params) (c : Code) (v : List ℕ) → slots_of p c ≡ Some v → is_same c UserData ≡ true → length v ≡ 0 →
     known_of p c ≡ None
 unfolding known_of
-known_empty p c v e t h = rw (t, e) (none v h)
-  where
-    none : (v : List ℕ) → length v ≡ 0 → some_octets (Some v) ≡ None
-    none [] h = refl
-    none (b ∷ v) h = absurd (omega arith)
+known_empty p c v e t h = grind arith
 
 -- ---- whether a value is there
 
 pub has_mapped : {A B : Type 0} (f : A → B) (o : Option A) → is_some (option_map f o) ≡ is_some o
-has_mapped f None = refl
-has_mapped f (Some x) = refl
+has_mapped f o = grind arith
 
 pub has_present : (b : Bool) → is_some (present b) ≡ b
-has_present true = refl
-has_present false = refl
+has_present b = grind arith
 
 -- ---- what a unit keeps
 
 some_again : (o : Option (List ℕ)) → some_octets (some_octets o) ≡ some_octets o
-some_again None = refl
-some_again (Some []) = refl
-some_again (Some (b ∷ v)) = refl
+some_again o = grind arith
 
 -- parameters that differ only in how they keep the token item and the user data have the same meaning
 pub settled_known : (p q : Params) → q ≡ (let r : Params = record p { token_item = q.token_item; user_data = q.user_data } in r) →
     option_map token_octets q.token_item ≡ option_map token_octets p.token_item
     → option_map (λ s. s.now) q.user_data ≡ some_octets (option_map (λ s. s.now) p.user_data) → known_of q ≡ known_of p
 unfolding known_of slots_of cells_of place_of number_of
-settled_known p q same tokens octets = λ i c. (one c) i
-  where
-    one : (c : Code) → known_of q c ≡ known_of p c
-    one TokenItem = tokens
-    one UserData = ap some_octets octets ∙ some_again (option_map (λ s. s.now) p.user_data)
-    one ConnectionIdentifier = ap (λ (r : Params). known_of r ConnectionIdentifier) same
-    one ConnectAcceptItem = ap (λ (r : Params). known_of r ConnectAcceptItem) same
-    one CalledReference = ap (λ (r : Params). known_of r CalledReference) same
-    one CallingReference = ap (λ (r : Params). known_of r CallingReference) same
-    one CommonReference = ap (λ (r : Params). known_of r CommonReference) same
-    one AdditionalReference = ap (λ (r : Params). known_of r AdditionalReference) same
-    one SyncType = ap (λ (r : Params). known_of r SyncType) same
-    one TransportDisconnect = ap (λ (r : Params). known_of r TransportDisconnect) same
-    one ProtocolOptions = ap (λ (r : Params). known_of r ProtocolOptions) same
-    one UserRequirements = ap (λ (r : Params). known_of r UserRequirements) same
-    one TsduMaximumSize = ap (λ (r : Params). known_of r TsduMaximumSize) same
-    one Version = ap (λ (r : Params). known_of r Version) same
-    one InitialNumber = ap (λ (r : Params). known_of r InitialNumber) same
-    one Enclosure = ap (λ (r : Params). known_of r Enclosure) same
-    one TokenSetting = ap (λ (r : Params). known_of r TokenSetting) same
-    one ResyncType = ap (λ (r : Params). known_of r ResyncType) same
-    one Number = ap (λ (r : Params). known_of r Number) same
-    one Reflect = ap (λ (r : Params). known_of r Reflect) same
-    one Reason = ap (λ (r : Params). known_of r Reason) same
-    one CallingSelector = ap (λ (r : Params). known_of r CallingSelector) same
-    one CalledSelector = ap (λ (r : Params). known_of r CalledSelector) same
-    one ExtendedUserData = ap (λ (r : Params). known_of r ExtendedUserData) same
+settled_known p q same tokens octets = grind (arith, some_again)
 
 pub some_there : (o : Option (List ℕ)) → has_octets (some_octets o) ≡ true
-some_there (Some (b ∷ v)) = lt-ltb 0 (length (b ∷ v)) (omega arith)
-some_there _ = refl
+some_there o = grind (arith, lt-ltb)
 
 -- a token item without other bits
 pub tokens_same : (t u : TokenSet) → u.0 ≡ token_bits t.0 → (token_octets u ≡ token_octets t) × (tokens_alone (Some u) ≡ true)
-tokens_same t u e =
-    let again : token_bits u.0 ≡ token_bits t.0 = ap token_bits e ∙ token_bits_again t.0 in
-    (ap (λ (b : ℕ). b ∷ []) again, eq-eqb (token_bits u.0) u.0 (again ∙ sym e))
+tokens_same t u e = grind (arith, token_bits_again, eq-eqb)

@@ -2,12 +2,7 @@
 use Rattle.std.proofs.Common.{inl, inr, ◌≡◌, ℕ, ◌<◌, Bool, true, false, cond, not, ◌||◌, List, [], ◌∷◌, Option, Some, refl, sym, ap, subst}
 use Rattle.std.proofs.Common.{◌∙◌, eqb, ltb, arith}
 use Rattle.osi_spdu.proofs.Vocabulary.{list_any, list_all, and_parts, or_cases, or_left, or_right, eqb-true, ltb-true, cases_Bool, Code}
-use Rattle.osi_spdu.proofs.Vocabulary.{ConnectionIdentifier, ConnectAcceptItem, CalledReference, CallingReference, CommonReference}
-use Rattle.osi_spdu.proofs.Vocabulary.{AdditionalReference, SyncType, TokenItem, TransportDisconnect, ProtocolOptions, UserRequirements}
-use Rattle.osi_spdu.proofs.Vocabulary.{TsduMaximumSize, Version, InitialNumber, Enclosure, TokenSetting, ResyncType, Number, Reflect}
-use Rattle.osi_spdu.proofs.Vocabulary.{Reason, CallingSelector, CalledSelector, UserData, ExtendedUserData, Kind, GiveTokens, PleaseTokens}
-use Rattle.osi_spdu.proofs.Vocabulary.{DataTransfer, NotFinished, Finish, Disconnect, Refuse, Connect, Accept, Abort, AbortAccept}
-use Rattle.osi_spdu.proofs.Vocabulary.{ResynchronizeAck, MajorSyncPoint, MajorSyncAck, MinorSyncPoint, MinorSyncAck, Resynchronize}
+use Rattle.osi_spdu.proofs.Vocabulary.{ConnectionIdentifier, ProtocolOptions, TsduMaximumSize, Version, InitialNumber, TokenSetting, Kind}
 use Rattle.osi_spdu.proofs.Vocabulary.{number_of, is_same, is_group, every_code, codes_of, members_of, references_of, code_among, among}
 use Rattle.osi_spdu.proofs.basics.the_steps_of_reading.{same_true, same_refl, number_one}
 use Rattle.osi_spdu.proofs.basics.length_indicators.{chosen}
@@ -16,8 +11,7 @@ use Rattle.osi_spdu.proofs.basics.length_indicators.{chosen}
 
 each_there : (c : Code) → among every_code c ≡ true
 unfolding number_of
-each_there ConnectionIdentifier = refl
-each_there _ = refl
+each_there c = grind arith
 
 pub all_pass : (p : Code → Bool) (codes : List Code) (c : Code) → list_all p codes ≡ true → among codes c ≡ true → p c ≡ true
 all_pass p [] c all there = absurd cc
@@ -87,16 +81,14 @@ once owner (c ∷ codes) d = cond (owner c d) (not (list_any (λ e. owner e d) c
 
 codes_once : (kind : Kind) → list_all (once (owns kind) (codes_of kind)) every_code ≡ true
 unfolding number_of codes_of members_of
-codes_once GiveTokens = refl
-codes_once _ = refl
+codes_once kind = grind arith
 
 pub code_once : (kind : Kind) (d : Code) → once (owns kind) (codes_of kind) d ≡ true
 code_once kind d = every_passes (once (owns kind) (codes_of kind)) d (codes_once kind)
 
 references_once : (kind : Kind) → list_all (once (λ c d. is_same d c) (references_of kind)) every_code ≡ true
 unfolding number_of
-references_once Connect = refl
-references_once _ = refl
+references_once kind = grind arith
 
 items_once : list_all (once (λ c d. is_same d c) (ProtocolOptions ∷ TsduMaximumSize ∷ Version ∷ InitialNumber ∷ TokenSetting ∷ []))
     every_code ≡ true
@@ -115,8 +107,7 @@ member_once kind g d = every_passes (once (λ c e. is_same e c) (members_of kind
 
 references_apart : (kind : Kind) → among (references_of kind) ConnectionIdentifier ≡ false
 unfolding number_of
-references_apart Connect = refl
-references_apart _ = refl
+references_apart kind = grind arith
 
 -- a group is not in itself
 pub group_apart : (kind : Kind) (g : Code) → among (members_of kind g) g ≡ false

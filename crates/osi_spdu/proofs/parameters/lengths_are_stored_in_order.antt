@@ -1,6 +1,6 @@
 -- The lengths of units are stored one after the other, by a loop.
-use Rattle.std.proofs.Common.{inl, inr, ◌≡◌, ℕ, zero, suc, ◌+◌, ◌<◌, ◌≤◌, List, [], ◌∷◌, ◌++◌, length, take, drop, get_or, set, refl, sym}
-use Rattle.std.proofs.Common.{ap, subst, ◌∙◌, append_assoc, ltb, arith}
+use Rattle.std.proofs.Common.{inl, inr, ◌≡◌, ℕ, zero, suc, ◌+◌, ◌<◌, ◌≤◌, List, [], ◌∷◌, ◌++◌, length, take, drop, get_or, set, refl, ap}
+use Rattle.std.proofs.Common.{subst, append_assoc, ltb, arith}
 use Rattle.osi_spdu.proofs.Vocabulary.{cases_Bool, ltb-true, ltb-false, append-nil, length-set, take_more_set, drop_more, drop_all}
 use Rattle.osi_spdu.proofs.Vocabulary.{Contents, Units, body_length, AreLengths}
 
@@ -20,24 +20,7 @@ keeping_within lens count units others all unit h0 h1 = grind arith
 pub keeping_next : (lens more : List ℕ) (count body : ℕ) (units others all : Units) (unit : Contents) → units ≡ unit ∷ others →
     body ≡ body_length unit → more ≡ set lens count body
     → IsKeeping lens count units all → IsKeeping more (count + 1) others all
-keeping_next lens more count body units others all unit e is same so_far =
-    let n = ap length e in
-    let r = so_far.room in
-    let s = so_far.size in
-    let l = length-set lens count body in
-    let m = ap length same in
-    let within = keeping_within lens count units others all unit e so_far in
-    let front : take (count + 1) more ≡ take count lens ++ body ∷ [] = ap (take (count + 1)) same ∙ take_more_set lens count body within in
-    record {
-      room = omega arith;
-      size = omega arith;
-      goes = λ tail h.
-          (let all_of : AreLengths (take count lens ++ (body ∷ tail)) all = so_far.goes (body ∷ tail)
-          (subst (λ (us : Units). AreLengths (body ∷ tail) us) (sym e) (is, h)) in
-          let joined : (take count lens ++ body ∷ []) ++ tail ≡ take count lens ++ (body ∷ tail) =
-          append_assoc (take count lens) (body ∷ []) tail in
-          subst (λ (x : List ℕ). AreLengths (x ++ tail) all) (sym front) (subst (λ (x : List ℕ). AreLengths x all) (sym joined) all_of));
-    }
+keeping_next lens more count body units others all unit e is same so_far = grind (arith, length-set, take_more_set, append_assoc)
 
 front_enough : (n : ℕ) (lens : List ℕ) (units : Units) → AreLengths (take n lens) units → AreLengths lens units
 front_enough n lens [] h = tt
@@ -46,9 +29,7 @@ front_enough (suc n) [] (unit ∷ units) h = absurd h
 front_enough (suc n) (b ∷ lens) (unit ∷ units) h = (h.0, front_enough n lens units h.1)
 
 pub keeping_end : (lens : List ℕ) (count : ℕ) (units all : Units) → units ≡ [] → IsKeeping lens count units all → AreLengths lens all
-keeping_end lens count units all e so_far =
-    let all_of : AreLengths (take count lens ++ []) all = so_far.goes [] (subst (λ (us : Units). AreLengths [] us) (sym e) tt) in
-    front_enough count lens all (subst (λ (x : List ℕ). AreLengths x all) (append-nil (take count lens)) all_of)
+keeping_end lens count units all e so_far = grind (arith, front_enough, append-nil (take count lens))
 
 -- the length of one unit is kept
 pub one_kept : (lens more : List ℕ) (body : ℕ) (units : Units) (unit : Contents) → units ≡ unit ∷ [] → length lens ≡ 16 →

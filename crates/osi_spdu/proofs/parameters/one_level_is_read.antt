@@ -1,10 +1,9 @@
 -- Parameters of one level: reading is sound and complete.
 use Rattle.std.proofs.Common.{◌≡◌, ℕ, zero, suc, ◌+◌, ◌<◌, ◌≤◌, Bool, true, false, cond, List, [], ◌∷◌, ◌++◌, length, map, Option, Some}
 use Rattle.std.proofs.Common.{None, Ok, refl, sym, ap, subst, ◌∙◌, arith}
-use Rattle.osi_spdu.proofs.Vocabulary.{is_some, flat_map, AllByRecursion, length-append, IsOctets, DuplicateParameter, Code, Kind}
-use Rattle.osi_spdu.proofs.Vocabulary.{ConnectionIdentifier, ConnectAcceptItem, number_of, is_same, is_group, slot_of, codes_of, members_of}
-use Rattle.osi_spdu.proofs.Vocabulary.{canonical, may_enclose, canonical_in, Known, nothing, put, ◌>>=◌, Measured, measured_at, Taking}
-use Rattle.osi_spdu.proofs.Vocabulary.{params_at, params_of, code_among, judged, stored, member_taken, in_group, parameter_taken, in_unit}
+use Rattle.osi_spdu.proofs.Vocabulary.{flat_map, AllByRecursion, length-append, IsOctets, Code, Kind, number_of, is_same, is_group, slot_of}
+use Rattle.osi_spdu.proofs.Vocabulary.{members_of, canonical, may_enclose, canonical_in, Known, nothing, put, ◌>>=◌, Measured, measured_at}
+use Rattle.osi_spdu.proofs.Vocabulary.{Taking, params_at, params_of, judged, stored, member_taken, in_group, parameter_taken, in_unit}
 use Rattle.osi_spdu.proofs.Vocabulary.{length_octets, Part, part_octets, Sole, IsPart, Spells, only, MemberOf, MeansInGroup, GroupOf}
 use Rattle.osi_spdu.proofs.Vocabulary.{ParameterOf, KnownOf, MeansInUnit}
 use Rattle.osi_spdu.proofs.basics.options_that_are_added.{Joins, merged, first, sole_one, sole_same, sole_step, sole_back, sole_joins}
@@ -35,13 +34,7 @@ pub params_found : (taking : Taking) (means : ℕ → List ℕ → Known → Typ
     (n at : ℕ) (known more : Known) (octets : List ℕ)
     → length octets ≤ n → IsOctets octets → params_at taking n at known octets ≡ Ok more → Reads means known more octets
 unfolding params_at
-params_found taking means follows n at known more [] le fits e =
-    record {
-      parts = [];
-      whole = refl;
-      each = tt;
-      once = λ c. subst (λ (m : Known). Sole (known c ∷ []) (m c)) (ok_is known more e) (sole_one (known c));
-    }
+params_found taking means follows n at known more [] le fits e = grind (arith, ok_is, sole_one)
 params_found taking means follows zero at known more (code ∷ octets) le fits e = absurd (omega arith)
 params_found taking means follows (suc n) at known more (code ∷ octets) le fits e =
     let a = bind_ok (measured_at at octets)
@@ -70,8 +63,7 @@ pub params_only : (taking : Taking) (means : ℕ → List ℕ → Known → Type
     ((c : Code) → Sole (known c ∷ map (λ p. p.gives c) parts) (more c))
     → params_at taking n at known (flat_map part_octets parts) ≡ Ok more
 unfolding params_at
-params_only taking means follows n at known more [] le each once =
-    ap (λ (k : Known). Ok k) (λ i c. (sym (sole_same (known c) (more c) (once c))) i)
+params_only taking means follows n at known more [] le each once = grind (arith, sole_same)
 params_only taking means follows zero at known more (p ∷ parts) le each once = absurd (omega arith)
 params_only taking means follows (suc n) at known more (p ∷ parts) le each once =
     let mid : Known = λ c. merged (known c) (p.gives c) in
@@ -94,8 +86,7 @@ params_only taking means follows (suc n) at known more (p ∷ parts) le each onc
 
 judged_ok : (at : ℕ) (c : Code) (known more : Known) (o : Option (List ℕ)) → judged at c known o ≡ Ok more →
     (form : List ℕ) × (o ≡ Some form) × (more ≡ put (slot_of c) form known)
-judged_ok at c known more None e = absurd cc
-judged_ok at c known more (Some form) e = (form, refl, sym (ok_is (put (slot_of c) form known) more e))
+judged_ok at c known more o e = grind (arith, ok_is)
 
 -- a value that was stored found its slot free
 pub stored_ok : (kind : Kind) (at : ℕ) (c : Code) (value : List ℕ) (known more : Known) → stored kind at c value known ≡ Ok more
@@ -128,17 +119,13 @@ member_takes kind at value known more (Some c) e =
 member_back : (kind : Kind) (at : ℕ) (value : List ℕ) (gives known more : Known) (o : Option Code) → MemberOf kind value gives o →
     JoinsAll gives known more
     → member_taken kind at value known o ≡ Ok more
-member_back kind at value gives known more None m j =
-    ap (λ (k : Known). Ok k) (same_of_nothing known more (subst (λ (g : Known). JoinsAll g known more) m j))
+member_back kind at value gives known more None m j = grind (arith, same_of_nothing)
 member_back kind at value gives known more (Some c) m j =
     stored_back kind at c value m.0 known more m.1 (subst (λ (g : Known). JoinsAll g known more) m.2 j)
 
 pub group_follows : (kind : Kind) (members : List Code) → Follows (in_group kind members) (MeansInGroup kind members)
 unfolding in_group MeansInGroup
-group_follows kind members = record {
-  takes = λ at body code value known more fits e. member_takes kind at value known more (code_among members code) e;
-  back = λ at body code value gives known more m j. member_back kind at value gives known more (code_among members code) m j;
-}
+group_follows kind members = search (arith, member_takes, member_back)
 
 -- ---- within a unit
 
@@ -219,14 +206,9 @@ parameter_takes kind at body value known more (Some c) fits e = opened_takes kin
 parameter_back : (kind : Kind) (at body : ℕ) (value : List ℕ) (gives known more : Known) (o : Option Code) → KnownOf kind value gives o →
     JoinsAll gives known more
     → parameter_taken kind at body value known o ≡ Ok more
-parameter_back kind at body value gives known more None m j =
-    ap (λ (k : Known). Ok k) (same_of_nothing known more (subst (λ (g : Known). JoinsAll g known more) m j))
+parameter_back kind at body value gives known more None m j = grind (arith, same_of_nothing)
 parameter_back kind at body value gives known more (Some c) m j = opened_back kind at body c value gives known more (is_group c) refl m j
 
 pub unit_follows : (kind : Kind) → Follows (in_unit kind) (MeansInUnit kind)
 unfolding in_unit MeansInUnit
-unit_follows kind = record {
-  takes = λ at body code value known more fits e. parameter_takes kind at body value known more (code_among (codes_of kind) code) fits e;
-  back = λ at body code value gives known more m j. parameter_back kind at body value gives known more (code_among (codes_of kind) code) m
-      j;
-}
+unit_follows kind = search (arith, parameter_takes, parameter_back)

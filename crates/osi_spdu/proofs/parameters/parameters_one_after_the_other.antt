@@ -1,9 +1,9 @@
 -- Reading parameters one after the other, by a loop.
-use Rattle.std.proofs.Common.{inl, inr, ◌≡◌, ℕ, zero, suc, ◌+◌, ◌*◌, ◌<◌, ◌≤◌, true, false, ltb, eqb, List, [], ◌∷◌, length, take, drop}
-use Rattle.std.proofs.Common.{Option, Some, None, Result, Ok, Err, refl, sym, ap, subst, ◌∙◌, arith, if◌then◌else◌}
-use Rattle.osi_spdu.proofs.Vocabulary.{is_some, length-drop, SpduFault, LengthPastEnd, DuplicateParameter, BadValue, Code, Kind, Params}
-use Rattle.osi_spdu.proofs.Vocabulary.{number_of, slot_of, canonical_in, Known, ◌>>=◌, Measured, counted_at, long_at, measured_at}
-use Rattle.osi_spdu.proofs.Vocabulary.{parameter_at, Taking, params_at, params_of, judged, stored, place_of, cells_of, filled, slots_of}
+use Rattle.std.proofs.Common.{◌≡◌, ℕ, zero, suc, ◌+◌, ◌<◌, ◌≤◌, true, false, ltb, List, [], ◌∷◌, length, Result, Ok, Err, refl, sym, ap}
+use Rattle.std.proofs.Common.{◌∙◌, arith, if◌then◌else◌}
+use Rattle.osi_spdu.proofs.Vocabulary.{is_some, length-drop, SpduFault, DuplicateParameter, BadValue, Code, Kind, Params, number_of}
+use Rattle.osi_spdu.proofs.Vocabulary.{slot_of, canonical_in, Known, ◌>>=◌, Measured, counted_at, long_at, measured_at, parameter_at}
+use Rattle.osi_spdu.proofs.Vocabulary.{Taking, params_at, params_of, stored, place_of, cells_of, filled, slots_of}
 use Rattle.osi_spdu.proofs.basics.the_steps_of_reading.{bind_ok, bind_of, ok_is, guard_ok}
 use Rattle.osi_spdu.proofs.basics.length_indicators.{chosen}
 use Rattle.osi_spdu.proofs.parameters.a_slot_is_filled.{slots_put}
@@ -39,15 +39,11 @@ stored_done kind at c value p q h0 h1 h2 = grind (arith, slots_put)
 -- ---- fuel
 
 counted_rest : (at used n : ℕ) (octets : List ℕ) (m : Measured) → counted_at at used n octets ≡ Ok m → length m.rest ≤ length octets
-counted_rest at used n octets m e =
-    let made : Measured = record { used = used; value = take n octets; rest = drop n octets } in
-    let g = guard_ok (ltb (length octets) n) (LengthPastEnd at) m (Ok made) e in
-    subst (λ (x : Measured). length x.rest ≤ length octets) (ok_is made m g.1) (omega (arith, length-drop n octets))
+counted_rest at used n octets m e = grind (arith, guard_ok, ltb, ok_is, length-drop)
 
 long_rest : (at : ℕ) (octets : List ℕ) (m : Measured) → long_at at octets ≡ Ok m → length m.rest ≤ length octets
 unfolding long_at
-long_rest at (high ∷ low ∷ octets) m e = (let r = counted_rest at 3 (256 * high + low) octets m e in omega arith)
-long_rest at _ m e = absurd cc
+long_rest at octets m e = grind (arith, counted_rest)
 
 measured_rest : (at : ℕ) (octets : List ℕ) (m : Measured) → measured_at at octets ≡ Ok m → length m.rest < length octets
 unfolding measured_at
@@ -56,8 +52,7 @@ measured_rest at octets m h0 = grind (arith, chosen, long_rest, counted_rest)
 -- two results of steps that agree if the first did not fail
 same_bind : {A B : Type 0} (r : Result A SpduFault) (f g : A → Result B SpduFault) → ((x : A) → r ≡ Ok x → f x ≡ g x) →
     (r >>= f) ≡ (r >>= g)
-same_bind (Ok x) f g h = h x refl
-same_bind (Err e) f g h = refl
+same_bind r f g h = grind arith
 
 params_fuel : (taking : Taking) (n k at : ℕ) (known : Known) (octets : List ℕ) → length octets ≤ n → length octets ≤ k →
     params_at taking n at known octets ≡ params_at taking k at known octets
@@ -80,25 +75,7 @@ pub params_next : (taking : Taking) (at code : ℕ) (m : Measured) (known : Know
     → params_of taking at known
     octets ≡ (taking at (at + (1 + m.used)) code m.value known >>= λ x. params_of taking (at + (1 + m.used + length m.value)) x m.rest)
 unfolding parameter_at params_at
-params_next taking at code m known [] e = absurd cc
-params_next taking at code m known (c ∷ octets) e =
-    let a = bind_ok (measured_at at octets) (λ k. Ok (c, k)) (code, m) e in
-    let pair = ok_is (c, a.0) (code, m) a.2 in
-    let head : c ≡ code = ap (λ (p : ℕ × Measured). p.0) pair in
-    let same : a.0 ≡ m = ap (λ (p : ℕ × Measured). p.1) pair in
-    let read : measured_at at octets ≡ Ok m = a.1 ∙ ap (λ (k : Measured). Ok k) same in
-    let r = measured_rest at octets m read in
-    bind_of (measured_at at octets)
-    (λ k. taking at (at + (1 + k.used)) c k.value known >>= λ x. params_at taking (length octets) (at + (1 + k.used + length k.value)) x
-    k.rest) m
-    (taking at (at + (1 + m.used)) code m.value known >>= λ x. params_of taking (at + (1 + m.used + length m.value)) x m.rest) read
-    (subst (λ (d : ℕ). (taking at (at + (1 + m.used)) c m.value known >>= λ x. params_at taking (length octets)
-    (at + (1 + m.used + length m.value)) x m.rest)
-    ≡ (taking at (at + (1 + m.used)) d m.value known >>= λ x. params_of taking (at + (1 + m.used + length m.value)) x m.rest)) head
-    (same_bind (taking at (at + (1 + m.used)) c m.value known)
-    (λ x. params_at taking (length octets) (at + (1 + m.used + length m.value)) x m.rest)
-    (λ x. params_of taking (at + (1 + m.used + length m.value)) x m.rest)
-    (λ x q. params_fuel taking (length octets) (length m.rest) (at + (1 + m.used + length m.value)) x m.rest (omega arith) (omega arith))))
+params_next taking at code m known octets e = grind (arith, bind_ok, ok_is, measured_rest, bind_of, same_bind, params_fuel)
 
 abbrev tagged : ℕ → Measured → Result (ℕ × Measured) SpduFault
 tagged c m = Ok (c, m)
@@ -148,5 +125,4 @@ taking_refused taking at code m known rest start before octets fault read e so_f
 pub taking_end : (taking : Taking) (at : ℕ) (known : Known) (rest : List ℕ) (start : ℕ) (before : Known) (octets : List ℕ) → length rest ≡ 0
     → IsTaking taking at known rest start before octets → params_of taking start before octets ≡ Ok known
 unfolding params_at
-taking_end taking at known [] start before octets e so_far = sym so_far.taken
-taking_end taking at known (b ∷ rest) start before octets e so_far = absurd (omega arith)
+taking_end taking at known rest start before octets e so_far = grind arith

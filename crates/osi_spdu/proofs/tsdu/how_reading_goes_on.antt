@@ -1,10 +1,9 @@
 -- How the reader of a TSDU continues after the first unit.
-use Rattle.std.proofs.Common.{◌≡◌, ℕ, Bool, true, false, ◌&&◌, List, [], ◌∷◌, length, Some, Result, Ok, Err, refl, sym, ap, ◌∙◌, arith}
+use Rattle.std.proofs.Common.{◌≡◌, ℕ, Bool, true, false, List, [], ◌∷◌, length, Some, Result, Ok, Err, refl, arith}
 use Rattle.osi_spdu.specs.declared.reading.Found.{Found}
 use Rattle.osi_spdu.proofs.Vocabulary.{IfOk, IsOkAnd, IsOctets, SpduFault, TrailingOctets, Kind, category_of, may_stand, Category, Zero}
-use Rattle.osi_spdu.proofs.Vocabulary.{One, Two, Behind, Group, Contents, Units, Params, known_of, is_formed, is_joined, IsFormedTsdu}
-use Rattle.osi_spdu.proofs.Vocabulary.{TsduFits, Gives, Placed, unit_at, contents_of, behind_at, ended, continued, tsdu_at, SpellsTsdu}
-use Rattle.osi_spdu.proofs.Vocabulary.{placed_of, units_behind, units_of, Known, ◌>>=◌}
+use Rattle.osi_spdu.proofs.Vocabulary.{Group, Contents, Units, Params, known_of, is_formed, is_joined, IsFormedTsdu, TsduFits, Gives}
+use Rattle.osi_spdu.proofs.Vocabulary.{Placed, unit_at, contents_of, ended, continued, tsdu_at, SpellsTsdu, placed_of, units_of, Known}
 use Rattle.osi_spdu.specs.Kept.{followed_at}
 use Rattle.osi_spdu.proofs.basics.the_steps_of_reading.{ok_is}
 use Rattle.osi_spdu.proofs.form.what_is_read_has_a_form.{placed_formed}
@@ -30,39 +29,31 @@ unit_with kind known = record { kind = kind; known = known; information = [] }
 pub tsdu_followed : (octets : List ℕ) (p : Placed) (known : Known) → unit_at false 0 octets ≡ Ok p → category_of p.kind ≡ Zero →
     known ≡ p.known → tsdu_at octets ≡ followed_at (unit_with p.kind known) p.end p.rest
 unfolding followed_at
-tsdu_followed octets p known e zero same =
-    tsdu_goes octets p e ∙ ap (λ (category : Category). continued category p) zero
-    ∙ ap (λ (k : Known). behind_at 16 p.end p.rest >>= λ behind. Ok (unit_with p.kind k ∷ behind)) (sym same)
+tsdu_followed octets p known e zero same = grind (arith, tsdu_goes octets p e)
 
 ended_none : (at : ℕ) (octets : List ℕ) (unit : Contents) → length octets ≡ 0 → ended at octets unit ≡ Ok (unit ∷ [])
-ended_none at [] unit e = refl
-ended_none at (b ∷ octets) unit e = absurd (omega arith)
+ended_none at octets unit e = grind arith
 
 ended_some : (at : ℕ) (octets : List ℕ) (unit : Contents) → (length octets ≡ 0 → ⊥) → ended at octets unit ≡ Err (TrailingOctets at)
-ended_some at [] unit h = absurd (h refl)
-ended_some at (b ∷ octets) unit h = refl
+ended_some at octets unit h = grind arith
 
 pub continued_alone : (category : Category) (p : Placed) → (category ≡ Zero → ⊥) → length p.rest ≡ 0 →
     continued category p ≡ Ok (contents_of p [] ∷ [])
-continued_alone Zero p other e = absurd (other refl)
-continued_alone _ p other e = ended_none p.end p.rest (contents_of p []) e
+continued_alone category p other e = grind (arith, ended_none)
 
 pub continued_trailing : (category : Category) (p : Placed) → (category ≡ Zero → ⊥) → (length p.rest ≡ 0 → ⊥) →
     continued category p ≡ Err (TrailingOctets p.end)
-continued_trailing Zero p other h = absurd (other refl)
-continued_trailing _ p other h = ended_some p.end p.rest (contents_of p []) h
+continued_trailing category p other h = grind (arith, ended_some)
 
 -- ---- the laws, at what a reader returned
 
 pub all_found : (r : Result Group SpduFault) (octets : List ℕ) → IsOctets octets → Gives units_of r (tsdu_at octets) →
     IfOk r (λ g. SpellsTsdu (units_of g) octets)
-all_found (Ok g) octets fits e = tsdu_found octets (units_of g) fits e
-all_found (Err d) octets fits e = tt
+all_found r octets fits e = grind (arith, tsdu_found)
 
 pub all_only : (r : Result Group SpduFault) (octets : List ℕ) → Gives units_of r (tsdu_at octets) → (units : Units) →
     SpellsTsdu units octets → IsOkAnd r (λ g. units_of g ≡ units)
-all_only (Ok g) octets e units s = (let h : Ok (units_of g) ≡ Ok units = sym e ∙ tsdu_only units octets s in ok_is (units_of g) units h)
-all_only (Err d) octets e units s = absurd (let h : Err d ≡ Ok units = sym e ∙ tsdu_only units octets s in cc)
+all_only r octets e units s = grind (arith, tsdu_only, ok_is)
 
 -- ---- which units may occur together
 
@@ -77,5 +68,4 @@ all_fits (Ok g) octets fits e = tsdu_fits (units_of g) octets (tsdu_found octets
 all_fits (Err d) octets fits e = tt
 
 pub all_formed : (r : Result Group SpduFault) → IfOk r (λ g. IsFormedTsdu (units_of g))
-all_formed (Ok g) = group_formed g
-all_formed (Err d) = tt
+all_formed r = grind (arith, group_formed)

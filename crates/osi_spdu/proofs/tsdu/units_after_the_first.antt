@@ -1,11 +1,10 @@
 -- Units after the first one, given one after the other.
-use Rattle.std.proofs.Common.{◌≡◌, ℕ, zero, suc, ◌-◌, ◌≤◌, ◌==◌, ◌&&◌, ◌||◌, not}
-use Rattle.std.proofs.Common.{true, false, List, [], ◌∷◌, length, drop, get_or, Option, Some}
-use Rattle.std.proofs.Common.{None, Result, Ok, Err, refl, sym, ap, subst, ◌∙◌, arith}
+use Rattle.std.proofs.Common.{◌≡◌, ℕ, zero, suc, ◌-◌, ◌≤◌, ◌&&◌, not, true, false, List, [], ◌∷◌, length, drop, get_or, Option, Some, None}
+use Rattle.std.proofs.Common.{Result, Ok, Err, refl, sym, ap, subst, ◌∙◌, arith}
 use Rattle.osi_spdu.proofs.Vocabulary.{is_ok, AllByRecursion, result_unwrap_or, and_parts, or_right, eq-eqb, SpduFault, Kind, Category}
 use Rattle.osi_spdu.proofs.Vocabulary.{Zero, One, Two, kind_named, category_of, may_stand, Units, ◌>>=◌, Next, next_at, behind_at, crowded}
 use Rattle.osi_spdu.proofs.Vocabulary.{takes_rest, is_zero, is_joined, IsFormedUnit, left_at, AreLeft, is_behind, Contents, Behind}
-use Rattle.osi_spdu.proofs.Vocabulary.{said_by, units_from, units_behind}
+use Rattle.osi_spdu.proofs.Vocabulary.{units_from, units_behind}
 use Rattle.osi_spdu.specs.declared.units.Spdu.{Spdu}
 use Rattle.osi_spdu.specs.Groups.{GivesBehind}
 use Rattle.osi_spdu.proofs.tsdu.units_and_tsdus_are_read.{left_read}
@@ -20,8 +19,7 @@ with_first n others = others >>= λ us. Ok (n.unit ∷ us)
 
 pub behind_none : (room at : ℕ) (octets : List ℕ) → length octets ≡ 0 → behind_at room at octets ≡ Ok []
 unfolding behind_at
-behind_none room at [] e = refl
-behind_none room at (b ∷ octets) e = absurd (omega arith)
+behind_none room at octets e = grind arith
 
 pub behind_full : (room at : ℕ) (octets : List ℕ) → room ≡ 0 → 1 ≤ length octets →
     behind_at room at octets ≡ Err (crowded at (kind_named true (get_or octets 0 0)))
@@ -80,8 +78,7 @@ room_left (suc room) at octets some e = omega arith
 
 others_ok : (n : Next) (others : Read) (units : Units) → with_first n others ≡ Ok units →
     (us : Units) × (others ≡ Ok us) × (units ≡ n.unit ∷ us)
-others_ok n (Ok us) units e = (us, refl, (let h : Ok (n.unit ∷ us) ≡ Ok units = e in cc))
-others_ok n (Err f) units e = absurd cc
+others_ok n others units e = grind arith
 
 pub left_goes : (room at : ℕ) (octets : List ℕ) (n : Next) → 1 ≤ length octets → AreLeft room at octets → next_at at octets ≡ Ok n →
     GoesOn room at octets n
@@ -115,10 +112,7 @@ leads_start room at octets = record { left = λ h. h; refused = λ f h. h }
 pub leads_next : (whole start : ℕ) (octets : List ℕ) (room at : ℕ) (rest : List ℕ) (n : Next) → Leads whole start octets room at rest →
     1 ≤ room → 1 ≤ length rest → next_at at rest ≡ Ok n → IsFormedUnit n.unit
     → Leads whole start octets (room - 1) n.end n.rest
-leads_next whole start octets room at rest n leads one some e formed = record {
-  left = λ h. leads.left (left_more room at rest n one some e formed h);
-  refused = λ f h. leads.refused f (behind_goes room at rest n one some e ∙ ap (with_first n) h);
-}
+leads_next whole start octets room at rest n leads one some e formed = grind (arith, left_more, behind_goes room at rest n one some e)
 
 -- ---- one unit and those after it
 
@@ -167,10 +161,8 @@ pub first_apart : (u : Contents) (us others : Units) → us ≡ u ∷ others →
 first_apart u us others e = subst (λ (l : Units). l ≡ u ∷ drop 1 l) (sym e) refl
 
 pub none_after_one : (next : Option Spdu) (others : Units) → others ≡ [] → [] ≡ drop 1 (units_from next others)
-none_after_one None others e = refl
-none_after_one (Some unit) others e = sym e
+none_after_one next others e = grind arith
 
 pub others_given : (old : Behind) (next : Option Spdu) (new : Behind) → GivesBehind old next new →
     units_behind new ≡ drop 1 (units_behind old)
-others_given old (Some unit) new e = sym (ap (λ (us : Units). drop 1 us) e)
-others_given old None new e = e.1 ∙ sym (ap (λ (us : Units). drop 1 us) e.0)
+others_given old next new e = grind arith

@@ -1,14 +1,13 @@
 -- Units and TSDUs: reading is sound and complete.
-use Rattle.std.proofs.Common.{inl, inr, ◌≡◌, ℕ, zero, suc, ◌+◌, ◌≤◌, Bool, true, false, List, [], ◌∷◌, ◌++◌, length, Option, Some, None}
-use Rattle.std.proofs.Common.{Result, Ok, Err, refl, sym, ap, subst, ◌∙◌, eqb, arith}
+use Rattle.std.proofs.Common.{inl, inr, ◌≡◌, ℕ, zero, suc, ◌+◌, ◌≤◌, Bool, true, false, List, [], ◌∷◌, ◌++◌, length, Option, Some, Result}
+use Rattle.std.proofs.Common.{Ok, Err, refl, sym, ap, subst, ◌∙◌, eqb, arith}
 use Rattle.osi_spdu.proofs.Vocabulary.{is_some, is_ok, IsSome, result_unwrap_or, flat_map, find, AllByRecursion, eqb-true, append-nil}
-use Rattle.osi_spdu.proofs.Vocabulary.{IsOctets, SpduFault, MissingParameter, BadConcatenation, Code, Kind, GiveTokens, DataTransfer}
-use Rattle.osi_spdu.proofs.Vocabulary.{Category, Zero, One, Two, number_of, si_of, category_of, required_of, kind_named, may_stand}
-use Rattle.osi_spdu.proofs.Vocabulary.{one_kind, later_kinds, Known, nothing, settled, Contents, Units, ◌>>=◌, Measured, measured_at}
-use Rattle.osi_spdu.proofs.Vocabulary.{params_of, in_unit, all_there, Placed, placed_kind, unit_at, contents_of, takes_rest, Next, next_if}
-use Rattle.osi_spdu.proofs.Vocabulary.{next_at, behind_at, ended, continued, tsdu_at, length_octets, part_octets, item_octets, Spells}
-use Rattle.osi_spdu.proofs.Vocabulary.{MeansInUnit, SpellsUnit, HasInformation, EndsTsdu, AreBehind, MayFollow, StandTogether, AreUnits}
-use Rattle.osi_spdu.proofs.Vocabulary.{SpellsTsdu, left_at}
+use Rattle.osi_spdu.proofs.Vocabulary.{IsOctets, SpduFault, MissingParameter, Code, Kind, Category, One, Two, number_of, si_of, category_of}
+use Rattle.osi_spdu.proofs.Vocabulary.{required_of, kind_named, may_stand, one_kind, later_kinds, Known, nothing, settled, Contents, Units}
+use Rattle.osi_spdu.proofs.Vocabulary.{◌>>=◌, Measured, measured_at, params_of, in_unit, all_there, Placed, placed_kind, unit_at}
+use Rattle.osi_spdu.proofs.Vocabulary.{contents_of, takes_rest, Next, next_if, next_at, behind_at, ended, continued, tsdu_at, length_octets}
+use Rattle.osi_spdu.proofs.Vocabulary.{part_octets, item_octets, Spells, MeansInUnit, SpellsUnit, HasInformation, EndsTsdu, AreBehind}
+use Rattle.osi_spdu.proofs.Vocabulary.{MayFollow, StandTogether, AreUnits, SpellsTsdu, left_at}
 use Rattle.osi_spdu.proofs.basics.the_steps_of_reading.{bind_ok, bind_of, ok_is}
 use Rattle.osi_spdu.proofs.basics.length_indicators.{octets-tail, measured_ok, measured_again, indicator_len, chosen}
 use Rattle.osi_spdu.proofs.parameters.one_level_is_read.{params_found, params_only, unit_follows}
@@ -146,36 +145,29 @@ unit_only second at unit front rest s stands =
 
 pub second_stands : (category : Category) → may_stand true category ≡ true → category ≡ Two
 unfolding may_stand
-second_stands Two e = refl
-second_stands _ e = absurd cc
+second_stands category e = grind arith
 
 pub two_second : (category : Category) → category ≡ Two → may_stand true category ≡ true
 unfolding may_stand
 two_second category e = rw e refl
 
 informed_all : (kind : Kind) (information : List ℕ) → takes_rest kind ≡ true → HasInformation kind information
-informed_all DataTransfer information e = tt
-informed_all _ information e = absurd cc
+informed_all kind information e = grind arith
 
 pub informed_none : (kind : Kind) → HasInformation kind []
-informed_none DataTransfer = tt
-informed_none _ = refl
+informed_none kind = grind arith
 
 pub informed_plain : (kind : Kind) (information : List ℕ) → takes_rest kind ≡ false → HasInformation kind information → information ≡ []
-informed_plain DataTransfer information e h = absurd cc
-informed_plain _ information e h = h
+informed_plain kind information e h = grind arith
 
 pub ends_none : (kind : Kind) (units : Units) → takes_rest kind ≡ false → EndsTsdu kind units
-ends_none DataTransfer units e = absurd cc
-ends_none _ units e = tt
+ends_none kind units e = grind arith
 
 ends_all : (kind : Kind) (units : Units) → units ≡ [] → EndsTsdu kind units
-ends_all DataTransfer units e = e
-ends_all _ units e = tt
+ends_all kind units e = grind arith
 
 ended_units : (kind : Kind) (units : Units) → takes_rest kind ≡ true → EndsTsdu kind units → units ≡ []
-ended_units DataTransfer units e h = h
-ended_units _ units e h = absurd cc
+ended_units kind units e h = grind arith
 
 -- octets that begin with a unit of category 2 and its user information
 record IsNext (octets : List ℕ) (n : Next) : Type 0 where
@@ -186,20 +178,7 @@ record IsNext (octets : List ℕ) (n : Next) : Type 0 where
   rest_octets : IsOctets n.rest
 
 next_is : (octets : List ℕ) (p : Placed) (b : Bool) → takes_rest p.kind ≡ b → IsUnitAt true octets p → IsNext octets (next_if b p)
-next_is octets p true e is = record {
-  front = is.front;
-  parts = is.parts ∙ ap (λ (t : List ℕ). is.front ++ t) (sym (append-nil p.rest));
-  spelled = is.spelled p.rest;
-  informed = informed_all p.kind p.rest e;
-  rest_octets = λ i. omega arith;
-}
-next_is octets p false e is = record {
-  front = is.front;
-  parts = is.parts;
-  spelled = is.spelled [];
-  informed = informed_none p.kind;
-  rest_octets = is.rest_octets;
-}
+next_is octets p b e is = grind (arith, append-nil, informed_all, informed_none)
 
 next_found : (at : ℕ) (octets : List ℕ) (n : Next) → IsOctets octets → next_at at octets ≡ Ok n → IsNext octets n
 unfolding next_at
@@ -324,13 +303,10 @@ pub behind_cons : (room at : ℕ) (front tail : List ℕ) (unit : Contents) → 
     → behind_at (suc room) at
     (front ++ tail) ≡ (next_at at (front ++ tail) >>= λ n. behind_at room n.end n.rest >>= λ others. Ok (n.unit ∷ others))
 unfolding behind_at
-behind_cons room at front tail unit s =
-    subst (λ (f : List ℕ). behind_at (suc room) at
-    (f ++ tail) ≡ (next_at at (f ++ tail) >>= λ n. behind_at room n.end n.rest >>= λ others. Ok (n.unit ∷ others))) (sym s.whole) refl
+behind_cons room at front tail unit s = grind arith
 
 none_spelled : (units : Units) (octets : List ℕ) → units ≡ [] → AreUnits units octets → octets ≡ []
-none_spelled [] octets e s = s
-none_spelled (unit ∷ units) octets e s = absurd cc
+none_spelled units octets e s = grind arith
 
 pub behind_only : (room at : ℕ) (units : Units) (octets : List ℕ) → AreUnits units octets → AreBehind units → length units ≤ room →
     behind_at room at octets ≡ Ok units
@@ -354,21 +330,18 @@ behind_only (suc room) at (unit ∷ units) octets s are few =
 
 ended_ok : (at : ℕ) (octets : List ℕ) (unit : Contents) (units : Units) → ended at octets unit ≡ Ok units →
     (octets ≡ []) × (unit ∷ [] ≡ units)
-ended_ok at [] unit units e = (refl, ok_is (unit ∷ []) units e)
-ended_ok at (b ∷ octets) unit units e = absurd cc
+ended_ok at octets unit units e = grind (arith, ok_is)
 
 pub not_second : (category : Category) → may_stand false category ≡ true → category ≡ Two → ⊥
 unfolding may_stand
-not_second Zero e h = absurd cc
-not_second _ e h = absurd cc
+not_second category e h = grind arith
 
 -- a first unit with those after it
 first_found : (octets : List ℕ) (p : Placed) (behind : Units) → IsOctets octets → IsUnitAt false octets p →
     MayFollow (category_of p.kind) behind → AreBehind behind → AreUnits behind p.rest
     → SpellsTsdu (contents_of p [] ∷ behind) octets
 unfolding SpellsTsdu StandTogether
-first_found octets p behind fits is follow are spelled =
-    (fits, (follow, are), (is.front, p.rest, is.parts, is.spelled [], informed_none p.kind, spelled))
+first_found octets p behind fits is follow are spelled = grind (arith, informed_none)
 
 ended_found : (octets : List ℕ) (p : Placed) (units : Units) → IsOctets octets → category_of p.kind ≡ One → IsUnitAt false octets p →
     ended p.end p.rest (contents_of p []) ≡ Ok units → SpellsTsdu units octets
@@ -387,13 +360,11 @@ tsdu_found octets units h0 h1 = grind (arith, bind_ok, continued_found, unit_fou
 
 first_stands : (category : Category) (behind : Units) → MayFollow category behind → may_stand false category ≡ true
 unfolding may_stand
-first_stands Two behind h = absurd h
-first_stands _ behind h = refl
+first_stands category behind h = grind arith
 
 first_plain : (kind : Kind) → may_stand false (category_of kind) ≡ true → takes_rest kind ≡ false
 unfolding may_stand category_of
-first_plain DataTransfer e = absurd cc
-first_plain _ e = refl
+first_plain kind e = grind arith
 
 continued_only : (category : Category) (p : Placed) (behind : Units) → MayFollow category behind → AreBehind behind → AreUnits behind p.rest
     → continued category p ≡ Ok (contents_of p [] ∷ behind)
@@ -426,8 +397,7 @@ abbrev read : Units → Result Units SpduFault
 read units = Ok units
 
 left_from : (r : Result Units SpduFault) → is_ok r ≡ true → r ≡ Ok (result_unwrap_or r [])
-left_from (Ok units) e = refl
-left_from (Err f) e = absurd cc
+left_from r e = grind arith
 
 -- octets that can be read are the units that are left
 pub left_read : (room at : ℕ) (octets : List ℕ) → is_ok (behind_at room at octets) ≡ true →

@@ -1,22 +1,19 @@
 -- A session whose connection is not live answers a call as if it were not there.
-use Rattle.std.proofs.Common.{◌≡◌, ℕ, Bool, true, false, not, Option, Some, None, Result, Ok, Err, is_some, IsSome, refl, sym, ap, subst}
-use Rattle.std.proofs.Common.{◌∙◌, if◌then◌else◌, arith}
+use Rattle.std.proofs.Common.{◌≡◌, ℕ, Bool, true, false, Option, Some, None, Result, Err, is_some, IsSome, refl, sym, ap, ◌∙◌, arith}
 use Rattle.osi_carrier.proofs.references.what_is_open.{no_link}
 use Rattle.osi_session.specs.declared.faults.CallError.TheVariants as error
-use Rattle.osi_session.specs.declared.phases.Phase.TheVariants.{Aborting, Ended}
-use Rattle.osi_stack.proofs.Vocabulary.{OnOk, OnErr, IfErr, Held, Carrying, Rows, value_at, Connection, State as Carrier, is_open}
-use Rattle.osi_stack.proofs.Vocabulary.{EndReason, allowed, Call, Listener, called, answered, react, is_wait_transport, is_over, limit_of}
-use Rattle.osi_stack.proofs.Vocabulary.{CallError, Phase, has_given, move_refusal, session_refusal, session_error, call_error, table_error}
-use Rattle.osi_stack.proofs.Vocabulary.{Refuses, by_rule, needs_link, kept_at, IsSettled, Line, End, Holding, holding, session_in}
-use Rattle.osi_stack.proofs.Vocabulary.{session_at, SessionState as State}
+use Rattle.osi_session.specs.declared.phases.Phase.TheVariants.{Ended}
+use Rattle.osi_stack.proofs.Vocabulary.{OnOk, OnErr, IfErr, Carrying, Rows, value_at, Connection, State as Carrier, is_open, EndReason}
+use Rattle.osi_stack.proofs.Vocabulary.{allowed, Call, Listener, called, answered, react, is_wait_transport, is_over, limit_of, CallError}
+use Rattle.osi_stack.proofs.Vocabulary.{Phase, has_given, move_refusal, session_refusal, session_error, call_error, table_error, Refuses}
+use Rattle.osi_stack.proofs.Vocabulary.{by_rule, needs_link, kept_at, IsSettled, Line, End, Holding, holding, session_in, session_at}
+use Rattle.osi_stack.proofs.Vocabulary.{SessionState as State}
 use Rattle.osi_stack.proofs.sound.the_invariant_between_calls.{answered_by_table}
 
 -- ---- a session that is over
 
 over_phase : (p : Phase) → needs_link p ≡ false → is_wait_transport p ≡ false → is_over p ≡ true
-over_phase Aborting h k = refl
-over_phase Ended h k = refl
-over_phase _ h k = cc
+over_phase p h k = grind arith
 
 refused_over : (s : State) (call : Call) → is_over s.phase ≡ true → allowed s call ≡ Err error.Ended
 unfolding allowed
@@ -34,8 +31,7 @@ ended_over r s call c h = grind (arith, react, called, answered, refused_over, m
 -- ---- one whose connection is not live
 
 unneeded : (b o : Bool) → (b ≡ true → o ≡ true) → o ≡ false → b ≡ false
-unneeded true o h k = let t = h refl in cc
-unneeded false o h k = refl
+unneeded b o h k = grind arith
 
 gone_phase : (r : ℕ) (s : Listener) (e : End) → IsSettled e → e.carrier.ended ≡ None → value_at r e.carrier.live ≡ None →
     kept_at r e.lines ≡ Some s → is_over s.state.phase ≡ true
@@ -61,28 +57,14 @@ record AreAlike (r : ℕ) (call : Call) (e : End) : Type 0 where
   error : session_error (session_in (value_at r e.lines)) call ≡ session_error (session_at r e) call
 
 alike_by : (r : ℕ) (call : Call) (e : End) (o : Option Connection) → value_at r e.carrier.live ≡ o → IsSettled e → AreAlike r call e
-alike_by r call e None at settled =
-    let none : session_at r e ≡ None = ap (λ (x : Option Connection). if is_some x then session_in (value_at r e.lines) else None) at in
-    let is = gone_by r call e (kept_at r e.lines) e.carrier.ended settled at refl refl in
-    record {
-      refusal = is.refusal ∙ sym (ap (λ (x : Option Listener). session_refusal r x call e.carrier) none);
-      error = is.error ∙ sym (ap (λ (x : Option Listener). session_error x call) none);
-    }
-alike_by r call e (Some connection) at settled =
-    let same : session_at r e ≡ session_in (value_at r e.lines) =
-    ap (λ (x : Option Connection). if is_some x then session_in (value_at r e.lines) else None) at in
-    record {
-      refusal = sym (ap (λ (x : Option Listener). session_refusal r x call e.carrier) same);
-      error = sym (ap (λ (x : Option Listener). session_error x call) same);
-    }
+alike_by r call e None at settled = grind (arith, gone_by r call e (kept_at r e.lines) e.carrier.ended settled at refl refl)
+alike_by r call e (Some connection) at settled = grind arith
 
 -- ---- what was accepted
 
 lasts_by : {A F : Type 0} (result : Result A F) (over : Option EndReason) (refusal : Option CallError) → (IsSome over → IsSome refusal) →
     OnOk result (refusal ≡ None) → OnOk result (over ≡ None)
-lasts_by (Ok x) None refusal h none = refl
-lasts_by (Ok x) (Some reason) refusal h none = let some : is_some refusal ≡ true = h refl in let is = ap is_some none in cc
-lasts_by (Err e) over refusal h none = tt
+lasts_by result over refusal h none = grind arith
 
 -- what a stack answers a call of this reference
 pub record IsAnswered {A : Type 0} (result : Result A CallError) (r : ℕ) (call : Call) (e : End) : Type 0 where
@@ -98,30 +80,14 @@ pub answered_there : {A : Type 0} (result : Result A CallError) (r : ℕ) (call 
     (IsSome e.carrier.ended → IsSome (call_error r call e)) → OnOk result (session_refusal r (kept_at r e.lines) call e.carrier ≡ None) →
     IfErr result (λ f. Refuses f (session_error (kept_at r e.lines) call) (session_refusal r (kept_at r e.lines) call e.carrier)) →
     IsAnswered result r call e
-answered_there result r call e given settled law over ok err =
-    let alike = alike_by r call e (value_at r e.carrier.live) refl settled in
-    let unless : Option CallError → Bool → Option CallError = λ o b. if not b then Some error.NoSuchConnection else o in
-    let all : session_refusal r (kept_at r e.lines) call e.carrier ≡ call_error r call e =
-    alike.refusal ∙ ap (unless (session_refusal r (session_at r e) call e.carrier)) (sym given) in
-    let first : session_error (kept_at r e.lines) call ≡ table_error r call e =
-    alike.error ∙ ap (unless (session_error (session_at r e) call)) (sym given) in
-    let allowed = subst (λ (o : Option CallError). OnOk result (o ≡ None)) all ok in
-    let refused = subst (λ (o : Option CallError). IfErr result (λ f. Refuses f o (call_error r call e))) first
-    (subst (λ (o : Option CallError). IfErr result (λ f. Refuses f (session_error (kept_at r e.lines) call) o)) all err) in
-    let table = subst (λ (o : Option CallError). OnOk result (o ≡ None)) law allowed in
-    let answered = answered_by_table result (table_error r call e) (call_error r call e) law refused in
-    let over = lasts_by result e.carrier.ended (call_error r call e) over allowed in
-    grind arith
+answered_there result r call e given settled law over ok err = grind (arith, alike_by, answered_by_table, lasts_by)
 
 -- ---- what became of the end
 
 pub called_ok : {A F : Type 0} (result : Result A F) (old new : Holding) (next : End) → OnOk result (new.end ≡ next) → new.held ≡ old.held →
     OnOk result (new ≡ record old { end = next })
-called_ok (Ok x) old new next is held = ap (λ (e : End). record new { end = e }) is ∙
-    ap (λ (h : Held). record { end = next; held = h }) held
-called_ok (Err e) old new next is held = tt
+called_ok result old new next is held = grind arith
 
 pub called_err : {A F : Type 0} (result : Result A F) (old new : Carrying) (lines left : Rows Line) →
     OnErr result ((left ≡ lines) × (new ≡ old)) → OnErr result (holding new left ≡ holding old lines)
-called_err (Ok x) old new lines left same = tt
-called_err (Err e) old new lines left same = ap (holding new) same.0 ∙ ap (λ (c : Carrying). holding c lines) same.1
+called_err result old new lines left same = grind arith

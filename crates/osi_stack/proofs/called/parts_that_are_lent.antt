@@ -1,15 +1,13 @@
 -- Data that a session lends in parts is what the carrier cuts.
 -- For `make_parted_call` of calls.
-use Rattle.std.proofs.Common.{◌≡◌, refl, ap, ℕ, zero, suc, List, [], ◌∷◌, ◌++◌, length, take, drop, nat_le, if◌then◌else◌, arith}
+use Rattle.std.proofs.Common.{◌≡◌, refl, ℕ, zero, suc, List, drop, arith}
 use Rattle.osi_carrier.specs.Pieces.{headed, FitsTsdu}
 use Rattle.osi_session.specs.Lent.{headed as lent, FitsTsdu as FitsPart}
 
 -- both have the same TSDUs
 pub cut_as_lent : (fuel : ℕ) (h m l : List ℕ) (size : ℕ) (o : List ℕ) → headed fuel h m l size o ≡ lent fuel h m l size o
 cut_as_lent zero h m l size o = refl
-cut_as_lent (suc n) h m l size o =
-    ap (λ (ts : List (List ℕ)). if nat_le (length o) size then (l ++ o) ∷ [] else (h ++ take size o) ∷ ts)
-    (cut_as_lent n m m l size (drop size o))
+cut_as_lent (suc n) h m l size o = grind (arith, cut_as_lent n m m l size (drop size o))
 
 -- a head of a part is a short head
 pub short_head : (size : ℕ) (head : List ℕ) → FitsPart size head → FitsTsdu size head

@@ -1,13 +1,12 @@
 -- The result of a call is the one that the table of its session gives.
-use Rattle.std.proofs.Common.{◌≡◌, ℕ, true, not, ◌||◌, List, Option, Some, None, is_some, Ok, Err, refl, sym, ap, subst, ◌∙◌, if◌then◌else◌}
-use Rattle.std.proofs.Common.{arith}
+use Rattle.std.proofs.Common.{◌≡◌, ℕ, true, List, Option, Some, None, is_some, Ok, Err, refl, sym, ap, subst, ◌∙◌, arith}
 use Rattle.osi_session.specs.declared.faults.CallError.TheVariants as error
 use Rattle.osi_stack.proofs.Vocabulary.{AllByRecursion, IfSome, or_right, open_link, send_all_error, value_at, Standing as Link, IsSendable}
 use Rattle.osi_stack.proofs.Vocabulary.{tsdus_of, Step, Answer, allowed, Passed, Call, HasSerial, Input, Listener, Move, called, answered}
 use Rattle.osi_stack.proofs.Vocabulary.{react, after_inputs, is_wait_cn, may_abort, HasNumbersInWords, IsFresh, awaiting, asking, limit_of}
-use Rattle.osi_stack.proofs.Vocabulary.{CallError, Opening, opening_of, has_given, send_refusal, move_refusal, session_refusal}
-use Rattle.osi_stack.proofs.Vocabulary.{session_error, call_error, table_error, CameAbout, AllCameAbout, needs_link, Soundness, AreShort}
-use Rattle.osi_stack.proofs.Vocabulary.{kept_at, End, session_in, session_at, IsSoundState, SessionState as State}
+use Rattle.osi_stack.proofs.Vocabulary.{Opening, opening_of, send_refusal, move_refusal, session_refusal, session_error, call_error}
+use Rattle.osi_stack.proofs.Vocabulary.{table_error, CameAbout, AllCameAbout, needs_link, Soundness, AreShort, kept_at, End, session_in}
+use Rattle.osi_stack.proofs.Vocabulary.{session_at, IsSoundState, SessionState as State}
 use Rattle.osi_stack.proofs.each_line.what_stays_true_of_each_session.{at_line}
 use Rattle.osi_stack.proofs.carried.what_a_move_leaves.{line_of}
 use Rattle.osi_stack.proofs.called.tsdus_that_are_handed_together.{lengths_fit}
@@ -31,17 +30,14 @@ sound_first law s h = search (arith, awaiting, asking, opening_of)
 -- ---- the carrier takes what a call sends
 
 open_by : (o : Option (ℕ × Link)) (tsdus : List (List ℕ)) → is_some o ≡ true → AreShort tsdus → send_refusal (send_all_error tsdus o) ≡ None
-open_by None tsdus h short = cc
-open_by (Some link) tsdus h short = ap send_refusal (lengths_fit tsdus short)
+open_by o tsdus h short = grind (arith, lengths_fit)
 
 answer_by : Below → (r : ℕ) (call : Call) (e : End) (s : Listener) (a : Answer) → allowed s.state call ≡ a → HasSerial call →
     e.carrier.ended ≡ None → Soundness e →
     kept_at r e.lines ≡ Some s → CameAbout s →
     move_refusal r (limit_of s.state) (react s (called call)) e.carrier ≡ (react s (called call)).error
 unfolding react
-answer_by law r call e s (Err err) allows serial lasts sound here came =
-    let is : react s (called call) ≡ answered s (Err err) = ap (answered s) allows in
-    ap (λ (m : Move). move_refusal r (limit_of s.state) m e.carrier) is ∙ sym (ap (λ (m : Move). m.error) is)
+answer_by law r call e s (Err err) allows serial lasts sound here came = grind arith
 answer_by law r call e s (Ok x) allows serial lasts sound here came =
     let is : react s (called call) ≡ answered s (Ok x) = ap (answered s) allows in
     let state = (subst (λ (x : Listener). IsSoundState x.state) came.is
@@ -67,6 +63,4 @@ answered_at law r call e (Some s) at serial lasts sound all =
 
 pub answered_is : Below → (r : ℕ) (call : Call) (e : End) → HasSerial call → e.carrier.ended ≡ None → Soundness e → AllCameAbout e.lines →
     call_error r call e ≡ table_error r call e
-answered_is law r call e serial lasts sound all =
-    ap (λ (o : Option CallError). if◌then◌else◌ {A = Option CallError} (not (has_given r e.carrier)) (Some error.NoSuchConnection) o)
-    (answered_at law r call e (session_at r e) refl serial lasts sound all)
+answered_is law r call e serial lasts sound all = grind (arith, answered_at)

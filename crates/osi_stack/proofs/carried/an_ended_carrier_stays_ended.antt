@@ -47,15 +47,10 @@ starves_full : (e : End) → e.carrier.ended ≡ Some NoMemory → (starves e).c
 starves_full e full = ap (λ (o : Option EndReason). (if is_some o then e.carrier else states.ends NoMemory e.carrier).ended) full ∙ full
 
 out_full : (e new : End) → RunsOut e new → e.carrier.ended ≡ Some NoMemory → new.carrier.ended ≡ Some NoMemory
-out_full e new out full =
-    ap (λ (x : End). x.carrier.ended) out.starved
-    ∙ starves_full (with_events out.more (hears_times out.heard e)) (times_over out.heard e (ap is_some full) ∙ full)
+out_full e new out full = grind (arith, starves_full, times_over)
 
 out_lasting : (e new : End) → RunsOut e new → (attends e).carrier.ended ≡ None → new.carrier.ended ≡ Some NoMemory
-out_lasting e new out lasts =
-    let heard = times_within out.heard e.carrier.events e refl (ap (λ (c : Carrier). c.ended) (sym (concluded_carrier (hears_all e))) ∙
-    lasts) in
-    ap (λ (x : End). x.carrier.ended) out.starved ∙ starves_lasting (with_events out.more (hears_times out.heard e)) heard
+out_lasting e new out lasts = grind (arith, times_within, concluded_carrier, starves_lasting)
 
 out_by : (e new : End) (packet : List ℕ) (c : Carrier) →
     (c ≡ carriers.after_packet e.carrier packet) ⊎ carriers.Starves e.carrier packet c → RunsOut (with_carrier c e) new →
@@ -69,15 +64,11 @@ out_by e new packet c (inr starved) out lasts = out_full (with_carrier c e) new 
 -- if the packet does not end it, an allocation failure does
 pub starved_full : (e new : End) (packet : List ℕ) → Starves e packet new → (after_packet e packet).carrier.ended ≡ None →
     new.carrier.ended ≡ Some NoMemory
-starved_full e new packet (inl h) lasts =
-    let full = ap (λ (x : Carrier). x.ended) h.1.2.ended in
-    ap (λ (x : End). x.carrier.ended) h.2 ∙ attends_over (with_carrier h.0 e) (ap is_some full) ∙ full
+starved_full e new packet (inl h) lasts = grind (arith, attends_over)
 starved_full e new packet (inr h) lasts = out_by e new packet h.0 (acts_cases e.carrier h.0 packet h.1) h.2 lasts
 
 -- ---- packets
 
 pub packet_over : (e : End) (packet : List ℕ) → is_some (carriers.after_packet e.carrier packet).ended ≡ true →
     is_some (after_packet e packet).carrier.ended ≡ true
-packet_over e packet over =
-    ap (λ (x : End). is_some x.carrier.ended) (packet_is e packet) ∙
-    ap is_some (attends_over (with_carrier (carriers.after_packet e.carrier packet) e) over) ∙ over
+packet_over e packet over = search (arith, packet_is, attends_over)

@@ -1,16 +1,14 @@
 -- Pending events are handled one after the other.
-use Rattle.std.proofs.Common.{◌≡◌, ℕ, ◌+◌, ◌<◌, ◌==◌, zero, suc, Bool, true, false, not, List, ◌∷◌, ◌++◌, length, Option, Some, None}
-use Rattle.std.proofs.Common.{IsSome, is_some, refl, sym, ap}
-use Rattle.std.proofs.Common.{subst, ◌∙◌, inl, inr, arith, if◌then◌else◌, [], Result, Ok, Err}
+use Rattle.std.proofs.Common.{◌≡◌, ℕ, ◌+◌, ◌<◌, ◌==◌, zero, suc, Bool, true, false, not, List, ◌∷◌, length, Option, Some, None, IsSome}
+use Rattle.std.proofs.Common.{is_some, refl, sym, ap, subst, ◌∙◌, inl, inr, arith, if◌then◌else◌, [], Result, Ok, Err}
 use Rattle.osi_carrier.specs.Happenings as events
 use Rattle.osi_carrier.specs.Lending.{carrying_lent, lent_event}
 use Rattle.osi_carrier.specs.Packets as carriers
 use Rattle.osi_carrier.specs.declared.lending.Lent.{Lent}
-use Rattle.osi_stack.proofs.Vocabulary.{eqb-true, not-false, Fed, Tells, Happening, Carrying, is_spoilt, Rows, State as Carrier}
-use Rattle.osi_stack.proofs.Vocabulary.{Interrupted, LeftOff, FeedsToEvent, hears, hears_first, hears_next, hears_times, hears_all}
-use Rattle.osi_stack.proofs.Vocabulary.{with_events, OnErr, OnOk, came, session_in, session_needs, to_session, value_at}
-use Rattle.osi_stack.proofs.Vocabulary.{with_carrier, all_lost, concludes, starves, RunsOut, needs_memory, Line, End, Holding, IsAttended}
-use Rattle.osi_stack.proofs.Vocabulary.{holding}
+use Rattle.osi_stack.proofs.Vocabulary.{eqb-true, not-false, Fed, Happening, Carrying, is_spoilt, Rows, State as Carrier, Interrupted}
+use Rattle.osi_stack.proofs.Vocabulary.{LeftOff, FeedsToEvent, hears, hears_first, hears_next, hears_times, hears_all, with_events, OnErr}
+use Rattle.osi_stack.proofs.Vocabulary.{OnOk, came, session_in, session_needs, to_session, value_at, with_carrier, all_lost, concludes}
+use Rattle.osi_stack.proofs.Vocabulary.{starves, RunsOut, needs_memory, Line, End, Holding, IsAttended, holding}
 use Rattle.osi_stack.proofs.carried.what_sessions_leave_of_the_carrier.{hears_keep}
 
 -- ---- one more
@@ -71,13 +69,7 @@ heard_all old now so_far none = grind arith
 pub heard_left : (old now : Holding) (event : Happening) (mid : Carrier) (new : End) → HasHeard old now →
     now.end.carrier ≡ record mid { events = event ∷ mid.events } →
     needs_memory event (with_carrier mid now.end) ≡ true → Interrupted (with_carrier mid now.end) new → LeftOff old.end new
-heard_left old now event mid new so_far h needed stopped =
-    let t = taken_is now.end event mid h in
-    search (
-      ap (λ (e : End). e.carrier.events) (sym so_far.is) ∙ t.first,
-      subst (λ (e : End). needs_memory event e ≡ true) (sym t.rest ∙ ap (with_events mid.events) so_far.is) needed,
-      subst (λ (e : End). Interrupted e new) (sym t.rest ∙ ap (with_events mid.events) so_far.is) stopped,
-    )
+heard_left old now event mid new so_far h needed stopped = grind (arith, taken_is now.end event mid h)
 
 -- ---- the effect of one event, with or without enough memory
 
@@ -89,16 +81,13 @@ pub record IsHeard {A E : Type 0} (result : Result A E) (event : Happening) (old
 
 -- what is known of a result by its kind
 pub on_ok : {A E P : Type 0} (r : Result A E) (a : A) → r ≡ Ok a → OnOk r P → P
-on_ok (Ok b) a is h = h
-on_ok (Err e) a is h = cc
+on_ok r a is h = grind arith
 
 pub not_ok : {A E P : Type 0} (r : Result A E) → ((a : A) → r ≡ Ok a → ⊥) → OnErr r P → P
-not_ok (Ok a) never h = absurd (never a refl)
-not_ok (Err e) never h = h
+not_ok r never h = grind arith
 
 pub not_done : {A E P : Type 0} (r : Result A E) → P → OnErr r P
-not_done (Ok a) h = tt
-not_done (Err e) h = h
+not_done r h = grind arith
 
 -- a TSDU that a line was told
 pub heard_tsdu : {A E : Type 0} (result : Result A E) (event : Happening) (r : ℕ) (octets : List ℕ) (carrier after : Carrying)
@@ -108,18 +97,7 @@ pub heard_tsdu : {A E : Type 0} (result : Result A E) (event : Happening) (r : �
     after.held ≡ carrier.held → OnErr result (all_lost left ≡ all_lost lines) → OnErr result (after ≡ carrier) →
     OnErr result (session_needs r (session_in (value_at r lines)) (came octets) carrier.state ≡ true) →
     IsHeard result event (holding carrier lines) (holding after left)
-heard_tsdu (Ok a) event r octets carrier after lines left is ok held lost same needed = record {
-  ok = ok ∙ ap (λ (h : Happening). hears h (holding carrier lines).end) (sym is);
-  held = held;
-  err = tt;
-  needed = tt;
-}
-heard_tsdu (Err e) event r octets carrier after lines left is ok held lost same needed = record {
-  ok = tt;
-  held = held;
-  err = record { lines = lost; carrier = ap (λ (x : Carrying). x.state) same };
-  needed = subst (λ (h : Happening). needs_memory h (holding carrier lines).end ≡ true) (sym is) needed;
-}
+heard_tsdu result event r octets carrier after lines left is ok held lost same needed = grind arith
 
 -- ---- a TSDU that is lent
 
@@ -129,14 +107,10 @@ record IsOnly (lent : Lent) (carrier : Carrying) (lines : Rows Line) : Type 0 wh
   rest : with_events [] (holding (carrying_lent (Some lent) carrier) lines).end ≡ (holding carrier lines).end
 
 only_is : (lent : Lent) (carrier : Carrying) (lines : Rows Line) → carrier.state.events ≡ [] → IsOnly lent carrier lines
-only_is lent carrier lines none = record {
-  first = ap (λ (l : List Happening). l ++ lent_event lent ∷ []) none;
-  rest = ap (λ (l : List Happening). with_events l (holding carrier lines).end) (sym none);
-}
+only_is lent carrier lines none = grind arith
 
 heard_only : (e : End) (event : Happening) → e.carrier.events ≡ event ∷ [] → hears_all e ≡ hears event (with_events [] e)
-heard_only e event one =
-    ap (λ (l : List Happening). hears_times (length l) e) one ∙ ap (λ (l : List Happening). hears_first l e) one
+heard_only e event one = grind arith
 
 -- the events of what a carrier told were handled, or memory ran out for one of them
 pub record IsAttendedTo {A E : Type 0} (result : Result A E) (told : Carrying) (lines : Rows Line) (new : Holding) : Type 0 where
@@ -149,14 +123,7 @@ lent_attended : {A E : Type 0} (result : Result A E) (lent : Lent) (carrier : Ca
     carrier.state.events ≡ [] → IsHeard result (lent_event lent) (holding carrier lines) new →
     IsAttendedTo result (carrying_lent (Some lent) carrier) lines new
 lent_attended (Ok a) lent carrier lines new none h =
-    let only = only_is lent carrier lines none in
-    record {
-      ok = h.ok ∙ ap (hears (lent_event lent)) (sym only.rest)
-          ∙ sym (heard_only (holding (carrying_lent (Some lent) carrier) lines).end (lent_event lent) only.first);
-      none = ap (λ (x : End). x.carrier.events) h.ok ∙ (hears_keep (lent_event lent) (holding carrier lines).end).events ∙ none;
-      held = h.held;
-      err = tt;
-    }
+    grind (arith, heard_only, only_is lent carrier lines none, hears_keep (lent_event lent) (holding carrier lines).end)
 lent_attended (Err e) lent carrier lines new none h =
     let only = only_is lent carrier lines none in
     record {
@@ -179,21 +146,13 @@ pub some_attended : {A E : Type 0} (result other : Result A E) (o : Option Lent)
     IsHeard other (lent_event lent) (holding carrier lines) (holding after left) → result ≡ other → now ≡ after → rows ≡ left →
     IsAttendedTo result (carrying_lent o carrier) lines (holding now rows)
 some_attended result other o lent carrier after now lines left rows is alone h a b d =
-    subst (λ (r : Result _ _). IsAttendedTo r (carrying_lent o carrier) lines (holding now rows)) (sym a)
-    (subst (λ (x : Carrying). IsAttendedTo other (carrying_lent o carrier) lines (holding x rows)) (sym b)
-    (subst (λ (l : Rows Line). IsAttendedTo other (carrying_lent o carrier) lines (holding after l)) (sym d)
-    (subst (λ (p : Option Lent). IsAttendedTo other (carrying_lent p carrier) lines (holding after left)) (sym is)
-    (lent_attended other lent carrier lines (holding after left) (alone (subst IsSome (sym is) refl)) h))))
+    grind (arith, lent_attended other lent carrier lines (holding after left) (alone (subst IsSome (sym is) refl)) h)
 
 pub none_attended : {A E : Type 0} (result other : Result A E) (o : Option Lent) (carrier after now : Carrying)
     (lines left rows : Rows Line) → o ≡ None → IsAttendedTo other carrier lines (holding after left) →
     result ≡ other → now ≡ after → rows ≡ left →
     IsAttendedTo result (carrying_lent o carrier) lines (holding now rows)
-none_attended result other o carrier after now lines left rows is h a b d =
-    subst (λ (r : Result _ _). IsAttendedTo r (carrying_lent o carrier) lines (holding now rows)) (sym a)
-    (subst (λ (x : Carrying). IsAttendedTo other (carrying_lent o carrier) lines (holding x rows)) (sym b)
-    (subst (λ (l : Rows Line). IsAttendedTo other (carrying_lent o carrier) lines (holding after l)) (sym d)
-    (subst (λ (p : Option Lent). IsAttendedTo other (carrying_lent p carrier) lines (holding after left)) (sym is) h)))
+none_attended result other o carrier after now lines left rows is h a b d = grind arith
 
 -- ---- an allocation failure
 
@@ -204,8 +163,7 @@ starved_is old mid left = grind arith
 
 pub no_events : {A : Type 0} (events : List A) → not (length events == 0) ≡ false → events ≡ []
 no_events [] h = refl
-no_events (x ∷ l) h = let none : suc (length l) ≡ 0 = eqb-true (length (x ∷ l)) 0 (not-false (length (x ∷ l) == 0) h) in
-    absurd (omega arith)
+no_events (x ∷ l) h = grind (arith, eqb-true, not-false)
 
 pub times_quiet : (n : ℕ) (e : End) → e.carrier.events ≡ [] → hears_times n e ≡ e
 times_quiet zero e none = refl
@@ -222,11 +180,7 @@ never_starved old new none out = grind (arith, hears_times, times_quiet)
 
 pub all_keep_by : (n : ℕ) (e : End) → is_spoilt (hears_times n e).carrier.ended ≡ is_spoilt e.carrier.ended
 all_keep_by zero e = refl
-all_keep_by (suc n) e = all_keep_by n (hears_next e) ∙ first_keeps e.carrier.events e
-  where
-    first_keeps : (l : List Happening) (e : End) → is_spoilt (hears_first l e).carrier.ended ≡ is_spoilt e.carrier.ended
-    first_keeps [] e = refl
-    first_keeps (event ∷ events) e = (hears_keep event (with_events events e)).spoilt
+all_keep_by (suc n) e = grind (arith, hears_keep, all_keep_by n (hears_next e))
 
 -- ---- attended
 
@@ -237,8 +191,7 @@ pub starved_attended : (e new : End) → new ≡ starves e → IsAttended new
 starved_attended e new h none = grind arith
 
 concluded_by : (b : Bool) (e : End) → (if b then record e { lines = all_lost e.lines } else e).carrier ≡ e.carrier
-concluded_by true e = refl
-concluded_by false e = refl
+concluded_by b e = grind arith
 
 pub concluded_carrier : (e : End) → (concludes e).carrier ≡ e.carrier
 concluded_carrier e = concluded_by (is_some e.carrier.ended) e
@@ -250,10 +203,7 @@ concluded_attended e new h none over = ap (λ (x : End). x.carrier.events) h ∙
 
 concluded_lines : (b : Bool) (e : End) (lines : Rows Line) → is_some e.carrier.ended ≡ b →
     lines ≡ (if b then all_lost e.lines else e.lines) → record e { lines = lines } ≡ concludes e
-concluded_lines true e lines is h = ap (λ (l : Rows Line). record e { lines = l }) h ∙
-    sym (ap (λ (c : Bool). if c then record e { lines = all_lost e.lines } else e) is)
-concluded_lines false e lines is h = ap (λ (l : Rows Line). record e { lines = l }) h ∙
-    sym (ap (λ (c : Bool). if c then record e { lines = all_lost e.lines } else e) is)
+concluded_lines b e lines is h = grind arith
 
 -- the carrier took packets, and its events were handled
 pub fetched : (old : Holding) (octets : List ℕ) (fed : Fed) (told : Carrying) (heard : Holding) (lines : Rows Line) (b : Bool) →

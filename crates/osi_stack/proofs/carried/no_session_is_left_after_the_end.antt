@@ -1,6 +1,6 @@
 -- Once the carrier has ended no session is left.
-use Rattle.std.proofs.Common.{◌≡◌, ℕ, ◌||◌, Bool, true, false, List, ◌∷◌, Option, Some, None, is_some, IsSome, refl, sym, ap, subst, ◌∙◌}
-use Rattle.std.proofs.Common.{inl, inr, ◌⊎◌, if◌then◌else◌, []}
+use Rattle.std.proofs.Common.{◌≡◌, ℕ, Bool, true, false, List, Option, Some, None, is_some, IsSome, refl, sym, ap, subst, ◌∙◌, inl, inr}
+use Rattle.std.proofs.Common.{if◌then◌else◌}
 use Rattle.osi_carrier.specs.Packets as carriers
 use Rattle.osi_stack.proofs.Vocabulary.{tsdus_sent, limit_of, Fed, open_link, sent_on, may_connect, send_all_error, value_at, put}
 use Rattle.osi_stack.proofs.Vocabulary.{State as Carrier, EndReason, free_of, put_same, Standing as Link, Call, Input, Listener, called}

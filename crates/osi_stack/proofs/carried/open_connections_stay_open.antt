@@ -1,16 +1,15 @@
 -- Sessions keep their open transport connections, whatever event is handled.
 use Rattle.std.proofs.Common.{◌≡◌, ◌≢◌, ℕ, zero, suc, ◌==◌, Bool, true, false, not, ◌&&◌, ◌||◌, List, ◌∷◌, ◌++◌, length, Option, Some, None}
-use Rattle.std.proofs.Common.{is_some, IsSome, option_map, Result, Ok, Err, refl, sym, ap, subst, ◌∙◌, inl, inr, ◌⊎◌, if◌then◌else◌, []}
-use Rattle.std.proofs.Common.{arith}
+use Rattle.std.proofs.Common.{is_some, IsSome, option_map, Result, refl, sym, ap, subst, ◌∙◌, inl, inr, ◌⊎◌, if◌then◌else◌, [], arith}
 use Rattle.osi_carrier.specs.Happenings as told
 use Rattle.osi_stack.proofs.Vocabulary.{ne_eqb, eqb-true, eq-eqb, or_right, and-true, open_link, link_of, sent, sent_on, closes, closed_on}
-use Rattle.osi_stack.proofs.Vocabulary.{closed_with, sent_all, send_all_error, Happening, Rows, value_at, put, Connection, closing}
-use Rattle.osi_stack.proofs.Vocabulary.{State as Carrier, is_open, open_after, SendError, put_here, push_here, put_other, push_other}
-use Rattle.osi_stack.proofs.Vocabulary.{put_none, put_same, told_of, sent_opens, closed_opens, Standing as Link, Class, Zero, Input}
-use Rattle.osi_stack.proofs.Vocabulary.{Listener, opened, refused, broken, came, came_as, react, said_at, Words, SpduFault, is_ended}
-use Rattle.osi_stack.proofs.Vocabulary.{awaits, Phase, opens, hears, hears_first, hears_next, hears_times, with_events, loses, all_lost}
-use Rattle.osi_stack.proofs.Vocabulary.{needs_link, AreApart, kept_at, tsdus_sent, limit_for, line_by, carrier_by, by_line, to_session}
-use Rattle.osi_stack.proofs.Vocabulary.{Line, End, session_in, is_used, used_lines, joins, fresh_line, sent_unless, answers_by, input_of}
+use Rattle.osi_stack.proofs.Vocabulary.{closed_with, sent_all, Happening, Rows, value_at, put, Connection, State as Carrier, is_open}
+use Rattle.osi_stack.proofs.Vocabulary.{open_after, SendError, put_here, push_here, put_other, push_other, put_none, put_same, told_of}
+use Rattle.osi_stack.proofs.Vocabulary.{sent_opens, closed_opens, Standing as Link, Class, Input, Listener, opened, refused, broken, came}
+use Rattle.osi_stack.proofs.Vocabulary.{came_as, react, said_at, Words, SpduFault, is_ended, awaits, Phase, opens, hears, hears_first}
+use Rattle.osi_stack.proofs.Vocabulary.{hears_next, hears_times, with_events, loses, all_lost, needs_link, AreApart, kept_at, by_line}
+use Rattle.osi_stack.proofs.Vocabulary.{to_session, Line, End, session_in, is_used, used_lines, joins, fresh_line, sent_unless, answers_by}
+use Rattle.osi_stack.proofs.Vocabulary.{input_of}
 use Rattle.osi_stack.proofs.carried.what_sessions_leave_of_the_carrier.{hears_keep}
 use Rattle.osi_stack.proofs.carried.packets_without_events.{both}
 use Rattle.osi_stack.proofs.carried.what_a_move_leaves.{lost_at, used_keep}
@@ -37,9 +36,7 @@ put_some_by {X} r q x rows (Some y) true e at some =
     let same = eqb-true r q e in
     let there = put_here r x y rows at in
     subst (λ (n : ℕ). IsSome (value_at r (put n x rows))) same (ap is_some there)
-put_some_by r q x rows (Some y) false e at some =
-    let other : r ≢ q = (λ same. both (r == q) (eq-eqb r q same) e) in
-    ap is_some (put_other r q x rows other ∙ at)
+put_some_by r q x rows (Some y) false e at some = grind (arith, both, eq-eqb, put_other)
 
 pub put_some : {X : Type 0} (r q : ℕ) (x : X) (rows : Rows X) → IsSome (value_at r rows) → IsSome (value_at r (put q x rows))
 put_some r q x rows some = put_some_by r q x rows (value_at r rows) (r == q) refl refl some
@@ -53,8 +50,7 @@ pub record Answered (q : ℕ) (closes : Bool) (c d : Carrier) : Type 0 where
 
 sent_stays_by : (q : ℕ) (tsdu : List ℕ) (o : Option (ℕ × Link)) (c : Carrier) (r : ℕ) → IsSome (value_at r c.live) →
     IsSome (value_at r (sent_on q tsdu o c).live)
-sent_stays_by q tsdu None c r some = some
-sent_stays_by q tsdu (Some (peer, link)) c r some = put_some r q _ c.live some
+sent_stays_by q tsdu o c r some = grind (arith, put_some)
 
 all_open : (q r : ℕ) (tsdus : List (List ℕ)) (c : Carrier) → is_open r (sent_all q tsdus c) ≡ is_open r c
 all_open q r [] c = refl
@@ -69,8 +65,7 @@ all_answered q tsdus c = grind (arith, all_open, all_stay)
 
 hands_by : (q : ℕ) (tsdus : List (List ℕ)) (c : Carrier) (o : Option SendError) → Answered q false c (sent_unless o q tsdus c)
 hands_by q tsdus c None = all_answered q tsdus c
-hands_by q tsdus c (Some e) =
-    record { others = λ over r ne. refl; stays = λ over r some. some; here = λ e. refl; closing_here = λ e over. inl refl }
+hands_by q tsdus c (Some e) = grind arith
 
 live_of_link : (over : Bool) (o : Option Connection) (link : ℕ × Link) → (if over then None else link_of o) ≡ Some link → IsSome o
 live_of_link over o link e = grind arith
@@ -78,44 +73,33 @@ live_of_link over o link e = grind arith
 closes_stays : (q peer : ℕ) (class : Option Class) (c : Carrier) → (closes q peer 128 class c).ended ≡ None → (r : ℕ) →
     IsSome (value_at r c.live) →
     IsSome (value_at r (closes q peer 128 class c).live)
-closes_stays q peer (Some Zero) c over r some = cc
-closes_stays q peer _ c over r some = put_some r q (closing peer) c.live some
+closes_stays q peer class c over r some = grind (arith, put_some)
 
 closed_stays_by : (q : ℕ) (o : Option (ℕ × Link)) (c : Carrier) → (closed_on q 128 o c).ended ≡ None → (r : ℕ) →
     IsSome (value_at r c.live) →
     IsSome (value_at r (closed_on q 128 o c).live)
-closed_stays_by q None c over r some = some
-closed_stays_by q (Some (peer, link)) c over r some = closes_stays q peer c.class c over r some
+closed_stays_by q o c over r some = grind (arith, closes_stays)
 
 closing_by : (q : ℕ) (o : Option (ℕ × Link)) (c : Carrier) → open_link q c ≡ o → (closed_on q 128 o c).ended ≡ None →
     (is_open q (closed_on q 128 o c) ≡ is_open q c) ⊎ IsSome (value_at q (closed_on q 128 o c).live)
-closing_by q None c e over = inl refl
-closing_by q (Some link) c e over = inr (closed_stays_by q (Some link) c over q (live_of_link (is_some c.ended) (value_at q c.live) link e))
+closing_by q o c e over = grind (arith, closed_stays_by, live_of_link)
 
 pub unlike : (q r : ℕ) → r ≢ q → (q == r) ≡ false
 unlike q r ne = ne_eqb q r (λ same. ne (sym same))
 
 closed_answered : (q : ℕ) (c : Carrier) → Answered q true c (closed_with q 128 c)
-closed_answered q c = record {
-  others = λ over r ne. closed_opens q r 128 c over ∙ ap (λ b. is_open r c && not b) (unlike q r ne) ∙ and-true (is_open r c);
-  stays = λ over r some. closed_stays_by q (open_link q c) c over r some;
-  here = λ e. cc;
-  closing_here = λ e over. closing_by q (open_link q c) c refl over;
-}
+closed_answered q c = grind (arith, closed_opens, unlike, and-true, closed_stays_by, closing_by)
 
 answered_by : (q : ℕ) (closes : Bool) (tsdus : List (List ℕ)) (c : Carrier) → Answered q closes c (answers_by closes q tsdus c)
-answered_by q true tsdus c = closed_answered q c
-answered_by q false tsdus c = hands_by q tsdus c (send_all_error tsdus (open_link q c))
+answered_by q closes tsdus c = grind (arith, closed_answered, hands_by)
 
 -- ---- the events that are still to be handled
 
 pub mono_or : (a b x : Bool) → (a ≡ true → b ≡ true) → (a || x) ≡ true → (b || x) ≡ true
-mono_or true b x imp h = ap (λ y. y || x) (imp refl)
-mono_or false b x imp h = or_right b x h
+mono_or a b x imp h = grind (arith, or_right)
 
 mono_and : (a b x : Bool) → (a ≡ true → b ≡ true) → (a && x) ≡ true → (b && x) ≡ true
-mono_and true b x imp h = ap (λ y. y && x) (imp refl) ∙ h
-mono_and false b x imp h = cc
+mono_and a b x imp h = grind arith
 
 pub mono : (r : ℕ) (events : List Happening) (a b : Bool) → (a ≡ true → b ≡ true) → open_after r a events ≡ true →
     open_after r b events ≡ true
@@ -128,8 +112,7 @@ mono r (event ∷ events) a b imp h = mono r events a b imp h
 -- one event that is handled
 later_false : (r : ℕ) (event : Happening) (rest : List Happening) → open_after r false rest ≡ true →
     open_after r false (event ∷ rest) ≡ true
-later_false r (told.opened q) rest h = mono r rest false (false || (q == r)) (λ no. cc) h
-later_false r event rest h = h
+later_false r event rest h = grind (arith, mono)
 
 -- ---- what is true of one reference while events wait
 
@@ -210,25 +193,10 @@ Hearing q input old new = HasMoved q input old new ⊎ HasRested q old new
 
 line_hears : (q : ℕ) (input : Input) (e : End) (line : Line) (o : Option Listener) → value_at q e.lines ≡ Some line → line.session ≡ o →
     Hearing q input e (by_line q (Some line) input e)
-line_hears q input e line None here is = inr (record {
-  none = ap session_in here ∙ is;
-  same = ap (λ (x : Option Listener). record { carrier = carrier_by q x input e.carrier; lines = put q (line_by line x input) e.lines }) is
-      ∙ ap (λ (l : Rows Line). record { carrier = e.carrier; lines = l }) (put_same q line e.lines here);
-})
-line_hears q input e line (Some s) here is =
-    let after = line_by line line.session input in
-    inl (record {
-      session = s;
-      was = ap session_in here ∙ is;
-      is = ap session_in (put_here q after line e.lines here) ∙ ap (λ (x : Option Listener). (line_by line x input).session) is;
-      others = λ r ne. ap session_in (put_other r q after e.lines ne);
-      answered = subst (λ (x : Option Listener). Answered q (react s input).closes e.carrier (carrier_by q x input e.carrier)) (sym is)
-          (answered_by q (react s input).closes (tsdus_sent (limit_for s input) (react s input).reply) e.carrier);
-    })
+line_hears q input e line o here is = grind (arith, put_same, put_here, put_other, answered_by)
 
 session_hears_by : (q : ℕ) (input : Input) (e : End) (o : Option Line) → value_at q e.lines ≡ o → Hearing q input e (by_line q o input e)
-session_hears_by q input e None here = inr (record { none = ap session_in here; same = refl })
-session_hears_by q input e (Some line) here = line_hears q input e line line.session here refl
+session_hears_by q input e o here = grind (arith, line_hears)
 
 pub session_hears : (q : ℕ) (input : Input) (e : End) → Hearing q input e (to_session q input e)
 session_hears q input e = session_hears_by q input e (value_at q e.lines) refl
@@ -276,8 +244,7 @@ session_linked laws q input event rest e d of (inr m) over needs l =
 apart_put_by : (r q : ℕ) (x y : Line) (rows : Rows Line) (b : Bool) → (q == r) ≡ b → value_at q rows ≡ None → AreApart rows →
     AreApart (put r x rows) →
     AreApart (put r x ((q, y) ∷ rows))
-apart_put_by r q x y rows true e none apart more = rw e (none, apart)
-apart_put_by r q x y rows false e none apart more = rw e (put_none q r x rows none, more)
+apart_put_by r q x y rows b e none apart more = grind (arith, put_none)
 
 pub apart_put : (r : ℕ) (x : Line) (rows : Rows Line) → AreApart rows → AreApart (put r x rows)
 apart_put r x [] apart = tt
@@ -307,8 +274,7 @@ used_at_by r p y live lines b u e used alone more = grind arith
 
 pub used_at : (r : ℕ) (live : Rows Connection) (lines : Rows Line) → AreApart lines → Stays r live lines
 used_at r live [] apart = inl refl
-used_at r live ((p, y) ∷ lines) apart =
-    used_at_by r p y live lines (p == r) (is_used live (p, y)) refl refl apart.0 (used_at r live lines apart.1)
+used_at r live ((p, y) ∷ lines) apart = grind (arith, used_at_by, used_at r live lines apart.1)
 
 -- no line comes about
 used_none : (r : ℕ) (live : Rows Connection) (lines : Rows Line) → AreApart lines → value_at r lines ≡ None →
@@ -317,9 +283,7 @@ used_none r live lines apart none = grind (arith, used_at)
 
 pub apart_used : (live : Rows Connection) (lines : Rows Line) → AreApart lines → AreApart (used_lines live lines)
 apart_used live [] apart = tt
-apart_used live ((p, y) ∷ lines) apart =
-    let more = apart_used live lines apart.1 in
-    used_keep AreApart live (p, y) lines more (λ used. (used_none p live lines apart.1 apart.0, more))
+apart_used live ((p, y) ∷ lines) apart = grind (arith, used_keep, used_none, apart_used live lines apart.1)
 
 pub apart_joins : (r : ℕ) (s : Listener) (e : End) → value_at r e.lines ≡ None → AreApart e.lines → AreApart (joins r s e).lines
 apart_joins r s e none apart = apart_used e.carrier.live _ (apart_push r (fresh_line s) e.lines none apart)
@@ -342,34 +306,13 @@ joined_lines q s lines = lines ++ (q, fresh_line s) ∷ []
 joined_by : (q : ℕ) (rest : List Happening) (e : End) → value_at q e.lines ≡ None → AllLinked (told.opened q ∷ rest) e →
     (r : ℕ) (b : Bool) → (r == q) ≡ b →
     Stays r e.carrier.live (joined_lines q awaits e.lines) → IsLinked r (kept_at r (joins q awaits e).lines) rest e.carrier
-joined_by q rest e none l r true at (inl same) =
-    let is = eqb-true r q at in
-    let kept : kept_at r (joins q awaits e).lines ≡ Some awaits =
-    ap session_in (same ∙ ap (λ n. value_at n (joined_lines q awaits e.lines)) is ∙ push_here q (fresh_line awaits) e.lines none) in
-    subst (λ (o : Option Listener). IsLinked r o rest e.carrier) (sym kept) (record {
-      needed = λ s same n h. ap (λ n. is_open n e.carrier) is ∙
-          joined_here q rest e none (l q) (ap (λ n. open_after n true rest) (sym is) ∙ h);
-      fresh = inl (λ h. ap (λ n. is_open n e.carrier) is ∙
-          joined_here q rest e none (l q) (mono q rest false true (λ no. refl) (ap (λ n. open_after n false rest) (sym is) ∙ h)));
-    })
+joined_by q rest e none l r true at (inl same) = grind (arith, eqb-true, push_here, joined_here, mono)
 joined_by q rest e none l r true at (inr gone) =
     let before : kept_at r e.lines ≡ None = ap (λ n. kept_at n e.lines) (eqb-true r q at) ∙ ap session_in none in
     subst (λ (o : Option Listener). IsLinked r o rest e.carrier) (before ∙ sym (ap session_in gone.0))
     (none_linked (told.opened q) rest r (kept_at r e.lines) e.carrier before (l r))
-joined_by q rest e none l r false at (inl same) =
-    let ne : r ≢ q = (λ is. both (r == q) (eq-eqb r q is) at) in
-    let kept : kept_at r e.lines ≡ kept_at r (joins q awaits e).lines = ap session_in (sym (push_other r q _ e.lines ne) ∙ sym same) in
-    subst (λ (o : Option Listener). IsLinked r o rest e.carrier) kept
-    (other_linked (told.opened q) rest r (kept_at r e.lines) e.carrier e.carrier ne refl (λ x. x) (l r))
-joined_by q rest e none l r false at (inr gone) =
-    let ne : r ≢ q = (λ is. both (r == q) (eq-eqb r q is) at) in
-    subst (λ (o : Option Listener). IsLinked r o rest e.carrier) (sym (ap session_in gone.0)) (record {
-      needed = λ s same n h. cc;
-      fresh = elim (other_linked (told.opened q) rest r (kept_at r e.lines) e.carrier e.carrier ne refl (λ x. x) (l r)).fresh [
-        | inl f ↦ inl f
-        | inr k ↦ (let no : false ≡ true = sym (ap is_some gone.1) ∙ k.live in cc)
-      ];
-    })
+joined_by q rest e none l r false at (inl same) = grind (arith, both, eq-eqb, push_other, other_linked)
+joined_by q rest e none l r false at (inr gone) = grind (arith, both, eq-eqb, other_linked)
 
 joined_linked : (q : ℕ) (rest : List Happening) (e : End) → AreApart e.lines → value_at q e.lines ≡ None →
     AllLinked (told.opened q ∷ rest) e → AllLinked rest (joins q awaits e)
@@ -380,8 +323,7 @@ joined_linked q rest e apart none l =
 -- ---- one event
 
 not_opened_by : (read : Result Words SpduFault) → came_as read ≡ opened → ⊥
-not_opened_by (Ok said) e = cc
-not_opened_by (Err fault) e = cc
+not_opened_by read e = grind arith
 
 pub broken_needs_none : (s : Listener) → needs_link (react s broken).next.state.phase ≡ false
 unfolding react
@@ -417,8 +359,7 @@ hears_linked laws event rest e apart over l =
     (λ s is n h. both (needs_link (react s broken).next.state.phase) n (broken_needs_none s)) l
 
 line_apart : (q : ℕ) (input : Input) (e : End) (o : Option Line) → AreApart e.lines → AreApart (by_line q o input e).lines
-line_apart q input e None apart = apart
-line_apart q input e (Some line) apart = apart_put q (line_by line line.session input) e.lines apart
+line_apart q input e o apart = grind (arith, apart_put)
 
 pub session_apart : (q : ℕ) (input : Input) (e : End) → AreApart e.lines → AreApart (to_session q input e).lines
 session_apart q input e apart = line_apart q input e (value_at q e.lines) apart
@@ -439,8 +380,7 @@ pub rest_is : (event : Happening) (rest : List Happening) (e : End) → e.carrie
 rest_is event rest e h = ap (λ (x : End). x.carrier.events) (first_is event rest e h) ∙ (hears_keep event (with_events rest e)).events
 
 first_lasts : (l : List Happening) (e : End) → (hears_first l e).carrier.ended ≡ None → e.carrier.ended ≡ None
-first_lasts [] e h = h
-first_lasts (event ∷ rest) e h = (hears_keep event (with_events rest e)).lasts h
+first_lasts l e h = grind (arith, hears_keep)
 
 pub times_last : (n : ℕ) (e : End) → (hears_times n e).carrier.ended ≡ None → e.carrier.ended ≡ None
 times_last zero e h = h

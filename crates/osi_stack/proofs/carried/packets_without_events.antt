@@ -1,5 +1,5 @@
 -- What packets without events do to an end, and what the last of them does.
-use Rattle.std.proofs.Common.{◌≡◌, ℕ, ◌||◌, Bool, true, false, List, ◌∷◌, ◌++◌, Option, Some, None, is_some, refl, sym, ap, subst, ◌∙◌}
+use Rattle.std.proofs.Common.{◌≡◌, ℕ, ◌||◌, Bool, true, false, List, ◌∷◌, ◌++◌, Option, None, is_some, refl, sym, ap, subst, ◌∙◌}
 use Rattle.std.proofs.Common.{if◌then◌else◌, [], arith}
 use Rattle.osi_carrier.specs.Packets as carriers
 use Rattle.osi_stack.proofs.Vocabulary.{ArePackets, Rows, State as Carrier, EndReason, stops, TakesPackets, attends, after_packet}
@@ -7,26 +7,22 @@ use Rattle.osi_stack.proofs.Vocabulary.{with_carrier, Line, End, waits}
 use Rattle.osi_stack.proofs.carried.events_one_after_the_other.{no_events}
 
 pub both : {A : Type 0} (b : Bool) → b ≡ true → b ≡ false → A
-both true h k = cc
-both false h k = cc
+both b h k = grind arith
 
 -- it lasts, and it has ended
 pub never : {A : Type 0} (e : End) → is_some e.carrier.ended ≡ true → e.carrier.ended ≡ None → A
 never e over lasts = both (is_some e.carrier.ended) over (ap is_some lasts)
 
 pub lasting_of : (o : Option EndReason) (b : Bool) → (is_some o || b) ≡ false → o ≡ None
-lasting_of None b h = refl
-lasting_of (Some reason) b h = cc
+lasting_of o b h = grind arith
 
 -- ---- nothing is reported
 
 pub or_first : (a b : Bool) → (a || b) ≡ false → a ≡ false
-or_first false b e = refl
-or_first true b e = cc
+or_first a b e = grind arith
 
 pub or_second : (a b : Bool) → (a || b) ≡ false → b ≡ false
-or_second false b e = e
-or_second true b e = cc
+or_second a b e = grind arith
 
 pub record IsQuiet (c : Carrier) : Type 0 where
   pub lasts : is_some c.ended ≡ false
@@ -129,9 +125,7 @@ pub record AreParted (us vs : List (List ℕ)) (s q : List ℕ) : Type 0 where
 
 pub packets_part : (us vs : List (List ℕ)) (s q : List ℕ) → ArePackets (us ++ vs) s q → AreParted us vs s q
 packets_part [] vs s q h = record { between = s; front = refl; back = h }
-packets_part (u ∷ us) vs s q h =
-    let more = packets_part us vs h.1 q h.4 in
-    record { between = more.between; front = (h.0, h.1, h.2, h.3, more.front); back = more.back }
+packets_part (u ∷ us) vs s q h = search (arith, packets_part us vs h.1 q h.4)
 
 -- the end after the last packet
 pub lift_last : (lines : Rows Line) (c d : Carrier) (units : List (List ℕ)) (new : End) → waits lines ≡ false →

@@ -57,9 +57,7 @@ record IsStep (xs : Rows Line) (i : ℕ) (d : ℕ × Line) : Type 0 where
 step_at : (xs : Rows Line) (i : ℕ) (d : ℕ × Line) → i < length xs → IsStep xs i d
 step_at [] i d h = absurd (omega arith)
 step_at (x ∷ xs) zero d h = record { here = refl; next = refl }
-step_at (x ∷ xs) (suc i) d h =
-    let more = step_at xs i d (omega arith) in
-    record { here = more.here; next = ap (λ l. (x.0, loses x.1) ∷ l) more.next }
+step_at (x ∷ xs) (suc i) d h = grind (arith, step_at xs i d (omega arith))
 
 -- those before it are lost, and then the next is lost
 pub lost_step : (xs items : Rows Line) (i : ℕ) (row new : ℕ × Line) → i < length xs → items ≡ all_lost (take i xs) ++ drop i xs →

@@ -1,24 +1,23 @@
 -- What a session that makes a move leaves, and a message that arrives.
-use Rattle.std.proofs.Common.{◌≡◌, ℕ, ◌≤◌, ◌==◌, Bool, true, false, not, ◌||◌, List, [], ◌∷◌, ◌++◌, length, nat_lt, Option, Some, None}
-use Rattle.std.proofs.Common.{is_some, IsSome, option_map, Result, Ok, Err, refl, sym, ap, subst, ◌∙◌, arith, if◌then◌else◌}
+use Rattle.std.proofs.Common.{◌≡◌, ℕ, ◌==◌, Bool, true, false, not, ◌||◌, List, [], ◌∷◌, ◌++◌, length, nat_lt, Option, Some, None, is_some}
+use Rattle.std.proofs.Common.{IsSome, option_map, Ok, refl, sym, ap, subst, ◌∙◌, arith, if◌then◌else◌}
 use Rattle.osi_carrier.specs.Place.{Place, never, was_given}
 use Rattle.osi_carrier.specs.Happenings as told
 use Rattle.osi_carrier.specs.React as carriers
 use Rattle.osi_message.specs.Words as words
 use Rattle.osi_stack.specs.Messages.{part}
-use Rattle.osi_stack.proofs.Vocabulary.{nat_tests, list_any, Value, send_all_error, open_link, Happening, Rows, value_at, put, Connection}
-use Rattle.osi_stack.proofs.Vocabulary.{asked, linked, State as Carrier, put_here, put_other, Standing as Link, Meaning, said_by_units}
-use Rattle.osi_stack.proofs.Vocabulary.{said_at, said_if_read, Units, SpduFault, words_of, IsSendable, words_sent, tsdus_of, tsdus_sent}
-use Rattle.osi_stack.proofs.Vocabulary.{behind_no_token, part_octets, written, spelled, Place as PartPlace, tsdu_at, Input, Listener, Move}
-use Rattle.osi_stack.proofs.Vocabulary.{called, opened, refused, broken, taken, came, came_as, answered, react, awaits, limit_of, Shown}
-use Rattle.osi_stack.proofs.Vocabulary.{first_shown, first_by, without_first, rest_by, has_given, send_refusal, move_refusal}
-use Rattle.osi_stack.proofs.Vocabulary.{session_refusal, call_error, carries_out, after_unit, opens, hears, hears_times, hears_first}
-use Rattle.osi_stack.proofs.Vocabulary.{hears_all, with_events, concludes, attends, shown_at_loss, loses, all_lost, Message, unit, ask}
-use Rattle.osi_stack.proofs.Vocabulary.{agree, deny, bye, IsWhole, put_by, puts, Acts, Effect, begins, happens, rests, effect_at, told_at}
-use Rattle.osi_stack.proofs.Vocabulary.{HasSession, AreShort, IsShort, CanHear, Hears, told_all, Arrives, kept_at, waiting_of, Becomes}
-use Rattle.osi_stack.proofs.Vocabulary.{IsGranted, Says, AreLost, shown_of, all_waiting, IsFirstOf, limit_for, line_by, carrier_by, by_line}
-use Rattle.osi_stack.proofs.Vocabulary.{to_session, Line, End, session_in, session_at, line_waits, waits, is_used, used_lines, joins}
-use Rattle.osi_stack.proofs.Vocabulary.{answers_by, Answer, allowed, Call, CallError}
+use Rattle.osi_stack.proofs.Vocabulary.{nat_tests, list_any, Value, send_all_error, Happening, Rows, value_at, Connection, asked, linked}
+use Rattle.osi_stack.proofs.Vocabulary.{State as Carrier, put_here, put_other, Standing as Link, Meaning, said_by_units, said_at, words_of}
+use Rattle.osi_stack.proofs.Vocabulary.{IsSendable, words_sent, tsdus_of, tsdus_sent, behind_no_token, part_octets, written, spelled}
+use Rattle.osi_stack.proofs.Vocabulary.{Place as PartPlace, tsdu_at, Input, Listener, called, opened, refused, broken, taken, came, react}
+use Rattle.osi_stack.proofs.Vocabulary.{awaits, limit_of, Shown, first_shown, first_by, without_first, rest_by, has_given, send_refusal}
+use Rattle.osi_stack.proofs.Vocabulary.{move_refusal, session_refusal, call_error, carries_out, after_unit, opens, hears, hears_all}
+use Rattle.osi_stack.proofs.Vocabulary.{with_events, concludes, attends, shown_at_loss, loses, all_lost, Message, unit, ask, agree, deny}
+use Rattle.osi_stack.proofs.Vocabulary.{bye, IsWhole, put_by, puts, Acts, Effect, begins, happens, rests, effect_at, told_at, HasSession}
+use Rattle.osi_stack.proofs.Vocabulary.{AreShort, IsShort, CanHear, Hears, told_all, Arrives, kept_at, waiting_of, Becomes, IsGranted, Says}
+use Rattle.osi_stack.proofs.Vocabulary.{AreLost, shown_of, all_waiting, IsFirstOf, limit_for, line_by, to_session, Line, End, session_in}
+use Rattle.osi_stack.proofs.Vocabulary.{session_at, line_waits, waits, is_used, used_lines, joins, answers_by, Answer, allowed, Call}
+use Rattle.osi_stack.proofs.Vocabulary.{CallError}
 use Rattle.osi_stack.proofs.called.tsdus_that_are_handed_together.{hands_none, handed, puts_words}
 use Rattle.osi_stack.proofs.carried.events_one_after_the_other.{all_quiet}
 use Rattle.osi_stack.proofs.each_line.the_first_that_indicates.{quiet_line}
@@ -38,14 +37,7 @@ answers_put r false limit (Some m) c short = handed r (tsdus_of limit m) c short
 by_acts : (r : ℕ) (input : Input) (e : End) (line : Line) (s : Listener) → value_at r e.lines ≡ Some line → line.session ≡ Some s →
     IsShort (limit_for s input) (react s input).reply →
     Acts r input e (to_session r input e)
-by_acts r input e line s here is short =
-    let at : to_session r input e ≡ by_line r (Some line) input e = ap (λ o. by_line r o input e) here in
-    search (
-      ap (λ (x : End). x.lines) at ∙ ap (λ o. put r (line_by line o input) e.lines) is,
-      ap (λ (x : End). x.carrier) at ∙
-          ap (λ o. carrier_by r o input e.carrier) is ∙ answers_put r (react s input).closes (limit_for s input) (react s input).reply
-          e.carrier short,
-    )
+by_acts r input e line s here is short = grind (arith, answers_put)
 
 pub acts_is : (r : ℕ) (input : Input) (e : End) (s : HasSession r e.lines) →
     IsShort (limit_for s.session input) (react s.session input).reply → Acts r input e (to_session r input e)
@@ -58,8 +50,7 @@ acts_becomes r input old new a = grind (arith, line_by, value_at, put_here, sess
 -- ---- one event
 
 pub one_heard : (e : End) (event : Happening) → e.carrier.events ≡ event ∷ [] → hears_all e ≡ hears event (with_events [] e)
-one_heard e event h =
-    ap (λ (l : List Happening). hears_times (length l) e) h ∙ ap (λ (l : List Happening). hears_first l e) h
+one_heard e event h = grind arith
 
 attends_one : (e : End) (event : Happening) → e.carrier.events ≡ event ∷ [] → attends e ≡ concludes (hears event (with_events [] e))
 attends_one e event h = ap concludes (one_heard e event h)
@@ -86,8 +77,7 @@ pub record Readings : Type 0 where
 -- a message arrives as the words that were sent
 pub came_is : Readings → (m : Meaning) → IsSendable m → came (written m) ≡ taken (words_of m)
 unfolding said_at
-came_is law m sendable = ap (λ (r : Result Units SpduFault). came_as (said_if_read r)) (law.read m sendable) ∙
-    ap taken (law.said m sendable)
+came_is law m sendable = grind arith
 
 pub arrives : Readings → (r : ℕ) (place : Place) (m : Message) (v : Value) (e : End) → IsWhole m →
     (carriers.react v e.carrier).events ≡ told_at r place m →
@@ -100,9 +90,7 @@ arrives law r (was_given (Some asked)) agree v e whole h can =
 arrives law r (was_given (Some asked)) (deny reason) v e whole h can = happens_by r (refused reason) (told.refused r reason) v e h refl can
 arrives law r (was_given (Some (linked peer link))) (unit m) v e whole h can =
     happens_by r (taken (words_of m)) (told.tsdu r (written m)) v e h (ap (λ i. to_session r i (told_all v e)) (came_is law m whole)) can
-arrives law r (was_given (Some (linked peer link))) (part place octets) v e whole h can =
-    happens_by r (taken (behind_no_token (words.part place octets))) (told.tsdu r (part_octets place octets)) v e h
-    (ap (λ i. to_session r i (told_all v e)) (ap came_as (law.parts place octets))) can
+arrives law r (was_given (Some (linked peer link))) (part place octets) v e whole h can = search (arith, happens_by, law.parts place octets)
 arrives law r (was_given (Some (linked peer link))) (bye reason) v e whole h can = happens_by r broken (told.closed r reason) v e h refl can
 arrives law r place m v e whole h can = arrives_by r rests v e (told_all v e) refl (attends_none (carries_out v e) h)
 
@@ -111,20 +99,17 @@ arrives law r place m v e whole h can = arrives_by r rests v e (told_all v e) re
 lost_at_by : (r q : ℕ) (line : Line) (lines : Rows Line) (b : Bool) → (q == r) ≡ b →
     value_at r (all_lost lines) ≡ option_map loses (value_at r lines) →
     value_at r (all_lost ((q, line) ∷ lines)) ≡ option_map loses (value_at r ((q, line) ∷ lines))
-lost_at_by r q line lines true e more = rw e refl
-lost_at_by r q line lines false e more = rw e more
+lost_at_by r q line lines b e more = grind arith
 
 pub lost_at : (r : ℕ) (lines : Rows Line) → value_at r (all_lost lines) ≡ option_map loses (value_at r lines)
 lost_at r [] = refl
 lost_at r ((q, line) ∷ lines) = lost_at_by r q line lines (q == r) refl (lost_at r lines)
 
 lost_none : (o : Option Line) → session_in (option_map loses o) ≡ None
-lost_none None = refl
-lost_none (Some line) = refl
+lost_none o = grind arith
 
 lost_waiting : (o : Option Line) → waiting_of (option_map loses o) ≡ waiting_of o ++ shown_at_loss (session_in o)
-lost_waiting None = refl
-lost_waiting (Some line) = refl
+lost_waiting o = grind arith
 
 pub are_lost : (lines : Rows Line) → AreLost lines (all_lost lines)
 are_lost lines = grind (arith, session_in, lost_at, lost_none, value_at, waiting_of, lost_waiting)
@@ -160,9 +145,7 @@ kept_first q ((r, line) ∷ lines) = kept_first_by q r line line.waiting lines (
 pub none_waiting : (lines : Rows Line) → waits lines ≡ false → all_waiting lines ≡ []
 none_waiting [] h = refl
 none_waiting ((r, line) ∷ lines) h =
-    let here : line_waits line ≡ false = or_first (line_waits line) (waits lines) h in
-    let none = quiet_line line here in
-    ap (λ (w : List Shown). shown_of r w ++ all_waiting lines) none ∙ none_waiting lines (or_second (line_waits line) (waits lines) h)
+    grind (arith, or_first, quiet_line, or_second, none_waiting lines (or_second (line_waits line) (waits lines) h))
 
 -- ---- a call
 
@@ -173,34 +156,19 @@ pub record HasLink (o : Option (ℕ × Link)) (tsdus : List (List ℕ)) : Type 0
 short_if : (b : Bool) (tsdu : List ℕ) (tsdus : List (List ℕ)) → nat_lt 1048576 (length tsdu) ≡ b →
     (list_any (λ (t : List ℕ). nat_lt 1048576 (length t)) tsdus ≡ false → AreShort tsdus) →
     (b || list_any (λ (t : List ℕ). nat_lt 1048576 (length t)) tsdus) ≡ false → AreShort (tsdu ∷ tsdus)
-short_if true tsdu tsdus e more h = absurd (cc)
-short_if false tsdu tsdus e more h = (let few : length tsdu ≤ 1048576 = grind (arith, nat_tests) in few, more h)
+short_if b tsdu tsdus e more h = grind (arith, nat_tests)
 
 all_short : (tsdus : List (List ℕ)) → list_any (λ (t : List ℕ). nat_lt 1048576 (length t)) tsdus ≡ false → AreShort tsdus
 all_short [] h = tt
 all_short (tsdu ∷ tsdus) h = short_if (nat_lt 1048576 (length tsdu)) tsdu tsdus refl (all_short tsdus) h
 
 unsent_link : (o : Option (ℕ × Link)) (tsdus : List (List ℕ)) → send_refusal (send_all_error tsdus o) ≡ None → HasLink o tsdus
-unsent_link None tsdus h = cc
-unsent_link (Some link) tsdus h = short_by (list_any (λ (t : List ℕ). nat_lt 1048576 (length t)) tsdus) refl
-  where
-    short_by : (b : Bool) → list_any (λ (t : List ℕ). nat_lt 1048576 (length t)) tsdus ≡ b → HasLink (Some link) tsdus
-    short_by true e = let no = rw e at h in cc
-    short_by false e = record { opened = refl; short = all_short tsdus e }
+unsent_link o tsdus h = grind (arith, all_short)
 
 granted_by : (r : ℕ) (call : Call) (s : Listener) (c : Carrier) (a : Answer) → allowed s.state call ≡ a →
     move_refusal r (limit_of s.state) (react s (called call)) c ≡ None → IsGranted r call s c
 unfolding react
-granted_by r call s c (Err error) e h =
-    let is : react s (called call) ≡ answered s (Err error) = ap (answered s) e in
-    let no : Some error ≡ None = sym (ap (λ (m : Move). move_refusal r (limit_of s.state) m c) is) ∙ h in
-    cc
-granted_by r call s c (Ok step) e h =
-    let is : react s (called call) ≡ answered s (Ok step) = ap (answered s) e in
-    let sends : send_refusal (send_all_error (tsdus_of (limit_of s.state) step.sent) (open_link r c)) ≡ None =
-    sym (ap (λ (m : Move). move_refusal r (limit_of s.state) m c) is) ∙ h in
-    let link = unsent_link (open_link r c) (tsdus_of (limit_of s.state) step.sent) sends in
-    search (ap (λ (m : Move). m.reply) is, ap (λ (m : Move). m.closes) is, ap (λ (m : Move). m.shown) is, ap (λ (m : Move). m.next) is)
+granted_by r call s c a e h = grind (arith, unsent_link)
 
 pub line_of : (b : Bool) (o : Option Line) (s : Listener) → (if b then session_in o else None) ≡ Some s →
     (line : Line) × (o ≡ Some line) × (line.session ≡ Some s)
@@ -221,8 +189,7 @@ says_at r call e (Some s) at h =
     }
 
 given_by : (b : Bool) (o : Option CallError) → (if not b then Some error.NoSuchConnection else o) ≡ None → o ≡ None
-given_by true o h = h
-given_by false o h = cc
+given_by b o h = grind arith
 
 pub says_is : (r : ℕ) (call : Call) (e : End) → call_error r call e ≡ None → Says r call e (to_session r (called call) e)
 says_is r call e h =

@@ -1,8 +1,7 @@
 -- What sessions leave of the carrier as it was: the events that are pending, and how it ended.
-use Rattle.std.proofs.Common.{◌≡◌, ℕ, None, refl, if◌then◌else◌, ◌∙◌, ◌∷◌, [], arith}
+use Rattle.std.proofs.Common.{◌≡◌, ℕ, None, refl, arith}
 use Rattle.osi_carrier.specs.Happenings as told
-use Rattle.osi_stack.proofs.Vocabulary.{Happening, closed_with, is_spoilt, State as Carrier, Input, hears, to_session, End, told_of}
-use Rattle.osi_stack.proofs.Vocabulary.{input_of}
+use Rattle.osi_stack.proofs.Vocabulary.{Happening, closed_with, is_spoilt, State as Carrier, Input, hears, to_session, End}
 use Rattle.osi_stack.proofs.carried.what_each_step_preserves.{Carries, session_carried, event_heard}
 
 pub record Keeps (old new : Carrier) : Type 0 where
@@ -24,8 +23,4 @@ pub session_keeps : (r : ℕ) (input : Input) (e : End) → Keeps e.carrier (to_
 session_keeps r input e = session_carried (Keeps e.carrier) (sessions_keep e.carrier) r input e (same e.carrier)
 
 pub hears_keep : (event : Happening) (e : End) → Keeps e.carrier (hears event e).carrier
-hears_keep event e =
-    event_heard (λ x. Keeps e.carrier x.carrier) (record {
-      begins = λ r x none k. k;
-      moves = λ event x k. session_carried (Keeps e.carrier) (sessions_keep e.carrier) (told_of event) (input_of event) x k;
-    }) event e (same e.carrier)
+hears_keep event e = grind (arith, event_heard, session_carried, sessions_keep e.carrier, same e.carrier)

@@ -1,23 +1,20 @@
 -- How many lines have pending indications.
 use Rattle.std.proofs.Common.{◌≡◌, ℕ, ◌+◌, ◌<◌, ◌≤◌, ◌==◌, ◌||◌, Bool, zero, suc, true, false, not, cond, List, [], ◌∷◌, ◌++◌, length}
-use Rattle.std.proofs.Common.{get_or, set, nat_lt, Option, Some, None, Result, Ok, Err, OnOk, OnErr, refl, sym, ap, subst, ◌∙◌, arith}
+use Rattle.std.proofs.Common.{get_or, set, nat_lt, Option, Some, None, Result, OnOk, OnErr, refl, sym, ap, ◌∙◌, arith}
 use Rattle.osi_carrier.proofs.references.rows_in_order.{set_rise}
 use Rattle.osi_stack.proofs.Vocabulary.{position, position_or_len, lt-ltb, eqb-true, common_steps, length-set, sum_by-cons, sum_by-set}
-use Rattle.osi_stack.proofs.Vocabulary.{count_by-le-length, position_or_len_is, placed, RiseFrom, Rows, place_of, Input, Listener, react}
-use Rattle.osi_stack.proofs.Vocabulary.{Shown, Lost, shown_at_loss, loses, line_by, Line, line_waits, waits, how_many_wait}
+use Rattle.osi_stack.proofs.Vocabulary.{count_by-le-length, position_or_len_is, placed, RiseFrom, Rows, place_of, Input, Listener, Shown}
+use Rattle.osi_stack.proofs.Vocabulary.{Lost, loses, line_by, Line, line_waits, waits, how_many_wait}
 use Rattle.osi_stack.proofs.each_line.the_first_that_indicates.{IsNone, quiet_none}
 
 -- ---- one has, or none
 
 waits_by : (b more : Bool) (n : ℕ) → more ≡ nat_lt 0 n → (b || more) ≡ nat_lt 0 (cond b 1 0 + n)
-waits_by true more n e = let some : 0 < 1 + n = omega arith in sym (lt-ltb 0 (1 + n) some)
-waits_by false more n e = let same : n ≡ 0 + n = omega arith in e ∙ ap (nat_lt 0) same
+waits_by b more n e = grind (arith, lt-ltb)
 
 pub waits_counted : (rows : Rows Line) → waits rows ≡ nat_lt 0 (how_many_wait rows)
 waits_counted [] = refl
-waits_counted (row ∷ rows) =
-    waits_by (line_waits row.1) (waits rows) (how_many_wait rows) (waits_counted rows)
-    ∙ ap (nat_lt 0) (sym (sum_by-cons (λ x. cond (line_waits x.1) 1 0) row rows))
+waits_counted (row ∷ rows) = search (arith, waits_by, sum_by-cons, cond, waits_counted rows)
 
 pub none_counted : (n : ℕ) (rows : Rows Line) → n ≡ how_many_wait rows → n ≡ 0 → IsNone rows
 none_counted n rows e z = quiet_none rows (waits_counted rows ∙ ap (nat_lt 0) (sym e ∙ z))
@@ -29,25 +26,17 @@ abbrev pub nobody : ℕ × Line
 nobody = (0, record { session = None; waiting = []; selectors = None })
 
 counted_by : (b : Bool) (n : ℕ) → b ≡ true → 0 < cond b 1 0 + n
-counted_by true n e = omega arith
-counted_by false n e = cc
+counted_by b n e = grind arith
 
 -- a line with pending indications is counted
 counted_at : (rows : Rows Line) (i : ℕ) (d : ℕ × Line) → i < length rows → line_waits (get_or rows i d).1 ≡ true → 0 < how_many_wait rows
 counted_at [] i d within here = absurd (omega arith)
-counted_at (row ∷ rows) zero d within here =
-    subst (λ (n : ℕ). 0 < n) (sym (sum_by-cons (λ x. cond (line_waits x.1) 1 0) row rows))
-    (counted_by (line_waits row.1) (how_many_wait rows) here)
-counted_at (row ∷ rows) (suc i) d within here =
-    let more = counted_at rows i d (omega arith) here in
-    let sum : how_many_wait (row ∷ rows) ≡ cond (line_waits row.1) 1 0 + how_many_wait rows =
-    sum_by-cons (λ x. cond (line_waits x.1) 1 0) row rows in
-    omega arith
+counted_at (row ∷ rows) zero d within here = search (arith, sum_by-cons, cond, counted_by)
+counted_at (row ∷ rows) (suc i) d within here = search (arith, cond, sum_by-cons, counted_at rows i d (omega arith) here)
 
 -- if one is counted and another has pending ones, a line has none
 quiet_by : (b : Bool) (n : ℕ) → cond b 1 0 + n ≡ 1 → 0 < n → b ≡ false
-quiet_by true n e h = absurd (omega arith)
-quiet_by false n e h = refl
+quiet_by b n e h = grind arith
 
 quiet_before : (rows : Rows Line) (i k : ℕ) (d : ℕ × Line) → how_many_wait rows ≡ 1 → i < length rows →
     line_waits (get_or rows i d).1 ≡ true → k < i →
@@ -76,8 +65,7 @@ only_first rows i d one within here =
 
 pub only_heard : (waiting heard : ℕ) (rows : Rows Line) (d : ℕ × Line) → waiting ≡ how_many_wait rows → waiting ≡ 1 →
     heard < length rows → d ≡ get_or rows heard d → line_waits d.1 ≡ true → position (λ row. line_waits row.1) rows ≡ Some heard
-only_heard waiting heard rows d counts one within here waits =
-    only_first rows heard d (sym counts ∙ one) within (ap (λ (x : ℕ × Line). line_waits x.1) (sym here) ∙ waits)
+only_heard waiting heard rows d counts one within here waits = grind (arith, only_first)
 
 -- ---- a line for which nothing is pending
 
@@ -119,29 +107,24 @@ set_kept waiting counted rises before after rows i row new kept here within name
 -- ---- a line whose session receives something
 
 some_wait : (n : ℕ) (b : Bool) → (suc n == 0) ≡ b → not b ≡ true
-some_wait n true e = let none = eqb-true (suc n) 0 e in absurd (omega arith)
-some_wait n false e = refl
+some_wait n b e = grind (arith, eqb-true)
 
 more_wait : (w more : List Shown) → not (length w == 0) ≡ true → not (length (w ++ more) == 0) ≡ true
 more_wait [] more h = absurd (cc)
 more_wait (x ∷ w) more h = some_wait (length (w ++ more)) (suc (length (w ++ more)) == 0) refl
 
 line_stays : (l : Line) (o : Option Listener) (input : Input) → line_waits l ≡ true → line_waits (line_by l o input) ≡ true
-line_stays l None input h = h
-line_stays l (Some s) input h = more_wait l.waiting (react s input).shown h
+line_stays l o input h = grind (arith, more_wait)
 
 -- what was pending there stays pending
 pub heard_stays : {A E : Type 0} (result : Result A E) (row new : ℕ × Line) (input : Input) →
     OnOk result (new ≡ (row.0, line_by row.1 row.1.session input)) →
     OnErr result (new ≡ (row.0, loses row.1)) → line_waits row.1 ≡ true → line_waits new.1 ≡ true
-heard_stays (Ok a) row new input ok lost h = ap (λ (x : ℕ × Line). line_waits x.1) ok ∙ line_stays row.1 row.1.session input h
-heard_stays (Err e) row new input ok lost h = ap (λ (x : ℕ × Line). line_waits x.1) lost ∙
-    more_wait row.1.waiting (shown_at_loss row.1.session) h
+heard_stays result row new input ok lost h = grind (arith, line_stays, more_wait)
 
 -- a line that has no pending indication afterwards had none before
 pub still_quiet : (before after : Bool) → (before ≡ true → after ≡ true) → after ≡ false → before ≡ false
-still_quiet true after stays none = let some = stays refl in cc
-still_quiet false after stays none = refl
+still_quiet before after stays none = grind arith
 
 pub still_counted : (n : ℕ) (before after : Bool) → before ≡ after → n + cond before 1 0 ≡ n + cond after 1 0
 still_counted n before after same = ap (λ (b : Bool). n + cond b 1 0) same

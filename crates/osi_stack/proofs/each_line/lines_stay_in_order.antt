@@ -1,24 +1,22 @@
 -- The lines of an end are in the order of their references, whatever packets come.
-use Rattle.std.proofs.Common.{◌≡◌, ◌≢◌, ℕ, zero, suc, ◌+◌, ◌<◌, ◌≤◌, ◌==◌, Bool, true, false, ◌||◌, not, List, ◌∷◌, ◌++◌, length, Option}
-use Rattle.std.proofs.Common.{Some, None, Result, Ok, Err, is_some, IsSome, refl, sym, ap, subst, ◌∙◌, inl, inr, ◌⊎◌, arith, if◌then◌else◌}
-use Rattle.std.proofs.Common.{[]}
+use Rattle.std.proofs.Common.{◌≡◌, ℕ, zero, suc, ◌+◌, ◌<◌, ◌==◌, Bool, true, false, not, List, ◌∷◌, ◌++◌, length, Option, Some, None}
+use Rattle.std.proofs.Common.{Result, Ok, Err, is_some, IsSome, refl, sym, ap, subst, ◌∙◌, inl, inr, arith, if◌then◌else◌, []}
 use Rattle.osi_carrier.specs.Packets as carriers
 use Rattle.osi_carrier.specs.declared.faults.OpenError.TheVariants.{NotCaller}
-use Rattle.osi_stack.proofs.Vocabulary.{eqb-true, eq-eqb, Fed, units_of, Value, TpduFault, Standing as Link, Class, Zero, Local, open_link}
-use Rattle.osi_stack.proofs.Vocabulary.{may_connect, sent_on, closes, closed_on, sent, closed_with, Happening, tsdu, RiseFrom, AreUpTo}
-use Rattle.osi_stack.proofs.Vocabulary.{IsOrderly, told_of, reacts, Rows, value_at, Connection, asked, closing, State as Carrier, EndReason}
-use Rattle.osi_stack.proofs.Vocabulary.{Broken, NoMemory, OpenError, beyond, push_here, push_other, free_of, none_of, Input}
-use Rattle.osi_stack.proofs.Vocabulary.{opened as linked_up, awaits, calls_with, connects, connect_error, terms_error, breaks, carried}
-use Rattle.osi_stack.proofs.Vocabulary.{without_first, Feeds, opens, hears, hears_next, hears_times, hears_all, with_events, with_carrier}
-use Rattle.osi_stack.proofs.Vocabulary.{attends, after_packet, ends, starves, loses, all_lost, Starves, AreApart, Soundness, IsSound}
-use Rattle.osi_stack.proofs.Vocabulary.{line_by, by_line, to_session, IsOrdered, Line, End, Holding, IsAttended, fresh_end, used_lines}
-use Rattle.osi_stack.proofs.Vocabulary.{fresh_line, Connect, input_of, told_opened as opened, carrier_ends}
+use Rattle.osi_stack.proofs.Vocabulary.{eqb-true, eq-eqb, Fed, units_of, Value, TpduFault, Standing as Link, Class, Local, may_connect}
+use Rattle.osi_stack.proofs.Vocabulary.{sent_on, closes, closed_on, Happening, RiseFrom, AreUpTo, IsOrderly, told_of, Rows, value_at}
+use Rattle.osi_stack.proofs.Vocabulary.{Connection, asked, State as Carrier, EndReason, Broken, NoMemory, OpenError, beyond, push_here}
+use Rattle.osi_stack.proofs.Vocabulary.{push_other, free_of, none_of, Input, opened as linked_up, calls_with, connects, connect_error}
+use Rattle.osi_stack.proofs.Vocabulary.{terms_error, breaks, carried, without_first, Feeds, opens, hears, hears_next, hears_times}
+use Rattle.osi_stack.proofs.Vocabulary.{hears_all, with_events, with_carrier, attends, after_packet, ends, starves, loses, all_lost}
+use Rattle.osi_stack.proofs.Vocabulary.{Starves, AreApart, Soundness, IsSound, by_line, to_session, IsOrdered, Line, End, Holding}
+use Rattle.osi_stack.proofs.Vocabulary.{IsAttended, fresh_end, used_lines, fresh_line, Connect, input_of, told_opened as opened}
+use Rattle.osi_stack.proofs.Vocabulary.{carrier_ends}
 use Rattle.osi_stack.proofs.carried.events_one_after_the_other.{times_quiet}
 use Rattle.osi_stack.proofs.carried.packets_without_events.{both, packet_is}
 use Rattle.osi_stack.proofs.carried.open_connections_stay_open.{SessionLaws, first_is, rest_is, used_at, apart_push, joined_lines, put_some}
 use Rattle.osi_stack.proofs.opening.connections_that_units_open.{AwaitedBefore, awaited_put, linked_not_asked, closing_not_asked, opened_in}
-use Rattle.osi_stack.proofs.opening.connections_that_units_open.{Rises, AreAwaited, NoneAwaited, OpensAlong, along_units, along_end}
-use Rattle.osi_stack.proofs.opening.connections_that_units_open.{along_over}
+use Rattle.osi_stack.proofs.opening.connections_that_units_open.{Rises, AreAwaited, OpensAlong, along_units, along_end, along_over}
 use Rattle.osi_stack.proofs.each_line.references_rise.{rise_joins, rise_lost, rise_first, rise_session, rise_connect}
 use Rattle.osi_stack.proofs.sound.the_invariant_is_kept.{up_more, open_none, session_up, hale_kept, IsHale}
 use Rattle.osi_stack.proofs.carried.what_each_step_preserves.{Carries, session_carried, events_heard, concluded_end, broken_end}
@@ -35,25 +33,19 @@ left : (c : Carrier) → Leaves c c
 left c = record { side = refl; awaited = λ q h. h }
 
 sent_leaves : (r : ℕ) (octets : List ℕ) (o : Option (ℕ × Link)) (c : Carrier) → Leaves c (sent_on r octets o c)
-sent_leaves r octets None c = left c
-sent_leaves r octets (Some (peer, link)) c = record { side = refl; awaited = awaited_put r _ c.live (linked_not_asked _ _) }
+sent_leaves r octets o c = grind (arith, left, awaited_put, linked_not_asked)
 
 then_leaves : (a b c : Carrier) → Leaves a b → Leaves b c → Leaves a c
 then_leaves a b c h k = record { side = k.side ∙ h.side; awaited = λ q e. h.awaited q (k.awaited q e) }
 
 closes_leaves : (r peer reason : ℕ) (class : Option Class) (c : Carrier) → Leaves c (closes r peer reason class c)
-closes_leaves r peer reason (Some Zero) c = record { side = refl; awaited = λ q h. cc }
-closes_leaves r peer reason _ c = record { side = refl; awaited = awaited_put r (closing peer) c.live (closing_not_asked peer) }
+closes_leaves r peer reason class c = grind (arith, awaited_put, closing_not_asked)
 
 pub closed_leaves : (r reason : ℕ) (o : Option (ℕ × Link)) (c : Carrier) → Leaves c (closed_on r reason o c)
-closed_leaves r reason None c = left c
-closed_leaves r reason (Some (peer, link)) c = closes_leaves r peer reason c.class c
+closed_leaves r reason o c = grind (arith, left, closes_leaves)
 
 sessions_leave : (c : Carrier) → Carries (Leaves c)
-sessions_leave c = record {
-  sends = λ r tsdu x l. then_leaves c x (sent r tsdu x) l (sent_leaves r tsdu (open_link r x) x);
-  closes = λ r x l. then_leaves c x (closed_with r 128 x) l (closed_leaves r 128 (open_link r x) x);
-}
+sessions_leave c = grind (arith, then_leaves, sent_leaves, closed_leaves)
 
 session_leaves : (r : ℕ) (input : Input) (e : End) → Leaves e.carrier (to_session r input e).carrier
 session_leaves r input e = session_carried (Leaves e.carrier) (sessions_leave e.carrier) r input e (left e.carrier)
@@ -70,8 +62,7 @@ times_leave n e =
 has_cons : (r p : ℕ) (y z : Line) (lines rest : Rows Line) (b : Bool) → (p == r) ≡ b → IsSome (value_at r ((p, y) ∷ lines)) →
     (IsSome (value_at r lines) → IsSome (value_at r rest)) →
     IsSome (value_at r ((p, z) ∷ rest))
-has_cons r p y z lines rest true e h more = rw e refl
-has_cons r p y z lines rest false e h more = rw e (more (rw e at h))
+has_cons r p y z lines rest b e h more = grind arith
 
 has_lost : (r : ℕ) (lines : Rows Line) → IsSome (value_at r lines) → IsSome (value_at r (all_lost lines))
 has_lost r [] h = h
@@ -79,9 +70,7 @@ has_lost r ((p, y) ∷ lines) h = has_cons r p y (loses y) lines (all_lost lines
 
 has_first : (r : ℕ) (lines : Rows Line) → IsSome (value_at r lines) → IsSome (value_at r (without_first lines))
 has_first r [] h = h
-has_first r ((p, y) ∷ lines) h =
-    first_keep (λ l. IsSome (value_at r l)) p y lines (has_cons r p y y lines (without_first lines) (p == r) refl h (has_first r lines))
-    (λ left. has_cons r p y (record y { waiting = left }) lines lines (p == r) refl h (λ some. some))
+has_first r ((p, y) ∷ lines) h = grind (arith, first_keep, has_cons, has_first r lines)
 
 -- that of a live connection is of use
 has_used : (r : ℕ) (live : Rows Connection) (lines : Rows Line) → AreApart lines → value_at r live ≡ Some asked →
@@ -105,15 +94,13 @@ pub record Heard (old new : End) : Type 0 where
 
 kept_by : (r : ℕ) (input : Input) (e : End) (o : Option Line) (q : ℕ) → IsSome (value_at q e.lines) →
     IsSome (value_at q (by_line r o input e).lines)
-kept_by r input e None q h = h
-kept_by r input e (Some line) q h = put_some q r (line_by line line.session input) e.lines h
+kept_by r input e o q h = grind (arith, put_some)
 
 session_heard : (r : ℕ) (input : Input) (e : End) → RiseFrom 0 e.lines → Heard e (to_session r input e)
 session_heard r input e rise = record { rise = rise_session r input e rise; kept = kept_by r input e (value_at r e.lines) }
 
 opens_heard : (r : ℕ) (o : Option Line) (e : End) → IsSome o → RiseFrom 0 e.lines → Heard e (opens r o e)
-opens_heard r None e some rise = cc
-opens_heard r (Some line) e some rise = session_heard r linked_up e rise
+opens_heard r o e some rise = grind (arith, session_heard)
 
 pub one_heard : (event : Happening) (rest : List Happening) (e : End) → HaveLines e.lines (opened_in (event ∷ rest)) → RiseFrom 0 e.lines →
     Heard e (hears event e)
@@ -122,8 +109,7 @@ one_heard event rest e all rise = session_heard (told_of event) _ e rise
 
 pub have_rest : (event : Happening) (rest : List Happening) (lines : Rows Line) → HaveLines lines (opened_in (event ∷ rest)) →
     HaveLines lines (opened_in rest)
-have_rest (opened r) rest lines all = all.1
-have_rest event rest lines all = all
+have_rest event rest lines all = grind arith
 
 times_heard : (n : ℕ) (l : List Happening) (e : End) → e.carrier.events ≡ l → HaveLines e.lines (opened_in l) → RiseFrom 0 e.lines →
     Heard e (hears_times n e)
@@ -147,9 +133,7 @@ up_push n r line ((p, y) ∷ lines) above up = ((let low = up.0 in omega arith),
 
 up_used : (n : ℕ) (live : Rows Connection) (lines : Rows Line) → AreUpTo n lines → AreUpTo n (used_lines live lines)
 up_used n live [] up = tt
-up_used n live (row ∷ lines) up =
-    let more = up_used n live lines up.1 in
-    used_keep (AreUpTo n) live row lines more (λ used. (up.0, more))
+up_used n live (row ∷ lines) up = grind (arith, used_keep, up_used n live lines up.1)
 
 record HeardUpTo (n : ℕ) (new : End) : Type 0 where
   rise : RiseFrom 0 new.lines
@@ -159,10 +143,7 @@ session_risen : (n r : ℕ) (input : Input) (e : End) → RiseFrom 0 e.lines →
 session_risen n r input e rise up = record { rise = rise_session r input e rise; up = session_up n r input e up }
 
 opens_up : (n r : ℕ) (o : Option Line) (e : End) → n < r → RiseFrom 0 e.lines → AreUpTo n e.lines → HeardUpTo r (opens r o e)
-opens_up n r None e above rise up = record {
-  rise = rise_joins n r awaits e above up rise;
-  up = up_used r e.carrier.live _ (up_push n r (fresh_line awaits) e.lines above up);
-}
+opens_up n r None e above rise up = search (arith, rise_joins, up_used, up_push)
 opens_up n r (Some line) e above rise up = session_risen r r linked_up e rise (up_more n r e.lines (omega arith) up)
 
 -- one more event was handled, and the references up to `reached` had lines by then
@@ -173,8 +154,7 @@ record HasRisen (event : Happening) (rest : List Happening) (e : End) (last : �
 
 one_risen : (event : Happening) (rest : List Happening) (e : End) (g h : ℕ) → Rises g (opened_in (event ∷ rest)) h → RiseFrom 0 e.lines →
     AreUpTo g e.lines → HasRisen event rest e h
-one_risen (opened r) rest e g h rises rise up =
-    record { reached = r; rises = rises.1; heard = opens_up g r (value_at r e.lines) e rises.0 rise up }
+one_risen (opened r) rest e g h rises rise up = search (arith, opens_up)
 one_risen event rest e g h rises rise up = record { reached = g; rises = rises; heard = session_risen g (told_of event) _ e rise up }
 
 times_up : (n : ℕ) (l : List Happening) (e : End) (g h : ℕ) → e.carrier.events ≡ l → Rises g (opened_in l) h → RiseFrom 0 e.lines →
@@ -205,22 +185,14 @@ heard_by true n e c caller none known o a =
       rise = heard.rise;
       awaiting = λ r h. (leaves.side ∙ a.side ∙ caller, heard.kept r (o.awaiting r (a.awaited r (leaves.awaited r h))).1);
     }
-heard_by false n e c is_called none known o a =
-    let mid = with_carrier c e in
-    let nobody : NoneAwaited e.carrier.live = λ q h. both e.carrier.is_caller (o.awaiting q h).0 is_called in
-    record {
-      rise = times_up n a.told mid e.carrier.given c.given (a.events ∙ ap (λ (l : List Happening). l ++ a.told) none)
-          (a.called is_called nobody) o.rise known;
-      awaiting = λ r h. absurd (nobody r (a.awaited r ((times_leave n mid).awaited r h)));
-    }
+heard_by false n e c is_called none known o a = grind (arith, both, times_up, times_leave)
 
 heard_ordered : (n : ℕ) (e : End) (c : Carrier) → e.carrier.events ≡ [] → AreUpTo e.carrier.given e.lines → IsOrdered e →
     OpensAlong e.carrier c → IsOrdered (hears_times n (with_carrier c e))
 heard_ordered n e c none known o a = heard_by e.carrier.is_caller n e c refl none known o a
 
 pub lost_ordered : (e : End) → IsOrdered e → IsOrdered (record e { lines = all_lost e.lines })
-lost_ordered e o =
-    record { rise = rise_lost 0 e.lines o.rise; awaiting = λ r h. ((o.awaiting r h).0, has_lost r e.lines (o.awaiting r h).1) }
+lost_ordered e o = grind (arith, rise_lost, has_lost)
 
 attends_ordered : (e : End) (c : Carrier) → e.carrier.events ≡ [] → AreUpTo e.carrier.given e.lines → IsOrdered e → OpensAlong e.carrier c →
     IsOrdered (attends (with_carrier c e))
@@ -249,15 +221,13 @@ ends_ordered reason e o = record { rise = rise_lost 0 e.lines o.rise; awaiting =
 
 starves_by : (b : Bool) (e : End) → IsOrdered e →
     IsOrdered (record { carrier = if b then e.carrier else carrier_ends NoMemory e.carrier; lines = all_lost e.lines })
-starves_by true e o = lost_ordered e o
-starves_by false e o = record { rise = rise_lost 0 e.lines o.rise; awaiting = λ r h. cc }
+starves_by b e o = grind (arith, lost_ordered, rise_lost)
 
 starves_ordered : (e : End) → IsOrdered e → IsOrdered (starves e)
 starves_ordered e o = starves_by (is_some e.carrier.ended) e o
 
 out_along : (units : List Value) (old new : Carrier) → carriers.RunsOut old units new → IsOrderly old → OpensAlong old new
-out_along units old new h orderly =
-    subst (OpensAlong old) (sym h.ended) (along_end old (reacts h.done old) NoMemory (along_units h.done old orderly))
+out_along units old new h orderly = grind (arith, along_end, along_units)
 
 acted_along : (units : Result (List Value) TpduFault) (old new : Carrier) → carriers.ActsBy units old new → IsOrderly old →
     OpensAlong old new
@@ -287,8 +257,7 @@ ordered_kept = record {
 
 pub feeds_ordered : SessionLaws → (old new : Holding) (piece : List ℕ) (fed : Fed) → Feeds old piece fed new → IsAttended old.end →
     IsSound old.end → IsOrdered old.end → IsOrdered new.end
-feeds_ordered laws old new piece fed h attended sound ordered =
-    feeds_beside IsHale IsOrdered (hale_kept laws) ordered_kept old new piece fed h (attended, sound) ordered
+feeds_ordered laws old new piece fed h attended sound ordered = grind (arith, feeds_beside, hale_kept, ordered_kept)
 
 -- ---- calls
 
@@ -296,18 +265,13 @@ pub fresh_ordered : (is_caller : Bool) (local : Local) → IsOrdered (fresh_end 
 fresh_ordered is_caller local = record { rise = tt; awaiting = λ r h. cc }
 
 caller_by : (b : Bool) (o : Option OpenError) → (if not b then Some NotCaller else o) ≡ None → b ≡ true
-caller_by true o h = refl
-caller_by false o h = cc
+caller_by b o h = grind arith
 
 -- the new connection, and those before it
 joined_has : (r q : ℕ) (x : Line) (e : End) (b : Bool) → (r == q) ≡ b → value_at q e.lines ≡ None → IsOrdered e →
     value_at r (e.carrier.live ++ (q, asked) ∷ []) ≡ Some asked →
     IsSome (value_at r (e.lines ++ (q, x) ∷ []))
-joined_has r q x e true at none o h =
-    ap is_some (ap (λ n. value_at n (e.lines ++ (q, x) ∷ [])) (eqb-true r q at) ∙ push_here q x e.lines none)
-joined_has r q x e false at none o h =
-    let ne : r ≢ q = (λ same. both (r == q) (eq-eqb r q same) at) in
-    ap is_some (push_other r q x e.lines ne) ∙ (o.awaiting r (sym (push_other r q asked e.carrier.live ne) ∙ h)).1
+joined_has r q x e b at none o h = grind (arith, eqb-true, push_here, both, eq-eqb, push_other)
 
 pub connect_ordered : (c : Connect) (e : End) → connect_error c e ≡ None → IsSound e → IsOrdered e → IsOrdered (connects c e)
 connect_ordered c e allowed sound o =
@@ -326,17 +290,10 @@ connect_ordered c e allowed sound o =
     }
 
 pub call_ordered : (r : ℕ) (input : Input) (e : End) → IsOrdered e → IsOrdered (to_session r input e)
-call_ordered r input e o =
-    let heard = session_heard r input e o.rise in
-    let leaves = session_leaves r input e in
-    record {
-      rise = heard.rise;
-      awaiting = λ q h. (let was = o.awaiting q (leaves.awaited q h) in (leaves.side ∙ was.0, heard.kept q was.1));
-    }
+call_ordered r input e o = grind (arith, session_heard r input e o.rise, session_leaves r input e)
 
 pub first_ordered : (e : End) → IsOrdered e → IsOrdered (record e { lines = without_first e.lines })
-first_ordered e o =
-    record { rise = rise_first 0 e.lines o.rise; awaiting = λ r h. ((o.awaiting r h).0, has_first r e.lines (o.awaiting r h).1) }
+first_ordered e o = grind (arith, rise_first, has_first)
 
 pub carried_ordered : (octets : ℕ) (e : End) → IsOrdered e → IsOrdered (carried octets e)
 carried_ordered octets e o = record { rise = o.rise; awaiting = o.awaiting }

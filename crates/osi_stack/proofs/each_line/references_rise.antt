@@ -1,10 +1,9 @@
 -- The lines of an end are in the order in which their references were given.
-use Rattle.std.proofs.Common.{◌≡◌, ℕ, ◌+◌, ◌<◌, zero, suc, take, [], ◌∷◌, ◌++◌, Option, Some, None, option_map, refl, sym, subst, arith}
-use Rattle.std.proofs.Common.{if◌then◌else◌}
+use Rattle.std.proofs.Common.{◌≡◌, ℕ, ◌+◌, ◌<◌, zero, suc, take, [], ◌∷◌, ◌++◌, Option, option_map, refl, sym, subst, arith}
 use Rattle.osi_stack.proofs.Vocabulary.{Value, tsap_octets, asks, RiseFrom, AreUpTo, Rows, value_at, Connection, rise_lower, put_rise}
 use Rattle.osi_stack.proofs.Vocabulary.{Input, Listener, awaits, calls_with, connects, breaks, without_first, all_lost, Soundness, Effect}
-use Rattle.osi_stack.proofs.Vocabulary.{begins, happens, rests, Hears, Arrives, told_all, line_by, by_line, to_session, Line, End}
-use Rattle.osi_stack.proofs.Vocabulary.{used_lines, joins, fresh_line, Connect}
+use Rattle.osi_stack.proofs.Vocabulary.{begins, happens, rests, Hears, Arrives, told_all, by_line, to_session, Line, End, used_lines, joins}
+use Rattle.osi_stack.proofs.Vocabulary.{Connect}
 use Rattle.osi_stack.proofs.carried.what_each_step_preserves.{concluded_end, broken_end}
 use Rattle.osi_stack.proofs.carried.what_a_move_leaves.{used_keep, first_keep}
 
@@ -20,10 +19,7 @@ rise_push n g r line ((q, y) ∷ lines) above over up rise =
 -- some are dropped
 pub rise_used : (n : ℕ) (live : Rows Connection) (lines : Rows Line) → RiseFrom n lines → RiseFrom n (used_lines live lines)
 rise_used n live [] rise = tt
-rise_used n live ((p, y) ∷ lines) rise =
-    let above = rise.0 in
-    let more = rise_used p live lines rise.1 in
-    used_keep (RiseFrom n) live (p, y) lines (rise_lower n p (used_lines live lines) (omega arith) more) (λ used. (above, more))
+rise_used n live ((p, y) ∷ lines) rise = grind (arith, used_keep, rise_lower, rise_used p live lines rise.1)
 
 -- the first of them
 pub rise_take : (n k : ℕ) (lines : Rows Line) → RiseFrom n lines → RiseFrom n (take k lines)
@@ -43,12 +39,10 @@ rise_first n ((p, y) ∷ lines) rise = first_keep (RiseFrom n) p y lines (rise.0
 
 -- a new line has a reference above those that were given
 pub rise_joins : (g r : ℕ) (s : Listener) (e : End) → g < r → AreUpTo g e.lines → RiseFrom 0 e.lines → RiseFrom 0 (joins r s e).lines
-rise_joins g r s e over up rise =
-    rise_used 0 e.carrier.live _ (rise_push 0 g r (fresh_line s) e.lines (omega arith) over up rise)
+rise_joins g r s e over up rise = grind (arith, rise_used, rise_push)
 
 rise_line : (r : ℕ) (input : Input) (e : End) (o : Option Line) → RiseFrom 0 e.lines → RiseFrom 0 (by_line r o input e).lines
-rise_line r input e None rise = rise
-rise_line r input e (Some line) rise = put_rise 0 r (line_by line line.session input) e.lines rise
+rise_line r input e o rise = grind (arith, put_rise)
 
 pub rise_session : (r : ℕ) (input : Input) (e : End) → RiseFrom 0 e.lines → RiseFrom 0 (to_session r input e).lines
 rise_session r input e rise = rise_line r input e (value_at r e.lines) rise
@@ -73,6 +67,4 @@ pub rise_arrives : (r : ℕ) (effect : Effect) (v : Value) (e new : End) → Arr
     (effect ≡ begins → e.carrier.given < r) →
     RiseFrom 0 e.lines → RiseFrom 0 new.lines
 rise_arrives r effect v e new a up over rise =
-    subst (λ (x : End). RiseFrom 0 x.lines) (sym a.is)
-    (concluded_end (λ x. RiseFrom 0 x.lines) (λ x rise. rise_lost 0 x.lines rise) a.heard
-    (rise_hears r effect (told_all v e) a.heard a.hears e.carrier.given up over rise))
+    grind (arith, concluded_end, rise_lost, rise_hears r effect (told_all v e) a.heard a.hears e.carrier.given up over rise)

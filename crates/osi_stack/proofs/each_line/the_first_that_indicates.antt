@@ -1,6 +1,6 @@
 -- The first connection for which an indication is pending.
-use Rattle.std.proofs.Common.{◌≡◌, ℕ, ◌+◌, ◌<◌, ◌≤◌, ◌==◌, Bool, zero, suc, true, false, not, List, [], ◌∷◌, length, map, get_or, set}
-use Rattle.std.proofs.Common.{Option, Some, None, refl, sym, ap, ◌∙◌, arith}
+use Rattle.std.proofs.Common.{◌≡◌, ℕ, ◌<◌, ◌≤◌, ◌==◌, Bool, zero, suc, true, false, not, List, [], ◌∷◌, length, map, get_or, set, Option}
+use Rattle.std.proofs.Common.{Some, None, refl, sym, ap, ◌∙◌, arith}
 use Rattle.std.proofs.lemmas.List.Quantifiers.{position-Some}
 use Rattle.osi_stack.proofs.Vocabulary.{position, position_or_len, common_steps, Rows, Shown, shown_by, Indication, first_by, first_shown}
 use Rattle.osi_stack.proofs.Vocabulary.{rest_by, without_first, TellsOf, Line, line_waits, waits}
@@ -47,8 +47,7 @@ pub record IsFirst (rows : Rows Line) (i : ℕ) (d : ℕ × Line) : Type 0 where
       without_first rows ≡ set rows i ((get_or rows i d).0, record (get_or rows i d).1 { waiting = more })
 
 some_by : (r : ℕ) (w : List Shown) (other : Option (ℕ × Shown)) → not (length w == 0) ≡ true → first_by r w other ≡ first_by r w None
-some_by r [] other h = cc
-some_by r (x ∷ w) other h = refl
+some_by r w other h = grind arith
 
 first_at : (rows : Rows Line) (i : ℕ) (d : ℕ × Line) → i < length rows → line_waits (get_or rows i d).1 ≡ true →
     ((k : ℕ) → k < i → line_waits (get_or rows k d).1 ≡ false) → IsFirst rows i d

@@ -1,5 +1,5 @@
 -- The indication that is given first, if the lines are in the order of their references.
-use Rattle.std.proofs.Common.{◌≡◌, ℕ, ◌≤◌, ◌==◌, Bool, true, false, List, [], ◌∷◌, Option, Some, refl, ap, ◌∙◌, arith}
+use Rattle.std.proofs.Common.{◌≡◌, ℕ, ◌≤◌, ◌==◌, Bool, false, List, [], ◌∷◌, Option, Some, refl, ap, arith}
 use Rattle.osi_stack.proofs.Vocabulary.{eqb-true, eq-eqb, absent, RiseFrom, Rows, value_at, Shown, first_by, first_shown, rest_by}
 use Rattle.osi_stack.proofs.Vocabulary.{without_first, waiting_of, waiting_at, IsLowest, TellsLowest, Line}
 use Rattle.osi_stack.proofs.carried.open_connections_stay_open.{unlike}
@@ -18,8 +18,7 @@ none_at m n lines le rise = ap waiting_of (absent m n lines le rise)
 
 nothing_by : (q r : ℕ) (line : Line) (lines : Rows Line) (b : Bool) → (q == r) ≡ b → line.waiting ≡ [] → waiting_at r lines ≡ [] →
     waiting_at r ((q, line) ∷ lines) ≡ []
-nothing_by q r line lines true e none more = rw e none
-nothing_by q r line lines false e none more = rw e more
+nothing_by q r line lines b e none more = grind arith
 
 -- ---- the first line has none
 

@@ -1,6 +1,5 @@
 -- What holds of each line of an end stays so, whatever is called and fed.
-use Rattle.std.proofs.Common.{◌≡◌, ℕ, ◌+◌, ◌==◌, Bool, true, false, ◌||◌, List, ◌∷◌, ◌++◌, length, Option, Some, None, refl, sym, subst}
-use Rattle.std.proofs.Common.{◌∙◌, inl, inr, ◌⊎◌, if◌then◌else◌, [], arith}
+use Rattle.std.proofs.Common.{◌≡◌, ℕ, ◌+◌, ◌==◌, Bool, List, ◌∷◌, ◌++◌, length, Option, Some, refl, sym, subst, inl, inr, [], arith}
 use Rattle.osi_carrier.specs.Happenings as told
 use Rattle.osi_carrier.specs.Packets as carriers
 use Rattle.osi_stack.proofs.Vocabulary.{Fed, Happening, Rows, value_at, put, Connection, Input, opened, refused, broken, came, awaits}
@@ -36,8 +35,7 @@ line_at Q r line ((q, y) ∷ lines) all h = at_by Q r q line y lines (q == r) re
 
 put_by : (Q : Line → Type 0) (r q : ℕ) (x y : Line) (lines : Rows Line) (b : Bool) → (q == r) ≡ b → Q x → Q y → OfLines Q lines →
     OfLines Q (put r x lines) → OfLines Q (put r x ((q, y) ∷ lines))
-put_by Q r q x y lines true e new old all more = rw e (new, all)
-put_by Q r q x y lines false e new old all more = rw e (old, more)
+put_by Q r q x y lines b e new old all more = grind arith
 
 pub put_lines : (Q : Line → Type 0) (r : ℕ) (x : Line) (lines : Rows Line) → Q x → OfLines Q lines → OfLines Q (put r x lines)
 put_lines Q r x [] new all = tt
@@ -47,9 +45,7 @@ put_lines Q r x ((q, y) ∷ lines) new all = put_by Q r q x y lines (q == r) ref
 more_lines : (Q : Line → Type 0) (live : Rows Connection) (lines : Rows Line) (row : ℕ × Line) → Q row.1 → OfLines Q lines →
     OfLines Q (used_lines live (lines ++ row ∷ []))
 more_lines Q live [] row here all = used_keep (OfLines Q) live row [] tt (λ used. (here, tt))
-more_lines Q live (first ∷ lines) row here all =
-    let more = more_lines Q live lines row here all.1 in
-    used_keep (OfLines Q) live first (lines ++ row ∷ []) more (λ used. (all.0, more))
+more_lines Q live (first ∷ lines) row here all = grind (arith, used_keep, more_lines Q live lines row here all.1)
 
 pub lost_lines : (Q : Line → Type 0) (lines : Rows Line) → ((line : Line) → Q (loses line)) → OfLines Q (all_lost lines)
 lost_lines Q [] lost = tt
@@ -60,9 +56,7 @@ lost_lines Q ((q, y) ∷ lines) lost = (lost y, lost_lines Q lines lost)
 session_by : (Q : Line → Type 0) (r : ℕ) (input : Input) (e : End) (o : Option Line) → value_at r e.lines ≡ o →
     ((line : Line) → Q line → Q (line_by line line.session input)) →
     OfLines Q e.lines → OfLines Q (by_line r o input e).lines
-session_by Q r input e None here moves all = all
-session_by Q r input e (Some line) here moves all =
-    put_lines Q r (line_by line line.session input) e.lines (moves line (line_at Q r line e.lines all here)) all
+session_by Q r input e o here moves all = search (arith, put_lines, line_at)
 
 -- in one input
 pub session_lines : (Q : Line → Type 0) (r : ℕ) (input : Input) (e : End) → ((line : Line) → Q line → Q (line_by line line.session input)) →
@@ -87,17 +81,14 @@ attends_lines Q law e all =
 
 pub packet_lines : (Q : Line → Type 0) → LinesStay Q → (packet : List ℕ) (e : End) → OfLines Q e.lines →
     OfLines Q (after_packet e packet).lines
-packet_lines Q law packet e all =
-    subst (λ (x : End). OfLines Q x.lines) (sym (packet_is e packet))
-    (attends_lines Q law (with_carrier (carriers.after_packet e.carrier packet) e) all)
+packet_lines Q law packet e all = search (arith, packet_is, attends_lines)
 
 starved_lines : (Q : Line → Type 0) → LinesStay Q → (e new : End) (packet : List ℕ) → Starves e packet new → OfLines Q e.lines →
     OfLines Q new.lines
 starved_lines Q law e new packet (inl h) all =
     subst (λ (x : End). OfLines Q x.lines) (sym h.2) (attends_lines Q law (with_carrier h.0 e) all)
 starved_lines Q law e new packet (inr h) all =
-    subst (λ (x : End). OfLines Q x.lines) (sym h.2.starved)
-    (lost_lines Q (with_events h.2.more (hears_times h.2.heard (with_carrier h.0 e))).lines law.lost)
+    grind (arith, lost_lines Q (with_events h.2.more (hears_times h.2.heard (with_carrier h.0 e))).lines law.lost)
 
 pub feeds_lines : (Q : Line → Type 0) → LinesStay Q → (old new : Holding) (piece : List ℕ) (fed : Fed) → Feeds old piece fed new →
     OfLines Q old.end.lines → OfLines Q new.end.lines
@@ -118,8 +109,7 @@ pub told_lines : (Q : Line → Type 0) → ((line : Line) (waiting : List Shown)
     (lines : Rows Line) → OfLines Q lines →
     OfLines Q (without_first lines)
 told_lines Q tells [] all = tt
-told_lines Q tells ((r, line) ∷ lines) all =
-    first_keep (OfLines Q) r line lines (all.0, told_lines Q tells lines all.1) (λ left. (tells line left all.0, all.1))
+told_lines Q tells ((r, line) ∷ lines) all = grind (arith, first_keep, told_lines Q tells lines all.1)
 
 pub breaks_lines : (Q : Line → Type 0) → ((line : Line) → Q (loses line)) → (e : End) → OfLines Q e.lines → OfLines Q (breaks e).lines
 breaks_lines Q lost e all = broken_end (λ x. OfLines Q x.lines) (λ x all. lost_lines Q x.lines lost) e all

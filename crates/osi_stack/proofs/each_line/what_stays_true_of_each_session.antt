@@ -1,6 +1,6 @@
 -- What holds of each session of an end stays so, whatever is called and fed: each is what its inputs made of it, and
 -- its functional units can be selected together.
-use Rattle.std.proofs.Common.{◌≡◌, ℕ, List, [], ◌∷◌, ◌++◌, Option, Some, None, refl, ap, subst, ◌∙◌, inl, inr, arith}
+use Rattle.std.proofs.Common.{◌≡◌, ℕ, List, [], ◌∷◌, ◌++◌, Option, Some, refl, inl, inr, arith}
 use Rattle.osi_stack.proofs.Vocabulary.{AllByRecursion, IfSome, Fed, Units, said_by_units, said_at, Rows, value_at, Call, HasSerial, Input}
 use Rattle.osi_stack.proofs.Vocabulary.{Listener, called, taken, opened, refused, broken, came, react, after_inputs, HasNumbersInWords}
 use Rattle.osi_stack.proofs.Vocabulary.{HasProfile, awaiting, awaits, calls_with, connects, breaks, without_first, Feeds, CameAbout}
@@ -22,8 +22,7 @@ pub record StaysTrue (P : Listener → Type 0) : Type 0 where
 line_all : (P : Listener → Type 0) (line : Line) (o : Option Listener) (input : Input) → ((s : Listener) → P s → P (react s input).next) →
     line.session ≡ o → IfSome line.session P →
     IfSome (line_by line o input).session P
-line_all P line None input moves is h = h
-line_all P line (Some s) input moves is h = moves s (subst (λ (o : Option Listener). IfSome o P) is h)
+line_all P line o input moves is h = grind arith
 
 lines_stay : (P : Listener → Type 0) → StaysTrue P → LinesStay (OfSession P)
 lines_stay P law = grind (arith, opened, line_all, refused, came, broken)
@@ -71,13 +70,7 @@ one_more s [] input = refl
 one_more s (i ∷ inputs) input = one_more (react s i).next inputs input
 
 pub came_moves : (input : Input) → HasNumbersInWords input → (s : Listener) → CameAbout s → CameAbout (react s input).next
-came_moves input one s h =
-    search (
-      h.inputs ++ input ∷ [],
-      numbered_behind h.inputs input h.numbered one,
-      one_more h.first h.inputs input ∙
-          ap (λ (x : Listener). (react x input).next) h.is,
-    )
+came_moves input one s h = search (arith, numbered_behind, one_more)
 
 pub came_asking : (c : Connect) → CameAbout (calls_with c)
 came_asking c = record { first = calls_with c; fresh = inr (c, refl); inputs = []; numbered = tt; is = refl }

@@ -3,23 +3,22 @@ use Rattle.std.proofs.Common.{◌≡◌, ◌≢◌, ℕ, ◌+◌, ◌<◌, ◌�
 use Rattle.std.proofs.Common.{is_some, IsSome, not, refl, sym, ap, subst, ◌∙◌, inl, inr, ◌⊎◌, arith, append_assoc, option_map}
 use Rattle.std.proofs.Common.{if◌then◌else◌, []}
 use Rattle.osi_carrier.specs.Packets as carriers
-use Rattle.osi_session.specs.Listening.{broken as linked_down, after_input}
+use Rattle.osi_session.specs.Listening.{broken as linked_down}
 use Rattle.osi_session.specs.declared.faults.CallError.TheVariants.{BadState}
-use Rattle.osi_stack.specs.Disconnecting.{given_up, gives_up_by, gives_up}
+use Rattle.osi_stack.specs.Disconnecting.{given_up, gives_up_by}
 use Rattle.osi_stack.specs.Inputs.{Step}
 use Rattle.osi_stack.proofs.Vocabulary.{eqb-true, eq-eqb, append-nil, AllByRecursion, fresh, IsPartial, ArePackets, Fed, tsap_octets, Local}
 use Rattle.osi_stack.proofs.Vocabulary.{beyond, push_here, push_other, OneCut, asks, Happening, told_of, RiseFrom, Rows, value_at}
 use Rattle.osi_stack.proofs.Vocabulary.{Connection, State as Carrier, Broken, Call as SessionCall, Input, Listener, called}
-use Rattle.osi_stack.proofs.Vocabulary.{opened as linked_up, react, after_inputs, awaits, calls_with, connects, breaks, call_error}
-use Rattle.osi_stack.proofs.Vocabulary.{connect_error, without_first, TakesPackets, Goes, Feeds, opens, hears, hears_next, hears_times}
-use Rattle.osi_stack.proofs.Vocabulary.{hears_all, with_events, with_carrier, after_packet, ends, input_of, inputs_told, Past, no_past}
-use Rattle.osi_stack.proofs.Vocabulary.{then_came, inputs_of, begun_as, made_at, AreMadeBy, told_along, past_called, IsAccepted, serving}
-use Rattle.osi_stack.proofs.Vocabulary.{using, Steps, StepsAlong, AreApart, Soundness, IsSound, kept_at, to_session, IsOrdered, UserCall}
-use Rattle.osi_stack.proofs.Vocabulary.{user_does, connecting, calling, disconnecting, breaking, awaits_transport, disconnect_error}
-use Rattle.osi_stack.proofs.Vocabulary.{disconnects, has_given, session_at, NoSuchConnection, nat_tests, open_link, put, put_here}
-use Rattle.osi_stack.proofs.Vocabulary.{put_other, line_by, by_line, put_back, Calls, used_in, feeding, telling, carrying, Line, End}
-use Rattle.osi_stack.proofs.Vocabulary.{Holding, IsAttended, fresh_end, session_in, used_lines, joins, waits, fresh_line, Connect}
-use Rattle.osi_stack.proofs.Vocabulary.{told_opened as opened, EndCall as Call}
+use Rattle.osi_stack.proofs.Vocabulary.{opened as linked_up, react, after_inputs, awaits, calls_with, connects, call_error, connect_error}
+use Rattle.osi_stack.proofs.Vocabulary.{without_first, TakesPackets, Goes, Feeds, opens, hears, hears_next, hears_times, with_events}
+use Rattle.osi_stack.proofs.Vocabulary.{with_carrier, after_packet, ends, input_of, inputs_told, Past, no_past, then_came, inputs_of}
+use Rattle.osi_stack.proofs.Vocabulary.{made_at, AreMadeBy, told_along, past_called, IsAccepted, serving, using, Steps, StepsAlong}
+use Rattle.osi_stack.proofs.Vocabulary.{AreApart, Soundness, IsSound, kept_at, to_session, IsOrdered, UserCall, user_does, connecting}
+use Rattle.osi_stack.proofs.Vocabulary.{calling, disconnecting, breaking, disconnect_error, disconnects, has_given, NoSuchConnection}
+use Rattle.osi_stack.proofs.Vocabulary.{nat_tests, put, put_here, put_other, line_by, by_line, put_back, Calls, used_in, feeding, telling}
+use Rattle.osi_stack.proofs.Vocabulary.{carrying, Line, End, Holding, IsAttended, fresh_end, session_in, used_lines, joins, waits}
+use Rattle.osi_stack.proofs.Vocabulary.{fresh_line, Connect, told_opened as opened, EndCall as Call}
 use Rattle.osi_stack.proofs.carried.all_events_are_handled.{session_attended, connect_attended, feeds_attended}
 use Rattle.osi_stack.proofs.stream.what_was_written_is_read.{attended_then}
 use Rattle.osi_stack.proofs.given_up.the_invariant_stays.{disconnect_attended, disconnect_is, disconnect_ordered, disconnect_sound}
@@ -28,7 +27,7 @@ use Rattle.osi_stack.proofs.carried.packets_without_events.{both, packet_is, las
 use Rattle.osi_stack.proofs.carried.open_connections_stay_open.{SessionLaws, HasMoved, session_hears, hears_apart, used_at, apart_push}
 use Rattle.osi_stack.proofs.carried.open_connections_stay_open.{joined_lines, unlike, first_is, rest_is, Stays}
 use Rattle.osi_stack.proofs.carried.what_a_move_leaves.{kept_first, says_is}
-use Rattle.osi_stack.proofs.opening.connections_that_units_open.{opened_in, NoneAwaited, IsGiven, Comes, OpensAlong}
+use Rattle.osi_stack.proofs.opening.connections_that_units_open.{opened_in, IsGiven, Comes, OpensAlong}
 use Rattle.osi_stack.proofs.each_line.lines_stay_in_order.{HaveLines, have_still, have_rest, one_heard, awaited_lines, packet_along}
 use Rattle.osi_stack.proofs.each_line.lines_stay_in_order.{packet_ordered, connect_ordered, call_ordered, feeds_ordered, first_ordered}
 use Rattle.osi_stack.proofs.each_line.lines_stay_in_order.{fresh_ordered}
@@ -42,8 +41,7 @@ use Rattle.osi_stack.proofs.carried.what_each_step_preserves.{Carries, session_c
 inputs_by : (r q : ℕ) (input : Input) (l m : List (ℕ × Input)) (b : Bool) → (q == r) ≡ b →
     inputs_of r (l ++ m) ≡ inputs_of r l ++ inputs_of r m →
     inputs_of r (((q, input) ∷ l) ++ m) ≡ inputs_of r ((q, input) ∷ l) ++ inputs_of r m
-inputs_by r q input l m true e more = rw e (ap (λ x. input ∷ x) more)
-inputs_by r q input l m false e more = rw e more
+inputs_by r q input l m b e more = grind arith
 
 inputs_more : (r : ℕ) (l m : List (ℕ × Input)) → inputs_of r (l ++ m) ≡ inputs_of r l ++ inputs_of r m
 inputs_more r [] m = refl
@@ -54,9 +52,7 @@ after_more s [] m = refl
 after_more s (input ∷ l) m = after_more (react s input).next l m
 
 made_more : (r : ℕ) (l : List (ℕ × Input)) (past : Past) → made_at r (then_came l past) ≡ after_inputs (made_at r past) (inputs_of r l)
-made_more r l past =
-    ap (after_inputs (begun_as (value_at r past.asked))) (inputs_more r past.inputs l) ∙
-    after_more (begun_as (value_at r past.asked)) (inputs_of r past.inputs) (inputs_of r l)
+made_more r l past = grind (arith, inputs_more, after_more)
 
 one_here : (q : ℕ) (input : Input) → inputs_of q ((q, input) ∷ []) ≡ input ∷ []
 one_here q input = let e = eq-eqb q q refl in rw e refl
@@ -82,36 +78,22 @@ pub record IsKnown (g : ℕ) (past : Past) (lines : Rows Line) : Type 0 where
   pub unheard : (r : ℕ) → g < r → inputs_of r past.inputs ≡ []
 
 new_awaits : (g : ℕ) (past : Past) (lines : Rows Line) (r : ℕ) → IsKnown g past lines → g < r → made_at r past ≡ awaits
-new_awaits g past lines r k above =
-    ap (λ (l : List Input). after_inputs (begun_as (value_at r past.asked)) l) (k.unheard r above) ∙ ap begun_as (k.unasked r above)
+new_awaits g past lines r k above = grind arith
 
 -- one more input, of a reference that was given
 unheard_more : (g q : ℕ) (input : Input) (past : Past) → ((r : ℕ) → g < r → inputs_of r past.inputs ≡ []) → (r : ℕ) → g < r → r ≢ q →
     inputs_of r (then_came ((q, input) ∷ []) past).inputs ≡ []
-unheard_more g q input past none r above ne =
-    inputs_more r past.inputs ((q, input) ∷ []) ∙ ap (λ (l : List Input). l ++ inputs_of r ((q, input) ∷ [])) (none r above) ∙
-    one_other r q input (unlike q r ne)
+unheard_more g q input past none r above ne = grind (arith, inputs_more, one_other, unlike)
 
 moved_made : (q : ℕ) (input : Input) (e d : End) (past : Past) → HasMoved q input e d →
     ((r : ℕ) (s : Listener) → kept_at r e.lines ≡ Some s → s ≡ made_at r past) →
     (r : ℕ) (s : Listener) (b : Bool) → (q == r) ≡ b → kept_at r d.lines ≡ Some s → s ≡ made_at r (then_came ((q, input) ∷ []) past)
-moved_made q input e d past m made r s true at is =
-    let same = eqb-true q r at in
-    let here : kept_at q d.lines ≡ Some s = ap (λ n. kept_at n d.lines) same ∙ is in
-    let two : Some (react m.session input).next ≡ Some s = sym m.is ∙ here in
-    let one : (react m.session input).next ≡ s = cc in
-    sym one ∙ ap (λ (x : Listener). (react x input).next) (made q m.session m.was) ∙ sym (made_here q input past) ∙
-    ap (λ n. made_at n (then_came ((q, input) ∷ []) past)) same
-moved_made q input e d past m made r s false at is =
-    let ne : r ≢ q = (λ same. both (q == r) (eq-eqb q r (sym same)) at) in
-    made r s (sym (m.others r ne) ∙ is) ∙ sym (made_other r q input past at)
+moved_made q input e d past m made r s b at is = search (arith, eqb-true, made_here, both, eq-eqb, made_other)
 
 rested_made : (q : ℕ) (input : Input) (e : End) (past : Past) → kept_at q e.lines ≡ None →
     ((r : ℕ) (s : Listener) → kept_at r e.lines ≡ Some s → s ≡ made_at r past) →
     (r : ℕ) (s : Listener) (b : Bool) → (q == r) ≡ b → kept_at r e.lines ≡ Some s → s ≡ made_at r (then_came ((q, input) ∷ []) past)
-rested_made q input e past none made r s true at is =
-    let no : None ≡ Some s = sym none ∙ ap (λ n. kept_at n e.lines) (eqb-true q r at) ∙ is in cc
-rested_made q input e past none made r s false at is = made r s is ∙ sym (made_other r q input past at)
+rested_made q input e past none made r s b at is = grind (arith, eqb-true, made_other)
 
 session_made : (q : ℕ) (input : Input) (e : End) (past : Past) →
     ((r : ℕ) (s : Listener) → kept_at r e.lines ≡ Some s → s ≡ made_at r past) →
@@ -135,16 +117,7 @@ given_known g q input e past up k = record {
 pub kept_joined : (q r : ℕ) (s t : Listener) (live : Rows Connection) (lines : Rows Line) (b : Bool) → (q == r) ≡ b →
     value_at q lines ≡ None → Stays r live (joined_lines q s lines) →
     kept_at r (used_lines live (joined_lines q s lines)) ≡ Some t → ((q ≡ r) × (t ≡ s)) ⊎ ((q ≡ r → ⊥) × (kept_at r lines ≡ Some t))
-kept_joined q r s t live lines true at none (inl same) is =
-    let e = eqb-true q r at in
-    let x : Line = fresh_line s in
-    let here : Some s ≡ Some t = ap session_in (sym (push_here q x lines none)) ∙ ap (λ n. session_in (value_at n (joined_lines q s lines)))
-    e ∙ ap session_in (sym same) ∙ is in
-    inl (e, (let one : s ≡ t = cc in sym one))
-kept_joined q r s t live lines false at none (inl same) is =
-    let ne : r ≢ q = (λ e. both (q == r) (eq-eqb q r (sym e)) at) in
-    inr (λ e. ne (sym e), ap session_in (sym (push_other r q (fresh_line s) lines ne)) ∙ ap session_in (sym same) ∙ is)
-kept_joined q r s t live lines b at none (inr gone) is = let no : None ≡ Some t = ap session_in (sym gone.0) ∙ is in cc
+kept_joined q r s t live lines b at none h is = grind (arith, eqb-true, push_here, joined_lines, both, eq-eqb, push_other)
 
 awaits_still : (react awaits linked_up).next ≡ awaits
 unfolding react
@@ -179,14 +152,12 @@ new_known g q (Some line) e past here above apart k = record {
 -- one that has a line
 line_known : (g q : ℕ) (o : Option Line) (e : End) (past : Past) → value_at q e.lines ≡ o → IsSome o → q ≤ g → IsKnown g past e.lines →
     IsKnown g (then_came ((q, linked_up) ∷ []) past) (opens q o e).lines
-line_known g q None e past here some up k = cc
-line_known g q (Some line) e past here some up k = given_known g q linked_up e past up k
+line_known g q o e past here some up k = grind (arith, given_known)
 
 caller_known : (g : ℕ) (event : Happening) (rest : List Happening) (e : End) (past : Past) → IsGiven g event →
     HaveLines e.lines (opened_in (event ∷ rest)) → IsKnown g past e.lines →
     IsKnown g (then_came ((told_of event, input_of event) ∷ []) past) (hears event e).lines
-caller_known g (opened r) rest e past up all k = line_known g r (value_at r e.lines) e past refl all.0 up k
-caller_known g event rest e past up all k = given_known g (told_of event) _ e past up k
+caller_known g event rest e past up all k = grind (arith, line_known, given_known)
 
 -- ---- all events
 
@@ -200,8 +171,7 @@ behind_known : (g : ℕ) (event : ℕ × Input) (more : List (ℕ × Input)) (pa
 behind_known g event more past lines k = subst (λ (p : Past). IsKnown g p lines) (then_joined (event ∷ []) more past) k
 
 none_known : (g : ℕ) (past : Past) (lines : Rows Line) → IsKnown g past lines → IsKnown g (then_came [] past) lines
-none_known g past lines k =
-    subst (λ (p : Past). IsKnown g p lines) (sym (ap (λ (x : List (ℕ × Input)). record past { inputs = x }) (append-nil past.inputs))) k
+none_known g past lines k = grind (arith, append-nil)
 
 times_caller : (g : ℕ) (l : List Happening) (e : End) (past : Past) → e.carrier.events ≡ l → AllByRecursion (IsGiven g) l →
     HaveLines e.lines (opened_in l) → RiseFrom 0 e.lines →
@@ -221,8 +191,7 @@ times_caller g (event ∷ rest) e past is up all rise k =
 
 next_apart : (event : Happening) (rest : List Happening) (e : End) → e.carrier.events ≡ event ∷ rest → AreApart e.lines →
     AreApart (hears_next e).lines
-next_apart event rest e is apart =
-    subst (λ (x : End). AreApart x.lines) (sym (first_is event rest e is)) (hears_apart event (with_events rest e) apart)
+next_apart event rest e is apart = grind (arith, first_is, hears_apart)
 
 times_called : (g h : ℕ) (l : List Happening) (e : End) (past : Past) → e.carrier.events ≡ l → Comes g l h → AreApart e.lines →
     IsKnown g past e.lines →
@@ -241,20 +210,7 @@ heard_by : (b : Bool) (e : End) (c : Carrier) (past : Past) → e.carrier.is_cal
     OpensAlong e.carrier c →
     IsKnown e.carrier.given past e.lines →
     IsKnown c.given (then_came (inputs_told c.events) past) (hears_times (length c.events) (with_carrier c e)).lines
-heard_by true e c past side none s o a k =
-    let events : c.events ≡ a.told = a.events ∙ ap (λ (l : List Happening). l ++ a.told) none in
-    let known = a.known side in
-    subst (λ n. IsKnown n (then_came (inputs_told c.events) past) (hears_times (length c.events) (with_carrier c e)).lines) (sym known.0)
-    (subst (λ (l : List Happening). IsKnown e.carrier.given (then_came (inputs_told l) past)
-    (hears_times (length l) (with_carrier c e)).lines) (sym events)
-    (times_caller e.carrier.given a.told (with_carrier c e) past events known.1 (awaited_lines e (opened_in a.told) o (a.caller side))
-    o.rise k))
-heard_by false e c past side none s o a k =
-    let events : c.events ≡ a.told = a.events ∙ ap (λ (l : List Happening). l ++ a.told) none in
-    let nobody : NoneAwaited e.carrier.live = λ q h. both e.carrier.is_caller (o.awaiting q h).0 side in
-    subst (λ (l : List Happening). IsKnown c.given (then_came (inputs_told l) past) (hears_times (length l) (with_carrier c e)).lines)
-    (sym events)
-    (times_called e.carrier.given c.given a.told (with_carrier c e) past events (a.comes side nobody) s.apart k)
+heard_by b e c past side none s o a k = grind (arith, times_caller, awaited_lines, opened_in, both, times_called)
 
 -- ---- the references that were given stay
 
@@ -276,16 +232,7 @@ packet_made : (packet : List ℕ) (e : End) (past : Past) → e.carrier.events �
     IsKnown (after_packet e packet).carrier.given (then_came (inputs_told (carriers.after_packet e.carrier packet).events) past)
     (after_packet e packet).lines
 packet_made packet e past none s o over k =
-    let c = carriers.after_packet e.carrier packet in
-    let mid = with_carrier c e in
-    let heard = hears_all mid in
-    let is = packet_is e packet in
-    let lasts : heard.carrier.ended ≡ None = sym (ap (λ (x : Carrier). x.ended) (concluded_carrier heard)) ∙
-    ap (λ (x : End). x.carrier.ended) (sym is) ∙ over in
-    let same : heard ≡ after_packet e packet = sym (concludes_lasting heard.carrier.ended heard lasts) ∙ sym is in
-    subst (λ (x : End). IsKnown x.carrier.given (then_came (inputs_told c.events) past) x.lines) same
-    (subst (λ n. IsKnown n (then_came (inputs_told c.events) past) heard.lines) (sym (times_given (length c.events) mid))
-    (heard_by e.carrier.is_caller e c past refl none s o (packet_along packet e.carrier s.orderly) k))
+    grind (arith, packet_is, concluded_carrier, concludes_lasting, times_given, heard_by, packet_along)
 
 takes_last : (units : List (List ℕ)) (e new : End) → TakesPackets e units new → new.carrier.ended ≡ None → e.carrier.ended ≡ None
 takes_last [] e new h lasts = ap (λ (x : End). x.carrier.ended) (sym h) ∙ lasts
@@ -294,8 +241,7 @@ takes_last (u ∷ units) e new h lasts = lasting_of e.carrier.ended (waits e.lin
 packets_made : SessionLaws → (units : List (List ℕ)) (old new : End) (past : Past) → TakesPackets old units new → IsAttended old →
     IsSound old → IsOrdered old → new.carrier.ended ≡ None →
     IsKnown old.carrier.given past old.lines → IsKnown new.carrier.given (then_came (told_along old units) past) new.lines
-packets_made laws [] old new past h attended sound o over k =
-    subst (λ (x : End). IsKnown x.carrier.given (then_came [] past) x.lines) (sym h) (none_known old.carrier.given past old.lines k)
+packets_made laws [] old new past h attended sound o over k = grind (arith, none_known)
 packets_made laws (u ∷ units) old new past h attended sound o over k =
     let lasts = lasting_of old.carrier.ended (waits old.lines) h.0 in
     let next = after_packet old u in
@@ -334,8 +280,7 @@ served_goes laws nothing old piece fed new (inl (inl dry)) s lasts =
     served_by laws old (feeding piece fed) new (reads_dry old piece fed new dry) dry.taken s lasts
 served_goes laws nothing old piece fed new (inl (inr stop)) s lasts =
     served_by laws old (feeding piece fed) new (reads_stopped nothing old piece fed new stop lasts) stop.taken s lasts
-served_goes laws nothing old piece fed new (inr (inl fault)) s lasts =
-    never new.end (ap (λ (x : End). is_some x.carrier.ended) fault.ended) lasts
+served_goes laws nothing old piece fed new (inr (inl fault)) s lasts = grind (arith, never)
 served_goes laws nothing old piece fed new (inr (inr starved)) s lasts = never new.end (none_ended old piece fed.used new starved) lasts
 
 -- no octet was used, and no session received anything
@@ -363,13 +308,8 @@ served : SessionLaws → IsPartial [] → (old : Holding) (call : Call) (new : H
     new.end.carrier.ended ≡ None → Served old call new
 served laws nothing old (feeding piece fed) new h s lasts =
     served_feed laws nothing old piece fed new (waits old.end.lines) refl (call_lasts old (feeding piece fed) new h lasts) h s lasts
-served laws nothing old (telling shown) new h s lasts =
-    served_still old (telling shown) new refl (ap (λ (x : Holding). x.held.octets) h.1) (ap (λ (x : Holding). x.end.carrier.given) h.1)
-    (λ r. ap (λ (x : Holding). kept_at r x.end.lines) h.1 ∙ kept_first r old.end.lines)
-served laws nothing old (carrying octets) new h s lasts =
-    served_still old (carrying octets) new refl (ap (λ (x : Holding). x.held.octets) (sym h))
-    (ap (λ (x : Holding). x.end.carrier.given) (sym h))
-    (λ r. ap (λ (x : Holding). kept_at r x.end.lines) (sym h))
+served laws nothing old (telling shown) new h s lasts = grind (arith, served_still, kept_first)
+served laws nothing old (carrying octets) new h s lasts = grind (arith, served_still)
 
 -- ---- an end keeps its invariant
 
@@ -380,12 +320,7 @@ sane_first : (e : End) → IsSane e → IsSane (record e { lines = without_first
 sane_first e s = record { attended = s.attended; sound = first_sound e s.sound; ordered = first_ordered e s.ordered }
 
 pub sane_served : SessionLaws → (old : Holding) (call : Call) (new : Holding) → Calls old call new → IsSane old.end → IsSane new.end
-sane_served laws old (feeding piece fed) new h s =
-    search (
-      feeds_attended old new piece fed h s.attended,
-      feeds_sound laws old new piece fed h s.attended s.sound,
-      feeds_ordered laws old new piece fed h s.attended s.sound s.ordered,
-    )
+sane_served laws old (feeding piece fed) new h s = grind (arith, feeds_attended, feeds_sound, feeds_ordered)
 sane_served laws old (telling shown) new h s = subst (λ (x : Holding). IsSane x.end) (sym h.1) (sane_first old.end s)
 sane_served laws old (carrying octets) new h s = sane_carried octets new.end (subst (λ (x : Holding). IsSane x.end) h s)
 
@@ -400,18 +335,14 @@ sane_call laws r call e s =
 -- ---- a call of the user
 
 session_left : (line : Line) (o : Option Listener) → line.session ≡ o → (given_up line).session ≡ (line_by line o linked_down).session
-session_left line None is = ap (option_map (λ s. after_input s linked_down)) is ∙ sym is
-session_left line (Some s) is = ap (option_map (λ s. after_input s linked_down)) is
+session_left line o is = grind arith
 
 asked_here : (q : ℕ) (c : Connect) (past : Past) → value_at q past.asked ≡ None → inputs_of q past.inputs ≡ [] →
     made_at q (record past { asked = past.asked ++ (q, c) ∷ [] }) ≡ calls_with c
-asked_here q c past unasked unheard =
-    ap (λ (l : List Input). after_inputs (begun_as (value_at q (past.asked ++ (q, c) ∷ []))) l) unheard ∙
-    ap begun_as (push_here q c past.asked unasked)
+asked_here q c past unasked unheard = grind (arith, push_here)
 
 asked_other : (r q : ℕ) (c : Connect) (past : Past) → r ≢ q → made_at r (record past { asked = past.asked ++ (q, c) ∷ [] }) ≡ made_at r past
-asked_other r q c past ne =
-    ap (λ (o : Option Connect). after_inputs (begun_as o) (inputs_of r past.inputs)) (push_other r q c past.asked ne)
+asked_other r q c past ne = grind (arith, push_other)
 
 connect_known : (c : Connect) (e : End) (past : Past) → Soundness e → IsKnown e.carrier.given past e.lines →
     IsKnown (e.carrier.given + 1) (past_called (connecting c) e past) (connects c e).lines
@@ -432,8 +363,7 @@ connect_known c e past s k =
     }
 
 live_by : (o : Option Connection) (kept : Option Listener) (s : Listener) → (if is_some o then kept else None) ≡ Some s → IsSome o
-live_by None kept s h = cc
-live_by (Some c) kept s h = refl
+live_by o kept s h = grind arith
 
 call_known : (r : ℕ) (call : SessionCall) (e : End) (past : Past) → call_error r call e ≡ None → Soundness e →
     IsKnown e.carrier.given past e.lines →
@@ -449,52 +379,25 @@ call_known r call e past allowed s k =
 -- what is left of sessions if one is given up is what a break leaves of it
 given_line : (r : ℕ) (line : Line) (o : Option Listener) (lines : Rows Line) → line.session ≡ o → value_at r lines ≡ Some line →
     ((q : ℕ) → kept_at q (put r (given_up line) lines) ≡ kept_at q (put r (line_by line o linked_down) lines))
-given_line r line o lines is here q = by (q == r) refl
-  where
-    by : (b : Bool) → (q == r) ≡ b → kept_at q (put r (given_up line) lines) ≡ kept_at q (put r (line_by line o linked_down) lines)
-    by true e =
-        let same = eqb-true q r e in
-        ap (λ n. kept_at n (put r (given_up line) lines)) same ∙ ap session_in (put_here r (given_up line) line lines here) ∙
-        session_left line o is
-        ∙ sym (ap (λ n. kept_at n (put r (line_by line o linked_down) lines)) same ∙
-        ap session_in (put_here r (line_by line o linked_down) line lines here))
-    by false e =
-        let ne : q ≢ r = (λ same. both (q == r) (eq-eqb q r same) e) in
-        ap session_in (put_other q r (given_up line) lines ne) ∙ sym (ap session_in (put_other q r (line_by line o linked_down) lines ne))
+given_line r line o lines is here q = grind (arith, eqb-true, put_here, session_left, both, eq-eqb, put_other)
 
 given_same : (r : ℕ) (e : End) (o : Option Line) → value_at r e.lines ≡ o → (q : ℕ) →
     kept_at q (gives_up_by r o e.lines) ≡ kept_at q (by_line r o linked_down e).lines
-given_same r e None here q = refl
-given_same r e (Some line) here q = given_line r line line.session e.lines refl here q
+given_same r e o here q = grind (arith, given_line)
 
 given_of : (r : ℕ) (c : Carrier) → has_given r c ≡ true → r ≤ c.given
 given_of r c h = grind (arith, nat_tests, has_given)
 
 accepted_given : (b waits : Bool) → (if not b then Some NoSuchConnection else (if waits then Some BadState else None)) ≡ None → b ≡ true
-accepted_given true waits h = refl
-accepted_given false waits h = cc
+accepted_given b waits h = grind arith
 
 disconnect_known : (r : ℕ) (e : End) (past : Past) → disconnect_error r e ≡ None → (disconnects r e).carrier.ended ≡ None →
     IsKnown e.carrier.given past e.lines →
     IsKnown (disconnects r e).carrier.given (past_called (disconnecting r) e past) (disconnects r e).lines
-disconnect_known r e past allowed lasts k =
-    let low = given_of r e.carrier (accepted_given (has_given r e.carrier) (awaits_transport (session_at r e)) allowed) in
-    let given = closed_given r 128 (open_link r e.carrier) e.carrier in
-    let was = given_known e.carrier.given r linked_down e past low k in
-    subst (λ (x : End). IsKnown x.carrier.given (past_called (disconnecting r) e past) x.lines) (sym (disconnect_is r e lasts))
-    (subst (λ n. IsKnown n (past_called (disconnecting r) e past) (gives_up r e.lines)) (sym given) (record {
-      made = λ q s is. was.made q s (sym (given_same r e (value_at r e.lines) refl q) ∙ is);
-      unasked = was.unasked;
-      unheard = was.unheard;
-    }))
+disconnect_known r e past allowed lasts k = grind (arith, given_of, accepted_given, closed_given, given_known, disconnect_is, given_same)
 
 sane_disconnect : (r : ℕ) (e : End) → IsSane e → IsSane (disconnects r e)
-sane_disconnect r e s =
-    record {
-      attended = disconnect_attended r e s.attended;
-      sound = disconnect_sound r e s.sound;
-      ordered = disconnect_ordered r e s.ordered;
-    }
+sane_disconnect r e s = grind (arith, disconnect_attended, disconnect_sound, disconnect_ordered)
 
 -- ---- steps
 
@@ -507,8 +410,7 @@ abbrev broken_by : Bool → End → End
 broken_by over e = if over then e else ends Broken e
 
 break_over : (over : Bool) (e : End) → is_some e.carrier.ended ≡ over → is_some (broken_by over e).carrier.ended ≡ true
-break_over true e is = is
-break_over false e is = refl
+break_over over e is = grind arith
 
 used_run : SessionLaws → (call : UserCall) (old : Holding) (before : Past) → old.end.carrier.ended ≡ None → IsAccepted call old.end →
     (user_does call old.end).carrier.ended ≡ None →
@@ -517,26 +419,14 @@ used_run laws (connecting c) old before quiet allowed lasts run =
     search (sane_connect c old.end allowed run.sane, connect_known c old.end before (run.sane.sound quiet) run.known)
 used_run laws (calling r call) old before quiet allowed lasts run =
     search (sane_call laws r call old.end run.sane, call_known r call old.end before allowed (run.sane.sound quiet) run.known)
-used_run laws (disconnecting r) old before quiet allowed lasts run = record {
-  sane = sane_disconnect r old.end run.sane;
-  partial = run.partial;
-  known = disconnect_known r old.end before allowed lasts run.known;
-}
-used_run laws breaking old before quiet allowed lasts run =
-    never (breaks old.end) (break_over (is_some old.end.carrier.ended) old.end refl) lasts
+used_run laws (disconnecting r) old before quiet allowed lasts run = grind (arith, sane_disconnect, disconnect_known)
+used_run laws breaking old before quiet allowed lasts run = grind (arith, never, break_over)
 
 step_run : SessionLaws → IsPartial [] → OneCut → (step : Step) (old new : Holding) (before behind : Past) →
     Steps old before step new behind → new.end.carrier.ended ≡ None →
     IsRun old before → IsRun new behind
 step_run laws nothing one_cut (serving call packets) old new before behind h lasts run =
-    let s = served laws nothing old call new h.0 run.sane lasts in
-    let partial = s.partial run.partial in
-    let one = one_cut (old.held.octets ++ used_in call) new.held.octets new.held.octets s.packets packets partial partial s.cut h.1 in
-    search (
-      sane_served laws old call new h.0 run.sane,
-      subst (λ (p : Past). IsKnown new.end.carrier.given p new.end.lines)
-          (ap (λ (l : List (List ℕ)). then_came (told_along old.end l) before) one.0 ∙ sym h.2) (s.known before run.known),
-    )
+    grind (arith, served laws nothing old call new h.0 run.sane lasts, sane_served laws old call new h.0 run.sane)
 step_run laws nothing one_cut (using call) old new before behind h lasts run =
     subst (λ (x : Holding). IsRun x behind) (sym h.2)
     (subst (λ (p : Past). IsRun (record old { end = user_does call old.end }) p) (sym h.3)
@@ -544,20 +434,17 @@ step_run laws nothing one_cut (using call) old new before behind h lasts run =
 
 step_lasts : (step : Step) (old new : Holding) (before behind : Past) → Steps old before step new behind → new.end.carrier.ended ≡ None →
     old.end.carrier.ended ≡ None
-step_lasts (serving call packets) old new before behind h lasts = call_lasts old call new h.0 lasts
-step_lasts (using call) old new before behind h lasts = h.0
+step_lasts step old new before behind h lasts = grind (arith, call_lasts)
 
 steps_last : (steps : List Step) (old new : Holding) (before behind : Past) → StepsAlong old before steps new behind →
     new.end.carrier.ended ≡ None → old.end.carrier.ended ≡ None
 steps_last [] old new before behind h lasts = ap (λ (x : Holding). x.end.carrier.ended) (sym h.0) ∙ lasts
-steps_last (step ∷ steps) old new before behind h lasts =
-    step_lasts step old h.0 before h.1 h.2 (steps_last steps h.0 new h.1 behind h.3 lasts)
+steps_last (step ∷ steps) old new before behind h lasts = grind (arith, step_lasts, steps_last steps h.0 new h.1 behind h.3 lasts)
 
 steps_run : SessionLaws → IsPartial [] → OneCut → (steps : List Step) (old new : Holding) (before behind : Past) →
     StepsAlong old before steps new behind → new.end.carrier.ended ≡ None →
     IsRun old before → IsRun new behind
-steps_run laws nothing one_cut [] old new before behind h lasts run =
-    subst (λ (x : Holding). IsRun x behind) (sym h.0) (subst (λ (p : Past). IsRun old p) (sym h.1) run)
+steps_run laws nothing one_cut [] old new before behind h lasts run = grind arith
 steps_run laws nothing one_cut (step ∷ steps) old new before behind h lasts run =
     steps_run laws nothing one_cut steps h.0 new h.1 behind h.3 lasts
     (step_run laws nothing one_cut step old h.0 before h.1 h.2 (steps_last steps h.0 new h.1 behind h.3 lasts) run)

@@ -1,18 +1,15 @@
 -- A session that has ended indicates nothing, whatever happens to it: a received unit, a call, or its transport
 -- connection being opened, refused or lost.
-use Rattle.std.proofs.Common.{◌≡◌, ℕ, ◌==◌, ◌||◌, Bool, true, false, List, [], ◌∷◌, ◌++◌, Option, Some, None, Result, Ok, Err, refl, sym}
-use Rattle.std.proofs.Common.{ap, ◌∙◌, if◌then◌else◌, arith}
+use Rattle.std.proofs.Common.{◌≡◌, ℕ, Bool, true, false, [], ◌∷◌, ◌++◌, Option, Some, None, refl, ap, ◌∙◌, arith}
 use Rattle.osi_session.proofs.tables.what_is_true_of_each_phase.{excluded}
 use Rattle.osi_session.proofs.runs.what_every_run_preserves.{word_ended}
-use Rattle.osi_session.specs.Joining.{Taker, respond_word, respond_words, respond_tsdu, acting_words, word_verdict, enacted_word, heard}
-use Rattle.osi_session.specs.Joining.{heard_then, idle}
+use Rattle.osi_session.specs.Joining.{Taker, respond_word, respond_words, word_verdict}
 use Rattle.osi_session.specs.Phases.{is_aborting}
-use Rattle.osi_session.specs.Respond.{Verdict, over, is_faulty, enacted, in_ended, respond_fault}
-use Rattle.osi_session.specs.Allowed.{Answer, allowed}
-use Rattle.osi_stack.proofs.Vocabulary.{append-nil, put_here, value_at, Rows, Meaning, SpduFault, Word, Words, as_message}
-use Rattle.osi_stack.proofs.Vocabulary.{SessionState as State, Call, Input, Listener, called, taken, unread, opened, refused, broken}
-use Rattle.osi_stack.proofs.Vocabulary.{answered, react, is_ended, is_over, Phase, implied, is_wait_transport, shows_loss, kept_at}
-use Rattle.osi_stack.proofs.Vocabulary.{waiting_of, waiting_at, line_by, by_line, to_session, Line, End, session_in}
+use Rattle.osi_session.specs.Respond.{over, is_faulty, enacted, in_ended, respond_fault}
+use Rattle.osi_session.specs.Allowed.{Answer}
+use Rattle.osi_stack.proofs.Vocabulary.{append-nil, put_here, value_at, Meaning, SpduFault, Word, Words, SessionState as State, Input}
+use Rattle.osi_stack.proofs.Vocabulary.{Listener, answered, react, is_ended, is_over, Phase, implied, kept_at, waiting_of, waiting_at}
+use Rattle.osi_stack.proofs.Vocabulary.{line_by, by_line, to_session, Line, End, session_in}
 
 ended_over : (p : Phase) → is_ended p ≡ true → is_over p ≡ true
 ended_over p h = implied is_ended is_over refl p h
@@ -30,9 +27,7 @@ verdict_over t w h = let o = ended_over t.state.phase h in rw o refl
 
 word_silent : (t : Taker) (w : Word) → is_ended t.state.phase ≡ true → (respond_word t w).shown ≡ []
 unfolding respond_word
-word_silent t w h =
-    ap (λ (v : Verdict). (enacted_word t w v).shown) (verdict_over t w h)
-    ∙ enacted_over t.state (as_message w) (is_aborting t.state.phase) refl (excluded is_ended is_aborting refl t.state.phase h)
+word_silent t w h = search (arith, verdict_over, enacted_over, excluded)
 
 words_by : (t : Taker) (w : Word) (ws : Words) (b : Bool) → is_faulty (word_verdict t w) ≡ b → b ≡ false → (respond_word t w).shown ≡ [] →
     (respond_words (respond_word t w).next ws).shown ≡ [] →
@@ -44,8 +39,7 @@ words_silent : (t : Taker) (ws : Words) → is_ended t.state.phase ≡ true → 
 unfolding respond_words
 words_silent t [] h = refl
 words_silent t (w ∷ ws) h =
-    words_by t w ws (is_faulty (word_verdict t w)) refl (ap is_faulty (verdict_over t w h)) (word_silent t w h)
-    (words_silent (respond_word t w).next ws (word_ended t w h))
+    grind (arith, words_by, verdict_over, word_silent, word_ended, words_silent (respond_word t w).next ws (word_ended t w h))
 
 -- ---- all that can happen
 
@@ -54,17 +48,11 @@ unfolding respond_fault
 fault_silent s fault h = let o = ended_over s.phase h in rw o refl
 
 call_silent : (s : Listener) (a : Answer) → (answered s a).shown ≡ []
-call_silent s (Ok step) = refl
-call_silent s (Err e) = refl
+call_silent s a = grind arith
 
 pub ended_silent : (s : Listener) (input : Input) → is_ended s.state.phase ≡ true → (react s input).shown ≡ []
 unfolding react
-ended_silent s (called call) h = call_silent s (allowed s.state call)
-ended_silent s (taken words) h = words_silent (record { state = s.state; joined = s.joined }) (acting_words words) h
-ended_silent s (unread fault) h = fault_silent s.state fault h
-ended_silent s opened h = let w = excluded is_ended is_wait_transport refl s.state.phase h in rw w refl
-ended_silent s (refused reason) h = let w = excluded is_ended is_wait_transport refl s.state.phase h in rw w refl
-ended_silent s broken h = let w = excluded is_ended shows_loss refl s.state.phase h in rw w refl
+ended_silent s input h = grind (arith, call_silent, words_silent, fault_silent, excluded)
 
 -- ---- its line
 
@@ -78,9 +66,7 @@ line_silent line (Some t) input here s is h =
 silent_by : (r : ℕ) (input : Input) (s : Listener) (e : End) (o : Option Line) → value_at r e.lines ≡ o → session_in o ≡ Some s →
     is_ended s.state.phase ≡ true →
     waiting_at r (by_line r o input e).lines ≡ waiting_of o
-silent_by r input s e None here is h = cc
-silent_by r input s e (Some line) here is h =
-    ap waiting_of (put_here r (line_by line line.session input) line e.lines here) ∙ line_silent line line.session input refl s is h
+silent_by r input s e o here is h = grind (arith, put_here, line_silent)
 
 pub session_silent : (r : ℕ) (input : Input) (s : Listener) (e : End) → kept_at r e.lines ≡ Some s → is_ended s.state.phase ≡ true →
     waiting_at r (to_session r input e).lines ≡ waiting_at r e.lines

@@ -1,20 +1,18 @@
 -- The parts of one Data have on an end the effect of the whole, whatever calls come between.
-use Rattle.std.proofs.Common.{◌≡◌, ℕ, ◌==◌, Bool, true, false, List, [], ◌∷◌, ◌++◌, map, Option, Some, None, refl, sym, ap, ◌∙◌}
-use Rattle.std.proofs.Common.{if◌then◌else◌, arith}
+use Rattle.std.proofs.Common.{◌≡◌, ℕ, ◌==◌, Bool, List, [], ◌∷◌, ◌++◌, map, Option, Some, None, refl, sym, ap, ◌∙◌, if◌then◌else◌, arith}
 use Rattle.osi_session.specs.Parts.{AreAlike}
 use Rattle.osi_stack.specs.Parted.{to_session_along}
-use Rattle.osi_stack.proofs.Vocabulary.{append-nil, Rows, value_at, put, State as Carrier, put_here, put_same, Meaning, part_octets}
-use Rattle.osi_stack.proofs.Vocabulary.{tsdus_sent, Input, Listener, Move, called, came, react, after_inputs, Act, comes, calls}
-use Rattle.osi_stack.proofs.Vocabulary.{act_in_octets, calls_in, IsSilent, AreSilent, Shown, limit_of, kept_at, limit_for, answers, line_by}
-use Rattle.osi_stack.proofs.Vocabulary.{by_line, to_session, Selectors, selectors_told, shows_connect, Line, End, session_in, answers_by}
+use Rattle.osi_stack.proofs.Vocabulary.{append-nil, Rows, value_at, put, State as Carrier, put_here, put_same, part_octets, Input, Listener}
+use Rattle.osi_stack.proofs.Vocabulary.{Move, called, came, react, after_inputs, Act, comes, calls, act_in_octets, calls_in, IsSilent}
+use Rattle.osi_stack.proofs.Vocabulary.{AreSilent, Shown, limit_of, kept_at, limit_for, answers, line_by, by_line, to_session, Selectors}
+use Rattle.osi_stack.proofs.Vocabulary.{selectors_told, shows_connect, Line, End, session_in}
 use Rattle.osi_stack.proofs.called.tsdus_that_are_handed_together.{hands_none}
 
 -- ---- the end with a session at a reference
 
 put_twice_by : (r q : ℕ) (x y z : Line) (rows : Rows Line) (b : Bool) → (q == r) ≡ b → put r x (put r y rows) ≡ put r x rows →
     put r x (put r y ((q, z) ∷ rows)) ≡ put r x ((q, z) ∷ rows)
-put_twice_by r q x y z rows true e more = rw e (rw e refl)
-put_twice_by r q x y z rows false e more = rw e (rw e (ap (λ (l : Rows Line). (q, z) ∷ l) more))
+put_twice_by r q x y z rows b e more = grind arith
 
 put_twice : (r : ℕ) (x y : Line) (rows : Rows Line) → put r x (put r y rows) ≡ put r x rows
 put_twice r x y [] = refl
@@ -49,9 +47,7 @@ moves_at r input c l waiting selectors rows h =
 -- ---- a part before the last, and a call
 
 quiet_answers : (r limit : ℕ) (move : Move) (c : Carrier) → IsSilent move → answers r limit move c ≡ c
-quiet_answers r limit move c s =
-    ap (λ (b : Bool). answers_by b r (tsdus_sent limit move.reply) c) s.closes ∙
-    ap (λ (o : Option Meaning). answers_by false r (tsdus_sent limit o) c) s.reply ∙ hands_none r c
+quiet_answers r limit move c s = grind (arith, hands_none)
 
 silent_at : (r : ℕ) (input : Input) (c : Carrier) (l : Listener) (waiting : List Shown) (selectors : Option Selectors) (rows : Rows Line) →
     HasLine r rows → IsSilent (react l input) →
@@ -102,15 +98,11 @@ runs r rows c waiting selectors l m (calls call ∷ acts) h silent =
 
 line_of : (o : Option Line) (session : Listener) → session_in o ≡ Some session →
     (line : Line) × (o ≡ Some line) × (line.session ≡ Some session)
-line_of None session h = cc
-line_of (Some line) session h = (line, refl, h)
+line_of o session h = grind arith
 
 stands_at : (r : ℕ) (session : Listener) (e : End) (line : Line) → value_at r e.lines ≡ Some line → line.session ≡ Some session →
     e ≡ at r e.carrier session line.waiting line.selectors e.lines
-stands_at r session e line here is =
-    ap (λ (x : Rows Line). record { carrier = e.carrier; lines = x })
-    (sym (put_same r line e.lines here) ∙
-    ap (λ (o : Option Listener). put r (record { session = o; waiting = line.waiting; selectors = line.selectors }) e.lines) is)
+stands_at r session e line here is = grind (arith, put_same)
 
 pub parts_as_whole : (r : ℕ) (session : Listener) (acts : List Act) (last whole : Input) (e : End) → kept_at r e.lines ≡ Some session →
     AreSilent session session acts →

@@ -1,5 +1,5 @@
 -- What happens to a session beside calls and TSDUs.
-use Rattle.std.proofs.Common.{◌≡◌, ℕ, false, [], ◌++◌, Option, None, option_map, Result, Ok, refl, sym, subst, ◌∙◌, if◌then◌else◌, arith}
+use Rattle.std.proofs.Common.{◌≡◌, ℕ, false, [], Option, None, option_map, Result, Ok, refl, sym, subst, if◌then◌else◌, arith}
 use Rattle.osi_session.specs.Steps.{shown_list}
 use Rattle.osi_session.specs.declared.taken.Taken.{Taken}
 use Rattle.osi_stack.proofs.Vocabulary.{in_one, Input, Listener, Move, opened, refused, broken, react, Takes, Indication}

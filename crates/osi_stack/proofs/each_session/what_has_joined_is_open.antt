@@ -1,5 +1,5 @@
 -- A session that has joined something has an open connection.
-use Rattle.std.proofs.Common.{◌≡◌, ℕ, ◌≤◌, true, List, length, Option, Some, None, is_some, refl, subst, ◌⊎◌, arith}
+use Rattle.std.proofs.Common.{◌≡◌, ℕ, ◌≤◌, true, List, length, Option, Some, None, is_some, refl, subst, arith}
 use Rattle.osi_session.specs.Kept.{IsKept}
 use Rattle.osi_stack.proofs.Vocabulary.{IfSome, Rows, value_at, is_open, most_data, joined_octets, Input, Listener, after_inputs, may_hold}
 use Rattle.osi_stack.proofs.Vocabulary.{implied, CameAbout, AllCameAbout, needs_link, kept_at, IsSettled, Line, End, session_in}

@@ -1,6 +1,5 @@
 -- An accepted call of a session does the same if indications are pending as if all had been given.
-use Rattle.std.proofs.Common.{◌≡◌, ℕ, ◌==◌, Bool, true, false, List, [], ◌∷◌, ◌++◌, Option, Some, None, option_map, refl, sym, ap, ◌∙◌}
-use Rattle.std.proofs.Common.{arith}
+use Rattle.std.proofs.Common.{◌≡◌, ℕ, ◌==◌, Bool, List, [], ◌∷◌, ◌++◌, Option, Some, None, option_map, refl, sym, ap, ◌∙◌, arith}
 use Rattle.osi_stack.proofs.Vocabulary.{append-nil, Rows, value_at, put, Call as SessionCall, Input, Listener, called, Shown, call_error}
 use Rattle.osi_stack.proofs.Vocabulary.{all_waiting, line_by, by_line, to_session, quieted, hushed, put_back, account_of, Line, End}
 use Rattle.osi_stack.proofs.in_step.the_account_packet_by_packet.{made}
@@ -21,9 +20,7 @@ row q line lines = (q, line) ∷ lines
 put_quieted_by : (r q : ℕ) (x y line : Line) (lines : Rows Line) (b : Bool) → (q == r) ≡ b → hush x ≡ hush y →
     quieted (put r x lines) ≡ quieted (put r y (quieted lines)) →
     quieted (put r x ((q, line) ∷ lines)) ≡ quieted (put r y (quieted ((q, line) ∷ lines)))
-put_quieted_by r q x y line lines true e same more =
-    rw e (ap (λ (l : Line). row q l (quieted lines)) same ∙ ap (row q (hush y)) (quieted_twice lines))
-put_quieted_by r q x y line lines false e same more = rw e (ap (row q (hush line)) more)
+put_quieted_by r q x y line lines b e same more = grind (arith, hush, quieted_twice)
 
 put_quieted : (r : ℕ) (x y : Line) (lines : Rows Line) → hush x ≡ hush y → quieted (put r x lines) ≡ quieted (put r y (quieted lines))
 put_quieted r x y [] same = refl
@@ -31,17 +28,14 @@ put_quieted r x y ((q, line) ∷ lines) same = put_quieted_by r q x y line lines
 
 line_hushed : (line : Line) (session : Option Listener) (input : Input) →
     hush (line_by line session input) ≡ hush (line_by (hush line) session input)
-line_hushed line None input = refl
-line_hushed line (Some session) input = refl
+line_hushed line session input = grind arith
 
 hushed_by : (r : ℕ) (line : Option Line) (input : Input) (e : End) →
     hushed (by_line r line input e) ≡ hushed (by_line r (option_map hush line) input (hushed e))
 hushed_by r line input e = grind (arith, quieted_twice, by_line, put_quieted, line_by, hush, line_hushed)
 
 session_hushed : (r : ℕ) (input : Input) (e : End) → hushed (to_session r input e) ≡ hushed (to_session r input (hushed e))
-session_hushed r input e =
-    hushed_by r (value_at r e.lines) input e ∙ ap (λ (o : Option Line). hushed (by_line r o input (hushed e)))
-    (sym (quieted_value r e.lines))
+session_hushed r input e = grind (arith, hushed_by, quieted_value)
 
 -- ---- what is pending
 
@@ -59,12 +53,7 @@ waiting_put r x line ((q, y) ∷ lines) same here = waiting_by r q x line y line
 -- an accepted call indicates nothing
 call_waiting : (r : ℕ) (call : SessionCall) (e : End) → call_error r call e ≡ None →
     all_waiting (to_session r (called call) e).lines ≡ all_waiting e.lines
-call_waiting r call e h =
-    let says = says_is r call e h in
-    let acts = says.acts in
-    ap all_waiting acts.lines
-    ∙ waiting_put r (line_by acts.line (Some acts.session) (called call)) acts.line e.lines
-    (ap (λ (w : List Shown). acts.line.waiting ++ w) says.granted.shown ∙ append-nil acts.line.waiting) acts.here
+call_waiting r call e h = grind (arith, waiting_put, append-nil, says_is r call e h)
 
 none_quieted : (lines : Rows Line) → all_waiting (quieted lines) ≡ []
 none_quieted [] = refl

@@ -1,10 +1,9 @@
 -- A connection is requested, whatever is pending: it is the same but for lines of connections that are gone.
-use Rattle.std.proofs.Common.{◌≡◌, ◌≢◌, ℕ, ◌+◌, ◌==◌, Bool, true, false, List, [], ◌∷◌, ◌++◌, is_some, refl, sym, ap, ◌∙◌, option_map}
-use Rattle.std.proofs.Common.{arith}
-use Rattle.osi_stack.proofs.Vocabulary.{eqb-true, eq-eqb, flat_map, beyond, push_here, push_other, asks, AreUpTo, Rows, value_at}
-use Rattle.osi_stack.proofs.Vocabulary.{Connection, asked, State as Carrier, Listener, Shown, calls_with, connects, shown_of, all_waiting}
-use Rattle.osi_stack.proofs.Vocabulary.{quieted, hushed, put_back, live_lines, pruned, told_in, carried_in, AreAlike, AreAlikeInLive, Line}
-use Rattle.osi_stack.proofs.Vocabulary.{End, Holding, line_waits, is_used, used_lines, fresh_line, Connect, tsap_octets, EndCall as Call}
+use Rattle.std.proofs.Common.{◌≡◌, ℕ, ◌+◌, ◌==◌, Bool, true, List, [], ◌∷◌, ◌++◌, is_some, refl, sym, ap, ◌∙◌, arith}
+use Rattle.osi_stack.proofs.Vocabulary.{eqb-true, eq-eqb, flat_map, beyond, push_here, push_other, AreUpTo, Rows, value_at, Connection}
+use Rattle.osi_stack.proofs.Vocabulary.{asked, State as Carrier, Listener, Shown, connects, shown_of, all_waiting, quieted, hushed}
+use Rattle.osi_stack.proofs.Vocabulary.{put_back, live_lines, pruned, told_in, carried_in, AreAlike, AreAlikeInLive, Line, End, Holding}
+use Rattle.osi_stack.proofs.Vocabulary.{is_used, used_lines, Connect, EndCall as Call}
 use Rattle.osi_stack.proofs.each_line.the_first_that_indicates.{quiet_line}
 use Rattle.osi_stack.proofs.in_step.lines_that_are_gone_do_not_matter.{quieted_live}
 use Rattle.osi_stack.proofs.carried.packets_without_events.{both, or_second}
@@ -18,25 +17,16 @@ use Rattle.osi_stack.proofs.in_step.two_runs_reach_the_same_state.{connects_apar
 waits_by : (live : Rows Connection) (p : ℕ) (y : Line) (rows more : Rows Line) (b : Bool) → is_used live (p, y) ≡ b →
     all_waiting (used_lines live rows) ≡ all_waiting more →
     all_waiting (used_lines live ((p, y) ∷ rows)) ≡ shown_of p y.waiting ++ all_waiting more
-waits_by live p y rows more true e h =
-    ap all_waiting (used_by live (p, y) rows true e) ∙ ap (λ (l : List (ℕ × Shown)). shown_of p y.waiting ++ l) h
-waits_by live p y rows more false e h =
-    ap all_waiting (used_by live (p, y) rows false e) ∙ h
-    ∙ sym (ap (λ (w : List Shown). shown_of p w ++ all_waiting more)
-    (quiet_line y (or_second (is_some (value_at p live)) (line_waits y) e)))
+waits_by live p y rows more b e h = grind (arith, used_by, quiet_line, or_second)
 
 -- no pending indication is dropped
 waits_still : (live : Rows Connection) (q : ℕ) (s : Listener) (lines : Rows Line) →
     all_waiting (used_lines live (joined_lines q s lines)) ≡ all_waiting lines
-waits_still live q s [] =
-    waits_by live q (fresh_line s) [] [] (is_used live (q, fresh_line s)) refl refl
-waits_still live q s ((p, y) ∷ lines) =
-    waits_by live p y (joined_lines q s lines) lines (is_used live (p, y)) refl (waits_still live q s lines)
+waits_still live q s [] = grind (arith, waits_by)
+waits_still live q s ((p, y) ∷ lines) = grind (arith, waits_by, joined_lines, waits_still live q s lines)
 
 pub waits_asked : (c : Connect) (e : End) → all_waiting (connects c e).lines ≡ all_waiting e.lines
-waits_asked c e =
-    waits_still (asks (option_map tsap_octets c.calling_tsap) (option_map tsap_octets c.called_tsap) e.carrier).live (e.carrier.given + 1)
-    (calls_with c) e.lines
+waits_asked c e = grind (arith, waits_still)
 
 -- ---- lines of live connections
 
@@ -67,19 +57,12 @@ hushed_lines live q s lines =
 
 -- what is pending does not matter to them
 pub connects_hushed : (c : Connect) (e : End) → hushed (pruned (connects c e)) ≡ pruned (connects c (hushed e))
-connects_hushed c e =
-    let here = connects c e in
-    ap (λ (l : Rows Line). record here { lines = l }) (hushed_lines here.carrier.live (e.carrier.given + 1) (calls_with c) e.lines)
+connects_hushed c e = grind (arith, hushed_lines)
 
 -- nor are the lines of connections that are gone
 asked_within_by : (r : ℕ) (c : Carrier) (b : Bool) → (r == c.given + 1) ≡ b →
     is_some (value_at r (c.live ++ (c.given + 1, asked) ∷ [])) ≡ true → reached c r ≡ true
-asked_within_by r c true e here =
-    let same : r ≡ c.given + 1 = eqb-true r (c.given + 1) e in
-    reached_new c r (omega arith)
-asked_within_by r c false e here =
-    let ne : r ≢ c.given + 1 = (λ same. both (r == c.given + 1) (eq-eqb r (c.given + 1) same) e) in
-    reached_live c r (sym (ap is_some (push_other r (c.given + 1) asked c.live ne)) ∙ here)
+asked_within_by r c b e here = grind (arith, eqb-true, reached_new, both, eq-eqb, reached_live, push_other)
 
 asked_within : (c : Carrier) → Within (λ r. is_some (value_at r (c.live ++ (c.given + 1, asked) ∷ []))) (reached c)
 asked_within c r here = asked_within_by r c (r == c.given + 1) refl here
@@ -100,8 +83,7 @@ pruned_lines c s lines up known =
 
 pub connects_pruned : (c : Connect) (e : End) → AreUpTo e.carrier.given e.carrier.live → AreUpTo e.carrier.given e.lines →
     pruned (connects c (pruned e)) ≡ pruned (connects c e)
-connects_pruned c e up known =
-    ap (λ (l : Rows Line). record (connects c e) { lines = l }) (pruned_lines e.carrier (calls_with c) e.lines up known)
+connects_pruned c e up known = grind (arith, pruned_lines)
 
 -- ---- two ends that are alike
 

@@ -1,8 +1,8 @@
 -- A connection is requested while indications are pending, but only for live connections: the same as if all had been
 -- given.
-use Rattle.std.proofs.Common.{◌≡◌, ℕ, ◌==◌, Bool, true, false, ◌||◌, not, List, [], ◌∷◌, ◌++◌, is_some, refl, sym, ap, ◌∙◌, arith}
-use Rattle.osi_stack.proofs.Vocabulary.{Rows, value_at, Connection, Listener, Shown, shown_of, all_waiting, WaitForLive, quieted, Line}
-use Rattle.osi_stack.proofs.Vocabulary.{line_waits, is_used, used_lines, fresh_line}
+use Rattle.std.proofs.Common.{◌≡◌, ℕ, ◌==◌, Bool, true, false, ◌||◌, not, [], ◌∷◌, ◌++◌, is_some, refl, arith}
+use Rattle.osi_stack.proofs.Vocabulary.{Rows, value_at, Connection, Listener, all_waiting, WaitForLive, quieted, Line, line_waits, is_used}
+use Rattle.osi_stack.proofs.Vocabulary.{used_lines, fresh_line}
 use Rattle.osi_stack.proofs.in_step.what_is_seen_is_the_same.{hush}
 use Rattle.osi_stack.proofs.each_line.the_first_that_indicates.{quiet_line}
 use Rattle.osi_stack.proofs.carried.open_connections_stay_open.{used_by, joined_lines, mono_or}
@@ -15,8 +15,7 @@ or_not b w e h = grind arith
 push_by : (r p q : ℕ) (c d : Connection) (live : Rows Connection) (b : Bool) → (p == r) ≡ b → is_some (value_at r ((p, d) ∷ live)) ≡ true →
     (is_some (value_at r live) ≡ true → is_some (value_at r (live ++ (q, c) ∷ [])) ≡ true) →
     is_some (value_at r ((p, d) ∷ (live ++ (q, c) ∷ []))) ≡ true
-push_by r p q c d live true e here more = rw e refl
-push_by r p q c d live false e here more = rw e (more (rw e at here))
+push_by r p q c d live b e here more = grind arith
 
 live_push : (r q : ℕ) (c : Connection) (live : Rows Connection) → is_some (value_at r live) ≡ true →
     is_some (value_at r (live ++ (q, c) ∷ [])) ≡ true
@@ -26,10 +25,7 @@ live_push r q c ((p, d) ∷ live) here = push_by r p q c d live (p == r) refl he
 pub wait_push : (q : ℕ) (c : Connection) (live : Rows Connection) (lines : Rows Line) → WaitForLive live lines →
     WaitForLive (live ++ (q, c) ∷ []) lines
 wait_push q c live [] all = tt
-wait_push q c live ((r, line) ∷ lines) all = (
-  mono_or (is_some (value_at r live)) (is_some (value_at r (live ++ (q, c) ∷ []))) (not (line_waits line)) (live_push r q c live) all.0,
-  wait_push q c live lines all.1,
-)
+wait_push q c live ((r, line) ∷ lines) all = grind (arith, mono_or, live_push, wait_push q c live lines all.1)
 
 -- ---- the lines that are kept
 
@@ -44,37 +40,13 @@ new_line q s = (q, fresh_line s)
 
 last_waiting : (live : Rows Connection) (q : ℕ) (s : Listener) (b : Bool) → is_used live (new_line q s) ≡ b →
     all_waiting (used_lines live (new_line q s ∷ [])) ≡ []
-last_waiting live q s true e = ap all_waiting (used_by live (new_line q s) [] true e)
-last_waiting live q s false e = ap all_waiting (used_by live (new_line q s) [] false e)
+last_waiting live q s b e = grind (arith, used_by)
 
 row_joins : (live : Rows Connection) (q p : ℕ) (s : Listener) (y : Line) (lines : Rows Line) (b : Bool) → is_some (value_at p live) ≡ b →
     (is_some (value_at p live) || not (line_waits y)) ≡ true → Joins live q s lines → Joins live q s ((p, y) ∷ lines)
-row_joins live q p s y lines true e may j =
-    let used : is_used live (p, y) ≡ true = ap (λ x. x || line_waits y) e in
-    let still : is_used live (p, hush y) ≡ true = ap (λ x. x || false) e in
-    let kept = used_by live (p, y) (joined_lines q s lines) true used in
-    let hushed = used_by live (p, hush y) (joined_lines q s (quieted lines)) true still in
-    search (
-      ap quieted kept ∙ ap (λ (l : Rows Line). (p, hush y) ∷ l) j.same ∙ ap quieted (sym hushed),
-      ap all_waiting kept ∙
-          ap (λ (l : List (ℕ × Shown)). shown_of p y.waiting ++ l) j.waiting,
-      ap all_waiting hushed ∙ j.none,
-    )
-row_joins live q p s y lines false e may j =
-    let quiet = or_not (is_some (value_at p live)) (line_waits y) e may in
-    let used : is_used live (p, y) ≡ false = ap (λ x. x || line_waits y) e ∙ quiet in
-    let still : is_used live (p, hush y) ≡ false = ap (λ x. x || false) e in
-    let kept = used_by live (p, y) (joined_lines q s lines) false used in
-    let hushed = used_by live (p, hush y) (joined_lines q s (quieted lines)) false still in
-    search (
-      ap quieted kept ∙ j.same ∙ ap quieted (sym hushed),
-      ap all_waiting kept ∙ j.waiting ∙
-          sym (ap (λ (w : List Shown). shown_of p w ++ all_waiting lines) (quiet_line y quiet)),
-      ap all_waiting hushed ∙ j.none,
-    )
+row_joins live q p s y lines b e may j = grind (arith, hush, used_by, joined_lines, or_not, quiet_line)
 
 pub joins_alike : (live : Rows Connection) (q : ℕ) (s : Listener) (lines : Rows Line) → WaitForLive live lines → Joins live q s lines
 joins_alike live q s [] all =
     search (last_waiting live q s (is_used live (new_line q s)) refl, last_waiting live q s (is_used live (new_line q s)) refl)
-joins_alike live q s ((p, y) ∷ lines) all =
-    row_joins live q p s y lines (is_some (value_at p live)) refl all.0 (joins_alike live q s lines all.1)
+joins_alike live q s ((p, y) ∷ lines) all = grind (arith, row_joins, joins_alike live q s lines all.1)

@@ -40,8 +40,7 @@ up_quieted n ((q, y) ∷ lines) up = (up.0, up_quieted n lines up.1)
 none_by : (r q : ℕ) (y : Line) (lines : Rows Line) (b : Bool) → (q == r) ≡ b →
     is_some (value_at r (quieted lines)) ≡ is_some (value_at r lines) →
     is_some (value_at r (quieted ((q, y) ∷ lines))) ≡ is_some (value_at r ((q, y) ∷ lines))
-none_by r q y lines true e more = rw e refl
-none_by r q y lines false e more = rw e more
+none_by r q y lines b e more = grind arith
 
 some_quieted : (r : ℕ) (lines : Rows Line) → is_some (value_at r (quieted lines)) ≡ is_some (value_at r lines)
 some_quieted r [] = refl
@@ -78,12 +77,10 @@ unfolding react
 quiet_loss s h = grind arith
 
 pub or_either : (a b : Bool) → (a || b) ≡ true → a ≡ false → b ≡ true
-or_either false b h e = h
-or_either true b h e = cc
+or_either a b h e = grind arith
 
 link_live : (over : Bool) (o : Option Connection) → o ≡ None → is_some (if over then None else link_of o) ≡ false
-link_live true o none = refl
-link_live false o none = ap (λ (x : Option Connection). is_some (link_of x)) none
+link_live over o none = grind arith
 
 gone_quiet : (e : End) (r : ℕ) (s : Listener) → e.carrier.ended ≡ None → IsFit e → kept_at r e.lines ≡ Some s →
     value_at r e.carrier.live ≡ None → (b c : Bool) → may_abort s.state.phase ≡ b →
@@ -118,8 +115,7 @@ kept_behind : (r q : ℕ) (y : Line) (lines : Rows Line) (s : Listener) (b : Boo
 kept_behind r q y lines s b e none is = grind arith
 
 shown_none : (o : Option Listener) → ((s : Listener) → o ≡ Some s → (react s broken).shown ≡ []) → shown_at_loss o ≡ []
-shown_none None h = refl
-shown_none (Some s) h = h s refl
+shown_none o h = grind arith
 
 still_lines : (K : ℕ → Bool) (lines : Rows Line) → AreApart lines → waits lines ≡ false → ShowNothing K lines → AreStill K lines
 still_lines K [] apart quiet shows = tt
@@ -133,9 +129,7 @@ still_lines K ((q, y) ∷ lines) apart quiet shows = (
 )
 
 pub fit_still : (e : End) → e.carrier.ended ≡ None → IsFit e → waits e.lines ≡ false → AreStill (reached e.carrier) e.lines
-fit_still e lasts f quiet =
-    still_lines (reached e.carrier) e.lines (f.sound lasts).apart quiet
-    (λ r s is gone. gone_shows e r s lasts f is (unreached e.carrier r gone).none)
+fit_still e lasts f quiet = grind (arith, still_lines, reached, gone_shows, unreached)
 
 -- ---- accounts
 
@@ -154,15 +148,11 @@ quieted_live live ((q, y) ∷ lines) = quieted_row live q y lines (is_some (valu
 -- what is left of the account of an end
 pub account_view : (t : List (ℕ × Shown)) (o : List ℕ) (e : End) →
     pruned_account (account_of t o e) ≡ made (put_back o (hushed (pruned e))) (t ++ all_waiting e.lines)
-account_view t o e = ap (λ (l : Rows Line). made (put_back o (record e { lines = l })) (t ++ all_waiting e.lines))
-    (quieted_live e.carrier.live e.lines)
+account_view t o e = grind (arith, made, quieted_live)
 
 pub account_alike : (t : List (ℕ × Shown)) (o : List ℕ) (a b : End) → SameInLive a b →
     pruned_account (account_of t o a) ≡ pruned_account (account_of t o b)
-account_alike t o a b h =
-    account_view t o a ∙ ap (λ (e : End). made (put_back o (hushed e)) (t ++ all_waiting a.lines)) h.end ∙
-    ap (λ (w : List (ℕ × Shown)). made (put_back o (hushed (pruned b))) (t ++ w)) h.told
-    ∙ sym (account_view t o b)
+account_alike t o a b h = grind (arith, account_view, made)
 
 -- all its indications were given
 pub none_waits : (lines : Rows Line) → waits (quieted lines) ≡ false

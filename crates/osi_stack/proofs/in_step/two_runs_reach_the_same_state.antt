@@ -1,12 +1,11 @@
 -- Two runs in step reach the same state, whatever the pieces.
-use Rattle.std.proofs.Common.{◌≡◌, ℕ, ◌+◌, ◌-◌, ◌<◌, ◌^◌, Bool, true, false, List, ◌∷◌, ◌++◌, Option, Some, None, is_some, length}
-use Rattle.std.proofs.Common.{option_map, arith, refl, sym, ap, subst, ◌∙◌, append_assoc, if◌then◌else◌, []}
+use Rattle.std.proofs.Common.{◌≡◌, ℕ, ◌+◌, ◌-◌, ◌<◌, ◌^◌, Bool, true, false, List, ◌∷◌, ◌++◌, Option, None, is_some, length, option_map}
+use Rattle.std.proofs.Common.{arith, refl, sym, ap, subst, ◌∙◌, append_assoc, if◌then◌else◌, []}
 use Rattle.osi_stack.proofs.Vocabulary.{append-nil, flat_map-append, flat_map, IsPartial, ArePackets, offset_of, TpktFault, tsap_octets}
-use Rattle.osi_stack.proofs.Vocabulary.{apart_all, OneCut, user, Rows, asked, State as Carrier, Broken, called, Shown, connects, calls_with}
-use Rattle.osi_stack.proofs.Vocabulary.{ends, all_waiting, UserCall, user_does, Round, WaitForLive, MayCall, IsCalled, RoundsBy}
-use Rattle.osi_stack.proofs.Vocabulary.{RoundsAlong, calls_of, AreInStep, connecting, calling, disconnecting, breaking, hushed, put_back}
-use Rattle.osi_stack.proofs.Vocabulary.{Account, account_of, with_packet, with_packets, CallsAlong, used_in, told_in, carried_in}
-use Rattle.osi_stack.proofs.Vocabulary.{account_along, AreAlike, Line, End, Holding, joins, waits, Connect, none_of, connects_call}
+use Rattle.osi_stack.proofs.Vocabulary.{apart_all, OneCut, user, State as Carrier, Broken, Shown, connects, calls_with, ends, UserCall}
+use Rattle.osi_stack.proofs.Vocabulary.{user_does, Round, WaitForLive, MayCall, IsCalled, RoundsBy, RoundsAlong, calls_of, AreInStep}
+use Rattle.osi_stack.proofs.Vocabulary.{connecting, put_back, Account, account_of, with_packet, with_packets, CallsAlong, used_in, told_in}
+use Rattle.osi_stack.proofs.Vocabulary.{carried_in, account_along, AreAlike, End, Holding, joins, waits, Connect, none_of, connects_call}
 use Rattle.osi_stack.proofs.Vocabulary.{EndCall as Call}
 use Rattle.osi_stack.proofs.in_step.the_account_packet_by_packet.{made, after_more, account_quiet, account_joined, packets_apart}
 use Rattle.osi_stack.proofs.in_step.a_request_while_indications_are_pending.{wait_push, joins_alike}
@@ -121,14 +120,10 @@ connects_apart o c e =
 
 breaks_apart : (o : List ℕ) (over : Bool) (e : End) →
     (if over then put_back o e else ends Broken (put_back o e)) ≡ put_back o (if over then e else ends Broken e)
-breaks_apart o true e = refl
-breaks_apart o false e = refl
+breaks_apart o over e = grind arith
 
 user_apart : (o : List ℕ) (call : UserCall) (e : End) → user_does call (put_back o e) ≡ put_back o (user_does call e)
-user_apart o (connecting c) e = connects_apart o c e
-user_apart o (calling r call) e = apart_session o r (called call) e
-user_apart o (disconnecting r) e = disconnects_apart o r e
-user_apart o breaking e = breaks_apart o (is_some e.carrier.ended) e
+user_apart o call e = grind (arith, connects_apart, apart_session, disconnects_apart, breaks_apart)
 
 -- the account if nothing is pending
 account_still : (t : List (ℕ × Shown)) (o : List ℕ) (e : End) → waits e.lines ≡ false → account_of t o e ≡ made (put_back o e) t
@@ -141,24 +136,11 @@ called_by call a = account_of a.told [] (user_does call a.end)
 -- a connection is requested while indications are pending, of live connections alone
 account_connecting : (t : List (ℕ × Shown)) (o : List ℕ) (c : Connect) (e : End) → WaitForLive e.carrier.live e.lines →
     account_of t o (connects c e) ≡ called_by (connecting c) (account_of t o e)
-account_connecting t o c e h =
-    let there = connects c (hushed e) in
-    let told = t ++ all_waiting e.lines in
-    let q = e.carrier.given + 1 in
-    let j = joins_alike (e.carrier.live ++ (q, asked) ∷ []) q (calls_with c) e.lines (wait_push q asked e.carrier.live e.lines h) in
-    ap (λ (l : Rows Line). made (put_back o (record (connects c e) { lines = l })) (t ++ all_waiting (connects c e).lines)) j.same
-    ∙ ap (λ (w : List (ℕ × Shown)). made (put_back o (hushed there)) (t ++ w)) j.waiting
-    ∙ ap (made (put_back o (hushed there))) (sym (append-nil told) ∙ ap (λ (w : List (ℕ × Shown)). told ++ w) (sym j.none))
-    ∙ ap (account_of told []) (sym (connects_apart o c (hushed e)))
+account_connecting t o c e h = grind (arith, joins_alike, wait_push, made, append-nil, connects_apart)
 
 pub account_called : (t : List (ℕ × Shown)) (o : List ℕ) (call : UserCall) (e : End) → MayCall call e →
     account_of t o (user_does call e) ≡ called_by call (account_of t o e)
-account_called t o (connecting c) e h = account_connecting t o c e h
-account_called t o (calling r call) e h = account_calling t o r call e h
-account_called t o (disconnecting r) e h =
-    ap (account_of t []) (sym (user_apart o (disconnecting r) e)) ∙ ap (called_by (disconnecting r)) (sym (account_still t o e h))
-account_called t o breaking e h = ap (account_of t []) (sym (user_apart o breaking e)) ∙
-    ap (called_by breaking) (sym (account_still t o e h))
+account_called t o call e h = grind (arith, account_connecting, account_calling, user_apart, account_still)
 
 -- accounts that are the same
 pub exactly : Likeness MayCall (λ (x y : Account). x ≡ y)
@@ -186,22 +168,18 @@ user_alike May Like l t o a u p b call c d are h k = search (arith, held_alike, 
 
 called_lasts : (May : UserCall → End → Type 0) (old : Holding) (call : Option UserCall) (new : Holding) → IsCalled May old call new →
     old.end.carrier.ended ≡ None
-called_lasts May old None new h = h.0
-called_lasts May old (Some call) new h = h.0
+called_lasts May old call new h = grind arith
 
 -- what was given, or sent, before the rounds and in them
 joined : {A : Type 0} (f : Call → List A) (front : List A) (calls rest : List Call) →
     (front ++ flat_map f calls) ++ flat_map f rest ≡ front ++ flat_map f (calls ++ rest)
-joined f front calls rest = append_assoc front (flat_map f calls) (flat_map f rest) ∙
-    ap (λ l. front ++ l) (sym (flat_map-append f calls rest))
+joined f front calls rest = grind (arith, append_assoc, flat_map-append)
 
 -- the account after more calls
 account_behind : (t : List (ℕ × Shown)) (o : List ℕ) (xs more : List Call) (e : End) →
     account_of (t ++ flat_map told_in (xs ++ more)) (o ++ flat_map carried_in (xs ++ more)) e
     ≡ account_of ((t ++ flat_map told_in xs) ++ flat_map told_in more) ((o ++ flat_map carried_in xs) ++ flat_map carried_in more) e
-account_behind t o xs more e =
-    ap (λ l. account_of l (o ++ flat_map carried_in (xs ++ more)) e) (sym (joined told_in t xs more))
-    ∙ ap (λ l. account_of ((t ++ flat_map told_in xs) ++ flat_map told_in more) l e) (sym (joined carried_in o xs more))
+account_behind t o xs more e = grind (arith, joined)
 
 abbrev pub SameAfter : (Account → Account → Type 0) → List (ℕ × Shown) → List ℕ → List Call → Holding → List (ℕ × Shown) → List ℕ →
     List Call → Holding → Type 0
@@ -225,14 +203,11 @@ are_joined : (Like : Account → Account → Type 0) (t : List (ℕ × Shown)) (
     AreAfter Like (t ++ flat_map told_in xs) (o ++ flat_map carried_in xs) more a (u ++ flat_map told_in ys) (p ++ flat_map carried_in ys)
     rest b →
     AreAfter Like t o (xs ++ more) a u p (ys ++ rest) b
-are_joined Like t o u p xs ys more rest a b h =
-    record { same = same_joined Like t o u p xs ys more rest a b h.same; partial = h.partial; offset = h.offset; bound = h.bound }
+are_joined Like t o u p xs ys more rest a b h = search (arith, same_joined)
 
 -- no round
 account_none : (t : List (ℕ × Shown)) (o : List ℕ) (a c : Holding) → c ≡ a → account_of (t ++ []) (o ++ []) c.end ≡ account_of t o a.end
-account_none t o a c h =
-    ap (λ (x : Holding). account_of (t ++ []) (o ++ []) x.end) h ∙ ap (λ l. account_of l (o ++ []) a.end) (append-nil t) ∙
-    ap (λ l. account_of t l a.end) (append-nil o)
+account_none t o a c h = grind (arith, append-nil)
 
 are_behind : (Like : Account → Account → Type 0) (t : List (ℕ × Shown)) (o : List ℕ) (a : Holding) (u : List (ℕ × Shown)) (p : List ℕ)
     (b c d : Holding) → Are Like t o a u p b → c ≡ a → d ≡ b →
@@ -262,14 +237,12 @@ rounds_alike May Like l nothing one_cut t o a u p b (x ∷ xs) (y ∷ ys) c d ar
 -- an end is like itself
 pub are_first : (Like : Account → Account → Type 0) (old : Holding) → IsPartial old.held.octets → old.held.offset < 2 ^ 64 →
     Like (account_of [] [] old.end) (account_of [] [] old.end) → Are Like [] [] old [] [] old
-are_first Like old partial bound like =
-    record { same = record { octets = refl; account = like }; partial = partial; offset = refl; bound = bound }
+are_first Like old partial bound like = grind arith
 
 -- ---- ends that are the same
 
 pub same_alike : (a b : Holding) (xs ys : List Call) → SameAfter (λ (x y : Account). x ≡ y) [] [] xs a [] [] ys b → AreAlike a xs b ys
-same_alike a b xs ys h =
-    record { octets = h.octets; end = ap (λ (x : Account). x.end) h.account; told = ap (λ (x : Account). x.told) h.account }
+same_alike a b xs ys h = grind arith
 
 pub runs_alike : IsPartial [] → OneCut → (old a b : Holding) (xs ys : List Round) → IsPartial old.held.octets → old.held.offset < 2 ^ 64 →
     RoundsAlong old xs a → RoundsAlong old ys b →

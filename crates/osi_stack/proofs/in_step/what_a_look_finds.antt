@@ -1,14 +1,12 @@
 -- What is seen of two ends that are the same except for lines of connections that are gone; and if a break is found.
-use Rattle.std.proofs.Common.{◌≡◌, ℕ, Bool, true, false, not, List, [], ◌∷◌, ◌++◌, length, Option, Some, None, is_some, IsSome, refl, sym}
-use Rattle.std.proofs.Common.{ap, subst, ◌∙◌, arith, if◌then◌else◌}
-use Rattle.osi_session.specs.declared.faults.CallError.TheVariants.{BadState}
+use Rattle.std.proofs.Common.{◌≡◌, ℕ, Bool, true, false, List, [], ◌∷◌, ◌++◌, length, Option, Some, None, is_some, IsSome, refl, sym, ap}
+use Rattle.std.proofs.Common.{subst, ◌∙◌, arith, if◌then◌else◌}
 use Rattle.osi_stack.specs.Runs.{Call, told_of}
 use Rattle.osi_stack.proofs.Vocabulary.{flat_map-append, sum_by-cons, flat_map, Held, kept_in, Rows, value_at, Connection, Broken, none_of}
-use Rattle.osi_stack.proofs.Vocabulary.{Call as SessionCall, Listener, Shown, NoSuchConnection, has_given, awaits_transport}
-use Rattle.osi_stack.proofs.Vocabulary.{disconnect_error, connect_error, call_error, session_refusal, phase_of, phase_at, breaks, ends}
-use Rattle.osi_stack.proofs.Vocabulary.{shown_at_loss, all_lost, kept_at, shown_of, all_waiting, quieted, hushed, put_back, live_lines}
-use Rattle.osi_stack.proofs.Vocabulary.{pruned, Account, account_of, CallsAlong, told_in, carried_in, AreAlikeInLive, LookAlike, IsSettled}
-use Rattle.osi_stack.proofs.Vocabulary.{Line, End, Holding, session_in, session_at, joined_of, joined_live, joined_in}
+use Rattle.osi_stack.proofs.Vocabulary.{Call as SessionCall, Listener, Shown, has_given, disconnect_error, connect_error, call_error}
+use Rattle.osi_stack.proofs.Vocabulary.{phase_of, phase_at, breaks, ends, shown_at_loss, all_lost, kept_at, all_waiting, quieted, hushed}
+use Rattle.osi_stack.proofs.Vocabulary.{put_back, live_lines, pruned, Account, account_of, CallsAlong, told_in, carried_in, AreAlikeInLive}
+use Rattle.osi_stack.proofs.Vocabulary.{LookAlike, IsSettled, Line, End, Holding, session_in, session_at, joined_of, joined_live, joined_in}
 use Rattle.osi_stack.proofs.in_step.the_account_packet_by_packet.{after_more, account_joined}
 use Rattle.osi_stack.proofs.in_step.what_is_seen_is_the_same.{quieted_at, call_apart, call_hushed, look_alike}
 use Rattle.osi_stack.proofs.in_step.a_break_while_indications_are_pending.{lost_told}
@@ -30,23 +28,16 @@ session_pruned r e = session_by r e.carrier.live e.lines (is_some (value_at r e.
 
 -- with all indications given, and what was sent put back
 session_view : (r : ℕ) (o : List ℕ) (e : End) → session_at r (put_back o (hushed (pruned e))) ≡ session_at r e
-session_view r o e =
-    ap (λ (s : Option Listener). if is_some (value_at r e.carrier.live) then s else None)
-    (quieted_at r (live_lines e.carrier.live e.lines)) ∙ session_pruned r e
+session_view r o e = grind (arith, quieted_at, session_pruned)
 
 phase_view : (r : ℕ) (o : List ℕ) (e : End) → phase_at r (put_back o (hushed (pruned e))) ≡ phase_at r e
 phase_view r o e = ap (λ (s : Option Listener). if has_given r e.carrier then Some (phase_of s) else None) (session_view r o e)
 
 call_view : (r : ℕ) (call : SessionCall) (o : List ℕ) (e : End) → call_error r call (put_back o (hushed (pruned e))) ≡ call_error r call e
-call_view r call o e =
-    call_apart o r call (hushed (pruned e)) ∙ call_hushed r call (pruned e)
-    ∙ ap (λ (s : Option Listener). if not (has_given r e.carrier) then Some NoSuchConnection else session_refusal r s call e.carrier)
-    (session_pruned r e)
+call_view r call o e = search (arith, call_apart, call_hushed, session_pruned)
 
 disconnect_view : (r : ℕ) (o : List ℕ) (e : End) → disconnect_error r (put_back o (hushed (pruned e))) ≡ disconnect_error r e
-disconnect_view r o e =
-    ap (λ (s : Option Listener). if not (has_given r e.carrier) then Some NoSuchConnection else
-    (if awaits_transport s then Some BadState else None)) (session_view r o e)
+disconnect_view r o e = search (arith, session_view)
 
 gone_joined : (live : Rows Connection) (row : ℕ × Line) → is_some (value_at row.0 live) ≡ false → joined_live live row ≡ 0
 gone_joined live row e = ap (λ (b : Bool). if◌then◌else◌ {A = ℕ} b (joined_of row.1.session) 0) e
@@ -59,11 +50,7 @@ joined_by live q y lines true e more =
     let two = sum_by-cons (λ row. joined_live live row) (q, y) lines in
     let three = ap (joined_in live) (only_row (λ r. is_some (value_at r live)) q y lines true e) in
     omega arith
-joined_by live q y lines false e more =
-    let none = gone_joined live (q, y) e in
-    let two = sum_by-cons (λ row. joined_live live row) (q, y) lines in
-    let three = ap (joined_in live) (only_row (λ r. is_some (value_at r live)) q y lines false e) in
-    omega arith
+joined_by live q y lines false e more = grind (arith, gone_joined, sum_by-cons, only_row)
 
 joined_pruned : (live : Rows Connection) (lines : Rows Line) → joined_in live (live_lines live lines) ≡ joined_in live lines
 joined_pruned live [] = refl
@@ -116,8 +103,7 @@ ended_same o p a b same = ended_view o a ∙ ap (λ (e : End). record (ends Brok
 -- the indications of a session that is lost, if it has none
 lost_none : (e : End) (r : ℕ) (o : Option Listener) → e.carrier.ended ≡ None → IsFit e → kept_at r e.lines ≡ o →
     value_at r e.carrier.live ≡ None → shown_at_loss o ≡ []
-lost_none e r None lasts f is none = refl
-lost_none e r (Some s) lasts f is none = gone_shows e r s lasts f is none
+lost_none e r o lasts f is none = grind (arith, gone_shows)
 
 -- that of a live connection
 kept_view : (r : ℕ) (o : List ℕ) (e : End) → is_some (value_at r e.carrier.live) ≡ true →
@@ -132,10 +118,7 @@ lost_by : (r : ℕ) (o p : List ℕ) (a b : End) (here : Bool) → is_some (valu
 lost_by r o p a b true e same lasts still f g =
     let there : is_some (value_at r b.carrier.live) ≡ true = ap (λ (x : End). is_some (value_at r x.carrier.live)) (sym same) ∙ e in
     ap shown_at_loss (sym (kept_view r o a e) ∙ ap (λ (x : End). kept_at r x.lines) same ∙ kept_view r p b there)
-lost_by r o p a b false e same lasts still f g =
-    let there : is_some (value_at r b.carrier.live) ≡ false = ap (λ (x : End). is_some (value_at r x.carrier.live)) (sym same) ∙ e in
-    lost_none a r (kept_at r a.lines) lasts f refl (none_of (value_at r a.carrier.live) e)
-    ∙ sym (lost_none b r (kept_at r b.lines) still g refl (none_of (value_at r b.carrier.live) there))
+lost_by r o p a b false e same lasts still f g = grind (arith, lost_none, none_of)
 
 pub settled_fit : (e : End) → IsSettled e → IsFit e
 settled_fit e s = record { attended = s.attended; sound = s.sound; asks = s.asks }
@@ -144,13 +127,7 @@ broken_told : (a b : Holding) (xs ys : List Call) (r : ℕ) → a.end.carrier.en
     IsFit b.end → AreAlikeInLive a xs b ys →
     told_of r (flat_map told_in xs ++ all_waiting (all_lost a.end.lines)) ≡ told_of r
     (flat_map told_in ys ++ all_waiting (all_lost b.end.lines))
-broken_told a b xs ys r lasts still f g h =
-    lost_told r (flat_map told_in xs) a.end.lines (f.sound lasts).apart
-    ∙ ap (λ (l : List (ℕ × Shown)). l ++ shown_of r (shown_at_loss (kept_at r a.end.lines))) (ap (told_of r) h.told)
-    ∙ ap (λ (w : List Shown). told_of r (flat_map told_in ys ++ all_waiting b.end.lines) ++ shown_of r w)
-    (lost_by r (flat_map carried_in xs) (flat_map carried_in ys) a.end b.end (is_some (value_at r a.end.carrier.live)) refl h.end lasts
-    still f g)
-    ∙ sym (lost_told r (flat_map told_in ys) b.end.lines (g.sound still).apart)
+broken_told a b xs ys r lasts still f g h = grind (arith, lost_told, lost_by)
 
 abbrev broken_by : Bool → Holding → Holding
 broken_by over h = record h { end = if over then h.end else ends Broken h.end }

@@ -1,11 +1,11 @@
 -- What happens to an end happens to live connections and to new ones alone: it is the same without the lines of
 -- connections that are gone.
-use Rattle.std.proofs.Common.{◌≡◌, ℕ, ◌<◌, ◌≤◌, Bool, true, false, ◌||◌, nat_lt, List, [], ◌∷◌, ◌++◌, length, Option, None, is_some, refl}
-use Rattle.std.proofs.Common.{sym, ap, subst, ◌∙◌, inl, inr, arith}
+use Rattle.std.proofs.Common.{◌≡◌, ℕ, ◌<◌, ◌≤◌, Bool, true, false, ◌||◌, nat_lt, List, [], ◌∷◌, Option, None, is_some, refl, sym, ap, subst}
+use Rattle.std.proofs.Common.{◌∙◌, arith}
 use Rattle.osi_carrier.specs.Packets as carriers
 use Rattle.osi_stack.proofs.Vocabulary.{nat_tests, AllByRecursion, or_right, sent_gone, closed_gone, Happening, AreUpTo, IsOrderly, told_of}
-use Rattle.osi_stack.proofs.Vocabulary.{Rows, value_at, Connection, State as Carrier, EndReason, Input, hears_times, hears_all}
-use Rattle.osi_stack.proofs.Vocabulary.{with_carrier, after_packet, ends, all_waiting, to_session, live_lines, pruned, Line, End, input_of}
+use Rattle.osi_stack.proofs.Vocabulary.{Rows, value_at, Connection, State as Carrier, EndReason, Input, hears_times, after_packet, ends}
+use Rattle.osi_stack.proofs.Vocabulary.{all_waiting, to_session, live_lines, pruned, Line, End, input_of}
 use Rattle.osi_stack.proofs.carried.events_one_after_the_other.{concluded_carrier}
 use Rattle.osi_stack.proofs.carried.packets_without_events.{both, packet_is}
 use Rattle.osi_stack.proofs.opening.connections_that_units_open.{IsOf}
@@ -38,8 +38,7 @@ pub unreached : (c : Carrier) (r : ℕ) → reached c r ≡ false → IsGone c r
 unreached c r h = grind arith
 
 reached_of : (c : Carrier) (event : Happening) → IsOf c event → reached c (told_of event) ≡ true
-reached_of c event (inl here) = reached_live c (told_of event) here
-reached_of c event (inr above) = reached_new c (told_of event) above
+reached_of c event h = grind (arith, reached_live, reached_new)
 
 reached_all : (c : Carrier) (events : List Happening) → AllByRecursion (IsOf c) events → AreOf (reached c) events
 reached_all c [] all = tt
@@ -47,9 +46,7 @@ reached_all c (event ∷ events) all = (reached_of c event all.0, reached_all c 
 
 -- what a packet tells is of these
 pub packet_reaches : (c : Carrier) (unit : List ℕ) → IsOrderly c → c.events ≡ [] → AreOf (reached c) (carriers.after_packet c unit).events
-packet_reaches c unit orderly none =
-    let a = packet_along unit c orderly in
-    subst (AreOf (reached c)) (sym (a.events ∙ ap (λ (l : List Happening). l ++ a.told) none)) (reached_all c a.told a.about)
+packet_reaches c unit orderly none = grind (arith, reached_all, packet_along unit c orderly)
 
 -- ---- a connection that is gone stays so
 
@@ -65,30 +62,21 @@ gone_times n e q none =
 
 gone_packet : (e : End) (unit : List ℕ) (q : ℕ) → IsOrderly e.carrier → IsGone e.carrier q →
     value_at q (after_packet e unit).carrier.live ≡ None
-gone_packet e unit q orderly gone =
-    let mid = with_carrier (carriers.after_packet e.carrier unit) e in
-    ap (λ (x : End). value_at q x.carrier.live) (packet_is e unit)
-    ∙ ap (λ (c : Carrier). value_at q c.live) (concluded_carrier (hears_all mid))
-    ∙ gone_times (length mid.carrier.events) mid q ((packet_along unit e.carrier orderly).gone q gone.given gone.none)
+gone_packet e unit q orderly gone = grind (arith, concluded_carrier, gone_times, packet_is e unit, packet_along unit e.carrier orderly)
 
 -- each reference of the one kind is of the other
 abbrev pub Within : (ℕ → Bool) → (ℕ → Bool) → Type 0
 Within K L = (q : ℕ) → K q ≡ true → L q ≡ true
 
 pub within_by : (o : Option Connection) (b : Bool) → (b ≡ false → o ≡ None) → is_some o ≡ true → b ≡ true
-within_by o true none here = refl
-within_by o false none here = both (is_some o) here (ap is_some (none refl))
+within_by o b none here = grind (arith, both)
 
 -- what is live after a packet, or after what happens to a session
 pub packet_within : (e : End) (unit : List ℕ) → IsOrderly e.carrier → Within (is_live (after_packet e unit).carrier) (reached e.carrier)
-packet_within e unit orderly q here =
-    within_by (value_at q (after_packet e unit).carrier.live) (reached e.carrier q)
-    (λ no. gone_packet e unit q orderly (unreached e.carrier q no)) here
+packet_within e unit orderly q here = grind (arith, within_by, gone_packet, unreached)
 
 pub session_within : (r : ℕ) (input : Input) (e : End) → Within (is_live (to_session r input e).carrier) (reached e.carrier)
-session_within r input e q here =
-    within_by (value_at q (to_session r input e).carrier.live) (reached e.carrier q)
-    (λ no. session_carried (λ c. value_at q c.live ≡ None) (sessions_keep q) r input e (unreached e.carrier q no).none) here
+session_within r input e q here = grind (arith, within_by, session_carried, unreached, sessions_keep q)
 
 -- ---- lines of fewer references
 
@@ -103,9 +91,7 @@ only_less K L within ((q, y) ∷ lines) = less_by K L within q y lines (L q) (K 
 
 same_row : (K L : ℕ → Bool) (q : ℕ) (y : Line) (lines : Rows Line) (b : Bool) → K q ≡ b → L q ≡ b → only K lines ≡ only L lines →
     only K ((q, y) ∷ lines) ≡ only L ((q, y) ∷ lines)
-same_row K L q y lines true e f more = only_row K q y lines true e ∙ ap (λ (l : Rows Line). (q, y) ∷ l) more ∙
-    sym (only_row L q y lines true f)
-same_row K L q y lines false e f more = only_row K q y lines false e ∙ more ∙ sym (only_row L q y lines false f)
+same_row K L q y lines b e f more = grind (arith, only_row)
 
 reached_known : (c : Carrier) (q : ℕ) → q ≤ c.given → reached c q ≡ is_live c q
 reached_known c q low = grind arith
@@ -113,8 +99,7 @@ reached_known c q low = grind arith
 -- if no line is new
 pub known_live : (c : Carrier) (lines : Rows Line) → AreUpTo c.given lines → only (reached c) lines ≡ live_lines c.live lines
 known_live c [] up = refl
-known_live c ((q, y) ∷ lines) up = same_row (reached c) (is_live c) q y lines (is_live c q) (reached_known c q up.0) refl
-    (known_live c lines up.1)
+known_live c ((q, y) ∷ lines) up = grind (arith, same_row, reached_known, known_live c lines up.1)
 
 -- ---- an end without the lines of connections that are gone
 
@@ -129,10 +114,8 @@ pub record SameInLive (a b : End) : Type 0 where
 -- what does the same without them
 pub acts_alike : (e new : End) → Within (is_live new.carrier) (reached e.carrier) → AreStill (reached e.carrier) new.lines →
     SameInLive (only_end (reached e.carrier) new) new
-acts_alike e new within still = record {
-  end = ap (λ (l : Rows Line). record new { lines = l }) (only_less (is_live new.carrier) (reached e.carrier) within new.lines);
-  told = only_told (reached e.carrier) new.lines still;
-}
+acts_alike e new within still =
+    grind (arith, only_less (is_live new.carrier) (reached e.carrier) within new.lines, only_told (reached e.carrier) new.lines still)
 
 pub packet_alike : (e : End) (unit : List ℕ) → IsOrderly e.carrier → e.carrier.events ≡ [] → AreUpTo e.carrier.given e.lines →
     AreStill (reached e.carrier) e.lines →

@@ -1,8 +1,8 @@
 -- What sessions have joined of unfinished SSDUs: as much for each live connection, whatever is pending.
-use Rattle.std.proofs.Common.{◌≡◌, ◌≢◌, ℕ, ◌+◌, ◌≤◌, ◌<◌, ◌==◌, Bool, true, false, cond, [], ◌∷◌, length, Option, Some, None, is_some}
-use Rattle.std.proofs.Common.{IsSome, refl, ap, subst, arith, if◌then◌else◌}
+use Rattle.std.proofs.Common.{◌≡◌, ◌≢◌, ℕ, ◌+◌, ◌≤◌, ◌<◌, ◌==◌, Bool, cond, [], ◌∷◌, length, Option, Some, None, is_some, IsSome, refl, ap}
+use Rattle.std.proofs.Common.{subst, arith}
 use Rattle.osi_stack.proofs.Vocabulary.{sum_by-cons, sum_by, kept_in, RiseFrom, Rows, value_at, without, Connection, without_other, quieted}
-use Rattle.osi_stack.proofs.Vocabulary.{Line, End, Holding, joined_live, joined_in, kept_octets}
+use Rattle.osi_stack.proofs.Vocabulary.{Line, End, Holding, joined_in, kept_octets}
 
 -- ---- how many lines are of live connections
 
@@ -39,11 +39,7 @@ live_apart r n live ((q, line) ∷ lines) low rise =
 few_by : (r : ℕ) (line : Line) (live : Rows Connection) (lines : Rows Line) (o : Option Connection) → value_at r live ≡ o →
     RiseFrom r lines →
     ((rows : Rows Connection) → live_in rows lines ≤ length rows) → live_in live ((r, line) ∷ lines) ≤ length live
-few_by r line live lines None at rise more =
-    let behind = more live in
-    let here : live_one live (r, line) ≡ 0 = ap (λ (o : Option Connection). cond (is_some o) 1 0) at in
-    let all = sum_by-cons (λ row. live_one live row) (r, line) lines in
-    omega arith
+few_by r line live lines None at rise more = grind (arith, cond, sum_by-cons)
 few_by r line live lines (Some connection) at rise more =
     let behind = more (without r live) in
     let same = live_apart r r live lines (omega arith) rise in
@@ -62,12 +58,7 @@ live_few live n ((r, line) ∷ lines) rise = few_by r line live lines (value_at 
 -- what is pending does not matter
 pub joined_quiet : (live : Rows Connection) (lines : Rows Line) → joined_in live (quieted lines) ≡ joined_in live lines
 joined_quiet live [] = refl
-joined_quiet live ((r, line) ∷ lines) =
-    let more = joined_quiet live lines in
-    let same : joined_live live (r, record line { waiting = [] }) ≡ joined_live live (r, line) = refl in
-    let one = sum_by-cons (λ row. joined_live live row) (r, record line { waiting = [] }) (quieted lines) in
-    let two = sum_by-cons (λ row. joined_live live row) (r, line) lines in
-    omega arith
+joined_quiet live ((r, line) ∷ lines) = search (arith, sum_by-cons, joined_quiet live lines)
 
 -- ---- two ends
 
@@ -82,5 +73,4 @@ pub kept_same : (a b : Holding) (here there : End) → length a.held.octets ≡ 
 kept_same a b here there held one two three four five six = omega arith
 
 pub one_at_most : (b : Bool) → cond b 1 0 ≤ 1
-one_at_most true = omega arith
-one_at_most false = omega arith
+one_at_most b = grind arith

@@ -1,12 +1,10 @@
 -- What is seen of two ends with the same account.
-use Rattle.std.proofs.Common.{option_map, ◌≡◌, ℕ, ◌==◌, Bool, true, false, not, List, [], ◌∷◌, length, Option, Some, None, is_some, refl}
-use Rattle.std.proofs.Common.{sym, ap, ◌∙◌, if◌then◌else◌, arith}
-use Rattle.osi_session.specs.declared.faults.CallError.TheVariants.{BadState}
+use Rattle.std.proofs.Common.{option_map, ◌≡◌, ℕ, ◌==◌, Bool, List, [], ◌∷◌, length, Option, Some, None, is_some, refl, sym, ap, ◌∙◌}
+use Rattle.std.proofs.Common.{if◌then◌else◌, arith}
 use Rattle.osi_stack.specs.Runs.{Call, told_of}
-use Rattle.osi_stack.proofs.Vocabulary.{flat_map, kept_in, Rows, value_at, Call as SessionCall, Listener, NoSuchConnection, has_given}
-use Rattle.osi_stack.proofs.Vocabulary.{awaits_transport, disconnect_error, connect_error, call_error, session_refusal, phase_of, phase_at}
-use Rattle.osi_stack.proofs.Vocabulary.{quieted, hushed, put_back, carried_in, AreAlike, AreAlikeByReference, LookAlike, Line, End, Holding}
-use Rattle.osi_stack.proofs.Vocabulary.{session_in, session_at, joined_in}
+use Rattle.osi_stack.proofs.Vocabulary.{flat_map, kept_in, Rows, value_at, Call as SessionCall, Listener, has_given, disconnect_error}
+use Rattle.osi_stack.proofs.Vocabulary.{connect_error, call_error, phase_of, phase_at, quieted, hushed, put_back, carried_in, AreAlike}
+use Rattle.osi_stack.proofs.Vocabulary.{AreAlikeByReference, LookAlike, Line, End, Holding, session_in, session_at, joined_in}
 use Rattle.osi_stack.proofs.in_step.what_is_joined_is_the_same.{joined_quiet, kept_same}
 
 -- a line for which nothing is pending
@@ -16,8 +14,7 @@ hush line = record line { waiting = [] }
 value_by : (r q : ℕ) (line : Line) (lines : Rows Line) (b : Bool) → (q == r) ≡ b →
     value_at r (quieted lines) ≡ option_map hush (value_at r lines) →
     value_at r (quieted ((q, line) ∷ lines)) ≡ option_map hush (value_at r ((q, line) ∷ lines))
-value_by r q line lines true e more = rw e refl
-value_by r q line lines false e more = rw e more
+value_by r q line lines b e more = grind arith
 
 pub quieted_value : (r : ℕ) (lines : Rows Line) → value_at r (quieted lines) ≡ option_map hush (value_at r lines)
 quieted_value r [] = refl
@@ -25,8 +22,7 @@ quieted_value r ((q, line) ∷ lines) = value_by r q line lines (q == r) refl (q
 
 -- what is pending does not matter to a session
 hushed_in : (o : Option Line) → session_in (option_map hush o) ≡ session_in o
-hushed_in None = refl
-hushed_in (Some line) = refl
+hushed_in o = grind arith
 
 pub quieted_at : (r : ℕ) (lines : Rows Line) → session_in (value_at r (quieted lines)) ≡ session_in (value_at r lines)
 quieted_at r lines = ap session_in (quieted_value r lines) ∙ hushed_in (value_at r lines)
@@ -43,17 +39,13 @@ pub call_apart : (o : List ℕ) (r : ℕ) (call : SessionCall) (e : End) → cal
 call_apart o r call e = grind arith
 
 pub call_hushed : (r : ℕ) (call : SessionCall) (e : End) → call_error r call (hushed e) ≡ call_error r call e
-call_hushed r call e =
-    ap (λ (s : Option Listener). if not (has_given r e.carrier) then Some NoSuchConnection else session_refusal r s call e.carrier)
-    (session_hushed r e)
+call_hushed r call e = grind (arith, session_hushed)
 
 call_same : (o : List ℕ) (r : ℕ) (call : SessionCall) (e : End) → call_error r call (put_back o (hushed e)) ≡ call_error r call e
 call_same o r call e = call_apart o r call (hushed e) ∙ call_hushed r call e
 
 disconnect_same : (o : List ℕ) (r : ℕ) (e : End) → disconnect_error r (put_back o (hushed e)) ≡ disconnect_error r e
-disconnect_same o r e =
-    ap (λ (s : Option Listener). if not (has_given r e.carrier) then Some NoSuchConnection else
-    (if awaits_transport s then Some BadState else None)) (session_hushed r e)
+disconnect_same o r e = grind (arith, session_hushed)
 
 -- also if the indications of several references are in another order
 pub look_apart : (a b : Holding) (xs ys : List Call) → AreAlikeByReference a xs b ys → LookAlike a xs b ys

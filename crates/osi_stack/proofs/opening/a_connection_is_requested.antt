@@ -1,5 +1,5 @@
 -- The state of an end after a connection was requested, from the effect of each step of the request.
-use Rattle.std.proofs.Common.{◌≡◌, ◌∙◌, ℕ, ◌+◌, [], ◌∷◌, ◌++◌, option_map}
+use Rattle.std.proofs.Common.{◌≡◌, ℕ, ◌+◌, [], ◌∷◌, ◌++◌, option_map}
 use Rattle.osi_stack.proofs.Vocabulary.{tsap_octets, Held, asks, Rows, State as Carrier, Listener, connects, calls_with, Line, Holding}
 use Rattle.osi_stack.proofs.Vocabulary.{used_lines, fresh_line, Connect}
 

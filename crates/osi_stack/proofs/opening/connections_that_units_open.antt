@@ -1,21 +1,19 @@
 -- The connections that units open: those that were requested, and new ones at a called end. A connection stays requested
 -- until its user is told that it is accepted or refused.
 use Rattle.std.proofs.Common.{◌≡◌, ◌≢◌, ℕ, ◌+◌, ◌<◌, ◌≤◌, ◌==◌, Bool, true, false, List, [], ◌∷◌, ◌++◌, take, Option, Some, None, Result}
-use Rattle.std.proofs.Common.{Ok, Err, is_some, IsSome, refl, sym, ap, subst, ◌∙◌, inl, inr, ◌⊎◌, arith, append_assoc, if◌then◌else◌}
+use Rattle.std.proofs.Common.{Ok, Err, is_some, IsSome, refl, sym, ap, subst, ◌∙◌, inl, ◌⊎◌, arith, append_assoc, if◌then◌else◌}
 use Rattle.osi_tpdu.specs.Value.{Connect}
-use Rattle.osi_class.specs.Link.{taken}
 use Rattle.osi_class.specs.Negotiation.{Selection, accept, refuse, selected_by}
 use Rattle.osi_class.specs.declared.faults.LinkFault.{LinkFault}
 use Rattle.osi_carrier.specs.Negotiation.{confirmed}
 use Rattle.osi_carrier.specs.React.{answers, opens, breaks, react}
-use Rattle.osi_stack.proofs.Vocabulary.{eqb-true, eq-eqb, or_left, append-nil, AllByRecursion, Value, request, confirm, disconnect}
-use Rattle.osi_stack.proofs.Vocabulary.{disconnected, data0, data2, acknowledge, error, Standing, Class, Zero, Two, Happening, tsdu, closed}
-use Rattle.osi_stack.proofs.Vocabulary.{faulted, RiseFrom, told_of, IsOrderly, denies, is_full, has_peer, answers_request, to_unknown}
-use Rattle.osi_stack.proofs.Vocabulary.{to_asked, tells_of, taking, leaves, to_linked, to_closing, to_connection, to_reference}
-use Rattle.osi_stack.proofs.Vocabulary.{before_class, to_only, in_zero, in_two, in_class, react_by, reacts, Rows, value_at, put, without}
-use Rattle.osi_stack.proofs.Vocabulary.{Connection, asked, linked, closing, State, drops, EndReason, put_here, without_here, beyond}
-use Rattle.osi_stack.proofs.Vocabulary.{put_other, without_other, put_none, push_other, stays_gone, orderly_unit, react_over}
-use Rattle.osi_stack.proofs.Vocabulary.{told_opened as opened, told_refused as refused, carrier_ends as ends}
+use Rattle.osi_stack.proofs.Vocabulary.{eqb-true, eq-eqb, or_left, append-nil, AllByRecursion, Value, request, confirm, disconnect, error}
+use Rattle.osi_stack.proofs.Vocabulary.{Standing, Class, Zero, Two, Happening, closed, faulted, RiseFrom, told_of, IsOrderly, denies}
+use Rattle.osi_stack.proofs.Vocabulary.{is_full, has_peer, answers_request, to_unknown, to_asked, tells_of, taking, leaves, to_linked}
+use Rattle.osi_stack.proofs.Vocabulary.{to_closing, to_connection, to_reference, before_class, to_only, in_zero, in_two, in_class, react_by}
+use Rattle.osi_stack.proofs.Vocabulary.{reacts, Rows, value_at, put, without, Connection, asked, linked, closing, State, drops, EndReason}
+use Rattle.osi_stack.proofs.Vocabulary.{put_here, without_here, beyond, put_other, without_other, put_none, push_other, stays_gone}
+use Rattle.osi_stack.proofs.Vocabulary.{orderly_unit, react_over, told_opened as opened, carrier_ends as ends}
 use Rattle.osi_stack.proofs.opening.which_requests_are_answered.{answered, answered_front, answered_behind}
 use Rattle.osi_stack.proofs.sound.the_invariant_is_kept.{units_rise, up_at}
 use Rattle.osi_stack.proofs.carried.packets_without_events.{both}
@@ -29,14 +27,7 @@ AwaitedBefore old new = (q : ℕ) → value_at q new ≡ Some asked → value_at
 put_at : (q r : ℕ) (c : Connection) (rows : Rows Connection) (b : Bool) (o : Option Connection) → (q == r) ≡ b → value_at q rows ≡ o →
     (c ≡ asked → ⊥) →
     value_at q (put r c rows) ≡ Some asked → value_at q rows ≡ Some asked
-put_at q r c rows false o e is other h =
-    let ne : q ≢ r = (λ same. let yes : (q == r) ≡ true = eq-eqb q r same in let no : true ≡ false = sym yes ∙ e in cc) in
-    sym (put_other q r c rows ne) ∙ h
-put_at q r c rows true None e is other h = let no : None ≡ Some asked = sym (put_none q r c rows is) ∙ h in cc
-put_at q r c rows true (Some x) e is other h =
-    let two : Some c ≡ Some asked = sym (put_here q c x rows is) ∙ (ap (λ n. value_at q (put n c rows)) (eqb-true q r e) ∙ h) in
-    let one : c ≡ asked = cc in
-    absurd (other one)
+put_at q r c rows b o e is other h = grind (arith, eq-eqb, put_other, put_none, put_here, eqb-true)
 
 pub awaited_put : (r : ℕ) (c : Connection) (rows : Rows Connection) → (c ≡ asked → ⊥) → AwaitedBefore rows (put r c rows)
 awaited_put r c rows other = λ q h. put_at q r c rows (q == r) (value_at q rows) refl refl other h
@@ -51,13 +42,11 @@ awaited_without r rows rise = λ q h. without_at q r rows (q == r) refl rise h
 push_at : (q p n : ℕ) (c y : Connection) (rows : Rows Connection) (b : Bool) → (p == q) ≡ b →
     (value_at q (rows ++ (n, c) ∷ []) ≡ Some asked → value_at q rows ≡ Some asked) →
     value_at q ((p, y) ∷ (rows ++ (n, c) ∷ [])) ≡ Some asked → value_at q ((p, y) ∷ rows) ≡ Some asked
-push_at q p n c y rows true e more h = rw e (rw e at h)
-push_at q p n c y rows false e more h = rw e (more (rw e at h))
+push_at q p n c y rows b e more h = grind arith
 
 last_at : (q n : ℕ) (c : Connection) (b : Bool) → (n == q) ≡ b → (c ≡ asked → ⊥) → value_at q ((n, c) ∷ []) ≡ Some asked →
     value_at q [] ≡ Some asked
-last_at q n c true e other h = let two : Some c ≡ Some asked = rw e at h in let one : c ≡ asked = cc in absurd (other one)
-last_at q n c false e other h = rw e at h
+last_at q n c b e other h = grind arith
 
 awaited_push : (n : ℕ) (c : Connection) (rows : Rows Connection) → (c ≡ asked → ⊥) → AwaitedBefore rows (rows ++ (n, c) ∷ [])
 awaited_push n c [] other = λ q h. last_at q n c (n == q) refl other h
@@ -163,17 +152,13 @@ opens_request c s o called = answers_by c s (has_peer c.source s.live) (is_full 
 -- ---- a unit for a connection
 
 opens_unknown : (unit : Value) (s : State) → Opens s (to_unknown unit s)
-opens_unknown (disconnect destination source reason user) s =
-    silent s (to_unknown (disconnect destination source reason user) s) refl refl refl (λ q h. h) (λ q h over. inl h)
-opens_unknown (disconnected destination source) s = opens_none s
-opens_unknown unit s = opens_end _ s
+opens_unknown unit s = search (arith, silent, opens_none, opens_end)
 
 -- the answer for one, by whether it is this one
 stays_by : (q r : ℕ) (event : Happening) (new : Rows Connection) (b : Bool) → (r == q) ≡ b →
     ((r == q) ≡ true → answered q (event ∷ []) ≡ true) → (q ≢ r → value_at q new ≡ Some asked) →
     (value_at q new ≡ Some asked) ⊎ (answered q (event ∷ []) ≡ true)
-stays_by q r event new true e here other = inr (here e)
-stays_by q r event new false e here other = inl (other (λ same. both (r == q) (eq-eqb r q (sym same)) e))
+stays_by q r event new b e here other = grind (arith, both, eq-eqb)
 
 opens_confirm : (r : ℕ) (c : Connect) (class : Option Class) (s : State) → value_at r s.live ≡ Some asked → Opens s (opens r c class s)
 opens_confirm r c class s here = grind (arith, opens_end, opened, awaited_put, linked_not_asked, stays_by, or_left, put_other)
@@ -181,12 +166,8 @@ opens_confirm r c class s here = grind (arith, opens_end, opened, awaited_put, l
 opens_asked : (r : ℕ) (unit : Value) (s : State) → IsOrderly s → value_at r s.live ≡ Some asked → Opens s (to_asked r unit s)
 opens_asked r (confirm destination c) s o here = opens_confirm r c (confirmed c s.local s.class) s here
 opens_asked r (disconnect destination source reason user) s o here =
-    telling s (to_asked r (disconnect destination source reason user) s) (refused r reason) refl (ap is_some here) refl refl refl
-    (awaited_without r s.live o.rise)
-    (λ q h over. stays_by q r (refused r reason) _ (r == q) refl (or_left (r == q) false) (λ ne. without_other q r s.live ne ∙ h))
-opens_asked r (error destination cause) s o here =
-    telling s (to_asked r (error destination cause) s) (refused r 0) refl (ap is_some here) refl refl refl (awaited_without r s.live o.rise)
-    (λ q h over. stays_by q r (refused r 0) _ (r == q) refl (or_left (r == q) false) (λ ne. without_other q r s.live ne ∙ h))
+    grind (arith, telling, awaited_without, stays_by, or_left, without_other)
+opens_asked r (error destination cause) s o here = grind (arith, telling, awaited_without, stays_by, or_left, without_other)
 opens_asked r unit s o here = opens_unknown unit s
 
 -- a connection that is there, and was not asked for
@@ -200,14 +181,8 @@ there r c s here other = grind arith
 opens_settles : (r : ℕ) (whole : List (List ℕ)) (c : Connection) (s t : State) → IsThere r s → (c ≡ asked → ⊥) → t.given ≡ s.given →
     t.is_caller ≡ s.is_caller → t.live ≡ put r c s.live →
     t.events ≡ s.events → Opens s (tells_of r (take 1 whole) t)
-opens_settles r [] c s t here other given side live events =
-    silent s (tells_of r [] t) (append-nil t.events ∙ events) given side
-    (subst (AwaitedBefore s.live) (sym live) (awaited_put r c s.live other))
-    (λ q h over. inl (ap (value_at q) live ∙ put_other q r c s.live (here.apart q h) ∙ h))
-opens_settles r (first ∷ more) c s t here other given side live events =
-    telling s (tells_of r (first ∷ []) t) (tsdu r first) refl here.here (ap (λ l. l ++ tsdu r first ∷ []) events) given side
-    (subst (AwaitedBefore s.live) (sym live) (awaited_put r c s.live other))
-    (λ q h over. inl (ap (value_at q) live ∙ put_other q r c s.live (here.apart q h) ∙ h))
+opens_settles r [] c s t here other given side live events = grind (arith, silent, append-nil, awaited_put, put_other)
+opens_settles r (first ∷ more) c s t here other given side live events = grind (arith, telling, awaited_put, put_other)
 
 opens_breaks : (r peer : ℕ) (fault : LinkFault) (held : Option Class) (s : State) → IsThere r s → Opens s (breaks r peer fault held s)
 opens_breaks r peer fault held s here = search (arith, telling, faulted, awaited_put, closing, closing_not_asked, put_other, opens_end)
@@ -221,25 +196,18 @@ opens_leaves r peer reason held s o here = grind (arith, telling, leaves, closed
 
 opens_linked : (r peer : ℕ) (link : Standing) (unit : Value) (s : State) → IsOrderly s → IsThere r s →
     Opens s (to_linked r peer link unit s)
-opens_linked r peer link (disconnect destination source reason user) s o here = opens_leaves r peer reason s.class s o here
-opens_linked r peer link unit s o here = opens_taking r peer (taken link unit) s here
+opens_linked r peer link unit s o here = search (arith, opens_leaves, opens_taking)
 
 opens_dropped : (r : ℕ) (s : State) → IsOrderly s → IsThere r s → Opens s (drops r s)
-opens_dropped r s o here =
-    silent s (drops r s) refl refl refl (awaited_without r s.live o.rise) (λ q h over. inl (without_other q r s.live (here.apart q h) ∙ h))
+opens_dropped r s o here = grind (arith, silent, awaited_without, without_other)
 
 opens_closing : (r : ℕ) (unit : Value) (s : State) → IsOrderly s → IsThere r s → Opens s (to_closing r unit s)
-opens_closing r (disconnected destination source) s o here = opens_dropped r s o here
-opens_closing r (disconnect destination source reason user) s o here = opens_dropped r s o here
-opens_closing r unit s o here = opens_none s
+opens_closing r unit s o here = search (arith, opens_dropped, opens_none)
 
 opens_connection : (r : ℕ) (o : Option Connection) (unit : Value) (s : State) → IsOrderly s → value_at r s.live ≡ o →
     Opens s (to_connection r o unit s)
-opens_connection r None unit s o here = opens_unknown unit s
-opens_connection r (Some asked) unit s o here = opens_asked r unit s o here
-opens_connection r (Some (linked peer link)) unit s o here =
-    opens_linked r peer link unit s o (there r (linked peer link) s here (linked_not_asked peer link))
-opens_connection r (Some (closing peer)) unit s o here = opens_closing r unit s o (there r (closing peer) s here (closing_not_asked peer))
+opens_connection r o unit s o2 here =
+    grind (arith, opens_unknown, opens_asked, opens_linked, there, linked_not_asked, opens_closing, closing_not_asked)
 
 opens_reference : (r : ℕ) (unit : Value) (s : State) → IsOrderly s → Opens s (to_reference r unit s)
 opens_reference r unit s o = opens_connection r (value_at r s.live) unit s o refl
@@ -258,28 +226,16 @@ only_by ((r, connection) ∷ rows) unit s o is =
     opens_connection r (Some connection) unit s o (ap (value_at r) is ∙ first_here r connection rows)
 
 opens_zero : (b : Bool) (unit : Value) (s : State) → IsOrderly s → Opens s (in_zero b unit s)
-opens_zero true (request c) s o = opens_end _ s
-opens_zero b unit s o = only_by s.live unit s o refl
+opens_zero b unit s o = search (arith, opens_end, only_by)
 
 opens_two : (b : Bool) (unit : Value) (s : State) → IsOrderly s → s.is_caller ≡ b → Opens s (in_two b unit s)
-opens_two true (request c) s o e = opens_end _ s
-opens_two false (request c) s o e = opens_request c s o e
-opens_two b (confirm destination c) s o e = opens_reference destination (confirm destination c) s o
-opens_two b (disconnect destination source reason user) s o e = opens_reference destination (disconnect destination source reason user) s o
-opens_two b (disconnected destination source) s o e = opens_reference destination (disconnected destination source) s o
-opens_two b (data0 end user) s o e = opens_end _ s
-opens_two b (data2 destination number end user) s o e = opens_reference destination (data2 destination number end user) s o
-opens_two b (acknowledge credit destination number) s o e = opens_reference destination (acknowledge credit destination number) s o
-opens_two b (error destination cause) s o e = opens_reference destination (error destination cause) s o
+opens_two b unit s o e = search (arith, opens_end, opens_request, opens_reference)
 
 opens_class : (held : Option Class) (unit : Value) (s : State) → IsOrderly s → Opens s (in_class held unit s)
-opens_class None unit s o = opens_before s.is_caller unit s o refl
-opens_class (Some Zero) unit s o = opens_zero s.is_caller unit s o
-opens_class (Some Two) unit s o = opens_two s.is_caller unit s o refl
+opens_class held unit s o = search (arith, opens_before, opens_zero, opens_two)
 
 opens_by : (over : Bool) (unit : Value) (s : State) → IsOrderly s → Opens s (react_by over unit s)
-opens_by true unit s o = opens_none s
-opens_by false unit s o = opens_class s.class unit s o
+opens_by over unit s o = grind (arith, opens_none, opens_class)
 
 opens_unit : (unit : Value) (s : State) → IsOrderly s → Opens s (react unit s)
 unfolding react
@@ -377,16 +333,11 @@ called_by old new told h3 none = grind arith
 
 about_by : (old new : State) (told : List Happening) → Unopened old new told ⊎ (Agreed old new told ⊎ Accepted old new told) →
     AllByRecursion (IsOf old) told
-about_by old new told (inl h) = all_still (λ event. IsSome (value_at (told_of event) old.live)) (IsOf old) told (λ event here. inl here)
-    h.about
-about_by old new told (inr (inl h)) = subst (AllByRecursion (IsOf old)) (sym h.event) (inl (ap is_some h.here), tt)
-about_by old new told (inr (inr h)) = subst (AllByRecursion (IsOf old)) (sym h.event) (inr (omega arith), tt)
+about_by old new told h = grind (arith, all_still)
 
 given_here : (s : State) → IsOrderly s → (l : List Happening) → AllByRecursion (λ event. IsSome (value_at (told_of event) s.live)) l →
     AllByRecursion (IsGiven s.given) l
-given_here s o l all =
-    all_still (λ event. IsSome (value_at (told_of event) s.live)) (IsGiven s.given) l
-    (λ event here. up_at (told_of event) s.given s.live o.up_to here) all
+given_here s o l all = grind (arith, all_still, up_at)
 
 known_by : (old new : State) (told : List Happening) → IsOrderly old →
     Unopened old new told ⊎ (Agreed old new told ⊎ Accepted old new told) → old.is_caller ≡ true →
@@ -399,8 +350,7 @@ comes_by : (old new : State) (told : List Happening) → IsOrderly old →
 comes_by old new told o h4 none = grind (arith, comes_quiet, given_here)
 
 unit_lasts : (unit : Value) (s : State) (over : Option EndReason) → s.ended ≡ over → (react unit s).ended ≡ None → s.ended ≡ None
-unit_lasts unit s None is lasts = is
-unit_lasts unit s (Some reason) is lasts = ap (λ (t : State). t.ended) (sym (react_over unit s (ap is_some is))) ∙ lasts
+unit_lasts unit s over is lasts = grind (arith, react_over)
 
 along_unit : (unit : Value) (s : State) → IsOrderly s → OpensAlong s (react unit s)
 along_unit unit s orderly =

@@ -1,12 +1,10 @@
 -- A live connection that may receive indications has addresses.
-use Rattle.std.proofs.Common.{◌≡◌, ℕ, Bool, true, false, List, [], ◌∷◌, Option, Some, None, IsSome, is_some, refl, sym, ◌∙◌, if◌then◌else◌}
-use Rattle.std.proofs.Common.{arith}
+use Rattle.std.proofs.Common.{◌≡◌, ℕ, Bool, true, false, List, Option, Some, None, IsSome, is_some, refl, sym, ◌∙◌, if◌then◌else◌, arith}
 use Rattle.osi_session.specs.Causes.{asks_for_connection, is_taken}
 use Rattle.osi_session.specs.Shown.{shows_connect}
-use Rattle.osi_stack.proofs.Vocabulary.{IfSome, tsaps_at, Rows, value_at, TsapIds, known_is, Call, Input, Listener, called, taken, opened}
-use Rattle.osi_stack.proofs.Vocabulary.{refused, broken, came, react, after_input, shows_loss, addressed, selectors_in, addresses_at}
-use Rattle.osi_stack.proofs.Vocabulary.{has_given, phase_of, phase_at, IsNamed, AllNamed, line_by, selectors_told, IsSettled, Line, End}
-use Rattle.osi_stack.proofs.Vocabulary.{session_in, session_at}
+use Rattle.osi_stack.proofs.Vocabulary.{IfSome, Rows, value_at, TsapIds, known_is, Call, Input, Listener, called, taken, opened, refused}
+use Rattle.osi_stack.proofs.Vocabulary.{broken, came, react, after_input, shows_loss, addressed, selectors_in, addresses_at, phase_of}
+use Rattle.osi_stack.proofs.Vocabulary.{phase_at, IsNamed, AllNamed, line_by, selectors_told, IsSettled, Line, End, session_in}
 use Rattle.osi_stack.proofs.each_line.what_stays_true_of_each_line.{LinesStay, line_at}
 
 -- the first indication of a user
@@ -51,8 +49,7 @@ named_stays law = grind (arith, opened, line_named, untaken, refused, came, inpu
 -- ---- of a connection that is live
 
 named_by : (r : ℕ) (lines : Rows Line) (o : Option Line) → value_at r lines ≡ o → AllNamed lines → IfSome o IsNamed
-named_by r lines None at all = tt
-named_by r lines (Some line) at all = line_at IsNamed r line lines all at
+named_by r lines o at all = grind (arith, line_at)
 
 -- said of the phase of a session, which is over if there is none
 abbrev Known : {X : Type 0} → Option Listener → Option X → Type 0
@@ -64,13 +61,9 @@ live_known live ids o same h k = grind arith
 
 given_known : {X : Type 0} (given : Bool) (session : Option Listener) (x : Option X) → Known session x →
     IfSome (if given then Some (phase_of session) else None) (λ p. shows_loss p ≡ true → IsSome x)
-given_known false session x h = tt
-given_known true session x h = h
+given_known given session x h = grind arith
 
 pub known_at : (r : ℕ) (e : End) → IsSettled e → IfSome (phase_at r e) (λ p. shows_loss p ≡ true → IsSome (addresses_at r e))
-known_at r e s =
-    given_known (has_given r e.carrier) (session_at r e) (addresses_at r e)
-    (live_known (is_some (value_at r e.carrier.live)) (tsaps_at r e.carrier) (value_at r e.lines) (known_is r e.carrier s.orderly.named)
-    (named_by r e.lines (value_at r e.lines) refl s.named))
+known_at r e s = grind (arith, given_known, live_known, known_is, named_by)
 
 -- ---- in memory

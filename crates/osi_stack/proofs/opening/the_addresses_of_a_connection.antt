@@ -1,6 +1,6 @@
 -- The addresses of a connection: those requested, those received, and what keeps them.
-use Rattle.std.proofs.Common.{◌≡◌, ◌≢◌, ℕ, ◌+◌, Bool, true, false, [], ◌∷◌, ◌++◌, Option, Some, None, is_some, option_map, refl, ap, ◌∙◌}
-use Rattle.std.proofs.Common.{arith, if◌then◌else◌}
+use Rattle.std.proofs.Common.{◌≡◌, ◌≢◌, ℕ, ◌+◌, true, false, [], ◌∷◌, ◌++◌, Option, Some, None, is_some, option_map, refl, ap, ◌∙◌, arith}
+use Rattle.std.proofs.Common.{if◌then◌else◌}
 use Rattle.osi_carrier.specs.Named.{AreNamed}
 use Rattle.osi_stack.proofs.Vocabulary.{tsap_octets, tsaps_at, asks, value_at, Connection, asked, TsapIds, push_here, put_here, beyond}
 use Rattle.osi_stack.proofs.Vocabulary.{put_other, known_is, none_of, Input, Listener, react, addressed, selectors_in, addresses_at}
@@ -39,20 +39,15 @@ moved_by r input e o s here is = grind (arith, selectors_in, value_at, by_line, 
 pub came_known : (r : ℕ) (input : Input) (s : Listener) (e : End) → kept_at r e.lines ≡ Some s →
     shows_connect (react s input).shown ≡ true →
     selectors_in (value_at r (to_session r input e).lines) ≡ selectors_told input
-came_known r input s e kept shows =
-    moved_by r input e (value_at r e.lines) s refl kept
-    ∙ ap (λ (b : Bool). if b then selectors_told input else selectors_in (value_at r e.lines)) shows
+came_known r input s e kept shows = grind (arith, moved_by r input e (value_at r e.lines) s refl kept)
 
 pub else_kept : (r : ℕ) (input : Input) (s : Listener) (e : End) → kept_at r e.lines ≡ Some s →
     shows_connect (react s input).shown ≡ false →
     selectors_in (value_at r (to_session r input e).lines) ≡ selectors_in (value_at r e.lines)
-else_kept r input s e kept shows =
-    moved_by r input e (value_at r e.lines) s refl kept
-    ∙ ap (λ (b : Bool). if b then selectors_told input else selectors_in (value_at r e.lines)) shows
+else_kept r input s e kept shows = grind (arith, moved_by)
 
 other_by : (q r : ℕ) (input : Input) (e : End) (o : Option Line) → q ≢ r → value_at q (by_line r o input e).lines ≡ value_at q e.lines
-other_by q r input e None other = refl
-other_by q r input e (Some line) other = put_other q r (line_by line line.session input) e.lines other
+other_by q r input e o other = grind (arith, put_other)
 
 pub other_kept : (q r : ℕ) (input : Input) (e : End) → q ≢ r →
     selectors_in (value_at q (to_session r input e).lines) ≡ selectors_in (value_at q e.lines)

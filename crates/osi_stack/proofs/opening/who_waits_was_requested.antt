@@ -1,15 +1,15 @@
 -- Each session that waits for its transport connection has one that was requested.
-use Rattle.std.proofs.Common.{◌≡◌, ◌≢◌, ℕ, ◌+◌, ◌==◌, Bool, true, false, ◌||◌, List, ◌∷◌, ◌++◌, length, Option, Some, None, is_some, refl}
-use Rattle.std.proofs.Common.{sym, ap, subst, ◌∙◌, inl, inr, ◌⊎◌, arith, if◌then◌else◌, []}
+use Rattle.std.proofs.Common.{◌≡◌, ◌≢◌, ℕ, ◌==◌, Bool, true, false, List, ◌∷◌, length, Option, Some, None, is_some, refl, sym, ap, subst}
+use Rattle.std.proofs.Common.{◌∙◌, inl, inr, arith, if◌then◌else◌, []}
 use Rattle.osi_carrier.specs.Happenings as told
 use Rattle.osi_carrier.specs.Packets as carriers
-use Rattle.osi_stack.proofs.Vocabulary.{eqb-true, eq-eqb, Fed, Standing as Link, Class, Zero, Local, beyond, push_here, put_other}
-use Rattle.osi_stack.proofs.Vocabulary.{push_other, open_link, link_of, sent_on, closes, closed_on, Happening, IsOrderly, told_of, value_at}
-use Rattle.osi_stack.proofs.Vocabulary.{Connection, asked, closing, State as Carrier, Broken, Call, Input, Listener, called, opened}
-use Rattle.osi_stack.proofs.Vocabulary.{refused, react, is_wait_transport, awaits, connects, calls_with, breaks, carried, without_first}
-use Rattle.osi_stack.proofs.Vocabulary.{Feeds, opens, hears, hears_next, hears_times, hears_all, with_events, with_carrier, after_packet}
-use Rattle.osi_stack.proofs.Vocabulary.{ends, AreApart, HasAsked, Soundness, IsSound, kept_at, to_session, Line, End, Holding, IsAttended}
-use Rattle.osi_stack.proofs.Vocabulary.{fresh_end, waits, Connect, input_of}
+use Rattle.osi_stack.proofs.Vocabulary.{eqb-true, eq-eqb, Fed, Standing as Link, Class, Local, beyond, push_here, put_other, push_other}
+use Rattle.osi_stack.proofs.Vocabulary.{open_link, link_of, sent_on, closes, closed_on, Happening, IsOrderly, told_of, value_at, Connection}
+use Rattle.osi_stack.proofs.Vocabulary.{asked, State as Carrier, Broken, Call, Input, Listener, called, opened, refused, react}
+use Rattle.osi_stack.proofs.Vocabulary.{is_wait_transport, awaits, connects, breaks, carried, without_first, Feeds, opens, hears}
+use Rattle.osi_stack.proofs.Vocabulary.{hears_next, hears_times, with_events, with_carrier, after_packet, ends, AreApart, HasAsked}
+use Rattle.osi_stack.proofs.Vocabulary.{Soundness, IsSound, kept_at, to_session, Line, End, Holding, IsAttended, fresh_end, Connect}
+use Rattle.osi_stack.proofs.Vocabulary.{input_of}
 use Rattle.osi_stack.proofs.opening.which_requests_are_answered.{answered, answered_other, answered_behind}
 use Rattle.osi_stack.proofs.carried.events_one_after_the_other.{concluded_carrier}
 use Rattle.osi_stack.proofs.carried.what_sessions_leave_of_the_carrier.{session_keeps}
@@ -39,21 +39,17 @@ other_link r q c link here e = λ same. unlinked (is_some c.ended) (value_at q c
 asked_sent : (r q : ℕ) (tsdu : List ℕ) (o : Option (ℕ × Link)) (c : Carrier) → open_link q c ≡ o →
     (c.ended ≡ None → value_at r c.live ≡ Some asked) → (sent_on q tsdu o c).ended ≡ None →
     value_at r (sent_on q tsdu o c).live ≡ Some asked
-asked_sent r q tsdu None c e here over = here over
-asked_sent r q tsdu (Some (peer, link)) c e here over = put_other r q _ c.live (other_link r q c (peer, link) (here over) e) ∙ here over
+asked_sent r q tsdu o c e here over = grind (arith, put_other, other_link)
 
 asked_closes : (r q peer : ℕ) (class : Option Class) (c : Carrier) → (c.ended ≡ None → r ≢ q) →
     (c.ended ≡ None → value_at r c.live ≡ Some asked) → (closes q peer 128 class c).ended ≡ None →
     value_at r (closes q peer 128 class c).live ≡ Some asked
-asked_closes r q peer (Some Zero) c ne here over = cc
-asked_closes r q peer _ c ne here over = put_other r q (closing peer) c.live (ne over) ∙ here over
+asked_closes r q peer class c ne here over = grind (arith, put_other)
 
 pub asked_closed : (r q : ℕ) (o : Option (ℕ × Link)) (c : Carrier) → open_link q c ≡ o → (c.ended ≡ None → value_at r c.live ≡ Some asked) →
     (closed_on q 128 o c).ended ≡ None →
     value_at r (closed_on q 128 o c).live ≡ Some asked
-asked_closed r q None c e here over = here over
-asked_closed r q (Some (peer, link)) c e here over = asked_closes r q peer c.class c (λ lasts. other_link r q c (peer, link) (here lasts) e)
-    here over
+asked_closed r q o c e here over = grind (arith, asked_closes, other_link)
 
 -- one that was requested stays so while the carrier lasts
 asked_session : (r q : ℕ) (input : Input) (e : End) → (to_session q input e).carrier.ended ≡ None → value_at r e.carrier.live ≡ Some asked →
@@ -82,16 +78,8 @@ moved_asked : StillWaits → (q : ℕ) (input : Input) (event : Happening) (rest
     AllAsked (event ∷ rest) e →
     (r : ℕ) (s : Listener) (b : Bool) → (r == q) ≡ b → kept_at r d.lines ≡ Some s → is_wait_transport s.state.phase ≡ true →
     answered r rest ≡ false → value_at r d.carrier.live ≡ Some asked
-moved_asked law q input event rest e d of m stays quiet all r s true at is n h =
-    let same = eqb-true r q at in
-    let both_are : Some (react m.session input).next ≡ Some s = sym m.is ∙ ap (λ k. kept_at k d.lines) (sym same) ∙ is in
-    let one : (react m.session input).next ≡ s = cc in
-    let waits = ap (λ (x : Listener). is_wait_transport x.state.phase) one ∙ n in
-    stays r (ap (λ k. value_at k e.carrier.live) same ∙
-    all q m.session m.was (law m.session input waits) (quiet m.session waits ∙ ap (λ k. answered k rest) (sym same) ∙ h))
-moved_asked law q input event rest e d of m stays quiet all r s false at is n h =
-    let ne : r ≢ q = (λ same. both (r == q) (eq-eqb r q same) at) in
-    stays r (all r s (sym (m.others r ne) ∙ is) n (answered_other r event rest (λ same. ne (same ∙ of)) ∙ h))
+moved_asked law q input event rest e d of m stays quiet all r s b at is n h =
+    search (arith, eqb-true, answered, both, eq-eqb, answered_other)
 
 rested_asked : (q : ℕ) (event : Happening) (rest : List Happening) (e : End) → told_of event ≡ q → kept_at q e.lines ≡ None →
     AllAsked (event ∷ rest) e →
@@ -105,15 +93,12 @@ heard_asked : StillWaits → (q : ℕ) (input : Input) (event : Happening) (rest
     AllAsked (event ∷ rest) e → AllAsked rest d
 heard_asked law q input event rest e d of (inl m) stays quiet all =
     λ r s. moved_asked law q input event rest e d of m stays quiet all r s (r == q) refl
-heard_asked law q input event rest e d of (inr m) stays quiet all =
-    subst (λ (x : End). AllAsked rest x) (sym m.same) (λ r s. rested_asked q event rest e of m.none all r s (r == q) refl)
+heard_asked law q input event rest e d of (inr m) stays quiet all = grind (arith, rested_asked)
 
 session_asked : StillWaits → (q : ℕ) (input : Input) (event : Happening) (rest : List Happening) (e : End) → told_of event ≡ q →
     (to_session q input e).carrier.ended ≡ None →
     Unanswered q input event rest → AllAsked (event ∷ rest) e → AllAsked rest (to_session q input e)
-session_asked law q input event rest e of over quiet all =
-    heard_asked law q input event rest e (to_session q input e) of (session_hears q input e) (λ r here. asked_session r q input e over here)
-    quiet all
+session_asked law q input event rest e of over quiet all = search (arith, heard_asked, session_hears, asked_session)
 
 -- ---- one event
 
@@ -171,29 +156,12 @@ times_asked law (event ∷ rest) e h apart over all =
 packet_told : (packet : List ℕ) (e : End) → IsOrderly e.carrier → e.carrier.ended ≡ None →
     (carriers.after_packet e.carrier packet).ended ≡ None → HasAsked e →
     AllAsked (carriers.after_packet e.carrier packet).events (with_carrier (carriers.after_packet e.carrier packet) e)
-packet_told packet e o lasts over has =
-    let along = packet_along packet e.carrier o in
-    λ r s is n h. elim (along.stays r (has lasts r s is n) over) [
-      | inl here ↦ here
-      | inr told ↦ both (answered r (carriers.after_packet e.carrier packet).events)
-          (ap (answered r) along.events ∙ answered_behind r e.carrier.events along.told told) h
-    ]
+packet_told packet e o lasts over has = grind (arith, both, answered, answered_behind, packet_along packet e.carrier o)
 
 pub packet_asked : StillWaits → (packet : List ℕ) (e : End) → e.carrier.ended ≡ None → Soundness e → HasAsked e →
     HasAsked (after_packet e packet)
 packet_asked law packet e lasts sound has over =
-    let c = carriers.after_packet e.carrier packet in
-    let mid = with_carrier c e in
-    let heard = hears_all mid in
-    let is = packet_is e packet in
-    let heard_lasts : heard.carrier.ended ≡ None = sym (ap (λ (x : Carrier). x.ended) (concluded_carrier heard)) ∙
-    ap (λ (x : End). x.carrier.ended) (sym is) ∙ over in
-    let told_lasts : c.ended ≡ None = times_last (length c.events) mid heard_lasts in
-    let all : AllAsked [] heard =
-    times_asked law c.events mid refl sound.apart heard_lasts (packet_told packet e sound.orderly lasts told_lasts has) in
-    let same : heard ≡ after_packet e packet = sym (concludes_lasting heard.carrier.ended heard heard_lasts) ∙ sym is in
-    subst (λ (x : End). (r : ℕ) (s : Listener) → kept_at r x.lines ≡ Some s → is_wait_transport s.state.phase ≡ true →
-    value_at r x.carrier.live ≡ Some asked) same (λ r s is n. all r s is n refl)
+    grind (arith, packet_is, concluded_carrier, times_last, times_asked, packet_told, concludes_lasting)
 
 -- ---- calls
 
@@ -209,18 +177,7 @@ call_asked law r call e has over =
     λ q s is n. after q s is n refl
 
 pub connect_asked : (c : Connect) (e : End) → IsSound e → HasAsked e → HasAsked (connects c e)
-connect_asked c e sound has over =
-    let s = sound over in
-    let q = e.carrier.given + 1 in
-    let live = e.carrier.live ++ (q, asked) ∷ [] in
-    let none : value_at q e.lines ≡ None = beyond q e.carrier.given e.lines s.known (omega arith) in
-    let free : value_at q e.carrier.live ≡ None = beyond q e.carrier.given e.carrier.live s.orderly.up_to (omega arith) in
-    λ r t is n. elim
-    (kept_joined q r (calls_with c) t live e.lines (q == r) refl none
-    (used_at r live (joined_lines q (calls_with c) e.lines) (apart_push q _ e.lines none s.apart)) is) [
-      | inl new ↦ subst (λ k. value_at k live ≡ Some asked) new.0 (push_here q asked e.carrier.live free)
-      | inr old ↦ push_other r q asked e.carrier.live (λ same. old.0 (sym same)) ∙ has over r t old.1 n
-    ]
+connect_asked c e sound has over = grind (arith, beyond, kept_joined, used_at, joined_lines, apart_push, push_here, push_other)
 
 pub first_asked : (e : End) → HasAsked e → HasAsked (record e { lines = without_first e.lines })
 first_asked e has over r s is n = has over r s (sym (kept_first r e.lines) ∙ is) n

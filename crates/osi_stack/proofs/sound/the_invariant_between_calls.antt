@@ -1,20 +1,20 @@
 -- The invariant of every end between any two calls is kept.
-use Rattle.std.proofs.Common.{◌≡◌, ℕ, ◌≤◌, ◌<◌, Bool, true, false, ◌||◌, not, List, ◌∷◌, length, drop, Option, Some, None, Result, Ok, Err}
-use Rattle.std.proofs.Common.{arith, is_some, IsSome, option_map, refl, sym, ap, subst, ◌∙◌, inl, inr, ◌⊎◌, if◌then◌else◌, []}
+use Rattle.std.proofs.Common.{◌≡◌, ℕ, ◌≤◌, ◌<◌, Bool, true, false, not, List, ◌∷◌, length, drop, Option, Some, None, Result, Ok, Err, arith}
+use Rattle.std.proofs.Common.{is_some, IsSome, refl, sym, subst, inl, inr, if◌then◌else◌, []}
 use Rattle.osi_carrier.specs.Packets as carriers
 use Rattle.osi_session.specs.Units.{is_profile}
 use Rattle.osi_stack.specs.declared.connecting.ConnectError.TheVariants.{NotSelected}
 use Rattle.osi_session.specs.declared.faults.CallError.TheVariants as error
-use Rattle.osi_stack.proofs.Vocabulary.{OnOk, OnErr, IfErr, IfSome, tsap_octets, units_of, Value, TpduFault, Local, Units, said_by_units}
-use Rattle.osi_stack.proofs.Vocabulary.{Fed, may_connect, IsOrderly, reacts, Rows, value_at, Connection, State as Carrier, EndReason}
-use Rattle.osi_stack.proofs.Vocabulary.{Broken, NoMemory, orderly_fresh, orderly_units, orderly_packet, orderly_asks, orderly_end}
-use Rattle.osi_stack.proofs.Vocabulary.{orderly_ended, orderly_same, Call, HasSerial, Input, Listener, called, taken, react, after_inputs}
-use Rattle.osi_stack.proofs.Vocabulary.{HasProfile, Opening, unit_bits, OpenError, ConnectError, awaiting, asking, HasNumbersInWords}
-use Rattle.osi_stack.proofs.Vocabulary.{CallError, connects, connect_error, terms_error, after_open, opening_of, calls_with, breaks}
-use Rattle.osi_stack.proofs.Vocabulary.{carried, without_first, has_given, call_error, table_error, session_refusal, session_error, Refuses}
-use Rattle.osi_stack.proofs.Vocabulary.{by_rule, stops, Goes, Feeds, hears_all, hears_times, with_events, with_carrier, attends}
-use Rattle.osi_stack.proofs.Vocabulary.{after_packet, starves, Starves, to_session, Line, End, Holding, IsAttended, fresh_end, session_in}
-use Rattle.osi_stack.proofs.Vocabulary.{session_at, waits, CameAbout, IsProfiled, IsNamed, OfSessions, IsSettled, Connect, IsSound}
+use Rattle.osi_stack.proofs.Vocabulary.{OnOk, OnErr, IfErr, IfSome, units_of, Value, TpduFault, Local, Units, said_by_units, Fed}
+use Rattle.osi_stack.proofs.Vocabulary.{may_connect, IsOrderly, reacts, Rows, value_at, State as Carrier, EndReason, Broken, NoMemory}
+use Rattle.osi_stack.proofs.Vocabulary.{orderly_fresh, orderly_units, orderly_packet, orderly_asks, orderly_end, orderly_ended}
+use Rattle.osi_stack.proofs.Vocabulary.{orderly_same, Call, HasSerial, Input, Listener, called, taken, react, after_inputs, HasProfile}
+use Rattle.osi_stack.proofs.Vocabulary.{Opening, unit_bits, OpenError, ConnectError, awaiting, asking, HasNumbersInWords, CallError}
+use Rattle.osi_stack.proofs.Vocabulary.{connects, connect_error, terms_error, after_open, opening_of, calls_with, breaks, carried}
+use Rattle.osi_stack.proofs.Vocabulary.{without_first, has_given, call_error, table_error, session_refusal, session_error, Refuses, by_rule}
+use Rattle.osi_stack.proofs.Vocabulary.{stops, Goes, Feeds, hears_all, hears_times, with_events, with_carrier, attends, after_packet}
+use Rattle.osi_stack.proofs.Vocabulary.{starves, Starves, to_session, Line, End, Holding, IsAttended, fresh_end, session_in, session_at}
+use Rattle.osi_stack.proofs.Vocabulary.{waits, CameAbout, IsProfiled, IsNamed, OfSessions, IsSettled, Connect, IsSound}
 use Rattle.osi_stack.proofs.called.the_result_is_that_of_the_table.{Below, answered_is}
 use Rattle.osi_stack.proofs.opening.who_waits_was_requested.{StillWaits, fresh_asked, connect_asked, call_asked, feeds_asked, first_asked}
 use Rattle.osi_stack.proofs.opening.who_waits_was_requested.{carried_asked, breaks_asked}
@@ -42,9 +42,7 @@ pub session_orderly : (r : ℕ) (input : Input) (e : End) → IsOrderly e.carrie
 session_orderly r input e h = (session_leaves r input e h).0
 
 pub connect_orderly : (c : Connect) (e : End) → connect_error c e ≡ None → IsOrderly e.carrier → IsOrderly (connects c e).carrier
-connect_orderly c e allowed h =
-    orderly_asks (option_map tsap_octets c.calling_tsap) (option_map tsap_octets c.called_tsap) e.carrier
-    (open_none (may_connect e.carrier) (terms_error c) allowed) h
+connect_orderly c e allowed h = search (arith, orderly_asks, open_none)
 
 pub breaks_orderly : (e : End) → IsOrderly e.carrier → IsOrderly (breaks e).carrier
 breaks_orderly e h = broken_end (λ x. IsOrderly x.carrier) (λ x h. orderly_end Broken x.carrier h) e h
@@ -67,21 +65,13 @@ record Grows (old new : Carrier) : Type 0 where
   given : old.given ≤ new.given
 
 grows_out : (units : List Value) (old new : Carrier) → carriers.RunsOut old units new → IsOrderly old → Grows old new
-grows_out units old new h o = record {
-  orderly = subst IsOrderly (sym h.ended) (orderly_end NoMemory (reacts h.done old) (orderly_units h.done old o));
-  given = subst (λ (c : Carrier). old.given ≤ c.given) (sym h.ended) (units_rise h.done old);
-}
+grows_out units old new h o =
+    grind (arith, orderly_end NoMemory (reacts h.done old) (orderly_units h.done old o), orderly_units h.done old o, units_rise h.done old)
 
 grows_by : (units : Result (List Value) TpduFault) (old new : Carrier) → carriers.ActsBy units old new → IsOrderly old → Grows old new
-grows_by (Ok units) old new (inl is) o = record {
-  orderly = subst IsOrderly (sym is) (orderly_units units old o);
-  given = subst (λ (c : Carrier). old.given ≤ c.given) (sym is) (units_rise units old);
-}
+grows_by (Ok units) old new (inl is) o = grind (arith, orderly_units units old o, units_rise units old)
 grows_by (Ok units) old new (inr h) o = grows_out units old new h o
-grows_by (Err fault) old new is o = record {
-  orderly = subst IsOrderly (sym is) (orderly_end _ old o);
-  given = subst (λ (c : Carrier). old.given ≤ c.given) (sym is) (omega arith);
-}
+grows_by (Err fault) old new is o = grind (arith, orderly_end)
 
 grown_fits : (e : End) (c : Carrier) → Grows e.carrier c → Fits e → Fits (with_carrier c e)
 grown_fits e c g f = record { orderly = g.orderly; known = up_more e.carrier.given c.given e.lines g.given f.known }
@@ -111,8 +101,7 @@ orderly_kept = record {
 pub feeds_orderly : SessionLaws → (old new : Holding) (piece : List ℕ) (fed : Fed) → Feeds old piece fed new → IsAttended old.end →
     IsSound old.end → IsOrderly old.end.carrier →
     IsOrderly new.end.carrier
-feeds_orderly laws old new piece fed h attended sound orderly =
-    feeds_beside IsHale (λ e. IsOrderly e.carrier) (hale_kept laws) orderly_kept old new piece fed h (attended, sound) orderly
+feeds_orderly laws old new piece fed h attended sound orderly = grind (arith, feeds_beside, hale_kept, orderly_kept)
 
 -- ---- the invariant of every end
 
@@ -135,12 +124,10 @@ fresh_settled is_caller local = grind (arith, orderly_fresh, fresh_sound, fresh_
 
 -- a connection is requested with units that can be selected together
 units_of_terms : (b : Bool) (error : Option ConnectError) → (if not b then Some NotSelected else error) ≡ None → b ≡ true
-units_of_terms true error h = refl
-units_of_terms false error h = cc
+units_of_terms b error h = grind arith
 
 terms_none : (o : Option OpenError) (error : Option ConnectError) → after_open o error ≡ None → error ≡ None
-terms_none None error h = h
-terms_none (Some e) error h = cc
+terms_none o error h = grind arith
 
 asks_profile : Profiles → (c : Connect) (e : End) → connect_error c e ≡ None → IsProfiled (calls_with c)
 asks_profile profiles c e allowed =
@@ -196,17 +183,8 @@ pub carried_settled : (octets : ℕ) (e : End) → IsSettled e → IsSettled (ca
 carried_settled octets e s = grind (arith, orderly_same, drop, carried_sound, carried_asked, carried_ordered)
 
 pub breaks_settled : (e : End) → IsSettled e → IsSettled (breaks e)
-breaks_settled e s = record {
-  attended = breaks_attended e s.attended;
-  orderly = breaks_orderly e s.orderly;
-  sound = breaks_sound e;
-  asks = breaks_asked e s.asks;
-  ordered = breaks_ordered e s.ordered;
-  came = breaks_all CameAbout e s.came;
-  profiled = breaks_all IsProfiled e s.profiled;
-  named = breaks_lines IsNamed (λ line. tt) e s.named;
-  gone = breaks_gone e s.gone;
-}
+breaks_settled e s =
+    grind (arith, breaks_attended, breaks_orderly, breaks_sound, breaks_asked, breaks_ordered, breaks_all, breaks_lines, breaks_gone)
 
 -- ---- one session
 
@@ -220,8 +198,7 @@ profiled_at r s lines (Some line) at is all =
 
 -- no connection is live
 pub none_at : (r : ℕ) (e : End) → IsOrderly e.carrier → IsSome e.carrier.ended → session_at r e ≡ None
-none_at r e o over = ap (λ (live : Rows Connection). if is_some (value_at r live) then session_in (value_at r e.lines) else None)
-    (o.over over)
+none_at r e o over = grind arith
 
 table_by : Below → (r : ℕ) (call : Call) (e : End) (o : Option EndReason) → e.carrier.ended ≡ o → HasSerial call → IsSettled e →
     call_error r call e ≡ table_error r call e
@@ -239,15 +216,13 @@ over_is r call e s over = grind arith
 pub settled_by : {A F : Type 0} (result : Result A F) (old new next : Holding) → OnOk result (new ≡ next) → OnErr result (new ≡ old) →
     IsSettled old.end → IsSettled next.end →
     IsSettled new.end
-settled_by (Ok x) old new next ok err was is = subst (λ (h : Holding). IsSettled h.end) (sym ok) is
-settled_by (Err e) old new next ok err was is = subst (λ (h : Holding). IsSettled h.end) (sym err) was
+settled_by result old new next ok err was is = grind arith
 
 pub settled_connect : {A F : Type 0} (result : Result A F) (c : Connect) (old new : Holding) →
     (connect_error c old.end ≡ None → IsSettled old.end → IsSettled (connects c old.end)) →
     OnOk result (new ≡ record old { end = connects c old.end }) →
     OnOk result (connect_error c old.end ≡ None) → OnErr result (new ≡ old) → IsSettled old.end → IsSettled new.end
-settled_connect (Ok x) c old new settles ok allowed err was = subst (λ (h : Holding). IsSettled h.end) (sym ok) (settles allowed was)
-settled_connect (Err e) c old new settles ok allowed err was = subst (λ (h : Holding). IsSettled h.end) (sym err) was
+settled_connect result c old new settles ok allowed err was = grind arith
 
 pub answered_by_table : {A : Type 0} (result : Result A CallError) (first all : Option CallError) → all ≡ first →
     IfErr result (λ e. Refuses e first all) →

@@ -1,7 +1,6 @@
 -- The invariant of every end is kept, whatever is called and fed.
-use Rattle.std.proofs.Common.{◌≡◌, ◌≢◌, ℕ, ◌+◌, ◌==◌, ◌<◌, ◌≤◌, Bool, true, false, ◌||◌, List, ◌∷◌, ◌++◌, length, nat_le, Option, Some}
-use Rattle.std.proofs.Common.{None, is_some, IsSome, option_map, Result, Ok, Err, refl, sym, ap, subst, ◌∙◌, inl, inr, ◌⊎◌, arith}
-use Rattle.std.proofs.Common.{if◌then◌else◌, []}
+use Rattle.std.proofs.Common.{◌≡◌, ℕ, ◌+◌, ◌==◌, ◌≤◌, Bool, true, false, ◌||◌, List, ◌∷◌, ◌++◌, length, nat_le, Option, None, is_some}
+use Rattle.std.proofs.Common.{IsSome, option_map, Result, refl, sym, ap, subst, ◌∙◌, inl, arith, if◌then◌else◌, []}
 use Rattle.osi_carrier.specs.Happenings as told
 use Rattle.osi_carrier.specs.Packets as carriers
 use Rattle.osi_carrier.specs.React.{react as carrier_react}
@@ -13,8 +12,8 @@ use Rattle.osi_stack.proofs.Vocabulary.{orderly_closed, orderly_same, packet_ope
 use Rattle.osi_stack.proofs.Vocabulary.{awaits, connects, connect_error, after_open, terms_error, calls_with, breaks, carried}
 use Rattle.osi_stack.proofs.Vocabulary.{without_first, Feeds, Connect, ConnectError, tsap_octets, Fed, Local, Broken, hears_times}
 use Rattle.osi_stack.proofs.Vocabulary.{hears_all, with_carrier, after_packet, ends, all_lost, needs_link, AreApart, HasLinks, Soundness}
-use Rattle.osi_stack.proofs.Vocabulary.{IsSound, kept_at, line_by, by_line, to_session, Line, End, Holding, IsAttended, fresh_end}
-use Rattle.osi_stack.proofs.Vocabulary.{session_in, used_lines, joins, fresh_line, input_of}
+use Rattle.osi_stack.proofs.Vocabulary.{IsSound, kept_at, by_line, to_session, Line, End, Holding, IsAttended, fresh_end, used_lines, joins}
+use Rattle.osi_stack.proofs.Vocabulary.{fresh_line, input_of}
 use Rattle.osi_stack.proofs.carried.events_one_after_the_other.{concluded_carrier}
 use Rattle.osi_stack.proofs.carried.what_a_move_leaves.{kept_first, used_keep, first_keep}
 use Rattle.osi_stack.proofs.carried.what_sessions_leave_of_the_carrier.{session_keeps}
@@ -39,8 +38,7 @@ units_rise (unit ∷ units) c =
     omega arith
 
 pub acts_rise : (units : Result (List Value) TpduFault) (c : Carrier) → c.given ≤ (carriers.acts_by units c).given
-acts_rise (Ok units) c = units_rise units c
-acts_rise (Err fault) c = omega arith
+acts_rise units c = grind (arith, units_rise)
 
 pub packet_rises : (packet : List ℕ) (c : Carrier) → c.given ≤ (carriers.after_packet c packet).given
 unfolding carriers.after_packet
@@ -60,23 +58,18 @@ pub up_at : (r n : ℕ) (rows : Rows Connection) → AreUpTo n rows → IsSome (
 up_at r n rows up some = up_at_by r n rows (nat_le r n) refl up some
 
 or_none : (b : Bool) → (b || false) ≡ true → b ≡ true
-or_none true h = refl
-or_none false h = cc
+or_none b h = grind arith
 
 -- a new line is kept only if its connection is live
 up_joined : (n r : ℕ) (s : Listener) (live : Rows Connection) (lines : Rows Line) → AreUpTo n live → AreUpTo n lines →
     AreUpTo n (used_lines live (joined_lines r s lines))
-up_joined n r s live [] up known =
-    used_keep (AreUpTo n) live (r, fresh_line s) [] tt (λ used. (up_at r n live up (or_none (is_some (value_at r live)) used), tt))
-up_joined n r s live ((p, y) ∷ lines) up known =
-    let more = up_joined n r s live lines up known.1 in
-    used_keep (AreUpTo n) live (p, y) (joined_lines r s lines) more (λ used. (known.0, more))
+up_joined n r s live [] up known = grind (arith, used_keep, up_at, or_none)
+up_joined n r s live ((p, y) ∷ lines) up known = grind (arith, used_keep, joined_lines, up_joined n r s live lines up known.1)
 
 -- ---- what a session leaves of its carrier
 
 pub sent_given : (r : ℕ) (tsdu : List ℕ) (o : Option (ℕ × Link)) (c : Carrier) → (sent_on r tsdu o c).given ≡ c.given
-sent_given r tsdu None c = refl
-sent_given r tsdu (Some link) c = refl
+sent_given r tsdu o c = grind arith
 
 pub closed_given : (r reason : ℕ) (o : Option (ℕ × Link)) (c : Carrier) → (closed_on r reason o c).given ≡ c.given
 closed_given r reason o c = grind arith
@@ -99,20 +92,13 @@ session_leaves r input e h = session_carried (λ c. IsOrderly c × (c.given ≡ 
     (h, refl)
 
 line_up : (n r : ℕ) (input : Input) (e : End) (o : Option Line) → AreUpTo n e.lines → AreUpTo n (by_line r o input e).lines
-line_up n r input e None up = up
-line_up n r input e (Some line) up = put_up n r (line_by line line.session input) e.lines up
+line_up n r input e o up = grind (arith, put_up)
 
 pub session_up : (n r : ℕ) (input : Input) (e : End) → AreUpTo n e.lines → AreUpTo n (to_session r input e).lines
 session_up n r input e up = line_up n r input e (value_at r e.lines) up
 
 pub session_fits : (r : ℕ) (input : Input) (e : End) → Fits e → Fits (to_session r input e)
-session_fits r input e f =
-    let l = session_leaves r input e f.orderly in
-    record {
-      orderly = l.0;
-      known = subst (λ n. AreUpTo n (to_session r input e).lines) (sym l.1)
-          (session_up e.carrier.given r input e f.known);
-    }
+session_fits r input e f = grind (arith, session_leaves r input e f.orderly, session_up e.carrier.given r input e f.known)
 
 pub joins_fits : (r : ℕ) (s : Listener) (e : End) → Fits e → Fits (joins r s e)
 joins_fits r s e f = record { orderly = f.orderly; known = up_joined e.carrier.given r s e.carrier.live e.lines f.orderly.up_to f.known }
@@ -154,8 +140,7 @@ packet_linked e packet orderly none l over =
     )
 
 pub concludes_lasting : (o : Option EndReason) (e : End) → o ≡ None → (if is_some o then record e { lines = all_lost e.lines } else e) ≡ e
-concludes_lasting None e h = refl
-concludes_lasting (Some reason) e h = cc
+concludes_lasting o e h = grind arith
 
 pub packet_sound : SessionLaws → (packet : List ℕ) (e : End) → e.carrier.ended ≡ None → e.carrier.events ≡ [] → IsSound e →
     IsSound (after_packet e packet)
@@ -205,34 +190,14 @@ call_sound laws r call e sound over =
     search (session_apart r (called call) e s.apart, linked_links (to_session r (called call) e) (λ x. all))
 
 pub open_none : (o : Option OpenError) (error : Option ConnectError) → after_open o error ≡ None → o ≡ None
-open_none None error h = refl
-open_none (Some e) error h = cc
+open_none o error h = grind arith
 
 -- a caller's session waits for its connection
 asked_linked : (q : ℕ) (s : Listener) (e : End) (c : Carrier) → value_at q e.lines ≡ None → AreApart e.lines →
     needs_link s.state.phase ≡ false → AllLinked [] e →
     ((r : ℕ) → is_open r c ≡ is_open r e.carrier) → (r : ℕ) (b : Bool) → (r == q) ≡ b → Stays r c.live (joined_lines q s e.lines) →
     IsLinked r (kept_at r (used_lines c.live (joined_lines q s e.lines))) [] c
-asked_linked q s e c none apart unneeded l same r true at (inl is) =
-    let here = eqb-true r q at in
-    let kept : kept_at r (used_lines c.live (joined_lines q s e.lines)) ≡ Some s =
-    ap session_in (is ∙ ap (λ n. value_at n (joined_lines q s e.lines)) here ∙ push_here q (fresh_line s) e.lines none) in
-    subst (λ (o : Option Listener). IsLinked r o [] c) (sym kept) (record {
-      needed = λ t is n h.
-          (let one : s ≡ t = cc in both (needs_link s.state.phase) (ap (λ (x : Listener). needs_link x.state.phase) one ∙ n) unneeded);
-      fresh = inl (λ h. cc);
-    })
-asked_linked q s e c none apart unneeded l same r b at (inr gone) =
-    subst (λ (o : Option Listener). IsLinked r o [] c) (sym (ap session_in gone.0))
-    (record { needed = λ t is n h. cc; fresh = inl (λ h. cc) })
-asked_linked q s e c none apart unneeded l same r false at (inl is) =
-    let ne : r ≢ q = (λ here. both (r == q) (eq-eqb r q here) at) in
-    let kept : kept_at r (used_lines c.live (joined_lines q s e.lines)) ≡ kept_at r e.lines =
-    ap session_in (is ∙ push_other r q _ e.lines ne) in
-    subst (λ (o : Option Listener). IsLinked r o [] c) (sym kept) (record {
-      needed = λ t is n h. same r ∙ (l r).needed t is n h;
-      fresh = inl (λ h. cc);
-    })
+asked_linked q s e c none apart unneeded l same r b at h = grind (arith, eqb-true, joined_lines, push_here, both, eq-eqb, push_other)
 
 pub connect_sound : (c : Connect) (e : End) → connect_error c e ≡ None → IsSound e → IsSound (connects c e)
 connect_sound c e allowed sound over =
@@ -263,9 +228,7 @@ first_up n ((r, line) ∷ lines) up = first_keep (AreUpTo n) r line lines (up.0,
 
 first_gone_by : (q r : ℕ) (line : Line) (lines : Rows Line) (b : Bool) → (r == q) ≡ b → value_at q ((r, line) ∷ lines) ≡ None →
     (value_at q lines ≡ None → value_at q (without_first lines) ≡ None) → value_at q (without_first ((r, line) ∷ lines)) ≡ None
-first_gone_by q r line lines true e none more = let there : Some line ≡ None = rw e at none in cc
-first_gone_by q r line lines false e none more =
-    first_keep (λ l. value_at q l ≡ None) r line lines (rw e (more (rw e at none))) (λ left. rw e (rw e at none))
+first_gone_by q r line lines b e none more = grind (arith, first_keep)
 
 first_gone : (q : ℕ) (lines : Rows Line) → value_at q lines ≡ None → value_at q (without_first lines) ≡ None
 first_gone q [] none = refl
@@ -273,8 +236,7 @@ first_gone q ((r, line) ∷ lines) none = first_gone_by q r line lines (r == q) 
 
 first_apart : (lines : Rows Line) → AreApart lines → AreApart (without_first lines)
 first_apart [] apart = tt
-first_apart ((r, line) ∷ lines) apart = first_keep AreApart r line lines (first_gone r lines apart.0, first_apart lines apart.1)
-    (λ left. apart)
+first_apart ((r, line) ∷ lines) apart = grind (arith, first_keep, first_gone, first_apart lines apart.1)
 
 pub first_sound : (e : End) → IsSound e → IsSound (record e { lines = without_first e.lines })
 first_sound e sound over = grind (arith, first_apart, first_up, kept_first)
@@ -286,8 +248,7 @@ over_sound : (e : End) → is_some e.carrier.ended ≡ true → IsSound e
 over_sound e over lasts = never e over lasts
 
 breaks_by : (b : Bool) (e : End) → is_some e.carrier.ended ≡ b → IsSound (if b then e else ends Broken e)
-breaks_by true e is = over_sound e is
-breaks_by false e is = over_sound (ends Broken e) refl
+breaks_by b e is = grind (arith, over_sound)
 
 pub breaks_sound : (e : End) → IsSound (breaks e)
 breaks_sound e = breaks_by (is_some e.carrier.ended) e refl
@@ -299,9 +260,7 @@ abbrev pub IsHale : End → Type 0
 IsHale e = IsAttended e × IsSound e
 
 pub hale_kept : SessionLaws → IsKept IsHale
-hale_kept laws =
-    both_kept IsAttended IsSound attended_kept
-    (over_beside IsAttended IsSound (λ packet e lasts attended. packet_sound laws packet e lasts (attended lasts)) over_sound)
+hale_kept laws = search (arith, both_kept, attended_kept, over_beside, packet_sound, over_sound)
 
 pub feeds_sound : SessionLaws → (old new : Holding) (piece : List ℕ) (fed : Fed) → Feeds old piece fed new → IsAttended old.end →
     IsSound old.end → IsSound new.end

@@ -1,7 +1,7 @@
 -- A piece of the stream, read by looks that each take packets up to one that causes an event.
-use Rattle.std.proofs.Common.{◌≡◌, ℕ, zero, suc, ◌+◌, ◌-◌, ◌<◌, ◌≤◌, ◌||◌, ◌==◌, not, true, false, Bool, List, [], ◌∷◌, ◌++◌, length, take}
-use Rattle.std.proofs.Common.{drop, Option, Some, None, Result, is_some, refl, sym, ap, subst, ◌∙◌, inl, inr, ◌⊎◌, arith, length-append}
-use Rattle.std.proofs.Common.{length-drop, append_assoc, if◌then◌else◌}
+use Rattle.std.proofs.Common.{◌≡◌, ℕ, ◌+◌, ◌-◌, ◌<◌, ◌≤◌, ◌||◌, ◌==◌, not, true, false, Bool, List, [], ◌∷◌, ◌++◌, length, take, drop}
+use Rattle.std.proofs.Common.{Option, Result, is_some, refl, sym, ap, subst, ◌∙◌, inl, inr, ◌⊎◌, arith, length-append, length-drop}
+use Rattle.std.proofs.Common.{append_assoc, if◌then◌else◌}
 use Rattle.std.proofs.Math.Seq.{drop-append_seam}
 use Rattle.osi_carrier.specs.Packets as carriers
 use Rattle.osi_carrier.specs.State as states
@@ -10,7 +10,7 @@ use Rattle.osi_stack.proofs.Vocabulary.{append-nil, take-append-drop, take_at, o
 use Rattle.osi_stack.proofs.Vocabulary.{offset_of, TpktFault, Value, TpduFault, packets_more, packets_leave, Carrying, HasToHold, is_spoilt}
 use Rattle.osi_stack.proofs.Vocabulary.{ActsBy, Rows, State as Carrier, Tpkt, EndReason, Fault, NoMemory, stops, uses_all, TakesPackets}
 use Rattle.osi_stack.proofs.Vocabulary.{RunsDry, StopsBehind, FindsNoRoom, FindsNoMemory, Goes, FeedsToEvent, attends, with_carrier, ends}
-use Rattle.osi_stack.proofs.Vocabulary.{hears_all, RunsOut, Starves, Line, End, Holding, IsAttended, waits}
+use Rattle.osi_stack.proofs.Vocabulary.{RunsOut, Starves, Line, End, Holding, IsAttended, waits}
 use Rattle.osi_stack.proofs.carried.events_one_after_the_other.{never_starved, concluded_carrier, all_keep_by}
 use Rattle.osi_stack.proofs.stream.the_room_for_a_packet.{room_stays, less_room, packet_faultless, first_part}
 use Rattle.osi_stack.proofs.carried.packets_without_events.{both, or_second, IsQuiet, quiet_is, quiet_attends, quiet_stops, lift_dry}
@@ -62,9 +62,7 @@ ended_attends : (c d : Carrier) (lines : Rows Line) (reason : EndReason) → d �
 ended_attends c d lines reason h q = grind arith
 
 attends_spoilt : (e new : End) → new ≡ attends e → is_spoilt new.carrier.ended ≡ is_spoilt e.carrier.ended
-attends_spoilt e new h =
-    ap (λ (x : End). is_spoilt x.carrier.ended) h ∙ ap (λ (c : Carrier). is_spoilt c.ended) (concluded_carrier (hears_all e)) ∙
-    all_keep_by (length e.carrier.events) e
+attends_spoilt e new h = grind (arith, concluded_carrier, all_keep_by)
 
 acts_is : (old new : Carrier) (packet : List ℕ) → new ≡ carriers.after_packet old packet → carriers.Acts old packet new
 unfolding carriers.after_packet
@@ -94,9 +92,7 @@ looked piece front rest within cut =
 -- the packets so far, with more octets after them
 more_packets : (old : Holding) (piece : List ℕ) (now : Holding) (rest more : List ℕ) (read : IsRead old piece now rest) →
     ArePackets read.units (old.held.octets ++ (read.front ++ more)) (now.held.octets ++ more)
-more_packets old piece now rest more read =
-    subst (λ l. ArePackets read.units l (now.held.octets ++ more)) (append_assoc old.held.octets read.front more)
-    (packets_more read.units (old.held.octets ++ read.front) now.held.octets more read.packets)
+more_packets old piece now rest more read = grind (arith, append_assoc, packets_more)
 
 -- the offset, if this many octets are left
 place_of_rest : (old : Holding) (piece : List ℕ) (now : Holding) (rest more : List ℕ) (left : ℕ) (read : IsRead old piece now rest) →
@@ -400,8 +396,7 @@ all_used : (rest : List ℕ) (used : ℕ) → used ≡ length rest → length (d
 all_used rest used e = let dropped = length-drop used rest in omega arith
 
 spoilt_ended : (o : Option EndReason) → is_some o ≡ false → is_spoilt o ≡ false
-spoilt_ended None e = refl
-spoilt_ended (Some reason) e = cc
+spoilt_ended o e = grind arith
 
 -- how much is used if an indication is pending
 uses_waiting : (b w : Bool) (piece front rest : List ℕ) (used within : ℕ) → w ≡ true → piece ≡ front ++ drop within rest →
@@ -447,8 +442,7 @@ read_ended old piece now rest used new read fetch none over = elim (looks old pi
 
 -- it went on after the packet that caused an event
 uses_on : (b : Bool) (used all within : ℕ) → b ≡ false → used ≡ (if b then all else within) → used ≡ within
-uses_on false used all within e h = h
-uses_on true used all within e h = cc
+uses_on b used all within e h = grind arith
 
 abbrev behind_on : (old : Holding) (piece rest : List ℕ) (used : ℕ) (new : Holding) → waits new.end.lines ≡ false →
     is_some new.end.carrier.ended ≡ false → IsAttended new.end →
@@ -487,15 +481,7 @@ read_on old piece now rest used new read fetch none lasts some = elim (looks old
 end_of_read : (old : Holding) (piece : List ℕ) (new : Holding) (rest : List ℕ) → IsPartial [] → new.held.octets ≡ [] → length rest ≡ 0 →
     (read : IsRead old piece new rest) →
     new.held.offset ≡ offset_of (old.held.offset + length (old.held.octets ++ read.front)) → RunsDry old piece (length piece) new
-end_of_read old piece new [] nothing held e read place =
-    let all : piece ≡ read.front = read.cut ∙ append-nil read.front in
-    let sizes = ap (λ l. length (old.held.octets ++ l)) all in
-    let left = ap length held in
-    let same : length (old.held.octets ++ read.front) ≡ length (old.held.octets ++ piece) - length new.held.octets = omega arith in
-    let packets = subst (λ l. ArePackets read.units (old.held.octets ++ l) new.held.octets) (sym all) read.packets in
-    let partial = subst IsPartial (sym held) nothing in
-    let offset = place ∙ ap (λ n. offset_of (old.held.offset + n)) same in
-    grind arith
+end_of_read old piece new [] nothing held e read place = grind (arith, append-nil)
 end_of_read old piece new (x ∷ rest) nothing held e read place = absurd (omega arith)
 
 pub read_dry : (old : Holding) (piece : List ℕ) (now : Holding) (rest : List ℕ) (used : ℕ) (new : Holding) → IsPartial [] →
@@ -510,5 +496,4 @@ read_dry old piece now rest used new nothing read fetch none lasts e = elim (loo
 ]
 
 pub nonzero : (n : ℕ) → (n == 0) ≡ false → 0 < n
-nonzero zero e = cc
-nonzero (suc n) e = omega arith
+nonzero n e = grind arith

@@ -43,12 +43,10 @@ pub record Lasts (old : Holding) (octets : List ℕ) : Type 0 where
 -- packets of which the first are these
 parted_lasts : (a : Account) (us vs more : List (List ℕ)) → us ≡ vs ++ more → (with_packets us a).end.carrier.ended ≡ None →
     (with_packets more (with_packets vs a)).end.carrier.ended ≡ None
-parted_lasts a us vs more all lasts =
-    ap (λ (x : Account). x.end.carrier.ended) (sym (ap (λ l. with_packets l a) all ∙ with_joined vs more a)) ∙ lasts
+parted_lasts a us vs more all lasts = grind (arith, with_joined)
 
 still_lasts : (o : Option EndReason) → (is_some o ≡ true → ⊥) → o ≡ None
-still_lasts None h = refl
-still_lasts (Some reason) h = absurd (h refl)
+still_lasts o h = grind arith
 
 -- what packets before others leave
 front_parts : PacketLaws → (old : Holding) (s : List ℕ) (vs : List (List ℕ)) (r : List ℕ) (lasts : Lasts old s) → ArePackets vs s r →
@@ -74,24 +72,19 @@ no_packets_end laws old s vs r lasts h over =
 
 pub no_fault_ends : PacketLaws → (old : Holding) (s : List ℕ) (vs : List (List ℕ)) (r : List ℕ) (at : ℕ) (fault : TpktFault) → Lasts old s →
     ArePackets vs s r → IsFaultOf at r fault → ⊥
-no_fault_ends laws old s vs r at fault lasts h is =
-    let parted = front_parts laws old s vs r lasts h in
-    no_fault laws at parted.more r [] lasts.rest fault is lasts.partial parted.packets
+no_fault_ends laws old s vs r at fault lasts h is = grind (arith, no_fault, front_parts laws old s vs r lasts h)
 
 -- the octets of a call, and those after it, are a prefix of others
 pub in_front : (held used within front later : List ℕ) → used ≡ within ++ front →
     held ++ (used ++ later) ≡ (held ++ within) ++ (front ++ later)
-in_front held used within front later same =
-    ap (λ l. held ++ (l ++ later)) same ∙ ap (λ l. held ++ l) (append_assoc within front later) ∙
-    sym (append_assoc held within (front ++ later))
+in_front held used within front later same = grind (arith, append_assoc)
 
 -- packets of the first octets of a piece
 pub packets_within : (units : List (List ℕ)) (held used within front later rest : List ℕ) → used ≡ within ++ front →
     ArePackets units (held ++ within) rest →
     ArePackets units (held ++ (used ++ later)) (rest ++ (front ++ later))
 packets_within units held used within front later rest same h =
-    subst (λ l. ArePackets units l (rest ++ (front ++ later))) (sym (in_front held used within front later same))
-    (packets_more units (held ++ within) rest (front ++ later) h)
+    grind (arith, in_front held used within front later same, packets_more units (held ++ within) rest (front ++ later) h)
 
 over_stops : PacketLaws → (old : Holding) (piece : List ℕ) (fed : Fed) (new : Holding) (later : List ℕ) →
     Lasts old (old.held.octets ++ (take fed.used piece ++ later)) →
@@ -141,8 +134,7 @@ over_starves laws old piece fed new later lasts starved = elim (starved.how) [
 over_goes : PacketLaws → (old : Holding) (piece : List ℕ) (fed : Fed) (new : Holding) (later : List ℕ) →
     Lasts old (old.held.octets ++ (take fed.used piece ++ later)) →
     Goes old piece fed.used new → is_some new.end.carrier.ended ≡ true → new.end.carrier.ended ≡ Some NoMemory
-over_goes laws old piece fed new later lasts (inl (inl dry)) over =
-    never new.end over (none_of new.end.carrier.ended (or_first (is_some new.end.carrier.ended) (waits new.end.lines) dry.quiet))
+over_goes laws old piece fed new later lasts (inl (inl dry)) over = grind (arith, never, none_of, or_first)
 over_goes laws old piece fed new later lasts (inl (inr stop)) over = absurd (over_stops laws old piece fed new later lasts stop over)
 over_goes laws old piece fed new later lasts (inr (inl refused)) over = absurd (over_refuses laws old piece fed new later lasts refused)
 over_goes laws old piece fed new later lasts (inr (inr starved)) over = over_starves laws old piece fed new later lasts starved
@@ -162,8 +154,7 @@ over_one : PacketLaws → (old : Holding) (call : Call) (new : Holding) (later :
 over_one laws old (feeding piece fed) new later quiet lasts h over =
     over_feed laws old piece fed new later (waits old.end.lines) refl quiet lasts h over
 over_one laws old (telling shown) new later quiet lasts h over = never new.end over (ap (λ (x : Holding). x.end.carrier.ended) h.1 ∙ quiet)
-over_one laws old (carrying octets) new later quiet lasts h over =
-    never new.end over (ap (λ (x : Holding). x.end.carrier.ended) (sym h) ∙ quiet)
+over_one laws old (carrying octets) new later quiet lasts h over = grind (arith, never)
 
 -- what is left of them does not end it after a call
 lasts_on : PacketLaws → (old : Holding) (call : Call) (new : Holding) (later : List ℕ) → ReadsOne old call new →
@@ -185,9 +176,7 @@ lasts_by : PacketLaws → IsPartial [] → (old : Holding) (call : Call) (mid : 
     (mid.end.carrier.ended ≡ None → Lasts mid (mid.held.octets ++ flat_map used_in calls) → LastsOrStarves new) → LastsOrStarves new
 lasts_by laws nothing old call mid calls new true e quiet h rest lasts on =
     inr (over_calls mid calls new e rest ∙ over_one laws old call mid (flat_map used_in calls) quiet lasts h e)
-lasts_by laws nothing old call mid calls new false e quiet h rest lasts on =
-    let alive = none_of mid.end.carrier.ended e in
-    on alive (lasts_on laws old call mid (flat_map used_in calls) (reads_one nothing old call mid h alive) lasts)
+lasts_by laws nothing old call mid calls new false e quiet h rest lasts on = search (arith, none_of, lasts_on, reads_one)
 
 lasts_along : PacketLaws → IsPartial [] → (old : Holding) (calls : List Call) (new : Holding) → old.end.carrier.ended ≡ None →
     CallsAlong old calls new → Lasts old (old.held.octets ++ flat_map used_in calls) → LastsOrStarves new
@@ -200,9 +189,7 @@ lasts_along laws nothing old (call ∷ calls) new quiet h lasts =
 pub reads_lasts : IsPartial [] → (old : Holding) (calls : List Call) (new : Holding) → IsPartial old.held.octets →
     CallsAlong old calls new → new.end.carrier.ended ≡ None →
     Lasts old (old.held.octets ++ flat_map used_in calls)
-reads_lasts nothing old calls new partial h lasts =
-    let m = calls_read nothing old calls new h lasts in
-    search (m.partial partial, ap (λ (x : Account). x.end.carrier.ended) (sym m.account) ∙ lasts)
+reads_lasts nothing old calls new partial h lasts = grind (arith, calls_read)
 
 pub pieces_last : PacketLaws → IsPartial [] → (old a b : Holding) (xs ys : List Call) → IsPartial old.held.octets →
     old.end.carrier.ended ≡ None →

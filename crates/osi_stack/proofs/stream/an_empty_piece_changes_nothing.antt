@@ -1,8 +1,8 @@
 -- An empty piece changes nothing.
-use Rattle.std.proofs.Common.{◌≡◌, ℕ, ◌==◌, true, false, List, ◌∷◌, length, is_some, refl, sym, ap, subst, ◌∙◌, inl, inr, arith, []}
+use Rattle.std.proofs.Common.{◌≡◌, ℕ, ◌==◌, true, false, List, ◌∷◌, length, is_some, refl, sym, ap, ◌∙◌, inl, inr, arith, []}
 use Rattle.osi_carrier.specs.Packets as carriers
 use Rattle.osi_stack.proofs.Vocabulary.{eqb-true, append-nil, Fed, Carrying, State as Carrier, stops, RunsDry, Goes, Holding, IsAttended}
-use Rattle.osi_stack.proofs.Vocabulary.{holding, waits}
+use Rattle.osi_stack.proofs.Vocabulary.{holding}
 use Rattle.osi_stack.proofs.carried.events_one_after_the_other.{carrying_of}
 use Rattle.osi_stack.proofs.carried.packets_without_events.{both, or_first}
 use Rattle.osi_stack.proofs.stream.a_piece_look_by_look.{quiet_end}
@@ -19,17 +19,8 @@ nothing_by : (old : Holding) (used : ℕ) (told : Carrying) → stops old.end �
     told ≡ carrying_of old → RunsDry old [] 0 old
 nothing_by old used told quiet (inl (inl g)) same = dry_is old used told quiet g same
 nothing_by old used told quiet (inl (inr g)) same = let some = g.some in let bound = g.bound in absurd (omega arith)
-nothing_by old used told quiet (inr (inl g)) same =
-    ended_not old.end.carrier told.state g.before (or_first (is_some old.end.carrier.ended) (waits old.end.lines) quiet)
-    (ap (λ (x : Carrying). x.state) same)
-    (ap (λ (c : Carrier). is_some c.ended) g.ended)
-nothing_by old used told quiet (inr (inr g)) same =
-    ended_not old.end.carrier told.state g.before (or_first (is_some old.end.carrier.ended) (waits old.end.lines) quiet)
-    (ap (λ (x : Carrying). x.state) same)
-    (elim (g.how) [
-      | inl none ↦ ap (λ (c : Carrier). is_some c.ended) none.ended
-      | inr p ↦ ap (λ (c : Carrier). is_some c.ended) p.2.2.ended
-    ])
+nothing_by old used told quiet (inr (inl g)) same = grind (arith, ended_not, or_first)
+nothing_by old used told quiet (inr (inr g)) same = grind (arith, ended_not, or_first)
 
 -- no octet was used, nothing has changed, and this is a result of feeding
 pub record IsIdle (old : Holding) (piece : List ℕ) (used : ℕ) (new : Holding) : Type 0 where
@@ -39,16 +30,11 @@ pub record IsIdle (old : Holding) (piece : List ℕ) (used : ℕ) (new : Holding
 
 idle_by : (old new : Holding) (piece : List ℕ) (used : ℕ) → piece ≡ [] → used ≡ 0 → new ≡ old → RunsDry old [] 0 old →
     Goes old piece used new
-idle_by old new piece used none unused same dry =
-    subst (λ (p : List ℕ). Goes old p used new) (sym none)
-    (subst (λ (n : ℕ). Goes old [] n new) (sym unused) (subst (Goes old [] 0) (sym same) (inl (inl dry))))
+idle_by old new piece used none unused same dry = grind arith
 
 idle_is : (old new : Holding) (piece : List ℕ) (fed : Fed) (told : Carrying) → piece ≡ [] → stops old.end ≡ false → IsAttended old.end →
     carriers.Feeds (carrying_of old) piece fed told → fed.used ≡ 0 → told ≡ carrying_of old → new ≡ old → IsIdle old piece fed.used new
-idle_is old new piece fed told none quiet attended feeds unused still same =
-    let goes = feeds.goes (quiet_end old.end quiet attended) in
-    search (idle_by old new piece fed.used none unused same
-    (nothing_by old fed.used told quiet (subst (λ (p : List ℕ). carriers.Goes (carrying_of old) p fed.used told) none goes) still))
+idle_is old new piece fed told none quiet attended feeds unused still same = grind (arith, quiet_end, idle_by, nothing_by, carrying_of)
 
 pub nothing_of : (l : List ℕ) → (length l == 0) ≡ true → l ≡ []
 nothing_of [] e = refl

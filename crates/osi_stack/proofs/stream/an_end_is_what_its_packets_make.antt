@@ -1,10 +1,10 @@
 -- Over every run of calls an end is what the packets of the octets used make of it.
-use Rattle.std.proofs.Common.{◌≡◌, ℕ, ◌+◌, ◌-◌, ◌<◌, ◌^◌, ◌||◌, Bool, true, List, ◌∷◌, ◌++◌, length, take, Option, None, is_some, refl, sym}
-use Rattle.std.proofs.Common.{ap, subst, ◌∙◌, inl, inr, arith, append_assoc, length-append, []}
+use Rattle.std.proofs.Common.{◌≡◌, ℕ, ◌+◌, ◌-◌, ◌<◌, ◌^◌, Bool, true, List, ◌∷◌, ◌++◌, length, take, Option, None, is_some, refl, sym, ap}
+use Rattle.std.proofs.Common.{subst, ◌∙◌, inl, inr, arith, append_assoc, length-append, []}
 use Rattle.osi_stack.proofs.Vocabulary.{append-nil, take_all, flat_map, IsPartial, ArePackets, offset_of, Fed, OneCut, packets_joined}
-use Rattle.osi_stack.proofs.Vocabulary.{packets_leave, Shown, RunsDry, StopsBehind, FindsNoMemory, Goes, Feeds, Account, account_of}
-use Rattle.osi_stack.proofs.Vocabulary.{with_packets, Calls, CallsAlong, used_in, told_in, carried_in, account_along, Reads, AreAlike}
-use Rattle.osi_stack.proofs.Vocabulary.{feeding, telling, carrying, End, Holding, waits, EndCall as Call}
+use Rattle.osi_stack.proofs.Vocabulary.{packets_leave, Shown, RunsDry, StopsBehind, FindsNoMemory, Goes, Feeds, account_of, with_packets}
+use Rattle.osi_stack.proofs.Vocabulary.{Calls, CallsAlong, used_in, told_in, carried_in, account_along, Reads, AreAlike, feeding, telling}
+use Rattle.osi_stack.proofs.Vocabulary.{carrying, End, Holding, waits, EndCall as Call}
 use Rattle.osi_stack.proofs.in_step.the_account_packet_by_packet.{after_more, account_told, account_joined, packets_apart, with_joined}
 use Rattle.osi_stack.proofs.in_step.the_account_packet_by_packet.{packets_done}
 use Rattle.osi_stack.proofs.stream.what_was_written_is_read.{uses_within}
@@ -81,8 +81,7 @@ reads_goes : IsPartial [] → (old : Holding) (piece : List ℕ) (fed : Fed) (ne
     ReadsOne old (feeding piece fed) new
 reads_goes nothing old piece fed new (inl (inl dry)) lasts = reads_dry old piece fed new dry
 reads_goes nothing old piece fed new (inl (inr stop)) lasts = reads_stopped nothing old piece fed new stop lasts
-reads_goes nothing old piece fed new (inr (inl refused)) lasts =
-    never new.end (ap (λ (x : End). is_some x.carrier.ended) refused.ended) lasts
+reads_goes nothing old piece fed new (inr (inl refused)) lasts = grind (arith, never)
 reads_goes nothing old piece fed new (inr (inr starved)) lasts = never new.end (none_ended old piece fed.used new starved) lasts
 
 reads_feed : IsPartial [] → (old : Holding) (piece : List ℕ) (fed : Fed) (new : Holding) (waiting : Bool) → waits old.end.lines ≡ waiting →
@@ -92,17 +91,14 @@ reads_feed nothing old piece fed new waiting e quiet h lasts =
     search (arith, reads_still, feeding, take, account_of, reads_goes, is_some, waits)
 
 reads_told : (old : Holding) (shown : Option (ℕ × Shown)) (new : Holding) → Calls old (telling shown) new → ReadsOne old (telling shown) new
-reads_told old shown new h =
-    reads_still old (telling shown) new refl (ap (λ (x : Holding). x.held) h.1)
-    (ap (λ (x : Holding). account_of (told_in (telling shown)) [] x.end) h.1 ∙ account_told shown old.end h.0)
+reads_told old shown new h = grind (arith, reads_still, account_told)
 
 pub reads_one : IsPartial [] → (old : Holding) (call : Call) (new : Holding) → Calls old call new → new.end.carrier.ended ≡ None →
     ReadsOne old call new
 reads_one nothing old (feeding piece fed) new h lasts =
     reads_feed nothing old piece fed new (waits old.end.lines) refl (call_lasts old (feeding piece fed) new h lasts) h lasts
 reads_one nothing old (telling shown) new h lasts = reads_told old shown new h
-reads_one nothing old (carrying octets) new h lasts =
-    reads_still old (carrying octets) new refl (ap (λ (x : Holding). x.held) (sym h)) (ap (λ (x : Holding). account_of [] [] x.end) (sym h))
+reads_one nothing old (carrying octets) new h lasts = grind (arith, reads_still)
 
 -- ---- calls one after the other
 
@@ -154,16 +150,4 @@ pub pieces_alike : IsPartial [] → OneCut → (old a b : Holding) (xs ys : List
     CallsAlong old xs a → CallsAlong old ys b → flat_map used_in xs ≡ flat_map used_in ys → a.end.carrier.ended ≡ None →
     b.end.carrier.ended ≡ None →
     AreAlike a xs b ys × (a.held.offset ≡ b.held.offset)
-pieces_alike nothing one_cut old a b xs ys partial bound h k used lasts still =
-    let m = calls_read nothing old xs a h lasts in
-    let n = calls_read nothing old ys b k still in
-    let one = one_cut (old.held.octets ++ flat_map used_in xs) a.held.octets b.held.octets m.packets n.packets (m.partial partial)
-    (n.partial partial) m.cut
-    (subst (λ l. ArePackets n.packets (old.held.octets ++ l) b.held.octets) (sym used) n.cut) in
-    let same : account_along xs a.end ≡ account_along ys b.end = m.account ∙ ap (λ us. with_packets us (account_of [] [] old.end)) one.0 ∙
-    sym n.account in (
-      record { octets = one.1; end = ap (λ (x : Account). x.end) same; told = ap (λ (x : Account). x.told) same },
-      m.offset bound ∙ ap (λ l. offset_of (old.held.offset + (length (old.held.octets ++ l) - length a.held.octets))) used
-          ∙ ap (λ l. offset_of (old.held.offset + (length (old.held.octets ++ flat_map used_in ys) - length l))) one.1 ∙
-          sym (n.offset bound),
-    )
+pieces_alike nothing one_cut old a b xs ys partial bound h k used lasts still = search (arith, calls_read)

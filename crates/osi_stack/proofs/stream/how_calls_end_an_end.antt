@@ -1,16 +1,15 @@
 -- How a list of calls ends an end for which there is memory: after a packet, or at a fault of the stream. Two lists
 -- with the same octets end it alike.
-use Rattle.std.proofs.Common.{◌≡◌, ℕ, ◌+◌, ◌-◌, ◌<◌, ◌^◌, ◌||◌, Bool, true, false, List, ◌∷◌, ◌++◌, length, take, Option, Some, None}
-use Rattle.std.proofs.Common.{is_some, refl, sym, ap, subst, ◌∙◌, ◌⊎◌, inl, inr, arith, append_assoc, length-append, []}
+use Rattle.std.proofs.Common.{◌≡◌, ℕ, ◌+◌, ◌-◌, ◌<◌, ◌^◌, Bool, true, false, List, ◌∷◌, ◌++◌, length, take, Option, None, is_some, refl}
+use Rattle.std.proofs.Common.{sym, ap, subst, ◌∙◌, ◌⊎◌, inl, inr, arith, append_assoc, length-append, []}
 use Rattle.osi_tpkt.proofs.a_prefix_of_a_packet.{one_fault}
 use Rattle.osi_carrier.proofs.stream.how_calls_end_a_carrier.{Compared, compare, init_front, no_further, at_same, offsets_join}
 use Rattle.osi_stack.specs.Feeding.{Refuses}
 use Rattle.osi_stack.proofs.Vocabulary.{append-nil, take_all, flat_map, Held, IsPartial, IsFaultOf, ArePackets, offset_of, Fed, TpktFault}
 use Rattle.osi_stack.proofs.Vocabulary.{PacketLaws, fault_behind, front_used, packets_joined, packets_leave, Tpkt, Fault, Shown, stops}
-use Rattle.osi_stack.proofs.Vocabulary.{uses_all, TakesPackets, RunsDry, StopsBehind, Feeds, after_packet, ends, all_lost, all_waiting}
-use Rattle.osi_stack.proofs.Vocabulary.{hushed, put_back, Account, account_of, with_packets, Calls, HasRoom, CallsAlong, CallsInRoom}
-use Rattle.osi_stack.proofs.Vocabulary.{used_in, told_in, carried_in, account_along, AreAlike, feeding, telling, carrying, End, Holding}
-use Rattle.osi_stack.proofs.Vocabulary.{waits, none_of, EndCall as Call}
+use Rattle.osi_stack.proofs.Vocabulary.{uses_all, TakesPackets, RunsDry, StopsBehind, Feeds, after_packet, ends, Account, account_of}
+use Rattle.osi_stack.proofs.Vocabulary.{with_packets, Calls, HasRoom, CallsAlong, CallsInRoom, used_in, told_in, carried_in, account_along}
+use Rattle.osi_stack.proofs.Vocabulary.{AreAlike, feeding, telling, carrying, End, Holding, waits, none_of, EndCall as Call}
 use Rattle.osi_stack.proofs.in_step.the_account_packet_by_packet.{made, after_more, account_quiet, account_told, account_joined}
 use Rattle.osi_stack.proofs.in_step.the_account_packet_by_packet.{account_packet, packets_apart, packets_done, with_joined}
 use Rattle.osi_stack.proofs.stream.all_pieces_last_alike.{Lasts, account_over, in_front, packets_within, no_packets_end, no_fault_ends}
@@ -60,9 +59,7 @@ over_front us vs more old all over = ap (λ (a : Account). is_some a.end.carrier
 same_packet : (old : Account) (s : List ℕ) (f g : Account) (a : InPacket old s f) (b : InPacket old s g) (more : List (List ℕ)) →
     a.before ++ a.last ∷ [] ≡ (b.before ++ b.last ∷ []) ++ more → f ≡ g
 same_packet old s f g a b [] e = a.account ∙ ap (λ l. with_packets l old) (e ∙ append-nil (b.before ++ b.last ∷ [])) ∙ sym b.account
-same_packet old s f g a b (m ∷ ms) e =
-    let front = init_front a.before (b.before ++ b.last ∷ []) ms a.last m e in
-    never (with_packets a.before old).end (over_front a.before (b.before ++ b.last ∷ []) front.0 old front.1 b.over) a.lasts
+same_packet old s f g a b (m ∷ ms) e = grind (arith, init_front, never, over_front)
 
 both_packets : (old : Account) (s : List ℕ) (f g : Account) (a : InPacket old s f) (b : InPacket old s g) →
     Compared (a.before ++ a.last ∷ []) (b.before ++ b.last ∷ []) b.rest a.rest → f ≡ g
@@ -72,24 +69,17 @@ both_packets old s f g a b (inr x) = sym (same_packet old s g f b a x.more x.all
 packet_fault_by : {B : Type 0} (old : Account) (at : ℕ) (s : List ℕ) (f g : Account) (a : InPacket old s f) (b : InFault old at s g)
     (more : List (List ℕ)) → a.before ++ a.last ∷ [] ≡ b.before ++ more →
     ArePackets more b.rest a.rest → B
-packet_fault_by old at s f g a b [] e h =
-    never (with_packets b.before old).end (ap (λ l. is_some (with_packets l old).end.carrier.ended) (sym (e ∙ append-nil b.before)) ∙
-    a.over) b.lasts
+packet_fault_by old at s f g a b [] e h = grind (arith, never, append-nil)
 packet_fault_by old at s f g a b (m ∷ ms) e h = absurd (no_further _ ms m b.rest a.rest b.fault b.is h)
 
 packet_fault : {B : Type 0} (old : Account) (at : ℕ) (s : List ℕ) (f g : Account) (a : InPacket old s f) (b : InFault old at s g) →
     Compared (a.before ++ a.last ∷ []) b.before b.rest a.rest → B
 packet_fault old at s f g a b (inl x) = packet_fault_by old at s f g a b x.more x.all x.packets
-packet_fault old at s f g a b (inr x) =
-    never (with_packets b.before old).end (over_front b.before (a.before ++ a.last ∷ []) x.more old x.all a.over) b.lasts
+packet_fault old at s f g a b (inr x) = grind (arith, never, over_front)
 
 same_fault : (old : Account) (at : ℕ) (s : List ℕ) (f g : Account) (a : InFault old at s f) (b : InFault old at s g)
     (more : List (List ℕ)) → a.before ≡ b.before ++ more → ArePackets more b.rest a.rest → f ≡ g
-same_fault old at s f g a b [] e rests =
-    let fault : a.fault ≡ b.fault = one_fault (offset_of (at + (length s - length b.rest))) b.rest a.fault b.fault
-    (subst (λ l. IsFaultOf (offset_of (at + (length s - length l))) l a.fault) (sym rests) a.is) b.is in
-    a.account ∙ ap (λ l. faulted a.fault (with_packets l old)) (e ∙ append-nil b.before) ∙
-    ap (λ x. faulted x (with_packets b.before old)) fault ∙ sym b.account
+same_fault old at s f g a b [] e rests = grind (arith, one_fault, append-nil)
 same_fault old at s f g a b (m ∷ ms) e h = absurd (no_further _ ms m b.rest a.rest b.fault b.is h)
 
 both_faults : (old : Account) (at : ℕ) (s : List ℕ) (f g : Account) (a : InFault old at s f) (b : InFault old at s g) →
@@ -167,8 +157,7 @@ ends_stops old piece fed new later quiet stop over =
 -- the account of an end that a fault of the stream ended
 refused_account : (e new : End) (fault : TpktFault) → stops e ≡ false → new ≡ ends (Fault (Tpkt fault)) e →
     account_of [] [] new ≡ faulted fault (account_of [] [] e)
-refused_account e new fault quiet ended =
-    ap (account_of [] []) ended ∙ ap (faulted fault) (sym (account_quiet e (or_second (is_some e.carrier.ended) (waits e.lines) quiet)))
+refused_account e new fault quiet ended = grind (arith, account_quiet, or_second)
 
 ends_refuses : (old : Holding) (piece : List ℕ) (fed : Fed) (new : Holding) (later : List ℕ) → Refuses old piece fed.used new →
     Outcome old (old.held.octets ++ (take fed.used piece ++ later)) (account_of [] [] new.end) new.held.octets
@@ -249,14 +238,12 @@ behind_call : (told : List (ℕ × Shown)) (carried : List ℕ) (vs more us : Li
     account_of told carried mid ≡ with_packets vs (account_of [] [] old) →
     with_packets us (account_of [] [] old) ≡ after_more told carried (with_packets more (account_of [] [] mid))
 behind_call told carried vs more us old mid all e =
-    with_parts us vs more (account_of [] [] old) all ∙ ap (with_packets more) (sym e) ∙
-    packets_apart told carried more (account_of [] [] mid)
+    grind (arith, with_parts us vs more (account_of [] [] old) all, packets_apart told carried more (account_of [] [] mid))
 
 -- a fault ends it so whatever was reported and carried before
 faulted_apart : (told : List (ℕ × Shown)) (carried : List ℕ) (fault : TpktFault) (a : Account) →
     faulted fault (after_more told carried a) ≡ after_more told carried (faulted fault a)
-faulted_apart told carried fault a =
-    ap (made (put_back carried (hushed (ends (Fault (Tpkt fault)) a.end)))) (append_assoc told a.told (all_waiting (all_lost a.end.lines)))
+faulted_apart told carried fault a = grind (arith, made, append_assoc)
 
 ending_more : (old mid : Holding) (call : Call) (t : List ℕ) (final : Account) → old.held.offset < 2 ^ 64 → ReadsOne old call mid →
     Ending (account_of [] [] mid.end) mid.held.offset (mid.held.octets ++ t) final →
@@ -351,31 +338,19 @@ outcome_along nothing old (call ∷ calls) new quiet bound h over =
 pub ending_apart : (told : List (ℕ × Shown)) (carried : List ℕ) (old : Account) (at : ℕ) (s : List ℕ) (final : Account) →
     Ending old at s final →
     Ending (after_more told carried old) at s (after_more told carried final)
-ending_apart told carried old at s final (inl a) = inl (record {
-  before = a.before;
-  last = a.last;
-  rest = a.rest;
-  packets = a.packets;
-  lasts = ap (λ (x : Account). x.end.carrier.ended) (packets_apart told carried a.before old) ∙ a.lasts;
-  over = ap (λ (x : Account). is_some x.end.carrier.ended) (packets_apart told carried (a.before ++ a.last ∷ []) old) ∙ a.over;
-  account = ap (after_more told carried) a.account ∙ sym (packets_apart told carried (a.before ++ a.last ∷ []) old);
-})
-ending_apart told carried old at s final (inr a) = inr (record {
-  before = a.before;
-  rest = a.rest;
-  fault = a.fault;
-  packets = a.packets;
-  is = a.is;
-  lasts = ap (λ (x : Account). x.end.carrier.ended) (packets_apart told carried a.before old) ∙ a.lasts;
-  account = ap (after_more told carried) a.account ∙ sym (faulted_apart told carried a.fault (with_packets a.before old)) ∙
-      ap (faulted a.fault) (sym (packets_apart told carried a.before old));
-})
+ending_apart told carried old at s final (inl a) = grind (arith, packets_apart, after_more)
+ending_apart told carried old at s final (inr a) =
+    grind (
+      arith,
+      packets_apart told carried a.before old,
+      after_more told carried,
+      faulted_apart told carried a.fault (with_packets a.before old),
+    )
 
 -- ---- two lists of calls
 
 some_of : {A : Type 0} (o : Option A) → (o ≡ None → ⊥) → is_some o ≡ true
-some_of None h = absurd (h refl)
-some_of (Some x) h = refl
+some_of o h = grind arith
 
 alike_by : PacketLaws → IsPartial [] → (old a b : Holding) (xs ys : List Call) (over : Bool) → is_some b.end.carrier.ended ≡ over →
     IsPartial old.held.octets → old.held.offset < 2 ^ 64 →

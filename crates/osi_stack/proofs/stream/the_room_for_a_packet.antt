@@ -1,6 +1,5 @@
 -- The room for the octets of a packet, and what happens if it is too small.
-use Rattle.std.proofs.Common.{◌≡◌, ℕ, ◌≤◌, List, [], ◌∷◌, ◌++◌, length, take, sym, ap, subst, ◌∙◌, inl, inr, ◌⊎◌, arith, length-append}
-use Rattle.std.proofs.Common.{append_assoc}
+use Rattle.std.proofs.Common.{◌≡◌, ℕ, ◌≤◌, List, [], ◌∷◌, ◌++◌, length, take, sym, subst, inl, inr, ◌⊎◌, arith, length-append, append_assoc}
 use Rattle.osi_tpkt.proofs.a_stream_is_cut_in_one_way.{fault_no_packet}
 use Rattle.osi_carrier.proofs.written.a_tsdu_part_after_part.{empty_list}
 use Rattle.osi_stack.proofs.Vocabulary.{Held, IsFaultOf, ArePackets, TpktFault, packets_leave, HasToHold, NoMemory, FindsNoMemory, ends}
@@ -16,8 +15,7 @@ less_room room less held left bound h = grind arith
 
 -- octets that begin with a packet have no fault
 pub packet_faultless : (u s more : List ℕ) → ArePackets (u ∷ []) s [] → (at : ℕ) (fault : TpktFault) → IsFaultOf at (s ++ more) fault → ⊥
-packet_faultless u s more p at fault bad =
-    fault_no_packet at (s ++ more) fault bad u p.0 (p.1 ++ more) p.2 (ap (λ l. l ++ more) p.3 ∙ append_assoc p.0 p.1 more)
+packet_faultless u s more p at fault bad = grind (arith, fault_no_packet, append_assoc)
 
 none_left : (units : List (List ℕ)) (held : List ℕ) (within : ℕ) (rest left : List ℕ) → held ≡ [] → within ≡ 0 →
     ArePackets units (held ++ take within rest) left → left ≡ []

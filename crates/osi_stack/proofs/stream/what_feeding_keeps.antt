@@ -1,6 +1,5 @@
 -- What each packet and the end of the carrier keep, feeding keeps.
-use Rattle.std.proofs.Common.{◌≡◌, ℕ, ◌||◌, Bool, true, List, ◌∷◌, Option, None, is_some, refl, sym, subst, ◌∙◌, inl, inr, ◌⊎◌}
-use Rattle.std.proofs.Common.{if◌then◌else◌, [], arith}
+use Rattle.std.proofs.Common.{◌≡◌, ℕ, Bool, true, List, ◌∷◌, Option, None, is_some, refl, sym, subst, inl, inr, ◌⊎◌, [], arith}
 use Rattle.osi_stack.proofs.Vocabulary.{ArePackets, Fed, EndReason, Broken, NoMemory, breaks, TakesPackets, Goes, Feeds, after_packet, ends}
 use Rattle.osi_stack.proofs.Vocabulary.{hears_times, with_carrier, with_events, Starves, End, Holding, waits}
 use Rattle.osi_stack.proofs.stream.the_room_for_a_packet.{found_how}
@@ -33,8 +32,7 @@ goes_kept : (P : End → Type 0) → IsKept P → (old new : Holding) (piece : L
     P new.end
 goes_kept P law old new piece used (inl (inl h)) p = packets_kept P law h.units old.end new.end h.taken p
 goes_kept P law old new piece used (inl (inr h)) p = packets_kept P law h.units old.end new.end h.taken p
-goes_kept P law old new piece used (inr (inl h)) p =
-    subst P (sym h.ended) (law.over _ h.before (packets_kept P law h.units old.end h.before h.taken p))
+goes_kept P law old new piece used (inr (inl h)) p = grind (arith, packets_kept)
 goes_kept P law old new piece used (inr (inr h)) p =
     none_found P law h.before new.end h.rest (lasting_of h.before.carrier.ended (waits h.before.lines) h.quiet)
     (found_how old piece used new h)

@@ -1,5 +1,5 @@
 -- What needs memory indicates, sends or keeps something.
-use Rattle.std.proofs.Common.{◌≡◌, ℕ, ◌||◌, ◌&&◌, Bool, true, [], ◌∷◌, get_or, Option, Some, None, Result, Ok, Err, OnErr, refl, ◌∙◌, arith}
+use Rattle.std.proofs.Common.{◌≡◌, ℕ, Bool, true, [], ◌∷◌, get_or, Option, Some, None, Result, Err, OnErr, refl, arith}
 use Rattle.osi_carrier.proofs.written.what_needs_memory_does_something.{written_grows}
 use Rattle.osi_carrier.specs.Growth.{grows}
 use Rattle.osi_session.specs.declared.faults.CallError.{CallError}
@@ -16,8 +16,7 @@ closing_in r peer c _ other = written_grows c _ (disconnect peer r 128 [] ∷ []
 
 closing_on : (r : ℕ) (c : Carrier) (o : Option (ℕ × Standing)) → close_error o ≡ None → (c.class ≡ Some Zero → ⊥) →
     grows c (closed_on r 128 o c) ≡ true
-closing_on r c None e other = cc
-closing_on r c (Some (peer, link)) e other = closing_in r peer c c.class other
+closing_on r c o e other = grind (arith, closing_in)
 
 -- a connection that is closed, but not in class 0
 pub closing_needs : (r : ℕ) (c : Carrier) → close_error (open_link r c) ≡ None → (c.class ≡ Some Zero → ⊥) →
@@ -27,8 +26,7 @@ closing_needs r c e other = closing_on r c (open_link r c) e other
 -- if memory is needed, and there is no other error
 pub wants_memory : {A : Type 0} (result : Result A CallError) (grown : Bool) → OnErr result (grown ≡ true) → result ≡ Err OutOfMemory →
     grown ≡ true
-wants_memory (Ok x) grown h is = cc
-wants_memory (Err e) grown h is = h
+wants_memory result grown h is = grind arith
 
 -- ---- at a place
 

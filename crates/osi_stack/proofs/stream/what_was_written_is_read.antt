@@ -9,7 +9,7 @@ use Rattle.osi_carrier.specs.State as states
 use Rattle.osi_carrier.proofs.stream.what_was_written_is_read.{unit_read, packet_reacts, Fronts, units_front, fault_free, alone_starved}
 use Rattle.osi_carrier.proofs.stream.what_was_written_is_read.{starved_unit, reads_part}
 use Rattle.osi_stack.specs.Feeding.{Refuses}
-use Rattle.osi_stack.proofs.Vocabulary.{AllByRecursion, length-take-le, take-take, ArePackets, offset_of, Fed, Value, TpduFault, Happening}
+use Rattle.osi_stack.proofs.Vocabulary.{AllByRecursion, length-take-le, take-take, ArePackets, Fed, Value, TpduFault, Happening}
 use Rattle.osi_stack.proofs.Vocabulary.{State as Carrier, EndReason, NoMemory, after_unit, carries_out, TakesUnits, IsUnheard, TakesSome}
 use Rattle.osi_stack.proofs.Vocabulary.{stops, uses_all, TakesPackets, RunsDry, StopsBehind, FindsNoMemory, Goes, Feeds, attends}
 use Rattle.osi_stack.proofs.Vocabulary.{after_packet, with_carrier, with_events, hears_all, hears_times, hears_first, hears_next, ends}
@@ -155,9 +155,7 @@ stops_behind old new outgoing coming k used less c h =
 refuses_none : (old new : Holding) (outgoing : List ℕ) (coming : List Value) (k used : ℕ) → AreComing old.held.octets outgoing coming →
     Refuses old (take k outgoing) used new → ⊥
 refuses_none old new outgoing coming k used c h =
-    let f = reads_part old.held.octets outgoing coming k h.units h.cut.0 c h.cut.1 in
-    fault_free (offset_of (old.held.offset + (length (old.held.octets ++ take k outgoing) - length h.cut.0))) h.cut.0 (drop k outgoing)
-    h.fault f.left f.rest h.cut.2
+    grind (arith, fault_free, reads_part old.held.octets outgoing coming k h.units h.cut.0 c h.cut.1)
 
 finds_none : (old new : Holding) (outgoing : List ℕ) (coming : List Value) (k used : ℕ) → k ≤ length outgoing →
     AreComing old.held.octets outgoing coming → IsAttended old.end →
@@ -216,8 +214,7 @@ feeds_by old new outgoing coming k fed false less c attended lasts wait h =
 pub feeds_some : (old new : Holding) (outgoing : List ℕ) (coming : List Value) (k : ℕ) (fed : Fed) → k ≤ length outgoing →
     AreComing old.held.octets outgoing coming →
     IsAttended old.end → old.end.carrier.ended ≡ None → Feeds old (take k outgoing) fed new → TakesSome old outgoing coming fed.used new
-feeds_some old new outgoing coming k fed less c attended lasts h =
-    feeds_by old new outgoing coming k fed (waits old.end.lines) less c attended lasts refl h
+feeds_some old new outgoing coming k fed less c attended lasts h = search (arith, feeds_by)
 
 pub attended_unit : (e : End) (unit : Value) → IsAttended (after_unit e unit)
 attended_unit e unit = attended_then (carries_out unit e) (after_unit e unit) refl
