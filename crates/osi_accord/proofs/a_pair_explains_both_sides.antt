@@ -1,9 +1,8 @@
 -- In a run of two sessions each side is explained, apart from the other, by what had passed before its TSDUs.
 -- For the law that two explained sides are a pair, and only they.
-use Rattle.osi_accord.proofs.Vocabulary.{[], ap, arith, get_or, length, List, map, refl, subst, sym, ℕ, ◌++◌, ◌+◌, ◌∙◌, ◌∷◌, ◌≡◌}
-use Rattle.osi_accord.proofs.Vocabulary.{get_or-append_seam, flat_map, Seen, Takes, Explains, IsExplained, Remark, remarks, remarks_of}
-use Rattle.osi_accord.proofs.Vocabulary.{Direction, Left, Right, Accords, Sending, sending, sending_of, told_by, tsdus_by, Turn, turn}
-use Rattle.osi_accord.proofs.Vocabulary.{Pair, pair_of}
+use Rattle.osi_accord.proofs.Vocabulary.{[], ap, arith, get_or, length, List, map, refl, subst, ℕ, ◌++◌, ◌+◌, ◌∙◌, ◌∷◌, ◌≡◌}
+use Rattle.osi_accord.proofs.Vocabulary.{get_or-append_seam, flat_map, Seen, Takes, Explains, IsExplained, Remark, remarks, Direction, Left}
+use Rattle.osi_accord.proofs.Vocabulary.{Right, Accords, Sending, sending, sending_of, told_by, tsdus_by, Turn, turn, Pair, pair_of}
 use Rattle.osi_judge.specs.Explaining as explained
 use Rattle.osi_accord.specs.Accords as accord
 use Rattle.osi_accord.proofs.two_runs_are_one.{one_more, remarks_are, said_as, taken_one}
@@ -37,15 +36,7 @@ record Next (us : List (List ℕ)) (k : ℕ) (gone : List (List ℕ)) (tsdu : Li
 
 next_of : (us : List (List ℕ)) (k : ℕ) (gone channel : List (List ℕ)) (tsdu : List ℕ) (rest others : List (List ℕ)) →
     us ≡ gone ++ (channel ++ others) → k ≡ length gone → channel ≡ tsdu ∷ rest → Next us k gone tsdu rest others
-next_of us k gone channel tsdu rest others all e there =
-    let one = one_more gone tsdu in
-    let here : us ≡ gone ++ (tsdu ∷ (rest ++ others)) = all ∙ ap (λ (x : List (List ℕ)). gone ++ (x ++ others)) there in
-    record {
-      there = sym (ap (λ (x : ℕ). get_or us x []) e ∙ ap (λ (x : List (List ℕ)). get_or x (length gone) []) here
-          ∙ get_or-append_seam gone tsdu (rest ++ others) []);
-      counted = omega arith;
-      all = here ∙ taken_one gone tsdu (rest ++ others);
-    }
+next_of us k gone channel tsdu rest others all e there = grind (arith, one_more, get_or-append_seam, taken_one)
 
 one_sent : (us gone channel : List (List ℕ)) (own : List ℕ) (others : List (List ℕ)) → us ≡ gone ++ (channel ++ (own ∷ others)) →
     us ≡ gone ++ ((channel ++ own ∷ []) ++ others)
@@ -102,13 +93,9 @@ module _ (us : List (List ℕ)) where
 
 turns_said : (d : Direction) (turns : List Turn) → remarks_left d (map sending_of turns) ≡ remarks (told_by d turns)
 turns_said d [] = refl
-turns_said Left (turn Left t ∷ turns) =
-    ap (λ (x : List Remark). x ++ remarks_left Left (map sending_of turns)) (sym (remarks_are t))
-    ∙ ap (λ (x : List Remark). remarks_of t ++ x) (turns_said Left turns)
+turns_said Left (turn Left t ∷ turns) = grind (arith, remarks_are, turns_said Left turns)
 turns_said Left (turn Right t ∷ turns) = turns_said Left turns
-turns_said Right (turn Right t ∷ turns) =
-    ap (λ (x : List Remark). x ++ remarks_left Right (map sending_of turns)) (sym (remarks_are t))
-    ∙ ap (λ (x : List Remark). remarks_of t ++ x) (turns_said Right turns)
+turns_said Right (turn Right t ∷ turns) = grind (arith, remarks_are, turns_said Right turns)
 turns_said Right (turn Left t ∷ turns) = turns_said Right turns
 
 turns_sent : (d : Direction) (turns : List Turn) → tsdus_by d turns ≡ tsdus_left d (map sending_of turns)

@@ -1,5 +1,6 @@
 -- A run of two sessions that send what calls and answers send is one of the machine of whole connections, in class 0.
 -- For the law of that name.
+use Rattle.std.proofs.Common.{arith}
 use Rattle.osi_accord.proofs.Vocabulary.{[], ap, append-nil, false, inl, inr, length, List, map, None, Option, refl, Some, subst, sym, true}
 use Rattle.osi_accord.proofs.Vocabulary.{ℕ, ◌++◌, ◌∙◌, ◌∷◌, ◌≡◌, flat_map-append, append_assoc, AllByRecursion, GT, Meaning, IsSendable}
 use Rattle.osi_accord.proofs.Vocabulary.{no_token, says, Word, written, has_no_effect, awaiting, answers_word, CanSay, Count, listens, Seen}
@@ -325,15 +326,7 @@ theirs Left (m ∷ ms) = theirs Left ms
 theirs Right (m ∷ ms) = theirs Right ms
 
 said_at_is : (d : Direction) (t : Tables) (move : Step) → said_at (side_at d) 1 t move ≡ uttered_by d (uttered_at t move)
-said_at_is Left t move =
-    sym (flat_map-append (its_own Left) (map (utters Left) (said_at machine.Left 1 t move))
-    (map (utters Right) (said_at machine.Right 1 t move))
-    ∙ (λ i. ours Left (said_at machine.Left 1 t move) i ++ theirs Left (said_at machine.Right 1 t move) i)
-    ∙ append-nil (said_at machine.Left 1 t move))
-said_at_is Right t move =
-    sym (flat_map-append (its_own Right) (map (utters Left) (said_at machine.Left 1 t move))
-    (map (utters Right) (said_at machine.Right 1 t move))
-    ∙ (λ i. theirs Right (said_at machine.Left 1 t move) i ++ ours Right (said_at machine.Right 1 t move) i))
+said_at_is d t move = grind (arith, flat_map-append, ours, theirs, append-nil)
 
 pub said_is : (d : Direction) (t : Tables) (steps : List Step) → said_in (side_at d) 1 t steps ≡ uttered_by d (uttered_in t steps)
 said_is d t [] = refl

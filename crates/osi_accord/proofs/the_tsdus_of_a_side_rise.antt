@@ -1,10 +1,8 @@
 -- The TSDUs of a side begin one after the other, and each ends after its first octet.
 -- For the law that two kept sides are a pair.
-use Rattle.osi_accord.proofs.Vocabulary.{[], arith, Bool, false, if◌then◌else◌, inl, inr, List, subst, sym, true, ℕ, ◌++◌, ◌+◌, ◌<◌, ◌∷◌}
-use Rattle.osi_accord.proofs.Vocabulary.{◌≡◌, ◌≤◌, units_of, OneOrNone, sent_one, Capture, added, adds, first_of}
-use Rattle.osi_accord.proofs.Vocabulary.{first_unit, Handshake, hurries, ignores, is_too_long, IsSent, met_before, Move, moved, opening}
-use Rattle.osi_accord.proofs.Vocabulary.{packet_length, refused, Sent, sent_from, Stage, stage_behind, step_of, stopped}
-use Rattle.osi_accord.proofs.Vocabulary.{within, Direction, TsduTooLong}
+use Rattle.osi_accord.proofs.Vocabulary.{[], arith, Bool, if◌then◌else◌, List, ℕ, ◌++◌, ◌+◌, ◌<◌, ◌∷◌, ◌≤◌, OneOrNone, sent_one, Capture}
+use Rattle.osi_accord.proofs.Vocabulary.{added, first_of, Handshake, IsSent, Move, moved, packet_length, refused, Sent, sent_from, Stage}
+use Rattle.osi_accord.proofs.Vocabulary.{stage_behind, stopped, Direction, TsduTooLong}
 
 -- from this offset on
 abbrev pub Rise : ℕ → List Sent → Type 0
@@ -23,38 +21,25 @@ GoesOn s at n later = (first_of s at ≤ first_of n later) × (first_of n later 
 
 added_on : (s : Stage) (at later : ℕ) (long end : Bool) (octets : List ℕ) → first_of s at ≤ at → at ≤ later →
     GoesOn s at (if long then stopped TsduTooLong at else added s at end octets) later
-added_on s at later true end octets f l = (omega arith, omega arith)
-added_on s at later false true octets f l = (omega arith, omega arith)
-added_on s at later false false octets f l = (omega arith, omega arith)
+added_on s at later long end octets f l = grind arith
 
 same_stage : (s : Stage) (at later : ℕ) → first_of s at ≤ at → at ≤ later → GoesOn s at s later
-same_stage (within first octets) at later f l = (omega arith, omega arith)
-same_stage _ at later f l = (l, omega arith)
+same_stage s at later f l = grind arith
 
 moved_on : (s : Stage) (at later : ℕ) (m : Move) → first_of s at ≤ at → at ≤ later → GoesOn s at (moved s at m) later
-moved_on s at later (adds end octets) f l = added_on s at later (is_too_long s octets) end octets f l
-moved_on s at later (hurries end octets) f l = added_on s at later (is_too_long s octets) end octets f l
-moved_on s at later ignores f l = same_stage s at later f l
-moved_on s at later _ f l = (omega arith, omega arith)
+moved_on s at later m f l = grind (arith, added_on, same_stage)
 
 goes_on : (d : Direction) (h : Handshake) (s : Stage) (at later : ℕ) (u : List ℕ) → first_of s at ≤ at → at ≤ later →
     GoesOn s at (stage_behind d h s at u) later
-goes_on d h (refused packet) at later u f l = moved_on (refused packet) at later
-    (step_of d (refused packet) h (first_unit (units_of u))) f l
+goes_on d h (refused packet) at later u f l = grind (arith, moved_on)
 goes_on d h (stopped stop packet) at later u f l = (l, omega arith)
-goes_on d h v at later u f l =
-    moved_on v at later (step_of d v h (first_unit (units_of u))) f l
+goes_on d h v at later u f l = search (arith, moved_on)
 
 -- ---- TSDUs of packets
 
 one_first : (s : Stage) (at : ℕ) (u : List ℕ) (now later : List Sent) → OneOrNone s at u now → first_of s at ≤ at →
     Rise (first_of s at) later → Rise (first_of s at) (now ++ later)
-one_first s at u now later (inl none) f r = subst (λ (x : List Sent). Rise (first_of s at) (x ++ later)) (sym none) r
-one_first s at u now later (inr (t, is, ended)) f r =
-    let e : t.first ≡ first_of s at = ended.first in
-    let b : t.behind ≡ at + packet_length u = ended.behind in
-    subst (λ (x : List Sent). Rise (first_of s at) (x ++ later)) (sym is)
-    (omega arith, omega arith, subst (λ (n : ℕ). Rise n later) (sym e) r)
+one_first s at u now later h f r = grind arith
 
 packets_rise : (d : Direction) (met : ℕ → Handshake) (s : Stage) (at : ℕ) (us : List (List ℕ)) → first_of s at ≤ at →
     Rise (first_of s at) (sent_from d met s at us)
@@ -66,5 +51,4 @@ packets_rise d met s at (u ∷ us) f =
     (packets_rise d met (stage_behind d (met at) s at u) (at + packet_length u) us g.1))
 
 pub sent_rise : (d : Direction) (capture : Capture) (sent : List Sent) → IsSent d capture sent → Rise 0 sent
-sent_rise d capture sent s =
-    subst (Rise 0) (sym s.4) (packets_rise d (met_before d capture s.1) opening 0 s.0 (omega arith))
+sent_rise d capture sent s = grind (arith, packets_rise)

@@ -18,9 +18,7 @@ later_begin d capture m n (t ∷ sent) l b = let k : n ≤ place d capture t.fir
 
 risen_begin : (d : Direction) (capture : Capture) (k : ℕ) (sent : List Sent) → Rise k sent → BeginFrom d capture (place d capture k) sent
 risen_begin d capture k [] r = tt
-risen_begin d capture k (t ∷ sent) r =
-    let l = place_later d capture k t.first r.0 in
-    (l, later_begin d capture (place d capture k) (place d capture t.first) sent l (risen_begin d capture t.first sent r.2))
+risen_begin d capture k (t ∷ sent) r = grind (arith, place_later, later_begin, risen_begin d capture t.first sent r.2)
 
 -- ---- TSDUs of both sides
 
@@ -40,8 +38,7 @@ pub record Merged (capture : Capture) (lefts rights : List Sent) : Type 0 where
 
 begin_both : (capture : Capture) (n : ℕ) (lefts rights : List Sent) (m : Merged capture lefts rights) → BeginFrom Left capture n lefts →
     BeginFrom Right capture n rights → AllFrom capture n m.passages
-begin_both capture n lefts rights m l r =
-    all_begin capture n m.passages (rw m.left l) (rw m.right r)
+begin_both capture n lefts rights m l r = grind (arith, all_begin)
 
 left_first : (capture : Capture) (t : Sent) (lefts rights : List Sent) → BeginFrom Left capture (place Left capture t.first) lefts →
     BeginFrom Right capture (place Left capture t.first) rights → Merged capture lefts rights → Merged capture (t ∷ lefts) rights
@@ -93,8 +90,7 @@ with_left capture t lefts rise merge (u ∷ rights) n r =
 
 without_left : (capture : Capture) (rights : List Sent) (n : ℕ) → Rise n rights → Merged capture [] rights
 without_left capture [] n r = record { passages = []; left = refl; right = refl; order = tt }
-without_left capture (u ∷ rights) n r =
-    right_first capture u [] rights tt (risen_begin Right capture u.first rights r.2) (without_left capture rights u.first r.2)
+without_left capture (u ∷ rights) n r = grind (arith, right_first, risen_begin, without_left capture rights u.first r.2)
 
 pub merged : (capture : Capture) (lefts rights : List Sent) (m n : ℕ) → Rise m lefts → Rise n rights → Merged capture lefts rights
 merged capture [] rights m n l r = without_left capture rights n r

@@ -1,11 +1,11 @@
 -- Two sides that are explained apart from each other run together, in the order in which their TSDUs passed.
 -- For the law that two explained sides are a pair.
-use Rattle.osi_accord.proofs.Vocabulary.{[], ap, arith, Err, get_or, length, length-append, List, map, None, Ok, Option, refl, Result, Some}
-use Rattle.osi_accord.proofs.Vocabulary.{subst, sym, true, ℕ, ◌++◌, ◌+◌, ◌<◌, ◌∙◌, ◌∷◌, ◌≡◌, ◌≤◌, get_or-append_seam, SpduFault, Meaning}
-use Rattle.osi_accord.proofs.Vocabulary.{said_at, Word, Words, acting_words, after_count, answers_word, CanSay, Count, listens, Seen, Takes}
-use Rattle.osi_accord.proofs.Vocabulary.{Explains, IsExplained, read_as, Remark, remark, remarks, remarks_of, Told, Direction, Left, Right}
-use Rattle.osi_accord.proofs.Vocabulary.{Accords, AreInOrder, Sending, sending, sending_of, told_by, tsdus_by, Turn, turn, words_in}
-use Rattle.osi_accord.proofs.Vocabulary.{words_read, Pair, pair_of, Party}
+use Rattle.osi_accord.proofs.Vocabulary.{[], ap, arith, get_or, length, length-append, List, map, None, Option, refl, Result, Some, subst}
+use Rattle.osi_accord.proofs.Vocabulary.{sym, true, ℕ, ◌++◌, ◌+◌, ◌<◌, ◌∙◌, ◌∷◌, ◌≡◌, ◌≤◌, get_or-append_seam, SpduFault, Meaning, said_at}
+use Rattle.osi_accord.proofs.Vocabulary.{Word, Words, after_count, answers_word, CanSay, Count, listens, Seen, Takes, Explains, IsExplained}
+use Rattle.osi_accord.proofs.Vocabulary.{read_as, Remark, remark, remarks, remarks_of, Told, Direction, Left, Right, Accords, AreInOrder}
+use Rattle.osi_accord.proofs.Vocabulary.{Sending, sending, sending_of, told_by, tsdus_by, Turn, turn, words_in, words_read, Pair, pair_of}
+use Rattle.osi_accord.proofs.Vocabulary.{Party}
 use Rattle.osi_judge.specs.Explaining as explained
 use Rattle.osi_accord.specs.Accords as accord
 
@@ -58,8 +58,7 @@ words_are t [] = refl
 words_are t (w ∷ words) = ap (λ (x : List Remark). remark t w ∷ x) (words_are t words)
 
 read_are : (t : Told) (r : Result Words SpduFault) → read_as t r ≡ map (said_as t) (words_read r)
-read_are t (Ok words) = words_are t (acting_words words)
-read_are t (Err fault) = refl
+read_are t r = grind (arith, words_are)
 
 pub remarks_are : (t : Told) → remarks_of t ≡ map (said_as t) (words_in t.octets)
 remarks_are t = read_are t (said_at t.octets)
@@ -107,18 +106,7 @@ taken_one (g ∷ gone) tsdu more = ap (λ (x : List (List ℕ)). g ∷ x) (taken
 arrives : (us : List (List ℕ)) (sent k before : ℕ) (gone flight rest : List (List ℕ)) → k < before → before ≤ sent → length gone ≡ k →
     Splits us sent gone flight rest → Arrives us sent k gone flight rest
 arrives us sent k before gone [] rest l b e s = let c : sent ≡ length gone + 0 = s.count in absurd (omega arith)
-arrives us sent k before gone (tsdu ∷ more) rest l b e s =
-    let c : sent ≡ length gone + length (tsdu ∷ more) = s.count in
-    let one = one_more gone tsdu in
-    record {
-      tsdu = tsdu;
-      more = more;
-      is = refl;
-      there = ap (λ (x : ℕ). get_or us x []) (sym e) ∙ ap (λ (x : List (List ℕ)). get_or x (length gone) []) s.all
-          ∙ get_or-append_seam gone tsdu (more ++ rest) [];
-      counted = omega arith;
-      on = record { all = s.all ∙ taken_one gone tsdu (more ++ rest); count = omega arith };
-    }
+arrives us sent k before gone (tsdu ∷ more) rest l b e s = grind (arith, one_more, get_or-append_seam, taken_one)
 
 -- ---- a TSDU is sent, word by word
 
@@ -132,9 +120,7 @@ module _ (us : List (List ℕ)) (d : Direction) (t : Told) (after : List Sending
   sends_all : (words : List (Option Word)) (ms : List Remark) (k : ℕ) (s : Seen) (gone flight : List (List ℕ)) →
       ms ≡ map (said_as t) words ++ later → length gone ≡ k → Splits us sent gone flight rest → Explains us ms k s →
       SendsThis words s k flight
-  sends_all [] ms k s gone flight is e split x =
-      send_on after t.octets t.before k s mine y b d flight
-      (on s k gone flight e split (subst (λ (l : List Remark). Explains us l k s) is x))
+  sends_all [] ms k s gone flight is e split x = grind (arith, send_on)
   sends_all (w ∷ words) _ k s gone flight is e split (explained.done _ _) = absurd (cc)
   sends_all (w ∷ words) _ k s gone flight is e split (explained.takes m ms _ _ c l h taken n x) =
       let same : m.before ≡ t.before = ap first_before is in
@@ -153,10 +139,7 @@ module _ (us : List (List ℕ)) (d : Direction) (t : Told) (after : List Sending
       (subst (λ (u : List ℕ). Takes s u c) a.there taken) r j
       (sends_all words ms (k + 1) (after_count s c) (gone ++ a.tsdu ∷ []) a.more (ap after_first is) a.counted a.on x)))
   sends_all (w ∷ words) _ k s gone flight is e split (explained.says m ms _ _ next v i h x) =
-      let word : w ≡ Some v = sym (ap first_word is) ∙ i in
-      subst (λ (o : Option Word). SendsThis (o ∷ words) s k flight) (sym word)
-      (say_on after t.octets t.before k s mine y b d v words flight next (subst (λ (n : ℕ). CanSay s v n next) (ap first_octets is) h)
-      (sends_all words ms k next gone flight (ap after_first is) e split x))
+      grind (arith, say_on, sends_all words ms k next gone flight (ap after_first is) e split x)
 
 -- ---- all TSDUs of both sides
 
@@ -173,18 +156,7 @@ record Fits (us : List (List ℕ)) (sent : ℕ) (s : Seen) (k : ℕ) (flight : L
 sent_more : (us : List (List ℕ)) (sent : ℕ) (s : Seen) (k : ℕ) (flight : List (List ℕ)) (left : List Remark) (tsdu : List ℕ)
     (rest : List (List ℕ)) →
     Fits us sent s k flight left (tsdu ∷ rest) → Fits us (sent + 1) s k (flight ++ tsdu ∷ []) left rest
-sent_more us sent s k flight left tsdu rest f =
-    let c : sent ≡ length f.gone + length flight = f.split.count in
-    let one = one_more flight tsdu in
-    record {
-      gone = f.gone;
-      counted = f.counted;
-      split = record {
-        all = f.split.all ∙ ap (λ (x : List (List ℕ)). f.gone ++ x) (taken_one flight tsdu rest);
-        count = omega arith;
-      };
-      explains = f.explains;
-    }
+sent_more us sent s k flight left tsdu rest f = grind (arith, one_more, taken_one)
 
 runs : (lefts rights : List (List ℕ)) (turns : List Turn) (l r : ℕ) (s y : Seen) (a b : ℕ) (mine theirs : List (List ℕ)) →
     AreInOrder l r turns →
@@ -211,6 +183,4 @@ nothing_taken us s told e = record { gone = []; counted = refl; split = record {
 pub accord_of : (left right : Seen) (turns : List Turn) → AreInOrder 0 0 turns →
     IsExplained left (tsdus_by Right turns) (told_by Left turns) →
     IsExplained right (tsdus_by Left turns) (told_by Right turns) → Accords (map sending_of turns) (pair_of left right)
-accord_of left right turns o e f =
-    runs (tsdus_by Left turns) (tsdus_by Right turns) turns 0 0 left right 0 0 [] [] o (nothing_taken (tsdus_by Right turns) left _ e)
-    (nothing_taken (tsdus_by Left turns) right _ f)
+accord_of left right turns o e f = grind (arith, runs, nothing_taken)

@@ -1,12 +1,12 @@
 -- An AC that a side may send is what a call of Accept sends, if its functional units and sizes are those of such a call.
 -- For the law that what may be said is called.
-use Rattle.osi_accord.proofs.Vocabulary.{arith, Bool, false, if◌then◌else◌, length, List, nat_le, None, not, Ok, Option, refl, Some, subst}
-use Rattle.osi_accord.proofs.Vocabulary.{sym, true, unwrap_or, ℕ, ◌&&◌, ◌==◌, ◌||◌, ◌∙◌, ◌≡◌, and_parts, eqb-true, are_sizes}
-use Rattle.osi_accord.proofs.Vocabulary.{TsduMaximumSize, TokenSetting, Wish, AC, Meaning, data_token, has, major, minor, release}
-use Rattle.osi_accord.proofs.Vocabulary.{over_calls, after, Answer, base_for, may_call, most_of, octets_of, opened_with, sends, Accept}
-use Rattle.osi_accord.proofs.Vocabulary.{Call, is_answering, allows, of_answerer, settled, stated_side, answered, fits_limit, smaller}
-use Rattle.osi_accord.proofs.Vocabulary.{accepting_in, fits_user_data, said_message, available, functional_units, has_data, is_profile}
-use Rattle.osi_accord.proofs.Vocabulary.{FunctionalUnits, Sides, State, as_called, has_size_of, has_sizes_of, is_called}
+use Rattle.osi_accord.proofs.Vocabulary.{arith, Bool, if◌then◌else◌, length, List, nat_le, None, not, Ok, Option, refl, Some, subst, sym}
+use Rattle.osi_accord.proofs.Vocabulary.{true, unwrap_or, ℕ, ◌&&◌, ◌==◌, ◌||◌, ◌∙◌, ◌≡◌, and_parts, eqb-true, are_sizes, TsduMaximumSize}
+use Rattle.osi_accord.proofs.Vocabulary.{TokenSetting, Wish, AC, Meaning, data_token, major, minor, release, over_calls, after, Answer}
+use Rattle.osi_accord.proofs.Vocabulary.{base_for, may_call, most_of, octets_of, opened_with, sends, Accept, Call, is_answering, allows}
+use Rattle.osi_accord.proofs.Vocabulary.{of_answerer, settled, stated_side, answered, fits_limit, smaller, accepting_in, fits_user_data}
+use Rattle.osi_accord.proofs.Vocabulary.{said_message, functional_units, has_data, is_profile, FunctionalUnits, Sides, State, as_called}
+use Rattle.osi_accord.proofs.Vocabulary.{has_size_of, has_sizes_of, is_called}
 use Rattle.osi_session.specs.Units.{units_within, both_units}
 use Rattle.osi_session.specs.Sizes.{answered_sizes, smaller_sizes}
 use Rattle.osi_session.specs.Sides.{answers_wishes, settle, stated}
@@ -43,41 +43,26 @@ same_sides a b d n j r = λ i. record { data_token = d i; minor = n i; major = j
 settled_stated : (u : FunctionalUnits) (w sides : TokenSetting) → answers_wishes u w sides ≡ true →
     settle u w (stated u sides) ≡ stated u sides
 unfolding answers_wishes settle stated
-settled_stated u w sides h =
-    let d = and_parts (allows (has (available u) data_token) w.data_token sides.data_token) _ h in
-    let n = and_parts (allows (has (available u) minor) w.minor sides.minor) _ d.1 in
-    let j = and_parts (allows (has (available u) major) w.major sides.major) _ n.1 in
-    same_sides _ _
-    (one_settled (has (available u) data_token) w.data_token sides.data_token d.0)
-    (one_settled (has (available u) minor) w.minor sides.minor n.0)
-    (one_settled (has (available u) major) w.major sides.major j.0)
-    (one_settled (has (available u) release) w.release sides.release j.1)
+settled_stated u w sides h = grind (arith, and_parts, same_sides, one_settled)
 
 no_size : (b : ℕ) (zero_asked : Bool) → (not zero_asked || (b == 0)) ≡ true → zero_asked ≡ true → b ≡ 0
-no_size b true h e = eqb-true b 0 h
-no_size b false h e = absurd (cc)
+no_size b zero_asked h e = grind (arith, eqb-true)
 
 same_size : (zero_asked : Bool) (b rest : ℕ) → (zero_asked ≡ true → b ≡ 0) →
     (if zero_asked then b else rest) ≡ (if zero_asked then 0 else (if zero_asked then b else rest))
-same_size true b rest h = h refl
-same_size false b rest h = refl
+same_size zero_asked b rest h = grind arith
 
 one_size : (asked given : ℕ) → has_size_of asked given ≡ true → smaller asked given ≡ answered asked given
 one_size asked given h = same_size (asked == 0) given _ (no_size given (asked == 0) h)
 
 same_sizes : (asked given : TsduMaximumSize) → has_sizes_of asked given ≡ true → smaller_sizes asked given ≡ answered_sizes asked given
 unfolding smaller_sizes answered_sizes
-same_sizes asked given h =
-    let p = and_parts (has_size_of asked.from_asker given.from_asker) (has_size_of asked.from_answerer given.from_answerer) h in
-    let a = one_size asked.from_asker given.from_asker p.0 in
-    let b = one_size asked.from_answerer given.from_answerer p.1 in
-    λ i. record { from_asker = a i; from_answerer = b i }
+same_sizes asked given h = grind (arith, and_parts, one_size)
 
 -- ---- the call
 
 if_some : (b : Bool) (x n : State) → (if b then Some x else None) ≡ Some n → (b ≡ true) × (x ≡ n)
-if_some true x n h = (refl, cc)
-if_some false x n h = absurd (cc)
+if_some b x n h = grind arith
 
 -- what an accepted call gives
 abbrev given : State → Call → Answer

@@ -1,12 +1,11 @@
 -- A TSDU that counts as passed before a TSDU of the other side stands before it in the order of a capture. So two sides of a capture
 -- that kept the protocol run together. For the law that two kept sides are a pair.
-use Rattle.osi_accord.proofs.Vocabulary.{[], ap, arith, Bool, cond, drop, false, inl, inr, leb, length, length-append, List, map, refl}
-use Rattle.osi_accord.proofs.Vocabulary.{subst, sym, take, true, ℕ, ◌++◌, ◌+◌, ◌<◌, ◌∙◌, ◌∷◌, ◌≡◌, ◌≤◌, ◌⊎◌, lt-leb, leb_tells}
-use Rattle.osi_accord.proofs.Vocabulary.{take-append-drop, filter-append, filter, Seen, seen_called, seen_calling, front_told, Capture}
-use Rattle.osi_accord.proofs.Vocabulary.{other, passed_before, IsExplained, Told, had_passed, heard, IsFoundIn, tell, told, IsSent, Sent}
-use Rattle.osi_accord.proofs.Vocabulary.{Direction, Left, Right, Broke, Accords, AreInOrder, Sending, sending_of, told_by, tsdus_by, Turn}
-use Rattle.osi_accord.proofs.Vocabulary.{turn, pair_of, AllFrom, ArePassed, IsAccord, Passage, passage, place, sending_in, sendings_in}
-use Rattle.osi_accord.proofs.Vocabulary.{sent_by}
+use Rattle.osi_accord.proofs.Vocabulary.{[], ap, arith, Bool, cond, drop, leb, length, length-append, List, map, refl, subst, sym, take, ℕ}
+use Rattle.osi_accord.proofs.Vocabulary.{◌++◌, ◌+◌, ◌<◌, ◌∙◌, ◌∷◌, ◌≡◌, ◌≤◌, lt-leb, leb_tells, take-append-drop, filter-append, filter}
+use Rattle.osi_accord.proofs.Vocabulary.{Seen, seen_called, seen_calling, front_told, Capture, other, passed_before, IsExplained, Told}
+use Rattle.osi_accord.proofs.Vocabulary.{had_passed, heard, IsFoundIn, tell, told, IsSent, Sent, Direction, Left, Right, Broke, Accords}
+use Rattle.osi_accord.proofs.Vocabulary.{AreInOrder, Sending, sending_of, told_by, tsdus_by, Turn, turn, pair_of, AllFrom, ArePassed}
+use Rattle.osi_accord.proofs.Vocabulary.{IsAccord, Passage, passage, place, sending_in, sendings_in, sent_by}
 use Rattle.osi_accord.proofs.the_tsdus_of_a_side_rise.{Rise, sent_rise}
 use Rattle.osi_accord.proofs.tsdus_of_both_sides_in_order.{merged}
 use Rattle.osi_accord.proofs.a_pair_explains_both_sides.{both_explained}
@@ -19,8 +18,7 @@ abbrev has_ended : ℕ → Sent → Bool
 has_ended n t = leb t.behind n
 
 one_in : (b : Bool) (t : Sent) (some : List Sent) (n : ℕ) → length some ≤ n → length (cond b (t ∷ some) some) ≤ n + 1
-one_in true t some n l = omega arith
-one_in false t some n l = omega arith
+one_in b t some n l = grind arith
 
 at_most : (p : Sent → Bool) (sent : List Sent) → length (filter p sent) ≤ length sent
 at_most p [] = omega arith
@@ -33,19 +31,11 @@ EndAfter n (t ∷ sent) = (n < t.behind) × EndAfter n sent
 
 none_ended : (n : ℕ) (sent : List Sent) → EndAfter n sent → filter (has_ended n) sent ≡ []
 none_ended n [] e = refl
-none_ended n (t ∷ sent) e =
-    ap (λ (b : Bool). cond b (t ∷ filter (has_ended n) sent) (filter (has_ended n) sent)) (lt-leb t.behind n e.0) ∙ none_ended n sent e.1
+none_ended n (t ∷ sent) e = grind (arith, cond, lt-leb, none_ended n sent e.1)
 
 -- those that stand before count, at most
 counted : (n : ℕ) (before after : List Sent) → EndAfter n after → length (filter (has_ended n) (before ++ after)) ≤ length before
-counted n before after e =
-    let split = filter-append (has_ended n) before after in
-    let none = none_ended n after e in
-    let m : length (filter (has_ended n) (before ++ after)) ≡ length (filter (has_ended n) before) + 0 =
-    ap length split ∙ length-append (filter (has_ended n) before) (filter (has_ended n) after)
-    ∙ ap (λ (x : List Sent). length (filter (has_ended n) before) + length x) none in
-    let l = at_most (has_ended n) before in
-    omega arith
+counted n before after e = grind (arith, filter-append, none_ended, length-append, at_most)
 
 -- ---- what begins later ends later
 
@@ -61,13 +51,7 @@ risen_sound n (t ∷ sent) r = (r.1, risen_sound t.first sent r.2)
 ends_after : (d : Direction) (capture : Capture) (k : ℕ) (t : Sent) → t.first < t.behind →
     place d capture k ≤ place (other d) capture t.first →
     passed_before d capture k < t.behind
-ends_after d capture k t l p = by (leb_tells t.behind (passed_before d capture k))
-  where
-    by : ((leb t.behind (passed_before d capture k) ≡ true) × (t.behind ≤ passed_before d capture k))
-        ⊎ ((leb t.behind (passed_before d capture k) ≡ false) × (passed_before d capture k < t.behind)) →
-        passed_before d capture k < t.behind
-    by (inl (is, b)) = let f = passed_first d capture k t.first t.behind l b in absurd (omega arith)
-    by (inr (is, b)) = b
+ends_after d capture k t l p = grind (arith, leb_tells, leb, passed_first)
 
 right_after : (capture : Capture) (k : ℕ) (passages : List Passage) → AreSound (sent_by Right passages) →
     AllFrom capture (place Left capture k) passages → EndAfter (passed_before Left capture k) (sent_by Right passages)
@@ -124,38 +108,32 @@ in_order capture lefts rights lb rb (passage Right x ∷ passages) l r e f p q s
 told_left : (capture : Capture) (lefts rights : List Sent) (passages : List Passage) →
     told_by Left (turns_in capture lefts rights passages) ≡ told Left capture (sent_by Left passages) rights
 told_left capture lefts rights [] = refl
-told_left capture lefts rights (passage Left t ∷ passages) =
-    ap (λ (x : List Told). tell Left capture rights t ∷ x) (told_left capture lefts rights passages)
+told_left capture lefts rights (passage Left t ∷ passages) = grind (arith, told_left capture lefts rights passages)
 told_left capture lefts rights (passage Right t ∷ passages) = told_left capture lefts rights passages
 
 told_right : (capture : Capture) (lefts rights : List Sent) (passages : List Passage) →
     told_by Right (turns_in capture lefts rights passages) ≡ told Right capture (sent_by Right passages) lefts
 told_right capture lefts rights [] = refl
-told_right capture lefts rights (passage Right t ∷ passages) =
-    ap (λ (x : List Told). tell Right capture lefts t ∷ x) (told_right capture lefts rights passages)
+told_right capture lefts rights (passage Right t ∷ passages) = grind (arith, told_right capture lefts rights passages)
 told_right capture lefts rights (passage Left t ∷ passages) = told_right capture lefts rights passages
 
 heard_left : (capture : Capture) (lefts rights : List Sent) (passages : List Passage) →
     tsdus_by Left (turns_in capture lefts rights passages) ≡ heard (sent_by Left passages)
 heard_left capture lefts rights [] = refl
-heard_left capture lefts rights (passage Left t ∷ passages) =
-    ap (λ (x : List (List ℕ)). t.octets ∷ x) (heard_left capture lefts rights passages)
+heard_left capture lefts rights (passage Left t ∷ passages) = grind (arith, heard_left capture lefts rights passages)
 heard_left capture lefts rights (passage Right t ∷ passages) = heard_left capture lefts rights passages
 
 heard_right : (capture : Capture) (lefts rights : List Sent) (passages : List Passage) →
     tsdus_by Right (turns_in capture lefts rights passages) ≡ heard (sent_by Right passages)
 heard_right capture lefts rights [] = refl
-heard_right capture lefts rights (passage Right t ∷ passages) =
-    ap (λ (x : List (List ℕ)). t.octets ∷ x) (heard_right capture lefts rights passages)
+heard_right capture lefts rights (passage Right t ∷ passages) = grind (arith, heard_right capture lefts rights passages)
 heard_right capture lefts rights (passage Left t ∷ passages) = heard_right capture lefts rights passages
 
 sent_same : (capture : Capture) (lefts rights : List Sent) (passages : List Passage) →
     map sending_of (turns_in capture lefts rights passages) ≡ map (sending_in capture lefts rights) passages
 sent_same capture lefts rights [] = refl
-sent_same capture lefts rights (passage Left t ∷ passages) =
-    ap (λ (x : List Sending). sending_in capture lefts rights (passage Left t) ∷ x) (sent_same capture lefts rights passages)
-sent_same capture lefts rights (passage Right t ∷ passages) =
-    ap (λ (x : List Sending). sending_in capture lefts rights (passage Right t) ∷ x) (sent_same capture lefts rights passages)
+sent_same capture lefts rights (passage Left t ∷ passages) = grind (arith, sent_same capture lefts rights passages)
+sent_same capture lefts rights (passage Right t ∷ passages) = grind (arith, sent_same capture lefts rights passages)
 
 -- ---- two sides of a capture
 

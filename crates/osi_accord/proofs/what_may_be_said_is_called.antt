@@ -1,14 +1,12 @@
 -- What a side may send is what a call sends, but for the liberties that it may take. For the law of that name.
-use Rattle.osi_accord.proofs.Vocabulary.{[], ap, arith, Bool, Err, false, if◌then◌else◌, is_none, length, List, nat_le, None, not, Ok}
-use Rattle.osi_accord.proofs.Vocabulary.{Option, option_map, refl, Some, subst, sym, true, ℕ, ◌&&◌, ◌+◌, ◌-◌, ◌==◌, ◌||◌, ◌∙◌, ◌∷◌, ◌≡◌}
-use Rattle.osi_accord.proofs.Vocabulary.{and_parts, eqb-true, AA, AB, AC, CN, DN, DT, FN, GT, MAA, MAP, Meaning, MIA, MIP, NF, PT, RA, RF}
-use Rattle.osi_accord.proofs.Vocabulary.{RS, each, is_empty, says, written, first_error_ok, after, Answer, has_right, may_call, most_of}
-use Rattle.osi_accord.proofs.Vocabulary.{needs, octets_of, sends, Abort, Call, Data, Give, Major, MajorConfirm, Minor, MinorConfirm, Please}
-use Rattle.osi_accord.proofs.Vocabulary.{refusal_octets, refusal_reason, refusal_with, Refuse, Release, ReleaseAccept, ReleaseRefuse}
-use Rattle.osi_accord.proofs.Vocabulary.{Restart, RestartConfirm, begins_anew, is_ready, has_no_effect, is_restart, answers_wishes}
-use Rattle.osi_accord.proofs.Vocabulary.{setting_of, settle, stated, fits_limit, calling, CanSay, finishing, fits_user_data, goes}
-use Rattle.osi_accord.proofs.Vocabulary.{is_in_size, left_by, said_message, said_within, Seen, where_is, State, as_called, is_called}
-use Rattle.osi_accord.proofs.Vocabulary.{IsCall}
+use Rattle.osi_accord.proofs.Vocabulary.{ap, arith, Bool, false, if◌then◌else◌, length, List, nat_le, None, not, Ok, Option, option_map}
+use Rattle.osi_accord.proofs.Vocabulary.{refl, Some, subst, sym, true, ℕ, ◌&&◌, ◌+◌, ◌-◌, ◌==◌, ◌||◌, ◌∙◌, ◌≡◌, and_parts, eqb-true, AA, AB}
+use Rattle.osi_accord.proofs.Vocabulary.{AC, CN, DN, DT, FN, GT, MAA, MAP, Meaning, MIA, MIP, NF, PT, RA, RF, RS, says, written}
+use Rattle.osi_accord.proofs.Vocabulary.{first_error_ok, after, Answer, may_call, most_of, needs, octets_of, sends, Abort, Call, Data, Give}
+use Rattle.osi_accord.proofs.Vocabulary.{Major, Minor, MinorConfirm, Please, refusal_octets, refusal_with, Release, ReleaseAccept}
+use Rattle.osi_accord.proofs.Vocabulary.{ReleaseRefuse, RestartConfirm, has_no_effect, answers_wishes, setting_of, settle, stated}
+use Rattle.osi_accord.proofs.Vocabulary.{fits_limit, calling, CanSay, finishing, goes, is_in_size, left_by, said_message, said_within, Seen}
+use Rattle.osi_accord.proofs.Vocabulary.{where_is, State, as_called, is_called, IsCall}
 use Rattle.osi_session.specs.Standing.{said}
 use Rattle.osi_session.specs.Allowed.{met, Step}
 use Rattle.osi_accord.proofs.what_an_ac_selects.{Calls, accepted_as, allowed_is}
@@ -16,12 +14,10 @@ use Rattle.osi_accord.proofs.what_an_ac_selects.{Calls, accepted_as, allowed_is}
 -- ---- a call that passes its tests
 
 left_is : (a : Answer) (n : State) → left_by a ≡ Some n → (x : Step) × (a ≡ Ok x) × (x.next ≡ n)
-left_is (Ok x) n h = (x, refl, cc)
-left_is (Err e) n h = absurd (cc)
+left_is a n h = grind arith
 
 if_some : (b : Bool) (o : Option State) (n : State) → (if b then o else None) ≡ Some n → (b ≡ true) × (o ≡ Some n)
-if_some true o n h = (refl, h)
-if_some false o n h = absurd (cc)
+if_some b o n h = grind arith
 
 met_is : (s : State) (c : Call) (x : Step) → met s c ≡ Ok x → x ≡ record { next = after s c; sent = sends s c }
 unfolding met
@@ -43,8 +39,7 @@ call_allowed s c m n h e f =
 -- a number that has to be this one
 where_allowed : (b : Bool) (s : State) (c : Call) (m : Meaning) (n : State) → where_is b (calling s c) ≡ Some n →
     (b ≡ true → sends s c ≡ m) → (b ≡ true → fits_limit s c (sends s c) ≡ true) → Calls s m n
-where_allowed b s c m n h e f =
-    let a = if_some b (calling s c) n h in call_allowed s c m n a.1 (e a.0) (f a.0)
+where_allowed b s c m n h e f = grind (arith, if_some, call_allowed)
 
 -- ---- each message
 
@@ -56,8 +51,7 @@ one_before : (n next : ℕ) → (n + 1 == next) ≡ true → next - 1 ≡ n
 one_before n next h = let e = eqb-true (n + 1) next h in omega arith
 
 same_octets : (octets : List ℕ) → refusal_octets (refusal_with octets) ≡ octets
-same_octets [] = refl
-same_octets (b ∷ octets) = refl
+same_octets octets = grind arith
 
 fitting : (s : State) (m n : Meaning) → n ≡ m → Fits s m → Fits s n
 fitting s m n e f = subst (Fits s) (sym e) f
@@ -66,20 +60,13 @@ fitting s m n e f = subst (Fits s) (sym e) f
 released : (s : State) (octets : List ℕ) (n : State) → finishing s octets ≡ Some n → (not s.units.duplex || s.is_caller) ≡ true →
     calling s (Release octets) ≡ Some n
 unfolding met
-released s octets n h c =
-    let a = if_some (is_ready s.phase && (fits_user_data octets && each (has_right s))) _ n h in
-    let p = and_parts (is_ready s.phase) (fits_user_data octets && each (has_right s)) a.0 in
-    let q = and_parts (fits_user_data octets) (each (has_right s)) p.1 in
-    rw (p.0, q.0, q.1, c) a.1
+released s octets n h c = grind (arith, if_some, and_parts)
 
 message_called : (s : State) (m : Meaning) (n : State) → said_message s m ≡ Some n → is_called s m ≡ true → Fits s (as_called s m) →
     Calls s (as_called s m) n
 message_called s (CN version_2 requirements serial wishes from to sizes octets) n h c f = absurd (cc)
-message_called s (AC version_2 requirements serial sides sizes octets) n h c f =
-    let is = accepted_as s version_2 requirements serial sides sizes octets n h c in
-    record { call = is.call; allows = is.allows }
-message_called s (RF reason octets) n h c f =
-    call_allowed s (Refuse (refusal_with octets)) _ n h (ap (RF (refusal_reason (refusal_with octets))) (same_octets octets)) refl
+message_called s (AC version_2 requirements serial sides sizes octets) n h c f = grind (arith, accepted_as)
+message_called s (RF reason octets) n h c f = search (arith, call_allowed, same_octets)
 message_called s (DT octets) n h c f = call_allowed s (Data octets) _ n h refl refl
 message_called s (GT tokens) n h c f = call_allowed s (Give tokens) _ n h refl f
 message_called s (PT tokens octets) n h c f = call_allowed s (Please tokens octets) _ n h refl f
@@ -94,13 +81,8 @@ message_called s (MAP k octets) n h c f =
   where
     is : (k == s.numbers.next) ≡ true → MAP s.numbers.next octets ≡ MAP k octets
     is b = ap (λ (x : ℕ). MAP x octets) (sym (eqb-true k s.numbers.next b))
-message_called s (MAA k octets) n h c f =
-    where_allowed (k + 1 == s.numbers.next) s (MajorConfirm octets) _ n h is (λ b. fitting s _ _ (is b) f)
-  where
-    is : (k + 1 == s.numbers.next) ≡ true → MAA (s.numbers.next - 1) octets ≡ MAA k octets
-    is b = ap (λ (x : ℕ). MAA x octets) (one_before k s.numbers.next b)
-message_called s (RS kind k wishes octets) n h c f =
-    where_allowed (is_restart kind) s (Restart k wishes octets) _ n h (λ b. refl) (λ b. f)
+message_called s (MAA k octets) n h c f = search (arith, where_allowed, fitting, one_before)
+message_called s (RS kind k wishes octets) n h c f = search (arith, where_allowed)
 message_called s (RA k sides octets) n h c f =
     where_allowed ((k == s.numbers.next) && answers_wishes s.units s.wishes sides) s (RestartConfirm (stated s.units sides) octets) _ n h is
     (λ b. fitting s _ _ (is b) f)
@@ -119,33 +101,17 @@ message_called s AA n h c f = absurd (cc)
 -- ---- a side
 
 has_effect : (s : State) (m : Meaning) → is_called s m ≡ true → has_no_effect m ≡ false
-has_effect s (GT tokens) c = un_not (is_empty tokens) c
-  where
-    un_not : (b : Bool) → not b ≡ true → b ≡ false
-    un_not false h = refl
-    un_not true h = absurd (cc)
-has_effect s (PT tokens octets) c = un_not (is_empty tokens) c
-  where
-    un_not : (b : Bool) → not b ≡ true → b ≡ false
-    un_not false h = refl
-    un_not true h = absurd (cc)
-has_effect s _ c = refl
+has_effect s m c = grind arith
 
 if_seen : (b : Bool) (o : Option Seen) (n : Seen) → (if b then o else None) ≡ Some n → o ≡ Some n
-if_seen true o n h = h
-if_seen false o n h = absurd (cc)
+if_seen b o n h = grind arith
 
 mapped : (s : Seen) (o : Option State) (next : Seen) → option_map (goes s) o ≡ Some next → (n : State) × (o ≡ Some n) × (next ≡ goes s n)
-mapped s (Some n) next h = (n, refl, (let e : Some (goes s n) ≡ Some next = h in cc))
-mapped s None next h = absurd (cc)
+mapped s o next h = grind arith
 
 within_says : (s : Seen) (m : Meaning) (next : Seen) → has_no_effect m ≡ false → said_within s (says m) ≡ Some next →
     (n : State) × (said_message s.state m ≡ Some n) × (next ≡ goes s n)
-within_says s m next e h =
-    mapped s (said_message s.state m) next
-    (if_seen (is_none s.sent || not (begins_anew m)) (option_map (goes s) (said_message s.state m)) next
-    (subst (λ (b : Bool). (if b then Some s else
-    (if is_none s.sent || not (begins_anew m) then option_map (goes s) (said_message s.state m) else None)) ≡ Some next) e h))
+within_says s m next e h = grind (arith, mapped, if_seen)
 
 says_message : (s : Seen) (m : Meaning) (octets : ℕ) (next : Seen) → has_no_effect m ≡ false → CanSay s (says m) octets next →
     (n : State) × (said_message s.state m ≡ Some n) × (next ≡ goes s n)

@@ -1,6 +1,6 @@
 -- A lister keeps less than a packet, and of each stream at most a TSDU. For the law `a_lister_keeps_little`.
-use Rattle.std.proofs.Common.{◌≡◌, ℕ, ◌+◌, ◌≤◌, Bool, true, false, List, [], ◌∷◌, length, Option, None, Some, Ok, Err, filter, cond, refl}
-use Rattle.std.proofs.Common.{sym, ap, subst, arith}
+use Rattle.std.proofs.Common.{◌≡◌, ℕ, ◌+◌, ◌≤◌, Bool, false, List, [], ◌∷◌, length, Option, None, Some, Ok, Err, filter, cond, sym, subst}
+use Rattle.std.proofs.Common.{arith}
 use Rattle.std.specs.Prelude.{nat_lt}
 use Rattle.std.proofs.lemmas.Bool.{ltb-false}
 use Rattle.std.proofs.lemmas.List.{length-append}
@@ -12,35 +12,22 @@ use Rattle.osi_listing.specs.declared.pieces.Stage.{Stage}
 use Rattle.osi_listing.specs.declared.pieces.Stage.TheVariants.{Going}
 use Rattle.osi_listing.specs.Fed.{IsFed, StandsAt}
 use Rattle.osi_listing.specs.Streams.{Part, Join, joined, join_after, after_parts, join_of, is_same_stream}
-use Rattle.osi_listing.specs.Streams.Join.{Begun, Dropping}
+use Rattle.osi_listing.specs.Streams.Join.{Begun}
 use Rattle.osi_listing.specs.Traced.{kept_of, KeepsLittle}
 
 partial_short : (r : List ℕ) → IsPartial r → length r ≤ 65535
-partial_short r partial =
-    let most = partial.completes.1.at_most in
-    let sizes = ap length partial.completes.1.spelled in
-    let parts = length-append r partial.more in
-    omega arith
+partial_short r partial = grind (arith, length-append r partial.more)
 
 -- a part that is joined, or makes the TSDU too long
 part_short : (long end : Bool) (begun octets : List ℕ) → (long ≡ false → length begun + length octets ≤ 1048576) →
     kept_of (join_after end (cond long (Err TsduTooLong) (Ok (with_part (joining begun []) end octets)))) ≤ 1048576
-part_short true true begun octets h = omega arith
-part_short true false begun octets h = omega arith
-part_short false true begun octets h = omega arith
-part_short false false begun octets h =
-    let both = length-append begun octets in
-    let short = h refl in
-    omega arith
+part_short long end begun octets h = grind (arith, length-append)
 
 not_long : (n : ℕ) → nat_lt 1048576 n ≡ false → n ≤ 1048576
 not_long n e = ltb-false 1048576 n e
 
 joined_short : (join : Join) (end : Bool) (octets : List ℕ) → kept_of join ≤ 1048576 → kept_of (joined join end octets) ≤ 1048576
-joined_short Dropping true octets h = omega arith
-joined_short Dropping false octets h = omega arith
-joined_short (Begun begun) end octets h =
-    part_short (nat_lt 1048576 (length begun + length octets)) end begun octets (not_long (length begun + length octets))
+joined_short join end octets h = grind (arith, part_short, not_long)
 
 after_short : (join : Join) (parts : List Part) → kept_of join ≤ 1048576 → kept_of (after_parts join parts) ≤ 1048576
 after_short join [] h = h

@@ -1,10 +1,9 @@
 -- The digits of a text, from one octet to the next.
-use Rattle.std.proofs.Common.{◌≡◌, ℕ, suc, take, Bool, true, false, cond, not, List, [], ◌∷◌, ◌++◌, refl, inl, inr, sym, ◌∙◌, ap, arith}
-use Rattle.std.proofs.Common.{◌+◌, ◌==◌, filter}
-use Rattle.std.specs.List.{before_first, flat_map, slice_split, onto_first, prefix_len}
+use Rattle.std.proofs.Common.{◌≡◌, ℕ, suc, take, Bool, true, false, cond, not, List, [], ◌∷◌, refl, inl, inr, ◌∙◌, ap, arith, ◌+◌, ◌==◌}
+use Rattle.std.specs.List.{before_first, slice_split, onto_first, prefix_len}
 use Rattle.std.proofs.lemmas.Bool.Decides.{eqb_tells}
 use Rattle.std.proofs.lemmas.List.Splits.{slice_split-cons_yes, slice_split-cons_no}
-use Rattle.osi_listing.specs.Capture.{is_comment_sign, is_line_feed, is_blank, digits_of, later, digits_of_lines, digits_left}
+use Rattle.osi_listing.specs.Capture.{is_comment_sign, is_line_feed, is_blank, digits_of, digits_left}
 
 more_lines : (b : Bool) (c : ℕ) (parts : List (List ℕ)) (line : List ℕ) (lines : List (List ℕ)) → parts ≡ line ∷ lines →
     (first : List ℕ) × (others : List (List ℕ)) × (cond b ([] ∷ parts) (onto_first c parts) ≡ first ∷ others)
@@ -35,41 +34,25 @@ cut c line h = rw h refl
 
 -- the end of a line ends a comment
 pub left_line_feed : (b : Bool) (c : ℕ) (text : List ℕ) → is_line_feed c ≡ true → digits_left b (c ∷ text) ≡ digits_left false text
-left_line_feed true c text h = ap (λ parts. digits_of_lines (later parts)) (slice_split-cons_yes is_line_feed c text h)
-left_line_feed false c text h = ap digits_of_lines (slice_split-cons_yes is_line_feed c text h)
+left_line_feed b c text h = grind (arith, slice_split-cons_yes)
 
 -- its character begins a comment, or is within one
 pub left_sign : (b : Bool) (c : ℕ) (text : List ℕ) → is_line_feed c ≡ false → is_comment_sign c ≡ true →
     digits_left b (c ∷ text) ≡ digits_left true text
-left_sign true c text h k = let e = goes_on c text h in ap (λ parts. digits_of_lines (later parts)) e.3 ∙
-    sym (ap (λ parts. digits_of_lines (later parts)) e.2)
-left_sign false c text h k =
-    let e = goes_on c text h in
-    ap digits_of_lines e.3
-    ∙ ap (λ x. filter (λ c. not (is_blank c)) (x ++ flat_map (before_first is_comment_sign) e.1)) (cut c e.0 k)
-    ∙ sym (ap (λ parts. digits_of_lines (later parts)) e.2)
+left_sign b c text h k = grind (arith, goes_on, cut)
 
 -- comments are skipped
 pub left_comment : (c : ℕ) (text : List ℕ) → is_line_feed c ≡ false → digits_left true (c ∷ text) ≡ digits_left true text
-left_comment c text h =
-    let e = goes_on c text h in ap (λ parts. digits_of_lines (later parts)) e.3 ∙ sym (ap (λ parts. digits_of_lines (later parts)) e.2)
+left_comment c text h = grind (arith, goes_on)
 
 -- an octet outside comments
 outside : (c : ℕ) (text : List ℕ) → is_line_feed c ≡ false → is_comment_sign c ≡ false →
     digits_of (c ∷ text) ≡ cond (not (is_blank c)) (c ∷ digits_of text) (digits_of text)
-outside c text h k =
-    let e = goes_on c text h in
-    let same : cond (not (is_blank c)) (c ∷ digits_of_lines (e.0 ∷ e.1)) (digits_of_lines (e.0 ∷ e.1))
-    ≡ cond (not (is_blank c)) (c ∷ digits_of text) (digits_of text) =
-    ap (λ parts. cond (not (is_blank c)) (c ∷ digits_of_lines parts) (digits_of_lines parts)) (sym e.2) in
-    ap digits_of_lines e.3
-    ∙ ap (λ x. filter (λ c. not (is_blank c)) (x ++ flat_map (before_first is_comment_sign) e.1)) (kept c e.0 k)
-    ∙ same
+outside c text h k = grind (arith, goes_on, cond, kept)
 
 pub left_blank : (b : Bool) (c : ℕ) (text : List ℕ) → is_line_feed c ≡ false → is_comment_sign c ≡ false → is_blank c ≡ true →
     digits_left b (c ∷ text) ≡ digits_left b text
-left_blank true c text h k m = left_comment c text h
-left_blank false c text h k m = outside c text h k ∙ ap (λ x. cond (not x) (c ∷ digits_of text) (digits_of text)) m
+left_blank b c text h k m = grind (arith, left_comment, outside, cond)
 
 pub left_digit : (c : ℕ) (text : List ℕ) → is_line_feed c ≡ false → is_comment_sign c ≡ false → is_blank c ≡ false →
     digits_left false (c ∷ text) ≡ c ∷ digits_left false text
@@ -80,8 +63,7 @@ other a b h = elim (eqb_tells a b) [ inl same ↦ absurd (h same.1) | inr differ
 
 pub left_digit_of : (b : Bool) (c : ℕ) (text : List ℕ) → b ≡ false → (c ≡ 10 → ⊥) → (c ≡ 35 → ⊥) → is_blank c ≡ false →
     digits_left b (c ∷ text) ≡ c ∷ digits_left false text
-left_digit_of true c text e feed sign blank = absurd (cc)
-left_digit_of false c text e feed sign blank = left_digit c text (other c 10 feed) (other c 35 sign) blank
+left_digit_of b c text e feed sign blank = grind (arith, left_digit, other)
 
 pub left_blank_of : (b : Bool) (c : ℕ) (text : List ℕ) → (c ≡ 10 → ⊥) → (c ≡ 35 → ⊥) → is_blank c ≡ true →
     digits_left b (c ∷ text) ≡ digits_left b text

@@ -18,18 +18,14 @@ octets_in (Ok octets) = Some octets
 octets_in (Err e) = None
 
 nothing_more : (digit : Option ℕ) → if_digit digit (λ v. None) ≡ None
-nothing_more (Some v) = refl
-nothing_more None = refl
+nothing_more digit = grind arith
 
 -- two digits, and the octets after them
 two_digits : (a b i : ℕ) (high low : Option ℕ) (rest : Result (List ℕ) FromHexError) →
     octets_in ((digit_or_error a i high >>= (λ h. digit_or_error b (i + 1) low >>= (λ l. Ok (h * 16 + l))))
     >>= (λ byte. rest >>= (λ bytes. Ok (byte ∷ bytes))))
     ≡ if_digit high (λ h. if_digit low (λ l. after_octets ((h * 16 + l) ∷ []) (octets_in rest)))
-two_digits a b i None low rest = refl
-two_digits a b i (Some h) None rest = refl
-two_digits a b i (Some h) (Some l) (Ok bytes) = refl
-two_digits a b i (Some h) (Some l) (Err e) = refl
+two_digits a b i high low rest = grind arith
 
 pairs_give : (i : ℕ) (s : List ℕ) → octets_in (decode_pairs i s) ≡ octets_from s None
 unfolding decode_pairs
@@ -58,12 +54,10 @@ digits_give s = elim (eqb_tells (length s % 2) 1) [
 ]
 
 is_ok_of : (r : Result (List ℕ) FromHexError) (octets : List ℕ) → octets_in r ≡ Some octets → r ≡ Ok octets
-is_ok_of (Ok x) octets e = cc
-is_ok_of (Err f) octets e = cc
+is_ok_of r octets e = grind arith
 
 is_err_of : (r : Result (List ℕ) FromHexError) → octets_in r ≡ None → IsErr r
-is_err_of (Ok x) e = cc
-is_err_of (Err f) e = refl
+is_err_of r e = grind arith
 
 -- the digits that were read are a capture
 pub all_are_digits : (s octets : List ℕ) → octets_from s None ≡ Some octets → decode_of s ≡ Ok octets
@@ -87,35 +81,24 @@ differ a b h = elim (eqb_tells a b) [ inl same ↦ absurd (h same.1) | inr other
 
 -- and no blank
 pub digit_no_blank : (c v : ℕ) → hex_digit_value c ≡ Some v → is_blank c ≡ false
-digit_no_blank c v h =
-    let from = from_48 c v h in
-    let a : (c == 32) ≡ false = differ c 32 (omega arith) in
-    let b : (c == 9) ≡ false = differ c 9 (omega arith) in
-    let d : (c == 13) ≡ false = differ c 13 (omega arith) in
-    rw (a, b, d) refl
+digit_no_blank c v h = grind (arith, from_48, differ)
 
 -- ---- a character of a text
 
 -- a digit outside comments
 pub digit_read : (b : Bool) (c v : ℕ) (high : Option ℕ) (rest : List ℕ) → hex_digit_value c ≡ Some v → b ≡ false →
     octets_from (digits_left b (c ∷ rest)) high ≡ with_digit high v (octets_from (digits_left false rest))
-digit_read b c v high rest h e =
-    let sign = digit_no_sign c v h in
-    ap (λ d. octets_from d high) (left_digit_of b c rest e sign.0 sign.1 (digit_no_blank c v h))
-    ∙ ap (λ o. if_digit o (λ digit. with_digit high digit (octets_from (digits_left false rest)))) h
+digit_read b c v high rest h e = grind (arith, left_digit_of, digit_no_sign c v h, digit_no_blank c v h)
 
 -- a digit in a comment
 pub digit_skipped : (b : Bool) (c v : ℕ) (rest : List ℕ) → hex_digit_value c ≡ Some v → b ≡ true →
     digits_left b (c ∷ rest) ≡ digits_left b rest
-digit_skipped true c v rest h e = left_comment c rest (differ c 10 (digit_no_sign c v h).0)
-digit_skipped false c v rest h e = absurd (cc)
+digit_skipped b c v rest h e = grind (arith, left_comment, differ, digit_no_sign)
 
 -- another character outside comments
 pub no_digit : (b : Bool) (c : ℕ) (high : Option ℕ) (rest : List ℕ) → hex_digit_value c ≡ None → b ≡ false → c ≢ 10 → c ≢ 35 →
     is_blank c ≡ false → octets_from (digits_left b (c ∷ rest)) high ≡ None
-no_digit b c high rest h e feed sign blank =
-    ap (λ d. octets_from d high) (left_digit_of b c rest e feed sign blank)
-    ∙ ap (λ o. if_digit o (λ digit. with_digit high digit (octets_from (digits_left false rest)))) h
+no_digit b c high rest h e feed sign blank = grind (arith, left_digit_of)
 
 -- two digits side by side
 pub two_read : (a b high low : ℕ) (rest : List ℕ) → hex_digit_value a ≡ Some high → hex_digit_value b ≡ Some low →
@@ -127,55 +110,40 @@ pub front_read : (text : List ℕ) (high low : ℕ) → 2 ≤ length text → he
     hex_digit_value (slice_index text 1) ≡ Some low →
     octets_from (digits_of text) None ≡ after_octets ((high * 16 + low) ∷ [])
     (octets_from (digits_of (take (length text - 2) (drop 2 text))) None)
-front_read [] high low two h k = absurd (omega arith)
-front_read (a ∷ []) high low two h k = absurd (omega arith)
-front_read (a ∷ b ∷ rest) high low two h k =
-    two_read a b high low rest h k
-    ∙ ap (λ r. after_octets ((high * 16 + low) ∷ []) (octets_from (digits_of r) None))
-    (sym (take_all (length (a ∷ b ∷ rest) - 2) rest (omega arith)))
+front_read text high low two h k = grind (arith, two_read, take_all)
 
 -- ---- the end of a text
 
 no_digits_left : (b : Bool) → digits_left b [] ≡ []
-no_digits_left true = refl
-no_digits_left false = refl
+no_digits_left b = grind arith
 
 left_at_end : (b : Bool) (rest : List ℕ) → length rest ≡ 0 → digits_left b rest ≡ []
 left_at_end b rest e = ap (digits_left b) (nil_from_length rest e) ∙ no_digits_left b
 
 pub captures_at_end : (b : Bool) (high : Option ℕ) (rest text octets : List ℕ) → length rest ≡ 0 → high ≡ None →
     after_octets octets (octets_from (digits_left b rest) high) ≡ octets_from (digits_of text) None → decode_of (digits_of text) ≡ Ok octets
-captures_at_end b high rest text octets e h so_far =
-    all_are_digits (digits_of text) octets (sym so_far ∙ ap (λ o. after_octets octets (octets_from (digits_left b rest) o)) h
-    ∙ ap (λ d. after_octets octets (octets_from d None)) (left_at_end b rest e) ∙ ap Some (append-nil octets))
+captures_at_end b high rest text octets e h so_far = grind (arith, all_are_digits, left_at_end, append-nil)
 
 -- half an octet at the end
 pub no_capture_at_end : (b : Bool) (high : Option ℕ) (first : ℕ) (rest text octets : List ℕ) → length rest ≡ 0 → high ≡ Some first →
     after_octets octets (octets_from (digits_left b rest) high) ≡ octets_from (digits_of text) None → IsErr (decode_of (digits_of text))
-no_capture_at_end b high first rest text octets e h so_far =
-    not_all_are_digits (digits_of text) (sym so_far ∙ ap (λ o. after_octets octets (octets_from (digits_left b rest) o)) h
-    ∙ ap (λ d. after_octets octets (octets_from d (Some first))) (left_at_end b rest e))
+no_capture_at_end b high first rest text octets e h so_far = grind (arith, not_all_are_digits, left_at_end)
 
 -- a character that can't be read
 pub no_capture_here : (b : Bool) (high : Option ℕ) (c : ℕ) (rest behind text octets : List ℕ) → rest ≡ c ∷ behind →
     octets_from (digits_left b (c ∷ behind)) high ≡ None →
     after_octets octets (octets_from (digits_left b rest) high) ≡ octets_from (digits_of text) None → IsErr (decode_of (digits_of text))
-no_capture_here b high c rest behind text octets e none so_far =
-    not_all_are_digits (digits_of text) (sym so_far ∙ ap (λ r. after_octets octets (octets_from (digits_left b r) high)) e
-    ∙ ap (after_octets octets) none)
+no_capture_here b high c rest behind text octets e none so_far = grind (arith, not_all_are_digits)
 
 -- ---- octets after octets
 
 pub after_both : (a b : List ℕ) (more : Option (List ℕ)) → after_octets (a ++ b) more ≡ after_octets a (after_octets b more)
-after_both a b (Some more) = ap Some (append_assoc a b more)
-after_both a b None = refl
+after_both a b more = grind (arith, append_assoc)
 
 pub after_none : (more : Option (List ℕ)) → after_octets [] more ≡ more
-after_none (Some octets) = refl
-after_none None = refl
+after_none more = grind arith
 
 -- four octets, one after the other
 pub four_read : (a b c d : ℕ) (all p q r rest : Option (List ℕ)) → all ≡ after_octets (a ∷ []) p → p ≡ after_octets (b ∷ []) q →
     q ≡ after_octets (c ∷ []) r → r ≡ after_octets (d ∷ []) rest → all ≡ after_octets (a ∷ b ∷ c ∷ d ∷ []) rest
-four_read a b c d all p q r (Some octets) e f g h = rw (e, f, g, h) refl
-four_read a b c d all p q r None e f g h = rw (e, f, g, h) refl
+four_read a b c d all p q r rest e f g h = grind arith

@@ -1,41 +1,29 @@
 -- The fields of a session unit, from one to the next.
-use Rattle.std.proofs.Common.{◌≡◌, ℕ, Bool, ◌+◌, ◌/◌, ◌%◌, ◌^◌, ◌<◌, ◌≤◌, true, false, drop, length, List, [], ◌∷◌, ◌++◌, refl, sym, ap}
-use Rattle.std.proofs.Common.{◌∙◌}
+use Rattle.std.proofs.Common.{◌≡◌, ℕ, Bool, ◌+◌, ◌/◌, ◌%◌, ◌<◌, ◌≤◌, true, false, drop, length, List, [], ◌∷◌, ◌++◌, refl, sym, ap, ◌∙◌}
 use Rattle.std.proofs.Common.{append_assoc, arith, codes}
-use Rattle.std.specs.Prelude.{slice_index, option_map, is_some, Option, Some, None}
+use Rattle.std.specs.Prelude.{slice_index, option_map, is_some, Option, None}
 use Rattle.std.specs.Fmt.{decimal}
 use Rattle.std.specs.List.{join_with_byte}
 use Rattle.std.proofs.lemmas.Fmt.{decimal_digit, decimal_step}
 use Rattle.std.proofs.lemmas.List.{append-nil, drop_all, drop_more}
-use Rattle.hex.specs.Hex.{encode_with, encode_lower, lower_digits}
+use Rattle.hex.specs.Hex.{encode_with, encode_lower}
 use Rattle.osi_tpdu.specs.Value.{data0}
 use Rattle.osi_listing.specs.Lines.{bit, unit_fields, unit_line}
 use Rattle.osi_listing.specs.SessionLines.{fields_left}
 
 -- a number of two digits
 pub two_digits : (n : ℕ) → 10 ≤ n → n < 100 → decimal n ≡ (48 + n / 10) ∷ (48 + n % 10) ∷ []
-two_digits n some few =
-    let small : n < 2 ^ 64 = omega arith in
-    let tens : n / 10 < 10 = omega arith in
-    decimal_step n some small ∙ ap (λ d. d ++ (48 + n % 10) ∷ []) (decimal_digit (n / 10) tens)
+two_digits n some few = grind (arith, decimal_step, decimal_digit)
 
 -- and one of three digits
 pub three_digits : (n : ℕ) → 100 ≤ n → n < 1000 → decimal n ≡ (48 + n / 100) ∷ (48 + n / 10 % 10) ∷ (48 + n % 10) ∷ []
-three_digits n some few =
-    let small : n < 2 ^ 64 = omega arith in
-    let at_least : 10 ≤ n = omega arith in
-    let some_tens : 10 ≤ n / 10 = omega arith in
-    let few_tens : n / 10 < 100 = omega arith in
-    let hundreds : n / 10 / 10 ≡ n / 100 = omega arith in
-    decimal_step n at_least small ∙ ap (λ d. d ++ (48 + n % 10) ∷ []) (two_digits (n / 10) some_tens few_tens)
-    ∙ ap (λ h. (48 + h) ∷ (48 + n / 10 % 10) ∷ (48 + n % 10) ∷ []) hundreds
+three_digits n some few = grind (arith, decimal_step, two_digits)
 
 -- the line of a data unit of class 0
 pub line_of_data_0 : (end : Bool) (user : List ℕ) → unit_line (data0 end user)
     ≡ (codes "  DT number 0 eot " ++ (48 + bit end) ∷ codes " octets ") ++ (decimal (length user) ++ codes "\n")
 unfolding unit_line unit_fields
-line_of_data_0 true user = rw (decimal_digit 0 (omega arith), decimal_digit 1 (omega arith)) refl
-line_of_data_0 false user = rw (decimal_digit 0 (omega arith)) refl
+line_of_data_0 end user = grind (arith, decimal_digit)
 
 pub data_0_added : (text mid new words : List ℕ) (end : Bool) (user : List ℕ) →
     words ≡ codes "  DT number 0 eot " ++ (48 + bit end) ∷ codes " octets " → mid ≡ text ++ words →
@@ -48,18 +36,15 @@ data_0_added text mid new words end user e h k =
 
 -- a value that is not there
 pub not_there : (o : Option (List ℕ)) → is_some o ≡ false → o ≡ None
-not_there None e = refl
-not_there (Some x) e = absurd (cc)
+not_there o e = grind arith
 
 pub mapped : {A B : Type 0} (f : A → B) (o : Option A) → is_some (option_map f o) ≡ is_some o
-mapped f None = refl
-mapped f (Some x) = refl
+mapped f o = grind arith
 
 pub encode_lower_append : (a b : List ℕ) → encode_lower (a ++ b) ≡ encode_lower a ++ encode_lower b
 unfolding encode_with
 encode_lower_append [] b = refl
-encode_lower_append (x ∷ a) b =
-    ap (λ t. slice_index lower_digits (x / 16) ∷ slice_index lower_digits (x % 16) ∷ t) (encode_lower_append a b)
+encode_lower_append (x ∷ a) b = grind (arith, encode_lower_append a b)
 
 -- an octet, and those after it
 pub encode_lower_cons : (x : ℕ) (rest : List ℕ) → encode_lower (x ∷ rest) ≡ encode_lower (x ∷ []) ++ encode_lower rest
@@ -68,12 +53,7 @@ encode_lower_cons x rest = encode_lower_append (x ∷ []) rest
 -- octets, one more of which is added
 pub hex_goes_on : (i : ℕ) (text new all octets : List ℕ) → i < length octets → new ≡ text ++ encode_lower (slice_index octets i ∷ []) →
     text ++ encode_lower (drop i octets) ≡ all → new ++ encode_lower (drop (i + 1) octets) ≡ all
-hex_goes_on i text new all octets h e so_far =
-    let rest : List ℕ = drop (i + 1) octets in
-    let one : List ℕ = encode_lower (slice_index octets i ∷ []) in
-    ap (λ t. t ++ encode_lower rest) e ∙ append_assoc text one (encode_lower rest)
-    ∙ ap (λ t. text ++ t) (sym (encode_lower_cons (slice_index octets i) rest))
-    ∙ ap (λ o. text ++ encode_lower o) (sym (drop_more octets i 0 h)) ∙ so_far
+hex_goes_on i text new all octets h e so_far = grind (arith, append_assoc, encode_lower_cons, drop_more)
 
 -- all octets are added
 pub hex_ends : (i : ℕ) (text all octets : List ℕ) → length octets ≤ i → text ++ encode_lower (drop i octets) ≡ all → text ≡ all
@@ -83,11 +63,7 @@ hex_ends i text all octets h so_far = sym (append-nil text) ∙ ap (λ o. text +
 -- a word, and the two octets of a reference
 pub reference_added : (old word mid more new : List ℕ) (a b : ℕ) → mid ≡ old ++ word → more ≡ mid ++ encode_lower (a ∷ []) →
     new ≡ more ++ encode_lower (b ∷ []) → new ≡ old ++ (word ++ encode_lower (a ∷ b ∷ []))
-reference_added old word mid more new a b e h k =
-    let high : List ℕ = encode_lower (a ∷ []) in
-    let low : List ℕ = encode_lower (b ∷ []) in
-    k ∙ ap (λ t. t ++ low) (h ∙ ap (λ t. t ++ high) e) ∙ append_assoc (old ++ word) high low
-    ∙ ap (λ t. (old ++ word) ++ t) (sym (encode_lower_cons a (b ∷ []))) ∙ append_assoc old word (encode_lower (a ∷ b ∷ []))
+reference_added old word mid more new a b e h k = grind (arith, append_assoc, encode_lower_cons)
 
 -- a value is added in two parts
 pub value_added : (text made lent mid new : List ℕ) → mid ≡ text ++ encode_lower made → new ≡ mid ++ encode_lower lent →

@@ -32,19 +32,12 @@ says_none text c = record { text = sym (append-nil text); told = refl }
 
 pub says_both : (old mid new : List ℕ) (was then now : Counts) (xs ys : List Entry) → Says old mid was then xs → Says mid new then now ys →
     Says old new was now (xs ++ ys)
-says_both old mid new was then now xs ys h k = record {
-  text = k.text ∙ ap (λ x. x ++ flat_map line_of ys) h.text ∙ append_assoc old (flat_map line_of xs) (flat_map line_of ys)
-      ∙ ap (λ x. old ++ x) (sym (flat_map-append line_of xs ys));
-  told = k.told ∙ ap (λ c. counted c ys) h.told ∙ sym (counted-append was xs ys);
-}
+says_both old mid new was then now xs ys h k = grind (arith, append_assoc, flat_map-append, counted-append)
 
 -- one line
 pub says_one : (old new : List ℕ) (was now : Counts) (entry : Entry) → new ≡ old ++ line_of entry → now ≡ one_more was entry →
     Says old new was now (entry ∷ [])
-says_one old new was now entry text told = record {
-  text = text ∙ ap (λ x. old ++ x) (sym (append-nil (line_of entry)));
-  told = told;
-}
+says_one old new was now entry text told = grind (arith, append-nil)
 
 -- one line, and then others
 pub says_next : (old mid new : List ℕ) (was then now : Counts) (entry : Entry) (entries : List Entry) → mid ≡ old ++ line_of entry →
@@ -85,22 +78,18 @@ pub says_unit : (old mid new : List ℕ) (was then now : Counts) (unit : Content
     then ≡ one_more was (SessionUnit unit) → Says mid new then now (map SessionUnit units) →
     Says old new was now (map SessionUnit (unit ∷ units))
 unfolding line_of
-says_unit old mid new was then now unit units line told h =
-    says_next old mid new was then now (SessionUnit unit) (map SessionUnit units) line told h
+says_unit old mid new was then now unit units line told h = search (arith, says_next)
 
 -- the same of the last of them
 pub says_last : (old new : List ℕ) (was now : Counts) (unit : Contents) (units : Units) → units ≡ [] → new ≡ old ++ session_line unit →
     now ≡ one_more was (SessionUnit unit) → Says old new was now (map SessionUnit (unit ∷ units))
 unfolding line_of
-says_last old new was now unit units none line told =
-    subst (λ (us : Units). Says old new was now (map SessionUnit (unit ∷ us))) (sym none)
-    (says_one old new was now (SessionUnit unit) line told)
+says_last old new was now unit units none line told = grind (arith, says_one old new was now (SessionUnit unit) line told)
 
 -- an empty TSDU
 pub nothing_read : (octets : List ℕ) → length octets ≡ 0 → tsdu_at octets ≡ Err (LengthPastEnd 0)
 unfolding tsdu_at unit_at
-nothing_read [] e = refl
-nothing_read (x ∷ xs) e = absurd (omega arith)
+nothing_read octets e = grind arith
 
 -- a TSDU, and then the lines of a call
 pub then_units : {A E : Type 0} (r : Result A E) (old mid new octets : List ℕ) (was then now : Counts) (read : Result Units SpduFault)
@@ -117,9 +106,7 @@ then_units (Err x) old mid new octets was then now read entries line told exact 
 pub then_read : {A E : Type 0} (r : Result A E) (old new octets : List ℕ) (was now : Counts) (read : Result Units SpduFault)
     (entries : List Entry) → tsdu_at octets ≡ read → entries ≡ session_entries read → OnOk r (Says old new was now entries) →
     OnOk r (Says old new was now (session_entries (tsdu_at octets)))
-then_read (Ok x) old new octets was now read entries exact same h =
-    subst (λ es. Says old new was now es) (same ∙ ap session_entries (sym exact)) h
-then_read (Err x) old new octets was now read entries exact same h = tt
+then_read r old new octets was now read entries exact same h = grind arith
 
 -- one line that a call writes
 pub then_one : {A E : Type 0} (r : Result A E) (old new : List ℕ) (was now : Counts) (entry : Entry) → OnOk r (new ≡ old ++ line_of entry) →
@@ -142,16 +129,14 @@ pub then_more : {A E : Type 0} (r : Result A E) (old mid new : List ℕ) (was th
     (entries : List Part → List Entry) →
     mid ≡ old ++ line_of entry → then ≡ one_more was entry → OnOk r ((e : List Part) → Holds before e → Says mid new then now (entries e)) →
     OnOk r ((e : List Part) → Holds before e → Says old new was now (entry ∷ entries e))
-then_more (Ok x) old mid new was then now entry before entries line told h = λ e k. says_next old mid new was then
-    now entry (entries e) line told (h e k)
+then_more (Ok x) old mid new was then now entry before entries line told h = search (arith, says_next)
 then_more (Err x) old mid new was then now entry before entries line told h = tt
 
 -- what a unit brings to its stream
 pub then_brought : {A E : Type 0} (r : Result A E) (old new : List ℕ) (was now : Counts) (v : Value) (before : Streams)
     (brought : List Entry) → ((e : List Part) → Holds before e → brought ≡ part_entries e (part_of v)) →
     OnOk r (Says old new was now brought) → OnOk r ((e : List Part) → Holds before e → Says old new was now (part_entries e (part_of v)))
-then_brought (Ok x) old new was now v before brought same h = λ e k. subst (λ es. Says old new was now es) (same e k) h
-then_brought (Err x) old new was now v before brought same h = tt
+then_brought r old new was now v before brought same h = grind arith
 
 -- ---- the units of a packet
 
@@ -190,12 +175,9 @@ advanced_step old mid new was then now before after v left rest earlier all is s
 pub advanced_says : (old new : List ℕ) (was now : Counts) (streams : Streams) (left : List Value) (earlier : List Part) (all : List Value) →
     left ≡ [] →
     Advanced old new was now streams left earlier all → Says old new was now (unit_entries earlier all)
-advanced_says old new was now streams left earlier all none a =
-    subst (λ es. Says old new was now es) (sym (append-nil a.said) ∙ ap (λ vs. a.said ++ unit_entries a.parts vs) (sym none) ∙ a.entries)
-    a.says
+advanced_says old new was now streams left earlier all none a = grind (arith, append-nil)
 
 pub advanced_holds : (old new : List ℕ) (was now : Counts) (streams : Streams) (left : List Value) (earlier : List Part)
     (all : List Value) → left ≡ [] →
     Advanced old new was now streams left earlier all → Holds streams (earlier ++ parts_of all)
-advanced_holds old new was now streams left earlier all none a =
-    subst (λ ps. Holds streams ps) (sym (append-nil a.parts) ∙ ap (λ vs. a.parts ++ parts_of vs) (sym none) ∙ a.brought) a.holds
+advanced_holds old new was now streams left earlier all none a = grind (arith, append-nil)

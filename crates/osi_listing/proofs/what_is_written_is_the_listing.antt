@@ -1,9 +1,9 @@
 -- What a lister has written is the listing so far of what it was fed.
-use Rattle.std.proofs.Common.{◌≡◌, ◌∙◌, ℕ, ◌+◌, ◌-◌, ◌<◌, ◌^◌, ◌==◌, Bool, if◌then◌else◌, List, [], ◌∷◌, ◌++◌, length, refl, sym, ap, subst}
+use Rattle.std.proofs.Common.{◌≡◌, ◌∙◌, ℕ, ◌+◌, ◌-◌, ◌<◌, ◌^◌, ◌==◌, if◌then◌else◌, List, [], ◌∷◌, ◌++◌, length, refl, sym, ap, subst}
 use Rattle.std.proofs.Common.{arith, Option, Some, None, Result, Ok, Err, OnOk}
 use Rattle.std.specs.List.{flat_map, list_any}
 use Rattle.std.proofs.lemmas.List.{append_assoc, append-nil, length-append}
-use Rattle.osi_tpkt.specs.Held.{Held, fresh}
+use Rattle.osi_tpkt.specs.Held.{fresh}
 use Rattle.osi_tpkt.specs.Packet.{IsPartial, IsFaultOf}
 use Rattle.osi_tpkt.specs.Stream.{EndsAt, offset_of}
 use Rattle.osi_tpkt.specs.Stream.Ending.{Faulty, Rest}
@@ -30,34 +30,13 @@ use Rattle.osi_listing.proofs.what_one_more_packet_adds.{packets_longer}
 -- nothing was fed
 pub nothing_fed : (work : Work) → work.cutter ≡ fresh → Holds work.streams [] → work.counts ≡ none → work.offset ≡ 0 →
     StandsAt stage.Going work [] []
-nothing_fed work cutter streams counts offset = (
-  [],
-  record {
-    units = [];
-    packets = refl;
-    says = subst (λ (c : Counts). Says [] [] none c []) (sym counts) (says_none [] none);
-    holds = streams;
-    place = offset;
-  },
-  ((subst (λ (h : Held). IsPartial h.octets) (sym cutter) empty_partial, ap (λ h. h.fault) cutter), ap (λ h. h.octets) cutter),
-)
+nothing_fed work cutter streams counts offset = grind (arith, says_none, empty_partial)
 
 -- a stream that continues
 listed_longer : (streams : Streams) (counts : Counts) (offset : ℕ) (stream lines rest more : List ℕ) →
     Listed streams counts offset stream lines rest →
     Listed streams counts offset (stream ++ more) lines (rest ++ more)
-listed_longer streams counts offset stream lines rest more h =
-    let a = length-append stream more in
-    let b = length-append rest more in
-    let was = h.place in
-    let same : length stream - length rest ≡ length (stream ++ more) - length (rest ++ more) = omega arith in
-    record {
-      units = h.units;
-      packets = packets_longer h.units stream rest more h.packets;
-      says = h.says;
-      holds = h.holds;
-      place = h.place ∙ ap offset_of same;
-    }
+listed_longer streams counts offset stream lines rest more h = grind (arith, length-append, packets_longer)
 
 -- the entries that are listed, and those that end them
 said_so_far : (lines last : List ℕ) (was now : Counts) (units : List (List ℕ)) (ending : List Entry) →
@@ -146,10 +125,8 @@ on_fault (Err x) s old new before mid after piece f g counts is goes at told lin
 
 -- octets after a fault
 fault_longer : (at : ℕ) (rest more : List ℕ) (f : TpktFault) → IsFaultOf at rest f → IsFaultOf at (rest ++ more) f
-fault_longer at (a ∷ rest) more (BadVersion n) h =
-    let size = length-append (a ∷ rest) more in ((omega arith, h.0.1), h.1)
-fault_longer at (a ∷ b ∷ c ∷ d ∷ rest) more (BadLength n) h =
-    let size = length-append (a ∷ b ∷ c ∷ d ∷ rest) more in ((omega arith, h.0.1, h.0.2), h.1)
+fault_longer at (a ∷ rest) more (BadVersion n) h = grind (arith, length-append)
+fault_longer at (a ∷ b ∷ c ∷ d ∷ rest) more (BadLength n) h = grind (arith, length-append)
 fault_longer at [] more (BadVersion n) h = absurd (omega (arith, h.0.0))
 fault_longer at [] more (BadLength n) h = absurd (omega (arith, h.0.0))
 fault_longer at (a ∷ []) more (BadLength n) h = absurd (omega (arith, h.0.0))
@@ -159,12 +136,7 @@ fault_longer at rest more OutOfMemory h = absurd h
 
 ends_longer : (stream rest more : List ℕ) (f : TpktFault) → EndsAt (offset_of (0 + (length stream - length rest))) rest (Faulty f) →
     EndsAt (offset_of (0 + (length (stream ++ more) - length (rest ++ more)))) (rest ++ more) (Faulty f)
-ends_longer stream rest more f h =
-    let a = length-append stream more in
-    let b = length-append rest more in
-    let same : length stream - length rest ≡ length (stream ++ more) - length (rest ++ more) = omega arith in
-    subst (λ n. IsFaultOf (offset_of (0 + n)) (rest ++ more) f) same
-    (fault_longer (offset_of (0 + (length stream - length rest))) rest more f h)
+ends_longer stream rest more f h = grind (arith, length-append, fault_longer)
 
 pub on_behind : (s : Stage) (work : Work) (before piece : List ℕ) → s ≡ stage.Faulty → (octets lines : List ℕ) →
     StandsAt s work octets lines →
@@ -199,12 +171,7 @@ pub feeds_by : (old new : Lister) (piece before after : List ℕ) → new.octets
     ((octets lines : List ℕ) → length (octets ++ piece) < 2 ^ 64 → StandsAt old.stage old.work octets lines →
     (more : List ℕ) × (after ≡ before ++ more) × StandsAt new.stage new.work (octets ++ piece) (lines ++ more)) →
     Feeds old piece before after new
-feeds_by old new piece before after count few h = λ octets lines fed.
-    let size = length-append octets piece in
-    let came = fed.counted in
-    let fits : length (octets ++ piece) < 2 ^ 64 = omega arith in
-    let m = h octets lines fits fed.stands in
-    (m.0, m.1, record { counted = omega arith; few = fits; stands = m.2 })
+feeds_by old new piece before after count few h = grind (arith, length-append)
 
 pub feeds_on : {A E : Type 0} (r : Result A E) (old new : Lister) (piece before after : List ℕ) → new.octets ≡ old.octets + length piece →
     new.octets < 2 ^ 64 →
@@ -221,15 +188,7 @@ listing_of : (octets lines : List ℕ) (counts : Counts) (so_far : IsListedSoFar
     list_any is_refused (packet_entries 0 [] so_far.units ++ ending_entry so_far.ending ∷ []) ≡ list_any is_refused
     (entries_so_far so_far.units so_far.ending) →
     status ≡ (if counts.refused == 0 then 0 else 1) → IsListing octets last status
-listing_of octets lines counts so_far last status text same answered = record {
-  units = so_far.units;
-  ending = so_far.ending;
-  cut = so_far.cut;
-  refused = list_any is_refused (packet_entries 0 [] so_far.units ++ ending_entry so_far.ending ∷ []);
-  text = record { text = text; told = refl };
-  answered = answered ∙ status_of (entries_so_far so_far.units so_far.ending) counts.refused (ap (λ c. c.refused) so_far.told)
-      ∙ ap (λ (b : Bool). if b then 1 else 0) (sym same);
-}
+listing_of octets lines counts so_far last status text same answered = grind (arith, status_of)
 
 left_counts : (c : Counts) (n : ℕ) → c ≡ one_more c (Left n)
 unfolding one_more

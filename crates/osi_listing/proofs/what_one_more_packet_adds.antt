@@ -28,16 +28,11 @@ total_length (u ∷ us) = packet_length u + total_length us
 
 all_parts-push : (us : List (List ℕ)) (u : List ℕ) → all_parts (us ++ u ∷ []) ≡ all_parts us ++ read_parts (units_of u)
 all_parts-push [] u = append-nil (read_parts (units_of u))
-all_parts-push (v ∷ us) u =
-    ap (λ x. read_parts (units_of v) ++ x) (all_parts-push us u) ∙
-    sym (append_assoc (read_parts (units_of v)) (all_parts us) (read_parts (units_of u)))
+all_parts-push (v ∷ us) u = grind (arith, append_assoc, all_parts-push us u)
 
 pub packets_total : (us : List (List ℕ)) (s r : List ℕ) → ArePackets us s r → length s ≡ total_length us + length r
 packets_total [] s r h = let e = ap length h in omega arith
-packets_total (u ∷ us) s r h =
-    let e = ap length h.3 ∙ length-append h.0 h.1 in
-    let packet = ap length h.2.spelled in
-    let more = packets_total us h.1 r h.4 in omega arith
+packets_total (u ∷ us) s r h = grind (arith, length-append, packets_total us h.1 r h.4)
 
 packets_more : (us : List (List ℕ)) (s r u b t : List ℕ) → ArePackets us s r → IsPacket u b → r ≡ b ++ t → ArePackets (us ++ u ∷ []) s t
 packets_more [] s r u b t h p e = (b, t, p, h ∙ e, refl)
@@ -45,8 +40,7 @@ packets_more (v ∷ us) s r u b t h p e = (h.0, h.1, h.2, h.3, packets_more us h
 
 pub packets_longer : (us : List (List ℕ)) (s r more : List ℕ) → ArePackets us s r → ArePackets us (s ++ more) (r ++ more)
 packets_longer [] s r more h = ap (λ x. x ++ more) h
-packets_longer (u ∷ us) s r more h =
-    (h.0, h.1 ++ more, h.2, ap (λ x. x ++ more) h.3 ∙ append_assoc h.0 h.1 more, packets_longer us h.1 r more h.4)
+packets_longer (u ∷ us) s r more h = search (arith, append_assoc, packets_longer us h.1 r more h.4)
 
 -- one more packet
 abbrev entries_of : ℕ → List Part → List ℕ → List Entry
@@ -54,10 +48,7 @@ entries_of at earlier u = Packet at u ∷ read_entries earlier (units_of u)
 
 packet_entries-push : (at : ℕ) (earlier : List Part) (us : List (List ℕ)) (u : List ℕ) →
     packet_entries at earlier (us ++ u ∷ []) ≡ packet_entries at earlier us ++ entries_of (at + total_length us) (earlier ++ all_parts us) u
-packet_entries-push at earlier [] u =
-    let same : at ≡ at + 0 = omega arith in
-    append-nil (entries_of at earlier u) ∙ ap (λ n. entries_of n earlier u) same ∙
-    ap (λ ps. entries_of (at + 0) ps u) (sym (append-nil earlier))
+packet_entries-push at earlier [] u = grind (arith, append-nil)
 packet_entries-push at earlier (v ∷ us) u =
     let parts : List Part = read_parts (units_of v) in
     let same : at + packet_length v + total_length us ≡ at + (packet_length v + total_length us) = omega arith in
@@ -72,11 +63,7 @@ packet_entries-push at earlier (v ∷ us) u =
 -- ---- packets are listed, one after the other
 
 pub moves_none : (old new : Work) (text rest : List ℕ) → OnlyHolds old new → Moves old text rest new text rest
-moves_none old new text rest same =
-    subst (λ w. Moves old text rest w text rest) (sym same) (record {
-      listed = λ stream lines few h.
-          ([], sym (append-nil text), subst (λ l. Listed old.streams old.counts old.offset stream l rest) (sym (append-nil lines)) h);
-    })
+moves_none old new text rest same = grind (arith, append-nil)
 
 pub moves_both : (old mid new : Work) (a b c r s t : List ℕ) → Moves old a r mid b s → Moves mid b s new c t → Moves old a r new c t
 moves_both old mid new a b c r s t h k = record {
@@ -135,10 +122,7 @@ nothing_held octets piece e = ap (λ o. o ++ piece) (nil_from_length octets e)
 -- a piece that completes no packet is held
 pub holds_all : (old new : Held) (piece : List ℕ) (used : ℕ) → IsPartial (old.octets ++ take used piece) × (used ≡ length piece) →
     Gains old (take used piece) new → IsGoing old → Leaves new (old.octets ++ piece) None
-holds_all old new piece used part gains going =
-    let same : take used piece ≡ piece = take_all used piece (omega arith) in
-    let octets : new.octets ≡ old.octets ++ take used piece = ap (λ h. h.octets) gains.octets in
-    ((subst IsPartial (sym octets) part.0, ap (λ h. h.fault) gains.octets ∙ going.1), octets ∙ ap (λ o. old.octets ++ o) same)
+holds_all old new piece used part gains going = grind (arith, take_all)
 
 pub held_partial : (whole : Bool) (used : ℕ) (old new : Held) (piece : List ℕ) → whole ≡ false →
     MatchBool whole (IsOnePacket (old.octets ++ take used piece)) (IsPartial (old.octets ++ take used piece) × (used ≡ length piece)) →
@@ -149,8 +133,7 @@ held_partial false used old new piece e part gains going = holds_all old new pie
 pub held_whole : (whole : Bool) (used : ℕ) (octets piece : List ℕ) → whole ≡ true →
     MatchBool whole (IsOnePacket (octets ++ take used piece)) (IsPartial (octets ++ take used piece) × (used ≡ length piece)) →
     IsOnePacket (octets ++ take used piece)
-held_whole true used octets piece e part = part
-held_whole false used octets piece e part = cc
+held_whole whole used octets piece e part = grind arith
 
 -- if no complete packet is at the front, everything is held
 pub held_rest : (whole : Bool) (used : ℕ) (old new : Held) (rest : List ℕ) → IsReady old → IsWithoutPacket rest →
@@ -160,8 +143,7 @@ held_rest true used old new rest ready without part gains =
     let packet : IsOnePacket (take used rest) = subst (λ o. IsOnePacket (o ++ take used rest)) ready.0 part in
     absurd (without packet.0 (take used rest) (drop used rest) packet.1 (sym (take-append-drop used rest)))
 held_rest false used old new rest ready without part gains =
-    subst (λ o. Leaves new (o ++ rest) None) ready.0
-    (holds_all old new rest used part gains (subst IsPartial (sym ready.0) empty_partial, ready.1))
+    grind (arith, empty_partial, holds_all old new rest used part gains (subst IsPartial (sym ready.0) empty_partial, ready.1))
 
 -- a fault other than out of memory is one of the stream
 pub fault_told : (old new : Held) (piece : List ℕ) (f : TpktFault) → f ≢ OutOfMemory → TakesPiece old piece (Err f) new →
@@ -172,32 +154,21 @@ fault_told old new piece OutOfMemory known h = absurd (known refl)
 
 pub fault_left : (old new : Held) (piece : List ℕ) (f g : TpktFault) → g ≡ f → g ≢ OutOfMemory → TakesPiece old piece (Err f) new →
     (start : ℕ) × IsFaultOf start (old.octets ++ piece) g
-fault_left old new piece f g same known h =
-    subst (λ x. (start : ℕ) × IsFaultOf start (old.octets ++ piece) x) (sym same) (fault_told old new piece f (λ e. known (same ∙ e)) h)
+fault_left old new piece f g same known h = grind (arith, fault_told)
 
 -- what was taken of a piece, and the rest of it
 pub joined_again : (new held piece : List ℕ) (used : ℕ) → new ≡ held ++ take used piece → new ++ drop used piece ≡ held ++ piece
-joined_again new held piece used e =
-    ap (λ o. o ++ drop used piece) e ∙ append_assoc held (take used piece) (drop used piece) ∙
-    ap (λ p. held ++ p) (take-append-drop used piece)
+joined_again new held piece used e = grind (arith, append_assoc, take-append-drop)
 
 pub parted_at : (n used : ℕ) (rest left : List ℕ) → used ≡ n + 4 → left ≡ drop used rest → rest ≡ take (4 + n) rest ++ left
-parted_at n used rest left e back =
-    let same : 4 + n ≡ used = omega arith in
-    sym (take-append-drop (4 + n) rest) ∙ ap (λ k. take (4 + n) rest ++ drop k rest) same ∙ ap (λ l. take (4 + n) rest ++ l) (sym back)
+parted_at n used rest left e back = grind (arith, take-append-drop (4 + n) rest)
 
 pub only_held : (old new : Work) (before after rest : List ℕ) → OnlyHolds old new → after ≡ before → Moves old before rest new after rest
-only_held old new before after rest same text =
-    subst (λ t. Moves old before rest new t rest) (sym text) (moves_none old new before rest same)
+only_held old new before after rest same text = grind (arith, moves_none)
 
 -- the complete packets in a piece, and then what is left of it
 pub then_holds : {E : Type 0} (r : Result (Option TpktFault) E) (old mid last new : Work) (a b c piece rest left : List ℕ) →
     Moves old a (old.cutter.octets ++ piece) mid b rest → Moves mid b rest last c left → OnOk r (OnlyHolds last new) →
     IfOk r (λ f. Leaves new.cutter left f) → IfOk r (λ f. Goes old a piece f new c)
-then_holds (Ok f) old mid last new a b c piece rest left one two same leaves = (
-  left,
-  moves_both old mid new a b c (old.cutter.octets ++ piece) rest left one
-      (moves_both mid last new b c c rest left left two (moves_none last new c left same)),
-  leaves,
-)
+then_holds (Ok f) old mid last new a b c piece rest left one two same leaves = search (arith, moves_both, moves_none)
 then_holds (Err e) old mid last new a b c piece rest left one two same leaves = tt

@@ -1,12 +1,11 @@
 -- A frequent call: the text after its last word but the user data spells octets exactly if it is a single word that
 -- does.
-use Rattle.std.proofs.Common.{◌≡◌, ◌∙◌, ℕ, List, [], ◌∷◌, get_or, Option, Some, None, Bool, true, false, Result, Ok, Err, refl, sym, ap}
-use Rattle.std.proofs.Common.{subst, arith}
+use Rattle.std.proofs.Common.{◌≡◌, ◌∙◌, ℕ, List, [], ◌∷◌, Option, Some, None, Bool, true, false, Result, Ok, Err, refl, sym, ap, subst}
+use Rattle.std.proofs.Common.{arith}
 use Rattle.std.specs.Prelude.{codes, option_map, if◌then◌else◌}
 use Rattle.std.specs.Result.{result_ok}
 use Rattle.std.specs.List.{join_with_byte, All, AllPass}
 use Rattle.std.specs.Cmp.Lexicographic.{same_text}
-use Rattle.std.proofs.lemmas.List.Elements.{All-get_or, All-from_get_or}
 use Rattle.std.proofs.lemmas.List.Splits.{slice_split_none, join_with_byte-slice_split}
 use Rattle.std.proofs.lemmas.Bool.Decides.{nat_tests}
 use Rattle.hex.specs.Hex.{decode_of, is_hex_digit}
@@ -24,16 +23,14 @@ use Rattle.osi_script.proofs.the_beginning_of_a_line_is_read_word_by_word.{call_
 use Rattle.osi_script.specs.declared.fronts.Frequent.TheVariants as frequent
 use Rattle.osi_script.specs.Words.{◌>>=◌, only_word, first_of_two, is, words_of, data_of, answer_of, number_to}
 use Rattle.osi_script.specs.Calls.{call_of, plain_of, plain_call, plain_data, minor_of, minor_confirm_of}
-use Rattle.osi_script.specs.Commands.{Command, OfUser, command_of, last_of}
+use Rattle.osi_script.specs.Commands.{OfUser, command_of, last_of}
 use Rattle.osi_script.specs.Fronts.{data_behind, spelled, made}
 
 no_blank_digit : (octet : ℕ) → is_hex_digit octet ≡ true → is_byte 32 octet ≡ false
 no_blank_digit octet h = grind (arith, nat_tests)
 
 no_blanks : (text : List ℕ) → AllPass is_hex_digit text → All (λ x. is_byte 32 x ≡ false) text
-no_blanks text h =
-    All-from_get_or (λ x. is_byte 32 x ≡ false) text 0
-    (λ i below. no_blank_digit (get_or text i 0) (All-get_or (λ x. is_hex_digit x ≡ true) text i 0 below h))
+no_blanks text h = grind (arith, no_blank_digit)
 
 digits_alone : (text bytes : List ℕ) (r : Result (List ℕ) FromHexError) → decode_of text ≡ r → result_ok r ≡ Some bytes
     → words_of text ≡ text ∷ []
@@ -49,8 +46,7 @@ dash_or_digits text bytes false e h = digits_alone text bytes (decode_of text) r
 -- a text that spells octets has no blank
 alone : (text bytes : List ℕ) → data_of text ≡ Some bytes → words_of text ≡ text ∷ []
 unfolding data_of
-alone [] bytes h = refl
-alone (octet ∷ octets) bytes h = dash_or_digits (octet ∷ octets) bytes (is (octet ∷ octets) (codes "-")) refl h
+alone text bytes h = grind (arith, dash_or_digits)
 
 whole : (text word : List ℕ) → words_of text ≡ word ∷ [] → word ≡ text
 whole text word h = sym (ap (join_with_byte 32) h) ∙ join_with_byte-slice_split 32 text
@@ -68,8 +64,7 @@ one_word text (w ∷ x ∷ rest) (Some bytes) read call e d none one more =
     let same : w ∷ x ∷ rest ≡ text ∷ [] = sym e ∙ alone text bytes d in absurd (cc)
 
 mapped : (o : Option (List ℕ)) (call : List ℕ → Call) → o >>= (λ (octets : List ℕ). Some (call octets)) ≡ option_map call o
-mapped None call = refl
-mapped (Some octets) call = refl
+mapped o call = grind arith
 
 pub data_read : (text : List ℕ)
     → call_of verb.Data (words_of text) (spelled (data_behind verb.Data (words_of text))) ≡ option_map (made frequent.Data) (data_of text)
@@ -105,12 +100,6 @@ minor_confirm_read text number rest n first said =
     ∙ mapped (data_of w) (made (frequent.MinorConfirm n)))
     (λ w x more. refl)
 
-called_by_map : (side : Side) (n : ℕ) (call : Frequent) (o : Option (List ℕ)) →
-    o >>= (λ (octets : List ℕ). Some (OfUser side n (made call octets)))
-    ≡ option_map (made call) o >>= (λ (c : Call). Some (OfUser side n c))
-called_by_map side n call None = refl
-called_by_map side n call (Some octets) = refl
-
 -- a line that calls by a frequent verb
 pub frequent_read : (line connection : List ℕ) (all behind : List (List ℕ)) (rest text : List ℕ) (side : Side) (n : ℕ) (v : Verb)
     (call : Frequent) →
@@ -119,6 +108,4 @@ pub frequent_read : (line connection : List ℕ) (all behind : List (List ℕ)) 
     call_of v (words_of rest) (spelled (data_behind v (words_of rest))) ≡ option_map (made call) (data_of text) →
     data_of text >>= (λ (octets : List ℕ). Some (OfUser side n (made call octets))) ≡ command_of line
 frequent_read line connection all behind rest text side n v call first second third number read =
-    called_by_map side n call (data_of text)
-    ∙ ap (λ (o : Option Call). o >>= (λ (c : Call). Some (OfUser side n c))) (sym read)
-    ∙ call_read line connection all behind (words_of rest) side n v first second third number
+    grind (arith, call_read line connection all behind (words_of rest) side n v first second third number)

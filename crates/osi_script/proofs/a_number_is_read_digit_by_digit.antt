@@ -1,8 +1,7 @@
 -- The number that digits spell, digit by digit.
 use Rattle.std.proofs.Common.{◌≡◌, ℕ, ◌+◌, ◌-◌, ◌*◌, ◌<◌, ◌≤◌, ◌&&◌, Bool, true, false, List, [], ◌∷◌, length, drop, Option, Some, None}
-use Rattle.std.proofs.Common.{refl, sym, ap, arith, ◌∙◌}
+use Rattle.std.proofs.Common.{sym, ap, arith, ◌∙◌}
 use Rattle.std.specs.Prelude.{nat_le, if◌then◌else◌}
-use Rattle.std.specs.List.{list_all}
 use Rattle.std.proofs.lemmas.Bool.Decides.{nat_tests}
 use Rattle.std.proofs.lemmas.List.{drop_all}
 use Rattle.osi_script.specs.Words.{is_digit, numeral, number_behind}
@@ -17,21 +16,16 @@ given b n = if b then Some n else None
 
 -- a test that fails refuses, and one that holds leaves the rest
 refused_first : (b c : Bool) (n : ℕ) → b ≡ false → given (b && c) n ≡ None
-refused_first true c n h = absurd (cc)
-refused_first false c n h = refl
+refused_first b c n h = grind arith
 
 refused_second : (b c : Bool) (n : ℕ) → c ≡ false → given (b && c) n ≡ None
-refused_second true true n h = absurd (cc)
-refused_second true false n h = refl
-refused_second false c n h = refl
+refused_second b c n h = grind arith
 
 pub both_refused : (a b : Bool) → a ≡ false → (a && b) ≡ false
-both_refused true b h = absurd (cc)
-both_refused false b h = refl
+both_refused a b h = grind arith
 
 pub one_left : (a b : Bool) → a ≡ true → (a && b) ≡ b
-one_left true b h = refl
-one_left false b h = absurd (cc)
+one_left a b h = grind arith
 
 below_is_none : (digit : ℕ) → digit < 48 → is_digit digit ≡ false
 below_is_none digit h = grind (arith, nat_tests)
@@ -50,9 +44,7 @@ not_above a b h = grind (arith, nat_tests)
 
 without_digit : (most n digit : ℕ) (digits : List ℕ) → is_digit digit ≡ false → number_behind most n (digit ∷ digits) ≡ None
 unfolding number_behind
-without_digit most n digit digits h =
-    refused_first (is_digit digit && list_all is_digit digits) (nat_le (numeral (n * 10 + (digit - 48)) digits) most)
-    (numeral (n * 10 + (digit - 48)) digits) (both_refused (is_digit digit) (list_all is_digit digits) h)
+without_digit most n digit digits h = grind (arith, refused_first, both_refused)
 
 pub no_digit : (most n digit : ℕ) (digits : List ℕ) → digit < 48 → number_behind most n (digit ∷ digits) ≡ None
 no_digit most n digit digits h = without_digit most n digit digits (below_is_none digit h)
@@ -62,19 +54,12 @@ no_digit_above most n digit digits h = without_digit most n digit digits (above_
 
 pub too_great : (most n digit : ℕ) (digits : List ℕ) → most < n * 10 + (digit - 48) → number_behind most n (digit ∷ digits) ≡ None
 unfolding number_behind
-too_great most n digit digits h =
-    let next : ℕ = n * 10 + (digit - 48) in
-    let more = numeral_grows next digits in
-    refused_second (is_digit digit && list_all is_digit digits) (nat_le (numeral next digits) most)
-    (numeral next digits) (above_fails (numeral next digits) most (omega arith))
+too_great most n digit digits h = grind (arith, numeral_grows, refused_second, above_fails)
 
 pub one_digit : (most n digit : ℕ) (digits : List ℕ) → 48 ≤ digit → digit ≤ 57 →
     number_behind most n (digit ∷ digits) ≡ number_behind most (n * 10 + (digit - 48)) digits
 unfolding number_behind
-one_digit most n digit digits low high =
-    let next : ℕ = n * 10 + (digit - 48) in
-    ap (λ (b : Bool). given (b && nat_le (numeral next digits) most) (numeral next digits))
-    (one_left (is_digit digit) (list_all is_digit digits) (between_is_one digit low high))
+one_digit most n digit digits low high = grind (arith, one_left, between_is_one)
 
 number_read : (most n : ℕ) → n ≤ most → number_behind most n [] ≡ Some n
 unfolding number_behind

@@ -1,20 +1,16 @@
 -- A number in decimal, digit by digit.
-use Rattle.std.proofs.Common.{◌≡◌, ◌∙◌, ℕ, ◌/◌, ◌%◌, ◌<◌, ◌≤◌, List, ◌++◌, sym, ap, arith}
+use Rattle.std.proofs.Common.{◌≡◌, ◌∙◌, ℕ, ◌/◌, ◌%◌, ◌<◌, ◌≤◌, List, ◌++◌, ap, arith}
 use Rattle.std.specs.Fmt.{decimal}
 use Rattle.std.proofs.lemmas.Fmt.{decimal_digit, decimal_step}
 use Rattle.std.proofs.lemmas.List.{append_assoc}
 
 last_digit : (n : ℕ) → 10 ≤ n → n < 10000 → decimal n ≡ decimal (n / 10) ++ decimal (n % 10)
-last_digit n low high =
-    decimal_step n low (omega arith)
-    ∙ ap (λ (last : List ℕ). decimal (n / 10) ++ last) (sym (decimal_digit (n % 10) (omega arith)))
+last_digit n low high = grind (arith, decimal_step, decimal_digit)
 
 pub digits_joined : (out mid after : List ℕ) (n : ℕ) → 10 ≤ n → n < 10000 → mid ≡ out ++ decimal (n / 10)
     → after ≡ mid ++ decimal (n % 10) →
     after ≡ out ++ decimal n
-digits_joined out mid after n low high first last =
-    last ∙ ap (λ (t : List ℕ). t ++ decimal (n % 10)) first ∙ append_assoc out (decimal (n / 10)) (decimal (n % 10))
-    ∙ ap (λ (t : List ℕ). out ++ t) (sym (last_digit n low high))
+digits_joined out mid after n low high first last = grind (arith, append_assoc, last_digit)
 
 pub hundreds_joined : (out hundreds tens after : List ℕ) (n : ℕ) → 100 ≤ n → n < 10000 → hundreds ≡ out ++ decimal (n / 100) →
     tens ≡ hundreds ++ decimal (n / 10 % 10) → after ≡ tens ++ decimal (n % 10) → after ≡ out ++ decimal n

@@ -9,8 +9,7 @@ use Rattle.std.proofs.Math.Seq.{split_at}
 use Rattle.memchr.specs.Find.{IsFirstByte, IsLastByte}
 
 fails : (b : Bool) → (b ≡ true → ⊥) → b ≡ false
-fails true h = absurd (h refl)
-fails false h = refl
+fails b h = grind arith
 
 -- if no element passes there is one part
 pub one_part : (p : ℕ → Bool) (text : List ℕ) → IsFirstByte p text None → slice_split p text ≡ text ∷ []
@@ -18,8 +17,7 @@ one_part p text h =
     slice_split_none p text (All-from_get_or (λ x. p x ≡ false) text 0 (λ i below. fails (p (get_or text i 0)) (h i (omega arith) below)))
 
 cut_here : (text : List ℕ) (i : ℕ) → i < length text → text ≡ take i text ++ get_or text i 0 ∷ drop (i + 1) text
-cut_here text i below = let next : suc i ≡ i + 1 =
-    omega arith in subst (λ (n : ℕ). text ≡ take i text ++ get_or text i 0 ∷ drop n text) next (split_at text i 0 below)
+cut_here text i below = grind (arith, split_at)
 
 none_before : (p : ℕ → Bool) (text : List ℕ) (i : ℕ) → i < length text → ((k : ℕ) → k < i → p (get_or text k 0) ≡ true → ⊥)
     → All (λ x. p x ≡ false) (take i text)
@@ -50,21 +48,14 @@ ends_within p text i h = let high : i < length text = h.0.high in omega arith
 -- ---- the last part
 
 onto_front : (x : ℕ) (parts more : List (List ℕ)) → 1 ≤ length parts → onto_first x (parts ++ more) ≡ onto_first x parts ++ more
-onto_front x [] more some = absurd (omega arith)
-onto_front x (part ∷ parts) more some = refl
+onto_front x parts more some = grind arith
 
 some_part : (p : ℕ → Bool) (text : List ℕ) → 1 ≤ length (slice_split p text)
 some_part p text = omega (arith, length-slice_split p text)
 
 parted_by : (p : ℕ → Bool) (y : ℕ) (a : List ℕ) (x : ℕ) (b : List ℕ) → slice_split p (a ++ x ∷ b) ≡ slice_split p a ++ slice_split p b →
     (t : Bool) → p y ≡ t → slice_split p (y ∷ (a ++ x ∷ b)) ≡ slice_split p (y ∷ a) ++ slice_split p b
-parted_by p y a x b h true e =
-    slice_split-cons_yes p y (a ++ x ∷ b) e ∙ ap (λ (l : List (List ℕ)). [] ∷ l) h
-    ∙ sym (ap (λ (l : List (List ℕ)). l ++ slice_split p b) (slice_split-cons_yes p y a e))
-parted_by p y a x b h false e =
-    slice_split-cons_no p y (a ++ x ∷ b) e ∙ ap (onto_first y) h
-    ∙ onto_front y (slice_split p a) (slice_split p b) (some_part p a)
-    ∙ sym (ap (λ (l : List (List ℕ)). l ++ slice_split p b) (slice_split-cons_no p y a e))
+parted_by p y a x b h t e = grind (arith, slice_split-cons_yes, slice_split-cons_no, onto_front, some_part)
 
 -- an element that passes separates the text before it from the text after it
 parted : (p : ℕ → Bool) (a : List ℕ) (x : ℕ) (b : List ℕ) → p x ≡ true → slice_split p (a ++ x ∷ b) ≡ slice_split p a ++ slice_split p b

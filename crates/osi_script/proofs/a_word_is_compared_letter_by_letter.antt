@@ -1,6 +1,6 @@
 -- Comparing a word with a name, letter by letter.
-use Rattle.std.proofs.Common.{◌≡◌, ◌≢◌, ◌∙◌, ℕ, suc, ◌+◌, ◌<◌, ◌≤◌, ◌&&◌, Bool, true, false, List, [], ◌∷◌, length, get_or, drop, refl}
-use Rattle.std.proofs.Common.{sym, ap, subst, arith}
+use Rattle.std.proofs.Common.{◌≡◌, ◌≢◌, ◌∙◌, ℕ, suc, ◌+◌, ◌<◌, ◌≤◌, ◌&&◌, Bool, true, false, List, [], ◌∷◌, length, get_or, drop, refl, ap}
+use Rattle.std.proofs.Common.{subst, arith}
 use Rattle.std.specs.Prelude.{nat_eq}
 use Rattle.std.proofs.Math.Seq.{drop-cons}
 use Rattle.std.proofs.lemmas.Bool.Decides.{nat_tests}
@@ -9,8 +9,7 @@ use Rattle.osi_script.specs.Words.{is}
 use Rattle.osi_script.proofs.a_number_is_read_digit_by_digit.{both_refused, one_left}
 
 both_refused_second : (a b : Bool) → b ≡ false → (a && b) ≡ false
-both_refused_second true b h = h
-both_refused_second false b h = refl
+both_refused_second a b h = grind arith
 
 same_octet : (x y : ℕ) → x ≡ y → nat_eq x y ≡ true
 same_octet x y h = grind (arith, nat_tests)
@@ -23,25 +22,17 @@ first_octet l i h = let next : suc i ≡ i + 1 = omega arith in subst (λ (n : �
 
 both_first : (word name : List ℕ) (i : ℕ) → i < length word → i < length name →
     is (drop i word) (drop i name) ≡ is (get_or word i 0 ∷ drop (i + 1) word) (get_or name i 0 ∷ drop (i + 1) name)
-both_first word name i a b =
-    ap (λ (w : List ℕ). is w (drop i name)) (first_octet word i a)
-    ∙ ap (λ (n : List ℕ). is (get_or word i 0 ∷ drop (i + 1) word) n) (first_octet name i b)
+both_first word name i a b = grind (arith, first_octet)
 
 -- a letter that both have is skipped
 pub same_letter : (word name : List ℕ) (i : ℕ) → i < length word → i < length name → get_or word i 0 ≡ get_or name i 0 →
     is (drop (i + 1) word) (drop (i + 1) name) ≡ is (drop i word) (drop i name)
-same_letter word name i a b same =
-    sym (one_left (nat_eq (get_or word i 0) (get_or name i 0)) (is (drop (i + 1) word) (drop (i + 1) name))
-    (same_octet (get_or word i 0) (get_or name i 0) same))
-    ∙ sym (both_first word name i a b)
+same_letter word name i a b same = grind (arith, one_left, same_octet, both_first)
 
 -- they differ at another letter
 pub other_letter : (word name : List ℕ) (i : ℕ) → i < length word → i < length name → get_or word i 0 ≢ get_or name i 0 →
     is (drop i word) (drop i name) ≡ false
-other_letter word name i a b other =
-    both_first word name i a b
-    ∙ both_refused (nat_eq (get_or word i 0) (get_or name i 0)) (is (drop (i + 1) word) (drop (i + 1) name))
-    (other_octet (get_or word i 0) (get_or name i 0) other)
+other_letter word name i a b other = grind (arith, both_first, both_refused, other_octet)
 
 -- no letter is left
 pub all_letters : (word name : List ℕ) (i : ℕ) → length word ≤ i → length name ≤ i → is (drop i word) (drop i name) ≡ true

@@ -1,17 +1,13 @@
 -- The part of a line before its user data, read word by word.
-use Rattle.std.proofs.Common.{◌≡◌, ◌∙◌, ◌≤◌, ℕ, suc, ◌-◌, ◌&&◌, Bool, List, [], ◌∷◌, length, get_or, drop, Option, Some, None, refl, sym}
-use Rattle.std.proofs.Common.{ap, subst, arith, true, false}
+use Rattle.std.proofs.Common.{◌≡◌, ◌∙◌, ◌≤◌, ℕ, ◌-◌, ◌&&◌, Bool, List, [], ◌∷◌, length, get_or, drop, Option, Some, None, refl, sym, ap}
+use Rattle.std.proofs.Common.{arith, true, false}
 use Rattle.std.specs.Prelude.{codes, if◌then◌else◌}
 use Rattle.std.specs.Cmp.Lexicographic.{same_text}
-use Rattle.std.specs.List.{onto_first, list_all, slice_get}
+use Rattle.std.specs.List.{onto_first, list_all}
 use Rattle.std.proofs.lemmas.List.Splits.{slice_split-cons_yes, slice_split-cons_no}
-use Rattle.std.proofs.lemmas.Bool.Decides.{nat_tests}
 use Rattle.memchr.specs.Find.{is_byte}
 use Rattle.osi_script.specs.declared.sides.Side.{Side}
-use Rattle.osi_script.specs.declared.sides.Side.TheVariants.{Left, Right}
 use Rattle.osi_script.specs.declared.verbs.Verb.{Verb}
-use Rattle.osi_script.specs.declared.verbs.Verb.TheVariants.{Accept, Refuse, Data, Give, Please, Minor, MinorConfirm, Major, MajorConfirm}
-use Rattle.osi_script.specs.declared.verbs.Verb.TheVariants.{Restart, RestartConfirm, Release, ReleaseAccept, ReleaseRefuse, Abort}
 use Rattle.osi_script.specs.Names.{side_name, verb_name, all_verbs}
 use Rattle.osi_script.specs.Words.{◌>>=◌, only_word, first_of_two, is, is_digit, number_behind, number_to, words_of, side_of, verb_of}
 use Rattle.osi_script.specs.Words.{first_named}
@@ -30,171 +26,77 @@ blank_behind : (rest : List ℕ) → words_of (32 ∷ rest) ≡ [] ∷ words_of 
 blank_behind rest = slice_split-cons_yes (is_byte 32) 32 rest refl
 
 carry_parted : (rest : List ℕ) → words_of (99 ∷ 97 ∷ 114 ∷ 114 ∷ 121 ∷ 32 ∷ rest) ≡ codes "carry" ∷ words_of rest
-carry_parted rest =
-    no_blank_at 99 (97 ∷ 114 ∷ 114 ∷ 121 ∷ 32 ∷ rest) refl
-    ∙ ap (onto_first 99) (no_blank_at 97 (114 ∷ 114 ∷ 121 ∷ 32 ∷ rest) refl
-    ∙ ap (onto_first 97) (no_blank_at 114 (114 ∷ 121 ∷ 32 ∷ rest) refl
-    ∙ ap (onto_first 114) (no_blank_at 114 (121 ∷ 32 ∷ rest) refl
-    ∙ ap (onto_first 114) (no_blank_at 121 (32 ∷ rest) refl ∙ ap (onto_first 121) (blank_behind rest)))))
+carry_parted rest = grind (arith, no_blank_at, blank_behind)
 
 left_parted : (rest : List ℕ) → words_of (108 ∷ 101 ∷ 102 ∷ 116 ∷ 32 ∷ rest) ≡ codes "left" ∷ words_of rest
-left_parted rest =
-    no_blank_at 108 (101 ∷ 102 ∷ 116 ∷ 32 ∷ rest) refl
-    ∙ ap (onto_first 108) (no_blank_at 101 (102 ∷ 116 ∷ 32 ∷ rest) refl
-    ∙ ap (onto_first 101) (no_blank_at 102 (116 ∷ 32 ∷ rest) refl
-    ∙ ap (onto_first 102) (no_blank_at 116 (32 ∷ rest) refl ∙ ap (onto_first 116) (blank_behind rest))))
+left_parted rest = grind (arith, no_blank_at, blank_behind)
 
 right_parted : (rest : List ℕ) → words_of (114 ∷ 105 ∷ 103 ∷ 104 ∷ 116 ∷ 32 ∷ rest) ≡ codes "right" ∷ words_of rest
-right_parted rest =
-    no_blank_at 114 (105 ∷ 103 ∷ 104 ∷ 116 ∷ 32 ∷ rest) refl
-    ∙ ap (onto_first 114) (no_blank_at 105 (103 ∷ 104 ∷ 116 ∷ 32 ∷ rest) refl
-    ∙ ap (onto_first 105) (no_blank_at 103 (104 ∷ 116 ∷ 32 ∷ rest) refl
-    ∙ ap (onto_first 103) (no_blank_at 104 (116 ∷ 32 ∷ rest) refl
-    ∙ ap (onto_first 104) (no_blank_at 116 (32 ∷ rest) refl ∙ ap (onto_first 116) (blank_behind rest)))))
+right_parted rest = grind (arith, no_blank_at, blank_behind)
 
 data_parted : (rest : List ℕ) → words_of (100 ∷ 97 ∷ 116 ∷ 97 ∷ 32 ∷ rest) ≡ codes "data" ∷ words_of rest
-data_parted rest =
-    no_blank_at 100 (97 ∷ 116 ∷ 97 ∷ 32 ∷ rest) refl
-    ∙ ap (onto_first 100) (no_blank_at 97 (116 ∷ 97 ∷ 32 ∷ rest) refl
-    ∙ ap (onto_first 97) (no_blank_at 116 (97 ∷ 32 ∷ rest) refl
-    ∙ ap (onto_first 116) (no_blank_at 97 (32 ∷ rest) refl ∙ ap (onto_first 97) (blank_behind rest))))
+data_parted rest = grind (arith, no_blank_at, blank_behind)
 
 minor_parted : (rest : List ℕ) → words_of (109 ∷ 105 ∷ 110 ∷ 111 ∷ 114 ∷ 32 ∷ rest) ≡ codes "minor" ∷ words_of rest
-minor_parted rest =
-    no_blank_at 109 (105 ∷ 110 ∷ 111 ∷ 114 ∷ 32 ∷ rest) refl
-    ∙ ap (onto_first 109) (no_blank_at 105 (110 ∷ 111 ∷ 114 ∷ 32 ∷ rest) refl
-    ∙ ap (onto_first 105) (no_blank_at 110 (111 ∷ 114 ∷ 32 ∷ rest) refl
-    ∙ ap (onto_first 110) (no_blank_at 111 (114 ∷ 32 ∷ rest) refl
-    ∙ ap (onto_first 111) (no_blank_at 114 (32 ∷ rest) refl ∙ ap (onto_first 114) (blank_behind rest)))))
+minor_parted rest = grind (arith, no_blank_at, blank_behind)
 
 minorconfirm_parted : (rest : List ℕ)
     → words_of (109 ∷ 105 ∷ 110 ∷ 111 ∷ 114 ∷ 99 ∷ 111 ∷ 110 ∷ 102 ∷ 105 ∷ 114 ∷ 109 ∷ 32 ∷ rest) ≡ codes "minorconfirm" ∷ words_of rest
-minorconfirm_parted rest =
-    no_blank_at 109 (105 ∷ 110 ∷ 111 ∷ 114 ∷ 99 ∷ 111 ∷ 110 ∷ 102 ∷ 105 ∷ 114 ∷ 109 ∷ 32 ∷ rest) refl
-    ∙ ap (onto_first 109) (no_blank_at 105 (110 ∷ 111 ∷ 114 ∷ 99 ∷ 111 ∷ 110 ∷ 102 ∷ 105 ∷ 114 ∷ 109 ∷ 32 ∷ rest) refl
-    ∙ ap (onto_first 105) (no_blank_at 110 (111 ∷ 114 ∷ 99 ∷ 111 ∷ 110 ∷ 102 ∷ 105 ∷ 114 ∷ 109 ∷ 32 ∷ rest) refl
-    ∙ ap (onto_first 110) (no_blank_at 111 (114 ∷ 99 ∷ 111 ∷ 110 ∷ 102 ∷ 105 ∷ 114 ∷ 109 ∷ 32 ∷ rest) refl
-    ∙ ap (onto_first 111) (no_blank_at 114 (99 ∷ 111 ∷ 110 ∷ 102 ∷ 105 ∷ 114 ∷ 109 ∷ 32 ∷ rest) refl
-    ∙ ap (onto_first 114) (no_blank_at 99 (111 ∷ 110 ∷ 102 ∷ 105 ∷ 114 ∷ 109 ∷ 32 ∷ rest) refl
-    ∙ ap (onto_first 99) (no_blank_at 111 (110 ∷ 102 ∷ 105 ∷ 114 ∷ 109 ∷ 32 ∷ rest) refl
-    ∙ ap (onto_first 111) (no_blank_at 110 (102 ∷ 105 ∷ 114 ∷ 109 ∷ 32 ∷ rest) refl
-    ∙ ap (onto_first 110) (no_blank_at 102 (105 ∷ 114 ∷ 109 ∷ 32 ∷ rest) refl
-    ∙ ap (onto_first 102) (no_blank_at 105 (114 ∷ 109 ∷ 32 ∷ rest) refl
-    ∙ ap (onto_first 105) (no_blank_at 114 (109 ∷ 32 ∷ rest) refl
-    ∙ ap (onto_first 114) (no_blank_at 109 (32 ∷ rest) refl ∙ ap (onto_first 109) (blank_behind rest))))))))))))
+minorconfirm_parted rest = grind (arith, no_blank_at, blank_behind)
 
 -- a text that begins with these letters and a blank
 pub carry_first : (text : List ℕ) → 6 ≤ length text → get_or text 0 0 ≡ 99 → get_or text 1 0 ≡ 97 → get_or text 2 0 ≡ 114
     → get_or text 3 0 ≡ 114 → get_or text 4 0 ≡ 121 → get_or text 5 0 ≡ 32 →
     words_of text ≡ codes "carry" ∷ words_of (drop 6 text)
-carry_first [] long h0 h1 h2 h3 h4 h5 = absurd (omega arith)
-carry_first (_ ∷ []) long h0 h1 h2 h3 h4 h5 = absurd (omega arith)
-carry_first (_ ∷ _ ∷ []) long h0 h1 h2 h3 h4 h5 = absurd (omega arith)
-carry_first (_ ∷ _ ∷ _ ∷ []) long h0 h1 h2 h3 h4 h5 = absurd (omega arith)
-carry_first (_ ∷ _ ∷ _ ∷ _ ∷ []) long h0 h1 h2 h3 h4 h5 = absurd (omega arith)
-carry_first (_ ∷ _ ∷ _ ∷ _ ∷ _ ∷ []) long h0 h1 h2 h3 h4 h5 = absurd (omega arith)
-carry_first (x0 ∷ x1 ∷ x2 ∷ x3 ∷ x4 ∷ x5 ∷ rest) long h0 h1 h2 h3 h4 h5 =
-    let same : x0 ∷ x1 ∷ x2 ∷ x3 ∷ x4 ∷ x5 ∷ rest ≡ 99 ∷ 97 ∷ 114 ∷ 114 ∷ 121 ∷ 32 ∷ rest = cc in ap words_of same ∙ carry_parted rest
+carry_first text long h0 h1 h2 h3 h4 h5 = grind (arith, carry_parted)
 
 pub left_first : (text : List ℕ) → 5 ≤ length text → get_or text 0 0 ≡ 108 → get_or text 1 0 ≡ 101 → get_or text 2 0 ≡ 102
     → get_or text 3 0 ≡ 116 → get_or text 4 0 ≡ 32 →
     words_of text ≡ codes "left" ∷ words_of (drop 5 text)
-left_first [] long h0 h1 h2 h3 h4 = absurd (omega arith)
-left_first (_ ∷ []) long h0 h1 h2 h3 h4 = absurd (omega arith)
-left_first (_ ∷ _ ∷ []) long h0 h1 h2 h3 h4 = absurd (omega arith)
-left_first (_ ∷ _ ∷ _ ∷ []) long h0 h1 h2 h3 h4 = absurd (omega arith)
-left_first (_ ∷ _ ∷ _ ∷ _ ∷ []) long h0 h1 h2 h3 h4 = absurd (omega arith)
-left_first (x0 ∷ x1 ∷ x2 ∷ x3 ∷ x4 ∷ rest) long h0 h1 h2 h3 h4 =
-    let same : x0 ∷ x1 ∷ x2 ∷ x3 ∷ x4 ∷ rest ≡ 108 ∷ 101 ∷ 102 ∷ 116 ∷ 32 ∷ rest = cc in ap words_of same ∙ left_parted rest
+left_first text long h0 h1 h2 h3 h4 = grind (arith, left_parted)
 
 pub right_first : (text : List ℕ) → 6 ≤ length text → get_or text 0 0 ≡ 114 → get_or text 1 0 ≡ 105 → get_or text 2 0 ≡ 103
     → get_or text 3 0 ≡ 104 → get_or text 4 0 ≡ 116 → get_or text 5 0 ≡ 32 →
     words_of text ≡ codes "right" ∷ words_of (drop 6 text)
-right_first [] long h0 h1 h2 h3 h4 h5 = absurd (omega arith)
-right_first (_ ∷ []) long h0 h1 h2 h3 h4 h5 = absurd (omega arith)
-right_first (_ ∷ _ ∷ []) long h0 h1 h2 h3 h4 h5 = absurd (omega arith)
-right_first (_ ∷ _ ∷ _ ∷ []) long h0 h1 h2 h3 h4 h5 = absurd (omega arith)
-right_first (_ ∷ _ ∷ _ ∷ _ ∷ []) long h0 h1 h2 h3 h4 h5 = absurd (omega arith)
-right_first (_ ∷ _ ∷ _ ∷ _ ∷ _ ∷ []) long h0 h1 h2 h3 h4 h5 = absurd (omega arith)
-right_first (x0 ∷ x1 ∷ x2 ∷ x3 ∷ x4 ∷ x5 ∷ rest) long h0 h1 h2 h3 h4 h5 =
-    let same : x0 ∷ x1 ∷ x2 ∷ x3 ∷ x4 ∷ x5 ∷ rest ≡ 114 ∷ 105 ∷ 103 ∷ 104 ∷ 116 ∷ 32 ∷ rest = cc in ap words_of same ∙ right_parted rest
+right_first text long h0 h1 h2 h3 h4 h5 = grind (arith, right_parted)
 
 pub data_first : (text : List ℕ) → 5 ≤ length text → get_or text 0 0 ≡ 100 → get_or text 1 0 ≡ 97 → get_or text 2 0 ≡ 116
     → get_or text 3 0 ≡ 97 → get_or text 4 0 ≡ 32 →
     words_of text ≡ codes "data" ∷ words_of (drop 5 text)
-data_first [] long h0 h1 h2 h3 h4 = absurd (omega arith)
-data_first (_ ∷ []) long h0 h1 h2 h3 h4 = absurd (omega arith)
-data_first (_ ∷ _ ∷ []) long h0 h1 h2 h3 h4 = absurd (omega arith)
-data_first (_ ∷ _ ∷ _ ∷ []) long h0 h1 h2 h3 h4 = absurd (omega arith)
-data_first (_ ∷ _ ∷ _ ∷ _ ∷ []) long h0 h1 h2 h3 h4 = absurd (omega arith)
-data_first (x0 ∷ x1 ∷ x2 ∷ x3 ∷ x4 ∷ rest) long h0 h1 h2 h3 h4 =
-    let same : x0 ∷ x1 ∷ x2 ∷ x3 ∷ x4 ∷ rest ≡ 100 ∷ 97 ∷ 116 ∷ 97 ∷ 32 ∷ rest = cc in ap words_of same ∙ data_parted rest
+data_first text long h0 h1 h2 h3 h4 = grind (arith, data_parted)
 
 pub minor_first : (text : List ℕ) → 6 ≤ length text → get_or text 0 0 ≡ 109 → get_or text 1 0 ≡ 105 → get_or text 2 0 ≡ 110
     → get_or text 3 0 ≡ 111 → get_or text 4 0 ≡ 114 → get_or text 5 0 ≡ 32 →
     words_of text ≡ codes "minor" ∷ words_of (drop 6 text)
-minor_first [] long h0 h1 h2 h3 h4 h5 = absurd (omega arith)
-minor_first (_ ∷ []) long h0 h1 h2 h3 h4 h5 = absurd (omega arith)
-minor_first (_ ∷ _ ∷ []) long h0 h1 h2 h3 h4 h5 = absurd (omega arith)
-minor_first (_ ∷ _ ∷ _ ∷ []) long h0 h1 h2 h3 h4 h5 = absurd (omega arith)
-minor_first (_ ∷ _ ∷ _ ∷ _ ∷ []) long h0 h1 h2 h3 h4 h5 = absurd (omega arith)
-minor_first (_ ∷ _ ∷ _ ∷ _ ∷ _ ∷ []) long h0 h1 h2 h3 h4 h5 = absurd (omega arith)
-minor_first (x0 ∷ x1 ∷ x2 ∷ x3 ∷ x4 ∷ x5 ∷ rest) long h0 h1 h2 h3 h4 h5 =
-    let same : x0 ∷ x1 ∷ x2 ∷ x3 ∷ x4 ∷ x5 ∷ rest ≡ 109 ∷ 105 ∷ 110 ∷ 111 ∷ 114 ∷ 32 ∷ rest = cc in ap words_of same ∙ minor_parted rest
+minor_first text long h0 h1 h2 h3 h4 h5 = grind (arith, minor_parted)
 
 pub minorconfirm_first : (text : List ℕ) → 13 ≤ length text → get_or text 0 0 ≡ 109 → get_or text 1 0 ≡ 105 → get_or text 2 0 ≡ 110
     → get_or text 3 0 ≡ 111 → get_or text 4 0 ≡ 114 → get_or text 5 0 ≡ 99 → get_or text 6 0 ≡ 111 → get_or text 7 0 ≡ 110
     → get_or text 8 0 ≡ 102 → get_or text 9 0 ≡ 105 → get_or text 10 0 ≡ 114 → get_or text 11 0 ≡ 109 → get_or text 12 0 ≡ 32 →
     words_of text ≡ codes "minorconfirm" ∷ words_of (drop 13 text)
-minorconfirm_first [] long h0 h1 h2 h3 h4 h5 h6 h7 h8 h9 h10 h11 h12 = absurd (omega arith)
-minorconfirm_first (_ ∷ []) long h0 h1 h2 h3 h4 h5 h6 h7 h8 h9 h10 h11 h12 = absurd (omega arith)
-minorconfirm_first (_ ∷ _ ∷ []) long h0 h1 h2 h3 h4 h5 h6 h7 h8 h9 h10 h11 h12 = absurd (omega arith)
-minorconfirm_first (_ ∷ _ ∷ _ ∷ []) long h0 h1 h2 h3 h4 h5 h6 h7 h8 h9 h10 h11 h12 = absurd (omega arith)
-minorconfirm_first (_ ∷ _ ∷ _ ∷ _ ∷ []) long h0 h1 h2 h3 h4 h5 h6 h7 h8 h9 h10 h11 h12 = absurd (omega arith)
-minorconfirm_first (_ ∷ _ ∷ _ ∷ _ ∷ _ ∷ []) long h0 h1 h2 h3 h4 h5 h6 h7 h8 h9 h10 h11 h12 = absurd (omega arith)
-minorconfirm_first (_ ∷ _ ∷ _ ∷ _ ∷ _ ∷ _ ∷ []) long h0 h1 h2 h3 h4 h5 h6 h7 h8 h9 h10 h11 h12 = absurd (omega arith)
-minorconfirm_first (_ ∷ _ ∷ _ ∷ _ ∷ _ ∷ _ ∷ _ ∷ []) long h0 h1 h2 h3 h4 h5 h6 h7 h8 h9 h10 h11 h12 = absurd (omega arith)
-minorconfirm_first (_ ∷ _ ∷ _ ∷ _ ∷ _ ∷ _ ∷ _ ∷ _ ∷ []) long h0 h1 h2 h3 h4 h5 h6 h7 h8 h9 h10 h11 h12 = absurd (omega arith)
-minorconfirm_first (_ ∷ _ ∷ _ ∷ _ ∷ _ ∷ _ ∷ _ ∷ _ ∷ _ ∷ []) long h0 h1 h2 h3 h4 h5 h6 h7 h8 h9 h10 h11 h12 = absurd (omega arith)
-minorconfirm_first (_ ∷ _ ∷ _ ∷ _ ∷ _ ∷ _ ∷ _ ∷ _ ∷ _ ∷ _ ∷ []) long h0 h1 h2 h3 h4 h5 h6 h7 h8 h9 h10 h11 h12 = absurd (omega arith)
-minorconfirm_first (_ ∷ _ ∷ _ ∷ _ ∷ _ ∷ _ ∷ _ ∷ _ ∷ _ ∷ _ ∷ _ ∷ []) long h0 h1 h2 h3 h4 h5 h6 h7 h8 h9 h10 h11 h12 = absurd (omega arith)
-minorconfirm_first (_ ∷ _ ∷ _ ∷ _ ∷ _ ∷ _ ∷ _ ∷ _ ∷ _ ∷ _ ∷ _ ∷ _ ∷ []) long h0 h1 h2 h3 h4 h5 h6 h7 h8 h9 h10 h11 h12 =
-    absurd (omega arith)
-minorconfirm_first (x0 ∷ x1 ∷ x2 ∷ x3 ∷ x4 ∷ x5 ∷ x6 ∷ x7 ∷ x8 ∷ x9 ∷ x10 ∷ x11 ∷ x12
-    ∷ rest) long h0 h1 h2 h3 h4 h5 h6 h7 h8 h9 h10 h11 h12 =
-    let same : x0 ∷ x1 ∷ x2 ∷ x3 ∷ x4 ∷ x5 ∷ x6 ∷ x7 ∷ x8 ∷ x9 ∷ x10 ∷ x11 ∷ x12 ∷ rest ≡ 109 ∷ 105 ∷ 110 ∷ 111 ∷ 114 ∷ 99 ∷ 111 ∷ 110
-    ∷ 102 ∷ 105 ∷ 114 ∷ 109 ∷ 32 ∷ rest = cc in ap words_of same ∙ minorconfirm_parted rest
+minorconfirm_first text long h0 h1 h2 h3 h4 h5 h6 h7 h8 h9 h10 h11 h12 = grind (arith, minorconfirm_parted)
 
 -- ---- digits are one word
 
 first_holds : (a b : Bool) → (a && b) ≡ true → a ≡ true
-first_holds true b h = refl
-first_holds false b h = absurd (cc)
+first_holds a b h = grind arith
 
 second_holds : (a b : Bool) → (a && b) ≡ true → b ≡ true
-second_holds true b h = h
-second_holds false b h = absurd (cc)
-
-no_blank_digit : (octet : ℕ) → is_digit octet ≡ true → is_byte 32 octet ≡ false
-no_blank_digit octet h = grind (arith, nat_tests)
+second_holds a b h = grind arith
 
 digits_alone : (digits : List ℕ) → list_all is_digit digits ≡ true → words_of digits ≡ digits ∷ []
 digits_alone [] h = refl
-digits_alone (digit ∷ digits) h =
-    no_blank_at digit digits (no_blank_digit digit (first_holds (is_digit digit) (list_all is_digit digits) h))
-    ∙ ap (onto_first digit) (digits_alone digits (second_holds (is_digit digit) (list_all is_digit digits) h))
+digits_alone (digit ∷ digits) h = grind (arith, digits_alone digits (second_holds (is_digit digit) (list_all is_digit digits) h))
 
 given_holds : (b : Bool) (m n : ℕ) → Some n ≡ (if b then Some m else None) → b ≡ true
-given_holds true m n h = refl
-given_holds false m n h = absurd (cc)
+given_holds b m n h = grind arith
 
 all_digits : (most n : ℕ) (word : List ℕ) → Some n ≡ number_behind most 0 word → list_all is_digit word ≡ true
 unfolding number_behind
 all_digits most n word h = first_holds _ _ (given_holds _ _ n h)
 
 other_given : (b : Bool) (o : Option ℕ) (n : ℕ) → Some n ≡ (if b then None else o) → Some n ≡ o
-other_given true o n h = absurd (cc)
-other_given false o n h = h
+other_given b o n h = grind arith
 
 number_alone : (most n : ℕ) (word : List ℕ) → Some n ≡ number_to most word → words_of word ≡ word ∷ []
 unfolding number_to
@@ -205,18 +107,12 @@ number_alone most n word h = digits_alone word (all_digits most n word (other_gi
 carried_so : (side : Side) (digits : List ℕ) (n : ℕ) (user : Option (List ℕ)) → Some n ≡ number_to 4294967295 digits →
     Some (Carry side n) ≡ command_in (codes "carry" ∷ side_name side ∷ digits ∷ []) user
 unfolding command_in carry_of side_of only_word
-carried_so Left digits n user h = ap (λ (k : Option ℕ). k >>= (λ (m : ℕ). Some (Carry Left m))) h
-carried_so Right digits n user h = ap (λ (k : Option ℕ). k >>= (λ (m : ℕ). Some (Carry Right m))) h
+carried_so side digits n user h = grind arith
 
 pub carry_read : (line text digits : List ℕ) (side : Side) (n : ℕ) → words_of line ≡ codes "carry" ∷ words_of text →
     words_of text ≡ side_name side ∷ words_of digits → Some n ≡ number_to 4294967295 digits → Some (Carry side n) ≡ command_of line
 unfolding command_of
-carry_read line text digits side n first second third =
-    let words : words_of line ≡ codes "carry" ∷ side_name side ∷ digits ∷ [] =
-    first ∙ ap (λ (l : List (List ℕ)). codes "carry" ∷ l)
-    (second ∙ ap (λ (l : List (List ℕ)). side_name side ∷ l) (number_alone 4294967295 n digits third)) in
-    carried_so side digits n (user_data_of (codes "carry" ∷ side_name side ∷ digits ∷ [])) third
-    ∙ sym (ap (λ (l : List (List ℕ)). command_in l (user_data_of l)) words)
+carry_read line text digits side n first second third = grind (arith, number_alone, carried_so)
 
 -- ---- a line that calls
 
@@ -224,8 +120,7 @@ carry_read line text digits side n first second third =
 by_test : (word : List ℕ) (verb v : Verb) (verbs : List Verb) (b : Bool) → is word (verb_name verb) ≡ b →
     Some v ≡ (if b then Some verb else first_named word verbs) → (Some v ≡ first_named word verbs → is word (verb_name v) ≡ true) →
     is word (verb_name v) ≡ true
-by_test word verb v verbs true e h rest = let same : v ≡ verb = cc in subst (λ (x : Verb). is word (verb_name x) ≡ true) (sym same) e
-by_test word verb v verbs false e h rest = rest h
+by_test word verb v verbs b e h rest = grind arith
 
 names_it : (word : List ℕ) (verbs : List Verb) (v : Verb) → Some v ≡ first_named word verbs → is word (verb_name v) ≡ true
 names_it word [] v h = absurd (cc)
@@ -236,59 +131,27 @@ unfolding verb_of
 verb_is_name word v h = same_text word (verb_name v) (sym (names_it word all_verbs v h))
 
 last_behind : (word next : List ℕ) (words : List (List ℕ)) → last_of (word ∷ next ∷ words) ≡ last_of (next ∷ words)
-last_behind word next words =
-    let same : length (word ∷ next ∷ words) - 1 ≡ suc (length (next ∷ words) - 1) = omega arith in
-    ap (slice_get (word ∷ next ∷ words)) same
+last_behind word next words = grind arith
 
 last_of_call : (a b c next : List ℕ) (words : List (List ℕ)) → last_of (a ∷ b ∷ c ∷ next ∷ words) ≡ last_of (next ∷ words)
-last_of_call a b c next words =
-    last_behind a b (c ∷ next ∷ words) ∙ last_behind b c (next ∷ words) ∙ last_behind c next words
+last_of_call a b c next words = grind (arith, last_behind)
 
 -- no call is without words after its verb
 no_words : (v : Verb) (a b : Option (List ℕ)) → call_of v [] a ≡ call_of v [] b
 unfolding call_of accept_of plain_of plain_data give_of please_of minor_of minor_confirm_of restart_of restart_confirm_of only_word
     first_of_two
-no_words Accept a b = refl
-no_words Refuse a b = refl
-no_words Data a b = refl
-no_words Give a b = refl
-no_words Please a b = refl
-no_words Minor a b = refl
-no_words MinorConfirm a b = refl
-no_words Major a b = refl
-no_words MajorConfirm a b = refl
-no_words Restart a b = refl
-no_words RestartConfirm a b = refl
-no_words Release a b = refl
-no_words ReleaseAccept a b = refl
-no_words ReleaseRefuse a b = refl
-no_words Abort a b = refl
+no_words v a b = grind arith
 
 -- the user data word comes after the verb
 word_behind : (v : Verb) (other : Option (List ℕ)) (connection next : List ℕ) (words : List (List ℕ)) → other ≡ last_of (next ∷ words) →
     fourth_or other (behind_accept (connection ∷ verb_name v ∷ next ∷ words)) ≡ data_behind v (next ∷ words)
 unfolding verb_name
-word_behind Accept other connection next words h = refl
-word_behind Refuse other connection next words h = h
-word_behind Data other connection next words h = h
-word_behind Give other connection next words h = h
-word_behind Please other connection next words h = h
-word_behind Minor other connection next words h = h
-word_behind MinorConfirm other connection next words h = h
-word_behind Major other connection next words h = h
-word_behind MajorConfirm other connection next words h = h
-word_behind Restart other connection next words h = h
-word_behind RestartConfirm other connection next words h = h
-word_behind Release other connection next words h = h
-word_behind ReleaseAccept other connection next words h = h
-word_behind ReleaseRefuse other connection next words h = h
-word_behind Abort other connection next words h = h
+word_behind v other connection next words h = grind arith
 
 no_connect : (side : Side) (words : List (List ℕ)) →
     data_word (side_name side ∷ words) ≡ fourth_or (last_of (side_name side ∷ words)) (behind_accept words)
 unfolding data_word
-no_connect Left words = refl
-no_connect Right words = refl
+no_connect side words = grind arith
 
 word_of_call : (side : Side) (connection next : List ℕ) (v : Verb) (words : List (List ℕ)) →
     data_word (side_name side ∷ connection ∷ verb_name v ∷ next ∷ words) ≡ data_behind v (next ∷ words)
@@ -305,12 +168,7 @@ called_so : (side : Side) (connection : List ℕ) (v : Verb) (words : List (List
     Some n ≡ number_to 65535 connection →
     calling side n (call_of v words user) ≡ command_in (side_name side ∷ connection ∷ verb_name v ∷ words) user
 unfolding command_in user_call named_call side_of
-called_so Left connection v words n user h =
-    ap (λ (o : Option Verb). o >>= (λ (w : Verb). calling Left n (call_of w words user))) (sym (verb_read v))
-    ∙ ap (λ (k : Option ℕ). k >>= (λ (m : ℕ). verb_of (verb_name v) >>= (λ (w : Verb). calling Left m (call_of w words user)))) h
-called_so Right connection v words n user h =
-    ap (λ (o : Option Verb). o >>= (λ (w : Verb). calling Right n (call_of w words user))) (sym (verb_read v))
-    ∙ ap (λ (k : Option ℕ). k >>= (λ (m : ℕ). verb_of (verb_name v) >>= (λ (w : Verb). calling Right m (call_of w words user)))) h
+called_so side connection v words n user h = grind (arith, verb_read)
 
 -- reading the user data word after the verb gives the same as reading that of the line
 same_call : (side : Side) (connection : List ℕ) (v : Verb) (words : List (List ℕ)) →

@@ -1,8 +1,7 @@
 -- What is kept of the connections stays what passed of them, as one is changed, added or given up, and as all begin a packet:
 -- for the connections of a byte connection.
-use Rattle.std.proofs.Common.{◌≡◌, ℕ, zero, suc, ◌+◌, ◌<◌, ◌≤◌, List, [], ◌∷◌, ◌++◌, length, take, drop, map, get_or, set, arith, refl}
-use Rattle.std.proofs.Common.{ap, subst, sym, Option, Some, None, ◌∙◌, add-one}
-use Rattle.std.proofs.Common.{Bool, true, false, cond, ◌==◌}
+use Rattle.std.proofs.Common.{◌≡◌, ℕ, zero, suc, ◌+◌, ◌<◌, ◌≤◌, List, [], ◌∷◌, ◌++◌, length, take, drop, map, get_or, set, arith, refl, ap}
+use Rattle.std.proofs.Common.{subst, sym, Option, Some, None, ◌∙◌, add-one, Bool, cond, ◌==◌}
 use Rattle.std.proofs.lemmas.List.Folds.{find-append}
 use Rattle.std.specs.List.{find}
 use Rattle.std.specs.Option.{option_map, option_or}
@@ -38,9 +37,7 @@ pub element : (cs : List Connection) (js : List Joined) (i : ℕ) (c : Connectio
 element [] js i c lt h = absurd (omega arith)
 element (c ∷ cs) [] i d lt h = absurd h
 element (c ∷ cs) (j ∷ js) zero d lt h = record { joined = j; there = refl; holds = h.0; next = λ e k holds. (holds, h.1) }
-element (c ∷ cs) (j ∷ js) (suc i) d lt h =
-    let r = element cs js i d (omega arith) h.1 in
-    record { joined = r.joined; there = r.there; holds = r.holds; next = λ e k holds. (h.0, r.next e k holds) }
+element (c ∷ cs) (j ∷ js) (suc i) d lt h = grind (arith, element cs js i d (omega arith) h.1)
 
 -- one of them is changed
 pub one_changed : (cs ds : List Connection) (s : Sessions) (i : ℕ) (c d : Connection) (f : Joined → Joined) → i < length cs
@@ -60,21 +57,13 @@ none_there (j ∷ js) (suc i) le = none_there js i (omega arith)
 pub none_changed : (cs ds : List Connection) (s : Sessions) (i : ℕ) (f : Joined → Joined) → length cs ≤ i → HoldAll cs s.live
     → HoldAll ds s.done
     → HoldAll cs (changed i f s (slice_get s.live i)).live × HoldAll ds (changed i f s (slice_get s.live i)).done
-none_changed cs ds s i f le live done =
-    let e = all_length cs s.live live in
-    subst (λ (o : Option Joined). HoldAll cs (changed i f s o).live × HoldAll ds (changed i f s o).done) (sym (none_there s.live i
-    (omega arith)))
-    (live, done)
+none_changed cs ds s i f le live done = grind (arith, all_length, none_there)
 
 -- one more is requested, at a place of its own
 pub one_more : (cs ds : List Connection) (s : Sessions) (i : ℕ) (c : Connection) (j : Joined) → length cs ≤ i → HoldsJoined c j
     → HoldAll cs s.live → HoldAll ds s.done
     → HoldAll (cs ++ c ∷ []) (placed i j s (slice_get s.live i)).live × HoldAll ds (placed i j s (slice_get s.live i)).done
-one_more cs ds s i c j le holds live done =
-    let e = all_length cs s.live live in
-    subst (λ (o : Option Joined). HoldAll (cs ++ c ∷ []) (placed i j s o).live × HoldAll ds (placed i j s o).done) (sym
-    (none_there s.live i (omega arith)))
-    (all_more cs s.live c j live holds, done)
+one_more cs ds s i c j le holds live done = grind (arith, all_length, none_there, all_more)
 
 -- one more is requested, and gets the place of another
 pub one_replaced : (cs ds : List Connection) (s : Sessions) (i : ℕ) (c d : Connection) (j : Joined) → i < length cs → HoldsJoined d j
@@ -91,18 +80,15 @@ one_replaced cs ds s i c d j lt holds live done =
 
 pub room_changed : (i : ℕ) (f : Joined → Joined) (s : Sessions) (o : Option Joined) (room : Room) → room ≡ s.room
     → room ≡ (changed i f s o).room
-room_changed i f s None room e = e
-room_changed i f s (Some j) room e = e
+room_changed i f s o room e = grind arith
 
 pub room_placed : (i : ℕ) (j : Joined) (s : Sessions) (o : Option Joined) (room : Room) → room ≡ s.room → room ≡ (placed i j s o).room
-room_placed i j s None room e = e
-room_placed i j s (Some over) room e = e
+room_placed i j s o room e = grind arith
 
 -- what is judged of one that is requested is what is judged of each
 pub asked_so : (c : Connection) (n m calling : ℕ) (room judged : Room) → n ≡ m → room ≡ judged → HoldsJoined c (asked n calling room)
     → HoldsJoined c (asked m calling judged)
-asked_so c n m calling room judged e is h =
-    subst (λ (r : Room). HoldsJoined c (asked m calling r)) is (subst (λ (i : ℕ). HoldsJoined c (asked i calling room)) e h)
+asked_so c n m calling room judged e is h = grind arith
 
 -- ---- a packet begins for each in turn
 
@@ -131,10 +117,7 @@ all_taken f (j ∷ js) (suc n) e = ap (λ (l : List Joined). f j ∷ l) (all_tak
 
 pub begun_all : (f : Joined → Joined) (cs ds : List Connection) (js : List Joined) (n : ℕ) → n ≡ length cs → HoldAll cs js
     → HoldAll ds (map f (take n js) ++ drop n js) → HoldAll ds (map f js)
-begun_all f cs ds js n e before h =
-    let same = all_length cs js before in
-    let full : n ≡ length js = e ∙ same in
-    subst (λ (l : List Joined). HoldAll ds l) (all_taken f js n full) h
+begun_all f cs ds js n e before h = grind (arith, all_length, all_taken)
 
 -- ---- the number of one
 
@@ -159,42 +142,28 @@ one_kept (b ∷ cs) (j ∷ js) (suc i) c d lt step h = (h.0, one_kept cs js i c 
 
 found_step : (b : Bool) (c : Connection) (j : Joined) (cs : Option Connection) (js : Option Joined) → HoldsJoined c j → HoldsFound cs js
     → HoldsFound (cond b (Some c) cs) (cond b (Some j) js)
-found_step true c j cs js h k = h
-found_step false c j cs js h k = k
+found_step b c j cs js h k = grind arith
 
 pub found_held : (number : ℕ) (cs : List Connection) (js : List Joined) → HoldAll cs js
     → HoldsFound (find (λ c. c.number == number) cs) (find (has_number number) js)
 found_held number [] [] h = tt
 found_held number [] (j ∷ js) h = absurd h
 found_held number (c ∷ cs) [] h = absurd h
-found_held number (c ∷ cs) (j ∷ js) h =
-    subst (λ (n : ℕ). HoldsFound (cond (n == number) (Some c) (find (λ c. c.number == number) cs))
-    (cond (j.number == number) (Some j) (find (has_number number) js))) (sym h.0.number)
-    (found_step (j.number == number) c j (find (λ c. c.number == number) cs) (find (has_number number) js) h.0
-    (found_held number cs js h.1))
+found_held number (c ∷ cs) (j ∷ js) h = grind (arith, cond, found_step, found_held number cs js h.1)
 
 found_first : (cs : Option Connection) (c : Connection) (js ks : Option Joined) → cs ≡ Some c → HoldsFound cs js
     → HoldsFound (Some c) (option_or js ks)
-found_first cs c None ks e h = absurd (subst (λ (o : Option Connection). HoldsFound o None) e h)
-found_first cs c (Some j) ks e h = subst (λ (o : Option Connection). HoldsFound o (Some j)) e h
+found_first cs c js ks e h = grind arith
 
 found_next : (cs ds : Option Connection) (js ks : Option Joined) → cs ≡ None → HoldsFound cs js → HoldsFound ds ks
     → HoldsFound ds (option_or js ks)
-found_next cs ds None ks e h k = k
-found_next cs ds (Some j) ks e h k = absurd (subst (λ (o : Option Connection). HoldsFound o (Some j)) e h)
+found_next cs ds js ks e h k = grind arith
 
 pub live_found : (number : ℕ) (cs : List Connection) (c : Connection) (s : Sessions) → find (λ c. c.number == number) cs ≡ Some c
     → HoldAll cs s.live → HoldsFound (Some c) (numbered number s)
-live_found number cs c s e h =
-    subst (λ (o : Option Joined). HoldsFound (Some c) o) (sym (find-append (has_number number) s.live s.done))
-    (found_first (find (λ c. c.number == number) cs) c (find (has_number number) s.live) (find (has_number number) s.done) e
-    (found_held number cs s.live h))
+live_found number cs c s e h = grind (arith, find-append, found_first, found_held)
 
 pub done_found : (number : ℕ) (cs ds : List Connection) (o : Option Connection) (s : Sessions)
     → find (λ c. c.number == number) cs ≡ None → o ≡ find (λ c. c.number == number) ds → HoldAll cs s.live → HoldAll ds s.done
     → HoldsFound o (numbered number s)
-done_found number cs ds o s e is h k =
-    subst (λ (x : Option Connection). HoldsFound x (numbered number s)) (sym is)
-    (subst (λ (x : Option Joined). HoldsFound (find (λ c. c.number == number) ds) x) (sym (find-append (has_number number) s.live s.done))
-    (found_next (find (λ c. c.number == number) cs) (find (λ c. c.number == number) ds) (find (has_number number) s.live)
-    (find (has_number number) s.done) e (found_held number cs s.live h) (found_held number ds s.done k)))
+done_found number cs ds o s e is h k = grind (arith, find-append, found_next, found_held)

@@ -1,7 +1,7 @@
 -- The sessions of connections have heard all that the other side said: for the functions that hand it over, one connection after
 -- the other, and for those that find a connection.
-use Rattle.std.proofs.Common.{◌≡◌, ℕ, zero, suc, ◌+◌, ◌<◌, ◌≤◌, List, [], ◌∷◌, length, take, set, get_or, arith, subst, sym, add-one}
-use Rattle.std.proofs.Common.{Bool, true, false, cond, ◌==◌, Option, Some, None}
+use Rattle.std.proofs.Common.{◌≡◌, ℕ, zero, suc, ◌+◌, ◌<◌, ◌≤◌, List, [], ◌∷◌, length, take, set, get_or, arith, subst, sym, add-one, Bool}
+use Rattle.std.proofs.Common.{cond, ◌==◌, Option, Some, None}
 use Rattle.std.specs.List.{find}
 use Rattle.osi_judge.specs.declared.directions.Direction.{Direction}
 use Rattle.osi_tap.specs.declared.connections.Connection.{Connection}
@@ -41,17 +41,14 @@ still_heard (x ∷ cs) (suc i) c k h = (h.0, still_heard cs i c k h.1)
 -- ---- the one with a number
 
 one_found : (b : Bool) (c : Connection) (o : Option Connection) → IsHeard c → FoundHeard o → FoundHeard (cond b (Some c) o)
-one_found true c o h k = h
-one_found false c o h k = k
+one_found b c o h k = grind arith
 
 pub found_heard : (number : ℕ) (cs : List Connection) → AreHeard cs → FoundHeard (find (λ c. c.number == number) cs)
 found_heard number [] h = tt
-found_heard number (c ∷ cs) h =
-    one_found (c.number == number) c (find (λ c. c.number == number) cs) h.0 (found_heard number cs h.1)
+found_heard number (c ∷ cs) h = grind (arith, one_found, found_heard number cs h.1)
 
 -- ---- what a tap holds
 
 pub still_holds : (due : Option Direction) (w v : Watch) (l r : Streamed) (s : State) → due ≡ None
     → ((c : Course) → HoldsAll w c → HoldsAll v c) → HoldsBy due w l r s → HoldsBy due v l r s
-still_holds None w v l r s e keeps h = record { left = h.left; right = h.right; course = keeps s.course h.course }
-still_holds (Some d) w v l r s e keeps h = cc
+still_holds due w v l r s e keeps h = grind arith

@@ -1,14 +1,11 @@
 -- Of a whole packet the units are still to pass that have not passed, each once: for the functions that let a packet pass.
-use Rattle.std.proofs.Common.{◌≡◌, ◌∙◌, refl, sym, ap, subst, ℕ, zero, suc, ◌+◌, ◌-◌, ◌<◌, List, [], ◌∷◌, drop, arith, add-one}
-use Rattle.std.proofs.Common.{Option, Some, None}
+use Rattle.std.proofs.Common.{◌≡◌, ◌∙◌, sym, ap, subst, ℕ, zero, suc, ◌+◌, ◌-◌, ◌<◌, List, [], ◌∷◌, drop, arith, add-one, Option, None}
 use Rattle.std.proofs.Math.Seq.{drop-nil}
 use Rattle.osi_tpdu.specs.Units.{units_left, GivesUnit}
 use Rattle.osi_tpdu.specs.Value.{Value}
-use Rattle.osi_tpdu.specs.View.{value}
 use Rattle.osi_tpdu.specs.declared.packet.Units.{Units}
 use Rattle.osi_tpdu.specs.declared.unit.Tpdu.{Tpdu}
 use Rattle.osi_judge.specs.declared.directions.Direction.{Direction}
-use Rattle.osi_rules.specs.declared.findings.Told.{Told}
 use Rattle.osi_tap.specs.declared.watch.Watch.{Watch}
 use Rattle.osi_tap.specs.Courses.{Course, units_pass}
 use Rattle.osi_tap.specs.Holding.{HoldsCourse, IsDue, unit_due}
@@ -26,53 +23,33 @@ drop_more : (n : ℕ) (xs : List Value) (v : Value) (ys : List Value) → drop n
 drop_more n xs v ys e = ap (λ (k : ℕ). drop k xs) (add-one n) ∙ drop_next n xs v ys e
 
 drop_first : (n : ℕ) (v : Value) (xs : List Value) → 0 < n → drop n (v ∷ xs) ≡ drop (n - 1) xs
-drop_first zero v xs h = absurd (omega arith)
-drop_first (suc n) v xs h = let e : n ≡ suc n - 1 = omega arith in ap (λ (k : ℕ). drop k xs) e
+drop_first n v xs h = grind arith
 
 pub drop_given : (n : ℕ) (o : Option Tpdu) (old new : Units) → GivesUnit old o new → 0 < n
     → drop n (units_left old) ≡ drop (n - 1) (units_left new)
-drop_given n (Some t) old new h some = ap (drop n) h.0 ∙ drop_first n (value t) (units_left new) some
-drop_given n None old new h some =
-    ap (drop n) h.0 ∙ drop-nil n ∙ sym (drop-nil (n - 1)) ∙ ap (drop (n - 1)) (sym h.1)
+drop_given n o old new h some = grind (arith, drop_first, drop-nil)
 
 -- ---- the units that are left
 
 comes_anew : (d : Direction) (at : ℕ) (vs : List Value) (x c : Course) → units_pass d at vs x ≡ c → Comes None d at vs x c
-comes_anew d at [] x c e = (refl, e)
-comes_anew d at (v ∷ vs) x c e = e
+comes_anew d at vs x c e = grind arith
 
 -- the next unit passes
 pub next_owed : (w n : Watch) (d : Direction) (at : ℕ) (vs : List Value) (v : Value) (was left : List Value) (c : Course)
     → was ≡ v ∷ left → ((k : Course) → HoldsCourse w k → HoldsCourse n (unit_due w.told d at v k)) → n.told ≡ None
     → n.passed ≡ w.passed + 1 → OwesLast w d at vs was c → OwesLast n d at vs left c
-next_owed w n d at vs v was left c e holds told passed h =
-    let o = subst (λ (us : List Value). OwesUnits w d at us c) e h.owes in
-    record {
-      units = ap (λ (k : ℕ). drop k vs) passed ∙ drop_more w.passed vs v left (h.units ∙ e);
-      owes = record {
-        by_now = unit_due w.told d at v o.by_now;
-        holds = holds o.by_now o.holds;
-        comes = subst (λ (t : Option Told). Comes t d at left (unit_due w.told d at v o.by_now) c) (sym told)
-            (comes_anew d at left (unit_due w.told d at v o.by_now) c o.comes);
-      };
-    }
+next_owed w n d at vs v was left c e holds told passed h = search (arith, drop_more, comes_anew)
 
 -- memory was short for the next unit
 pub still_owed : (w n : Watch) (d : Direction) (at : ℕ) (vs : List Value) (v : Value) (was left : List Value) (c : Course)
     → was ≡ v ∷ left → ((k : Course) → HoldsCourse w k → IsDue n d at v (unit_due w.told d at v k)) → n.passed ≡ w.passed
     → OwesLast w d at vs was c → OwesUnits n d at (drop n.passed vs) c
-still_owed w n d at vs v was left c e due passed h =
-    let o = subst (λ (us : List Value). OwesUnits w d at us c) e h.owes in
-    let k = due o.by_now o.holds in
-    subst (λ (us : List Value). OwesUnits n d at us c) (sym (ap (λ (i : ℕ). drop i vs) passed ∙ h.units ∙ e))
-    (record { by_now = k.by_now; holds = k.holds; comes = ap (units_pass d at left) k.comes ∙ o.comes })
+still_owed w n d at vs v was left c e due passed h = grind arith
 
 -- no unit is left
 pub none_owed : (w : Watch) (d : Direction) (at : ℕ) (vs was : List Value) (c : Course) → was ≡ [] → OwesLast w d at vs was c
     → HoldsCourse w c × (w.told ≡ None)
-none_owed w d at vs was c e h =
-    let o = subst (λ (us : List Value). OwesUnits w d at us c) e h.owes in
-    (subst (λ (k : Course). HoldsCourse w k) o.comes.1 o.holds, o.comes.0)
+none_owed w d at vs was c e h = grind arith
 
 -- of a packet of which some units have passed
 pub rest_owed : (w : Watch) (d : Direction) (at : ℕ) (vs left : List Value) (c : Course) → left ≡ drop w.passed vs

@@ -1,6 +1,6 @@
 -- What is judged of a connection is no more than the bound of a connection: for the law that says so.
-use Rattle.std.proofs.Common.{◌≡◌, refl, sym, ap, subst, ℕ, zero, suc, ◌+◌, ◌-◌, ◌≤◌, Bool, true, false, if◌then◌else◌, cond, arith}
-use Rattle.std.proofs.Common.{List, [], ◌∷◌, ◌++◌, length, map, set, Option, Some, None}
+use Rattle.std.proofs.Common.{◌≡◌, sym, subst, ℕ, zero, suc, ◌+◌, ◌-◌, ◌≤◌, Bool, if◌then◌else◌, cond, arith, List, [], ◌∷◌, ◌++◌, length}
+use Rattle.std.proofs.Common.{map, set, Option, Some}
 use Rattle.std.proofs.lemmas.Bool.{leb-true}
 use Rattle.std.proofs.lemmas.List.{length-append, map-append}
 use Rattle.std.specs.List.{find}
@@ -8,17 +8,15 @@ use Rattle.std.specs.Prelude.{nat_le, slice_get}
 use Rattle.osi_rules.specs.declared.findings.Meaning.{Meaning}
 use Rattle.osi_rules.specs.declared.findings.Meaning.TheVariants as meaning
 use Rattle.osi_tpdu.specs.Value.{Value}
-use Rattle.osi_tpkt.specs.Stream.{offset_of}
 use Rattle.osi_judge.specs.Captures.{Capture}
 use Rattle.osi_judge.specs.Keeping.{kept_in}
 use Rattle.osi_judge.specs.declared.directions.Direction.{Direction}
-use Rattle.osi_judge.specs.declared.directions.Direction.TheVariants.{Left, Right}
 use Rattle.osi_tap.specs.declared.rooms.Room.{Room}
 use Rattle.osi_tap.specs.declared.rooms.Room.TheVariants.{All, Octets, Over}
 use Rattle.osi_tap.specs.Bounds.{kept_of, IsWithin}
-use Rattle.osi_tap.specs.Connections.{Joined, Sessions, asked, placed, changed, packet_begins, adds_all, adds_if}
-use Rattle.osi_tap.specs.Connections.{has_number, meant, numbered, source_of, taken, taken_at, count}
-use Rattle.osi_tap.specs.Lines.{Spoken, Said, added, before, begun_octets, heard, octets_of}
+use Rattle.osi_tap.specs.Connections.{Joined, Sessions, asked, placed, changed, packet_begins, adds_all, adds_if, has_number, meant}
+use Rattle.osi_tap.specs.Connections.{numbered, taken, taken_at}
+use Rattle.osi_tap.specs.Lines.{Spoken, added}
 use Rattle.osi_tap.specs.Rooms.{counted, fits, spent}
 use Rattle.osi_tap.specs.Tapping.{after, begin_within}
 use Rattle.osi_tap.proofs.a_claim_on_connections_holds_of_captures.{IsClaim, after_kept}
@@ -31,12 +29,7 @@ kept_more (x ∷ xs) ys = let h = kept_more xs ys in omega (arith, h)
 
 -- adds no more than it counts
 added_keeps : (at : ℕ) (end : Bool) (octets : List ℕ) (s : Spoken) → kept_of (added at end octets s) ≤ kept_of s + counted (length octets)
-added_keeps at true octets s =
-    let last : Said = record { octets = begun_octets s.begun ++ octets; before = before s; at = at } in
-    let heard_more = ap kept_in (map-append octets_of s.said (last ∷ [])) in
-    let parts = kept_more (heard s) ((begun_octets s.begun ++ octets) ∷ []) in
-    let longer = length-append (begun_octets s.begun) octets in omega (arith, heard_more, parts, longer)
-added_keeps at false octets s = let longer = length-append (begun_octets s.begun) octets in omega (arith, longer)
+added_keeps at end octets s = grind (arith, map-append, kept_more, length-append)
 
 -- ---- a connection
 
@@ -53,53 +46,35 @@ abbrev IsFit : (most : ℕ) → Joined → Type 0
 IsFit most j = Fits most (kept_on j) j.room
 
 fit_within : (most kept : ℕ) (room : Room) → Fits most kept room → kept ≤ most
-fit_within most kept All h = absurd h
-fit_within most kept (Octets n) h = omega (arith, h)
-fit_within most kept Over h = h
+fit_within most kept room h = grind arith
 
 -- so it is after a DT for which there is room, and after one for which there is none
 spent_by : (b : Bool) (most kept more length : ℕ) (n : ℕ) → nat_le (counted length) n ≡ b → more ≤ counted length → kept + n ≤ most
     → Fits most (if b then kept + more else kept) (if b then Octets (n - counted length) else Over)
-spent_by true most kept more length n e le h = let room = leb-true (counted length) n e in omega (arith, room, le, h)
-spent_by false most kept more length n e le h = omega (arith, h)
+spent_by b most kept more length n e le h = grind (arith, leb-true)
 
 adds_all_keeps : (d : Direction) (at : ℕ) (end : Bool) (octets : List ℕ) (j : Joined)
     → kept_on (adds_all d at end octets j) ≤ kept_on j + counted (length octets)
-adds_all_keeps Left at end octets j = let h = added_keeps at end octets j.left in omega (arith, h)
-adds_all_keeps Right at end octets j = let h = added_keeps at end octets j.right in omega (arith, h)
+adds_all_keeps d at end octets j = grind (arith, added_keeps)
 
 fit_less : (most kept less : ℕ) (room : Room) → less ≤ kept → Fits most kept room → Fits most less room
-fit_less most kept less All le h = h
-fit_less most kept less (Octets n) le h = omega (arith, le, h)
-fit_less most kept less Over le h = omega (arith, le, h)
+fit_less most kept less room le h = grind arith
 
 fit_if : (b : Bool) (most : ℕ) (room : Room) (d : Direction) (at : ℕ) (end : Bool) (octets : List ℕ) (j : Joined)
     → Fits most (if b then kept_on j + counted (length octets) else kept_on j) room → IsFit most (adds_if b room d at end octets j)
-fit_if true most room d at end octets j h =
-    fit_less most (kept_on j + counted (length octets)) (kept_on (adds_all d at end octets j)) room (adds_all_keeps d at end octets j) h
-fit_if false most room d at end octets j h = h
+fit_if b most room d at end octets j h = grind (arith, fit_less, adds_all_keeps)
 
 fit_added : (most : ℕ) (room : Room) (d : Direction) (at : ℕ) (end : Bool) (octets : List ℕ) (j : Joined) → Fits most (kept_on j) room
     → IsFit most (adds_if (fits room (length octets)) (spent room (length octets)) d at end octets j)
-fit_added most All d at end octets j h = absurd h
-fit_added most (Octets n) d at end octets j h =
-    let b = nat_le (counted (length octets)) n in
-    fit_if b most (if b then Octets (n - counted (length octets)) else Over) d at end octets j
-    (spent_by b most (kept_on j) (counted (length octets)) (length octets) n refl (omega arith) h)
-fit_added most Over d at end octets j h = h
+fit_added most room d at end octets j h = grind (arith, fit_if, spent_by)
 
 -- ---- a unit for a connection
 
 meant_fit : (most : ℕ) (d : Direction) (at : ℕ) (v : Value) (m : Meaning) (j : Joined) → IsFit most j → IsFit most (meant d at v m j)
-meant_fit most d at v meaning.Opens j h = h
-meant_fit most d at v meaning.Closes j h = h
-meant_fit most d at v (meaning.Adds end) j h = fit_added most j.room d at end _ j h
-meant_fit most d at v meaning.Asks j h = h
-meant_fit most d at v meaning.Nothing j h = h
+meant_fit most d at v m j h = grind (arith, fit_added)
 
 begun_fit : (most : ℕ) (d : Direction) (j : Joined) → IsFit most j → IsFit most (packet_begins d j)
-begun_fit most Left j h = h
-begun_fit most Right j h = h
+begun_fit most d j h = grind arith
 
 -- ---- of all connections
 
@@ -135,42 +110,26 @@ one_set most (x ∷ js) (suc i) j h k = (h.0, one_set most js i j h.1 k)
 
 changed_fit : (most : ℕ) (i : ℕ) (f : Joined → Joined) (s : Sessions) (o : Option Joined) → slice_get s.live i ≡ o
     → ((j : Joined) → IsFit most j → IsFit most (f j)) → AllFit most s → AllFit most (changed i f s o)
-changed_fit most i f s None e step h = h
-changed_fit most i f s (Some j) e step h = record {
-  live = one_set most s.live i (f j) h.live (step j (one_at most s.live i j e h.live));
-  done = h.done;
-  room = h.room;
-}
+changed_fit most i f s o e step h = grind (arith, one_set, one_at)
 
 placed_fit : (most : ℕ) (i : ℕ) (j : Joined) (s : Sessions) (o : Option Joined) → slice_get s.live i ≡ o → IsFit most j → AllFit most s
     → AllFit most (placed i j s o)
-placed_fit most i j s None e k h = record { live = one_more most s.live j h.live k; done = h.done; room = h.room }
-placed_fit most i j s (Some over) e k h = record {
-  live = one_set most s.live i j h.live k;
-  done = one_more most s.done over h.done (one_at most s.live i over e h.live);
-  room = h.room;
-}
+placed_fit most i j s o e k h = grind (arith, one_more, one_set, one_at)
 
 asked_fit : (most number calling : ℕ) (room : Room) → room ≡ Octets most → IsFit most (asked number calling room)
 asked_fit most number calling room e = subst (λ (r : Room). IsFit most (asked number calling r)) (sym e) (omega arith)
 
 place_fit : (most : ℕ) (d : Direction) (at : ℕ) (v : Value) (m : Meaning) (i : ℕ) (s : Sessions) → AllFit most s
     → AllFit most (taken_at d at v m i s)
-place_fit most d at v meaning.Asks i s h =
-    placed_fit most i _ s (slice_get s.live i) refl (asked_fit most (offset_of (count s)) (source_of v) s.room h.room) h
-place_fit most d at v meaning.Opens i s h =
-    changed_fit most i (meant d at v meaning.Opens) s (slice_get s.live i) refl (meant_fit most d at v meaning.Opens) h
-place_fit most d at v meaning.Closes i s h =
-    changed_fit most i (meant d at v meaning.Closes) s (slice_get s.live i) refl (meant_fit most d at v meaning.Closes) h
-place_fit most d at v (meaning.Adds end) i s h =
-    changed_fit most i (meant d at v (meaning.Adds end)) s (slice_get s.live i) refl (meant_fit most d at v (meaning.Adds end)) h
-place_fit most d at v meaning.Nothing i s h =
-    changed_fit most i (meant d at v meaning.Nothing) s (slice_get s.live i) refl (meant_fit most d at v meaning.Nothing) h
+place_fit most d at v meaning.Asks i s h = search (arith, placed_fit, asked_fit)
+place_fit most d at v meaning.Opens i s h = search (arith, changed_fit, meant_fit)
+place_fit most d at v meaning.Closes i s h = search (arith, changed_fit, meant_fit)
+place_fit most d at v (meaning.Adds end) i s h = search (arith, changed_fit, meant_fit)
+place_fit most d at v meaning.Nothing i s h = search (arith, changed_fit, meant_fit)
 
 taken_fit : (most : ℕ) (d : Direction) (at : ℕ) (v : Value) (m : Meaning) (place : Option ℕ) (s : Sessions) → AllFit most s
     → AllFit most (taken d at v m place s)
-taken_fit most d at v m None s h = h
-taken_fit most d at v m (Some i) s h = place_fit most d at v m i s h
+taken_fit most d at v m place s h = grind (arith, place_fit)
 
 claim : (most : ℕ) → IsClaim (AllFit most)
 claim most = record {
@@ -186,8 +145,7 @@ join_fit most (j ∷ js) ks h k = (h.0, join_fit most js ks h.1 k)
 
 found_by : (b : Bool) (most : ℕ) (x j : Joined) (o : Option Joined) → cond b (Some x) o ≡ Some j → IsFit most x
     → (o ≡ Some j → IsFit most j) → IsFit most j
-found_by true most x j o e h k = subst (IsFit most) (same_joined x j e) h
-found_by false most x j o e h k = k e
+found_by b most x j o e h k = grind (arith, same_joined)
 
 found_fit : (most number : ℕ) (js : List Joined) (j : Joined) → find (has_number number) js ≡ Some j → AreFit most js → IsFit most j
 found_fit most number [] j e h = absurd (cc)
@@ -196,9 +154,4 @@ found_fit most number (x ∷ js) j e h =
 
 pub bounded : (capture : Capture) (most number : ℕ) (j : Joined)
     → numbered number (after capture (begin_within (Octets most))).course.sessions ≡ Some j → IsWithin most j
-bounded capture most number j e =
-    let first : AllFit most (begin_within (Octets most)).course.sessions = record { live = tt; done = tt; room = refl } in
-    let all = after_kept (AllFit most) (claim most) capture (begin_within (Octets most)) first in
-    let s = (after capture (begin_within (Octets most))).course.sessions in
-    fit_within most (kept_on j) j.room
-    (found_fit most number (s.live ++ s.done) j e (join_fit most s.live s.done all.live all.done))
+bounded capture most number j e = grind (arith, after_kept, fit_within, found_fit, join_fit, claim most)

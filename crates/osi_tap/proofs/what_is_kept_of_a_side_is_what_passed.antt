@@ -1,15 +1,15 @@
 -- What is kept of both sides of a connection stays what passed of them, as DTs pass and TSDUs are handed over: for what is
 -- kept of a connection.
-use Rattle.std.proofs.Common.{◌≡◌, ◌∙◌, refl, sym, ap, subst, ℕ, zero, suc, ◌+◌, List, [], ◌∷◌, ◌++◌, length, Bool, true, false}
-use Rattle.std.proofs.Common.{Option, Some, arith}
+use Rattle.std.proofs.Common.{◌≡◌, ◌∙◌, refl, sym, ap, subst, ℕ, zero, suc, ◌+◌, List, [], ◌∷◌, ◌++◌, length, Bool, true, false, Some}
+use Rattle.std.proofs.Common.{arith}
 use Rattle.std.proofs.lemmas.List.{append-nil, map-append, length-map, length-append}
 use Rattle.osi_tpkt.specs.Stream.{offset_of}
 use Rattle.osi_session.specs.Standing.{Seen}
 use Rattle.osi_judge.specs.Explaining.{Told}
 use Rattle.osi_judge.specs.Feeding.{Tells, last_place}
 use Rattle.osi_judge.specs.declared.findings.Finding.{Finding}
-use Rattle.osi_judge.specs.declared.findings.Finding.TheVariants.{Kept, Broke, Left as Astray, TooMany}
-use Rattle.osi_judge.specs.Judging.{Watched, Watches, WatchesBy, Keeps, FoundNext, IsFound, HasRoom}
+use Rattle.osi_judge.specs.declared.findings.Finding.TheVariants.{Kept}
+use Rattle.osi_judge.specs.Judging.{Watched, Watches, FoundNext, IsFound, HasRoom}
 use Rattle.osi_judge.specs.Outlines.{outline, outlines}
 use Rattle.osi_tap.specs.declared.lines.Stage.{Stage}
 use Rattle.osi_tap.specs.declared.lines.Stage.TheVariants.{Between, Within, Unheard}
@@ -22,8 +22,7 @@ use Rattle.osi_tap.specs.declared.connections.Connection.{Connection}
 use Rattle.osi_tap.specs.declared.lines.Line.{Line}
 use Rattle.osi_tap.specs.Connections.{Joined, adds_all, spoken}
 use Rattle.osi_tap.specs.Holding.{lined, line_in, HoldsJoined, IsHeard}
-use Rattle.osi_tap.specs.Lines.{Begun, Spoken, told, told_of, octets_of, heard, begun_octets, begun_before, before, added, begins}
-use Rattle.osi_tap.specs.Lines.{silent, Said, place_in}
+use Rattle.osi_tap.specs.Lines.{Spoken, told, told_of, heard, begun_octets, begun_before, before, added, begins, silent, Said, place_in}
 use Rattle.osi_tap.specs.Holding.{Lined, unheard, unheard_at, begun_at, begun_in, is_unheard, IsClear, IsPlace, Holds, HoldsBoth}
 use Rattle.osi_judge.proofs.told.what_is_known_of_a_side.{hears, found_as, room_as}
 use Rattle.osi_judge.proofs.outlined.alike_tsdus_explain_the_same.{found_of_tsdus}
@@ -38,35 +37,14 @@ flipped h = record { this = h.that; that = h.this }
 -- ---- a TSDU is handed over
 
 unheard_stage : (stage : Stage) → is_unheard stage ≡ true → stage ≡ Unheard
-unheard_stage Between e = cc
-unheard_stage Within e = cc
-unheard_stage Unheard e = refl
+unheard_stage stage e = grind arith
 
 handed_unheard : (s t : Seen) (w v v2 : Watched) (x x2 y : List ℕ) (stage : Stage) (n m l n2 m2 l2 : ℕ) (a b : Spoken) → x2 ≡ []
     → v2.begin ≡ v.begin → v2.finding ≡ v.finding → v2.heard ≡ v.heard ++ outline x ∷ []
     → ((told : List Told) → Watches v told → Watches v2 told)
     → HoldsBoth s t (line w x Unheard n m l) (line v y stage n2 m2 l2) a b
     → HoldsBoth s t (line w x2 Between n m l) (line v2 y stage n2 m2 l2) a b
-handed_unheard s t w v v2 x x2 y stage n m l n2 m2 l2 a b none begin found heard watches h = record {
-  this = record {
-    begins_so = h.this.begins_so;
-    says = h.this.says;
-    hears = h.this.hears;
-    unfinished = h.this.unfinished;
-    clear = none;
-    known = h.this.known;
-    place = h.this.place;
-  };
-  that = record {
-    begins_so = begin ∙ h.that.begins_so;
-    says = watches (told b) h.that.says;
-    hears = append-nil v2.heard ∙ heard ∙ h.that.hears;
-    unfinished = h.that.unfinished;
-    clear = h.that.clear;
-    known = h.that.known;
-    place = subst (λ (f : Finding). IsPlace f b.said l2) (sym found) h.that.place;
-  };
-}
+handed_unheard s t w v v2 x x2 y stage n m l n2 m2 l2 a b none begin found heard watches h = grind (arith, append-nil)
 
 pub handed : (s t : Seen) (w v v2 : Watched) (x x2 y : List ℕ) (mine stage : Stage) (n m l n2 m2 l2 : ℕ) (a b : Spoken)
     → is_unheard mine ≡ true → x2 ≡ [] → v2.begin ≡ v.begin → v2.finding ≡ v.finding → v2.heard ≡ v.heard ++ outline x ∷ []
@@ -80,58 +58,28 @@ handed s t w v v2 x x2 y mine stage n m l n2 m2 l2 a b is none begin found heard
 -- ---- a part of a TSDU
 
 begun_same : (stage : Stage) (x : List ℕ) (n : ℕ) → is_unheard stage ≡ false → IsClear stage x → x ≡ begun_octets (begun_at stage x n)
-begun_same Between x n e clear = clear
-begun_same Within x n e clear = refl
-begun_same Unheard x n e clear = cc
+begun_same stage x n e clear = grind arith
 
 none_unheard : (stage : Stage) (x : List ℕ) → is_unheard stage ≡ false → unheard_at stage x ≡ []
-none_unheard Between x e = refl
-none_unheard Within x e = refl
-none_unheard Unheard x e = cc
+none_unheard stage x e = grind arith
 
 -- what is kept of the unfinished TSDU of a side is what passed of it
 pub begun_holds : (s : Seen) (own other : Lined) (a b : Spoken) → is_unheard own.stage ≡ false → Holds s own other a b
     → own.begun ≡ begun_octets a.begun
-begun_holds s own other a b e h =
-    begun_same own.stage own.begun own.begun_since e h.clear ∙ ap begun_octets h.unfinished
+begun_holds s own other a b e h = grind (arith, begun_same)
 
 pub before_holds : (s : Seen) (own other : Lined) (a b : Spoken) → Holds s own other a b
     → begun_before (begun_in own) own.since ≡ before a
-before_holds s own other a b h =
-    ap (λ (z : Option Begun). begun_before z own.since) h.unfinished ∙ ap (λ (z : ℕ). begun_before a.begun z) h.known
+before_holds s own other a b h = grind arith
 
 heard_by_other : (s t : Seen) (own other : Lined) (a b : Spoken) → is_unheard own.stage ≡ false → HoldsBoth s t own other a b
     → other.side.heard ≡ outlines (heard a)
-heard_by_other s t own other a b e h =
-    sym (append-nil other.side.heard) ∙ ap (λ (z : List (List ℕ)). other.side.heard ++ z) (sym (none_unheard own.stage own.begun e))
-    ∙ h.that.hears
+heard_by_other s t own other a b e h = grind (arith, append-nil, none_unheard)
 
 pub part_added : (s t : Seen) (own new other : Lined) (a b : Spoken) (at since : ℕ) (octets : List ℕ) → is_unheard own.stage ≡ false
     → since ≡ begun_before (begun_in own) own.since → new ≡ record own { begun = own.begun ++ octets; stage = Within; begun_since = since }
     → HoldsBoth s t own other a b → HoldsBoth s t new other (added at false octets a) b
-part_added s t own new other a b at since octets e since_is is h =
-    subst (λ (z : Lined). HoldsBoth s t z other (added at false octets a) b) (sym is) (record {
-      this = record {
-        begins_so = h.this.begins_so;
-        says = h.this.says;
-        hears = h.this.hears;
-        unfinished = ap (λ (z : List ℕ). Some (record { octets = z ++ octets; before = since })) (begun_holds s own other a b e h.this)
-            ∙ ap (λ (z : ℕ). Some (record { octets = begun_octets a.begun ++ octets; before = z })) (since_is
-            ∙ before_holds s own other a b h.this);
-        clear = tt;
-        known = h.this.known;
-        place = h.this.place;
-      };
-      that = record {
-        begins_so = h.that.begins_so;
-        says = h.that.says;
-        hears = append-nil other.side.heard ∙ heard_by_other s t own other a b e h;
-        unfinished = h.that.unfinished;
-        clear = h.that.clear;
-        known = h.that.known;
-        place = h.that.place;
-      };
-    })
+part_added s t own new other a b at since octets e since_is is h = grind (arith, begun_holds, before_holds, append-nil, heard_by_other)
 
 -- ---- the packet of a break
 
@@ -148,19 +96,10 @@ place_here (x ∷ said) t (suc i) e = place_here said t i (omega arith)
 
 place_next : (f g : Finding) (count last : ℕ) (said : List Said) (t : Said) → FoundNext f count g → (f ≡ Kept → count ≡ length said)
     → IsPlace f said last → IsPlace g (said ++ t ∷ []) (last_place f t.at last)
-place_next Kept Kept count last said t n c h = tt
-place_next Kept (Broke i) count last said t n c h = place_here said t i (n ∙ c refl)
-place_next Kept (Astray i) count last said t n c h = place_here said t i (n ∙ c refl)
-place_next Kept TooMany count last said t n c h = tt
-place_next (Broke i) g count last said t n c h =
-    subst (λ (x : Finding). IsPlace x (said ++ t ∷ []) last) (sym n) (place_stays said t i last h)
-place_next (Astray i) g count last said t n c h =
-    subst (λ (x : Finding). IsPlace x (said ++ t ∷ []) last) (sym n) (place_stays said t i last h)
-place_next TooMany g count last said t n c h = subst (λ (x : Finding). IsPlace x (said ++ t ∷ []) last) (sym n) tt
+place_next f g count last said t n c h = grind (arith, place_here, place_stays)
 
 count_said : (w : Watched) (a : Spoken) → w.finding ≡ Kept → Watches w (told a) → w.told ≡ length a.said
-count_said w a e h =
-    let k : Keeps w (told a) = subst (λ (f : Finding). WatchesBy f w (told a)) e h in k.count ∙ length-map a.said told_of
+count_said w a e h = grind (arith, length-map)
 
 -- ---- the end of a TSDU
 
@@ -170,9 +109,7 @@ told_more a at octets = map-append told_of a.said (record { octets = begun_octet
 
 heard_more : (a : Spoken) (at : ℕ) (octets : List ℕ)
     → outlines (heard (added at true octets a)) ≡ outlines (heard a) ++ outline (begun_octets a.begun ++ octets) ∷ []
-heard_more a at octets =
-    ap outlines (map-append octets_of a.said (record { octets = begun_octets a.begun ++ octets; before = before a; at = at } ∷ []))
-    ∙ map-append outline (heard a) ((begun_octets a.begun ++ octets) ∷ [])
+heard_more a at octets = grind (arith, map-append)
 
 pub end_added : (s t : Seen) (own new other : Lined) (a b : Spoken) (at since : ℕ) (w : Watched) (octets : List ℕ)
     → is_unheard own.stage ≡ false → since ≡ begun_before (begun_in own) own.since
@@ -217,57 +154,15 @@ pub fresh_both : (s t : Seen) (own other : Lined) (w v : Watched) → own ≡ li
     → w.begin ≡ s → v.begin ≡ t → w.heard ≡ [] → v.heard ≡ [] → w.finding ≡ Kept → v.finding ≡ Kept → Watches w [] → Watches v []
     → HoldsBoth s t own other silent silent
 fresh_both s t own other w v is other_is begin other_begin none other_none kept other_kept watches other_watches =
-    subst (λ (z : Lined). HoldsBoth s t z other silent silent) (sym is)
-    (subst (λ (z : Lined). HoldsBoth s t (line w [] Between 0 0 0) z silent silent) (sym other_is) (record {
-      this = record {
-        begins_so = begin;
-        says = watches;
-        hears = append-nil w.heard ∙ none;
-        unfinished = refl;
-        clear = refl;
-        known = refl;
-        place = no_place w.finding kept;
-      };
-      that = record {
-        begins_so = other_begin;
-        says = other_watches;
-        hears = append-nil v.heard
-            ∙ other_none;
-        unfinished = refl;
-        clear = refl;
-        known = refl;
-        place = no_place v.finding other_kept;
-      };
-    }))
+    grind (arith, append-nil, no_place)
 
 said_count : (xs ys : List (List ℕ)) (b : Spoken) → xs ++ ys ≡ outlines (heard b) → length xs + length ys ≡ length b.said
-said_count xs ys b e =
-    sym (length-append xs ys) ∙ ap length e ∙ length-map (heard b) outline ∙ length-map b.said octets_of
+said_count xs ys b e = grind (arith, length-append, length-map)
 
 pub begun_both : (s t : Seen) (own new other : Lined) (a b : Spoken)
     → new ≡ record own { since = offset_of (length own.side.heard + length (unheard other)) }
     → HoldsBoth s t own other a b → HoldsBoth s t new other (begins b a) b
-begun_both s t own new other a b is h =
-    subst (λ (z : Lined). HoldsBoth s t z other (begins b a) b) (sym is) (record {
-      this = record {
-        begins_so = h.this.begins_so;
-        says = h.this.says;
-        hears = h.this.hears;
-        unfinished = h.this.unfinished;
-        clear = h.this.clear;
-        known = ap offset_of (said_count own.side.heard (unheard other) b h.this.hears);
-        place = h.this.place;
-      };
-      that = record {
-        begins_so = h.that.begins_so;
-        says = h.that.says;
-        hears = h.that.hears;
-        unfinished = h.that.unfinished;
-        clear = h.that.clear;
-        known = h.that.known;
-        place = h.that.place;
-      };
-    })
+begun_both s t own new other a b is h = grind (arith, said_count)
 
 -- ---- what is found of a session is right
 
@@ -314,27 +209,14 @@ heard_at Right c j h k = heard_by_other seen_calling seen_called (lined c.left) 
 
 pub place_at : (d : Direction) (c : Connection) (j : Joined) → HoldsJoined c j
     → IsPlace (line_in d c).side.finding (spoken d j).said (line_in d c).last
-place_at Left c j h = h.sides.this.place
-place_at Right c j h = h.sides.that.place
+place_at d c j h = grind arith
 
 pub left_added : (d : Direction) (c : Connection) (own other : Line) (j : Joined) (at : ℕ) (end : Bool) (octets : List ℕ) → d ≡ Left
     → HoldsJoined c j → HoldsBoth seen_calling seen_called (lined own) (lined other) (added at end octets j.left) j.right
     → HoldsJoined (record c { left = own; right = other }) (adds_all d at end octets j)
-left_added d c own other j at end octets e h k =
-    subst (λ (z : Direction). HoldsJoined (record c { left = own; right = other }) (adds_all z at end octets j)) (sym e)
-    (record { number = h.number; calling = h.calling; called = h.called; class = h.class; closed = h.closed; room = h.room; sides = k })
+left_added d c own other j at end octets e h k = grind arith
 
 pub right_added : (d : Direction) (c : Connection) (own other : Line) (j : Joined) (at : ℕ) (end : Bool) (octets : List ℕ) → d ≡ Right
     → HoldsJoined c j → HoldsBoth seen_called seen_calling (lined own) (lined other) (added at end octets j.right) j.left
     → HoldsJoined (record c { left = other; right = own }) (adds_all d at end octets j)
-right_added d c own other j at end octets e h k =
-    subst (λ (z : Direction). HoldsJoined (record c { left = other; right = own }) (adds_all z at end octets j)) (sym e)
-    (record {
-      number = h.number;
-      calling = h.calling;
-      called = h.called;
-      class = h.class;
-      closed = h.closed;
-      room = h.room;
-      sides = flipped k;
-    })
+right_added d c own other j at end octets e h k = grind (arith, flipped)

@@ -1,16 +1,13 @@
 -- The session that is told as the first to break is to blame from then on: for the functions that give a unit to a connection.
-use Rattle.std.proofs.Common.{◌≡◌, ◌∙◌, refl, sym, ap, subst, ℕ, zero, suc, ◌<◌, ◌≤◌, ◌⊎◌, inl, inr, Bool, true, false, List, [], ◌∷◌, ◌++◌}
-use Rattle.std.proofs.Common.{length, map, get_or, set, Option, Some, None, arith}
+use Rattle.std.proofs.Common.{◌≡◌, ◌∙◌, refl, sym, ap, subst, ℕ, zero, suc, ◌<◌, ◌≤◌, ◌⊎◌, inl, inr, Bool, List, [], ◌∷◌, ◌++◌, length, map}
+use Rattle.std.proofs.Common.{get_or, set, Option, Some, None, arith}
 use Rattle.std.proofs.lemmas.List.{append-nil}
 use Rattle.std.specs.Prelude.{slice_get}
 use Rattle.osi_tpdu.specs.Value.{Value}
 use Rattle.osi_judge.specs.Captures.{other}
 use Rattle.osi_judge.specs.Explaining.{Told}
-use Rattle.osi_judge.specs.Judging.{IsFound, HasRoom}
-use Rattle.osi_judge.specs.Stops.{broke_session}
 use Rattle.osi_judge.specs.declared.directions.Direction.{Direction}
 use Rattle.osi_judge.specs.declared.directions.Direction.TheVariants.{Left, Right}
-use Rattle.osi_judge.specs.Tapping.{begin_of}
 use Rattle.osi_rules.specs.declared.findings.Meaning.{Meaning}
 use Rattle.osi_rules.specs.declared.findings.Meaning.TheVariants as meaning
 use Rattle.osi_tap.specs.declared.connections.Connection.{Connection}
@@ -30,29 +27,13 @@ use Rattle.osi_tap.proofs.who_is_to_blame.{found_of, broken, blame_stays, one_as
 -- as the other side says more
 beside_blamed : (d : Direction) (c e : Connection) (j i : Joined) → HoldsJoined c j → HoldsJoined e i
     → (line_in d e).side.finding ≡ (line_in d c).side.finding → IsToBlame d j → IsToBlame d i
-beside_blamed d c e j i h k same b = record {
-  finding = (line_in d e).side.finding;
-  found = found_of d e i k;
-  broke = ap broke_session same ∙ broken d c j h b;
-}
+beside_blamed d c e j i h k same b = grind (arith, found_of, broken)
 
 -- as it says more itself
 own_blamed : (d : Direction) (e : Connection) (j i : Joined) (more : List Told) → HoldsJoined e i
     → told (spoken d i) ≡ told (spoken d j) ++ more → heard (spoken (other d) i) ≡ heard (spoken (other d) j) → IsToBlame d j
     → IsToBlame d i
-own_blamed d e j i more k says hears b =
-    let found = found_of d e i k in
-    let us = heard (spoken (other d) j) in
-    let f = (line_in d e).side.finding in
-    record {
-      finding = f;
-      found = found;
-      broke = blame_stays (begin_of d) us (told (spoken d j)) more b.finding f b.broke b.found.found b.found.room
-          (subst (λ (z : List Told). IsFound (begin_of d) us z f) says
-          (subst (λ (x : List (List ℕ)). IsFound (begin_of d) x (told (spoken d i)) f) hears found.found))
-          (subst (λ (z : List Told). HasRoom (begin_of d) us z f) says
-          (subst (λ (x : List (List ℕ)). HasRoom (begin_of d) x (told (spoken d i)) f) hears found.room));
-    }
+own_blamed d e j i more k says hears b = grind (arith, blame_stays, found_of d e i k)
 
 -- ---- what a unit adds to a connection
 
@@ -64,30 +45,20 @@ record Adds (d : Direction) (j i : Joined) : Type 0 where
 
 no_more : (d : Direction) (j i : Joined) → told (spoken d i) ≡ told (spoken d j) → heard (spoken (other d) i) ≡ heard (spoken (other d) j)
     → i.number ≡ j.number → Adds d j i
-no_more d j i says hears number =
-    record { more = []; says = says ∙ sym (append-nil (told (spoken d j))); hears = hears; number = number }
+no_more d j i says hears number = grind (arith, append-nil)
 
 same_spoken : (d : Direction) (j i : Joined) → i.left ≡ j.left → i.right ≡ j.right → i.number ≡ j.number → Adds d j i
-same_spoken Left j i l r n = no_more Left j i (ap told l) (ap heard r) n
-same_spoken Right j i l r n = no_more Right j i (ap told r) (ap heard l) n
+same_spoken d j i l r n = grind (arith, no_more)
 
 added_if : (b : Bool) (room : Room) (d : Direction) (at : ℕ) (end : Bool) (octets : List ℕ) (j : Joined)
     → Adds d j (adds_if b room d at end octets j)
-added_if true room Left at true octets j = record { more = _; says = told_more j.left at octets; hears = refl; number = refl }
-added_if true room Right at true octets j = record { more = _; says = told_more j.right at octets; hears = refl; number = refl }
-added_if true room Left at false octets j = no_more Left j _ refl refl refl
-added_if true room Right at false octets j = no_more Right j _ refl refl refl
-added_if false room d at end octets j = same_spoken d j _ refl refl refl
+added_if b room d at end octets j = grind (arith, told_more, no_more, same_spoken)
 
 added : (d : Direction) (at : ℕ) (end : Bool) (octets : List ℕ) (j : Joined) → Adds d j (adds d at end octets j)
 added d at end octets j = added_if (fits j.room (length octets)) (spent j.room (length octets)) d at end octets j
 
 adds_by : (d : Direction) (at : ℕ) (v : Value) (m : Meaning) (j : Joined) → Adds d j (meant d at v m j)
-adds_by d at v meaning.Opens j = same_spoken d j _ refl refl refl
-adds_by d at v meaning.Closes j = same_spoken d j _ refl refl refl
-adds_by d at v (meaning.Adds end) j = added d at end _ j
-adds_by d at v meaning.Asks j = same_spoken d j _ refl refl refl
-adds_by d at v meaning.Nothing j = same_spoken d j _ refl refl refl
+adds_by d at v m j = grind (arith, same_spoken, added)
 
 either_blamed : (d x : Direction) (c e : Connection) (j i : Joined) → HoldsJoined c j → HoldsJoined e i → Adds d j i
     → (line_in (other d) e).side.finding ≡ (line_in (other d) c).side.finding → IsToBlame x j → IsToBlame x i
@@ -109,17 +80,9 @@ still_some : (d x : Direction) (number : Option ℕ) (cs : List Connection) (js 
     → HoldAll cs js → StillSome x number i js f
 still_some d x number [] js i c e f lt step same a h = absurd (omega arith)
 still_some d x number (y ∷ cs) [] i c e f lt step same a h = absurd h
-still_some d x number (y ∷ cs) (j ∷ js) zero c e f lt step same a h = record {
-  joined = j;
-  there = refl;
-  some = λ s. elim s [
-    | inl t ↦ inl (t.0 ∙ ap Some (sym (a j).number), either_blamed d x y e j (f j) h.0 (step j h.0) (a j) same t.1)
-    | inr r ↦ inr r
-  ];
-}
+still_some d x number (y ∷ cs) (j ∷ js) zero c e f lt step same a h = search (arith, either_blamed)
 still_some d x number (y ∷ cs) (j ∷ js) (suc i) c e f lt step same a h =
-    let r = still_some d x number cs js i c e f (omega arith) step same a h.1 in
-    record { joined = r.joined; there = r.there; some = λ s. elim s [ inl t ↦ inl t | inr k ↦ inr (r.some k) ] }
+    grind (arith, still_some d x number cs js i c e f (omega arith) step same a h.1)
 
 live_stays : (d : Direction) (number : Option ℕ) (s t : Sessions) → (SomeIs d number s.live → SomeIs d number t.live) → s.done ≡ t.done
     → SomeoneIs d number s → SomeoneIs d number t
@@ -138,9 +101,7 @@ still_one d x number cs s i c e at v m lt step same h b =
 
 pub still_none : (d : Direction) (number : Option ℕ) (cs : List Connection) (s : Sessions) (i : ℕ) (f : Joined → Joined) → length cs ≤ i
     → HoldAll cs s.live → SomeoneIs d number s → SomeoneIs d number (changed i f s (slice_get s.live i))
-still_none d number cs s i f le h b =
-    let e = all_length cs s.live h in
-    subst (λ (o : Option Joined). SomeoneIs d number (changed i f s o)) (sym (none_there s.live i (omega arith))) b
+still_none d number cs s i f le h b = grind (arith, all_length, none_there)
 
 -- ---- a connection is requested
 
@@ -159,10 +120,7 @@ same_over j over e = cc
 stays_or_goes : (d : Direction) (number : Option ℕ) (js : List Joined) (i : ℕ) (j over : Joined) → slice_get js i ≡ Some over
     → SomeIs d number js → SomeIs d number (set js i j) ⊎ ((number ≡ Some over.number) × IsToBlame d over)
 stays_or_goes d number [] i j over e h = absurd h
-stays_or_goes d number (x ∷ js) zero j over e h = elim h [
-  | inl a ↦ inr (a.0 ∙ ap (λ (y : Joined). Some y.number) (same_over x over e), subst (IsToBlame d) (same_over x over e) a.1)
-  | inr r ↦ inl (inr r)
-]
+stays_or_goes d number (x ∷ js) zero j over e h = grind (arith, same_over)
 stays_or_goes d number (x ∷ js) (suc i) j over e h = elim h [
   | inl a ↦ inl (inl a)
   | inr r ↦ elim (stays_or_goes d number js i j over e r) [ inl k ↦ inl (inr k) | inr g ↦ inr g ]
@@ -211,8 +169,7 @@ begun_blame Right Left j h = record { finding = h.finding; found = record { foun
 begun_blame Right Right j h = record { finding = h.finding; found = record { found = h.found.found; room = h.found.room }; broke = h.broke }
 
 begun_number : (e : Direction) (j : Joined) → (packet_begins e j).number ≡ j.number
-begun_number Left j = refl
-begun_number Right j = refl
+begun_number e j = grind arith
 
 some_begun : (e d : Direction) (number : Option ℕ) (js : List Joined) → SomeIs d number js → SomeIs d number (map (packet_begins e) js)
 some_begun e d number [] h = absurd h
@@ -229,8 +186,7 @@ still_begun e d number s h = elim h [ inl a ↦ inl (some_begun e d number s.liv
 some_at : (d : Direction) (number : Option ℕ) (i : ℕ) (js : List Joined) (j : Joined) → slice_get js i ≡ Some j → number ≡ Some j.number
     → IsToBlame d j → SomeIs d number js
 some_at d number i [] j e n b = absurd (cc)
-some_at d number zero (x ∷ js) j e n b =
-    inl (n ∙ ap (λ (y : Joined). Some y.number) (sym (same_over x j e)), subst (IsToBlame d) (sym (same_over x j e)) b)
+some_at d number zero (x ∷ js) j e n b = grind (arith, same_over)
 some_at d number (suc i) (x ∷ js) j e n b = inr (some_at d number i js j e n b)
 
 pub told_some : (d : Direction) (number : Option ℕ) (i : ℕ) (s : Sessions) (j : Joined) → slice_get s.live i ≡ Some j

@@ -1,7 +1,7 @@
 -- A side of a connection is to blame or it is not, and a unit changes that of its own side of its own connection alone.
 -- For the functions that give a unit to a connection, and for those that look whether a session broke the protocol.
-use Rattle.std.proofs.Common.{◌≡◌, ◌∙◌, refl, sym, ap, subst, ℕ, zero, suc, ◌+◌, ◌<◌, ◌≤◌, inl, Bool, true, false, List, [], ◌∷◌, ◌++◌}
-use Rattle.std.proofs.Common.{length, map, take, get_or, set, Option, Some, None, arith}
+use Rattle.std.proofs.Common.{◌≡◌, refl, sym, subst, ℕ, zero, suc, ◌+◌, ◌<◌, ◌≤◌, inl, Bool, true, false, List, [], ◌∷◌, ◌++◌, length, map}
+use Rattle.std.proofs.Common.{take, get_or, set, Option, Some, None, arith}
 use Rattle.std.proofs.lemmas.List.{take-append-le}
 use Rattle.std.specs.Prelude.{slice_get}
 use Rattle.osi_session.specs.Standing.{Seen}
@@ -37,10 +37,7 @@ module _ (begin : Seen) (us : List (List ℕ)) (said : List Told) where
 
   same_blame : (f g : Finding) → broke_session f ≡ true → IsFound begin us said f → HasRoom begin us said f → IsFound begin us said g
       → HasRoom begin us said g → broke_session g ≡ true
-  same_blame Kept g e h r k q = absurd (cc)
-  same_blame TooMany g e h r k q = absurd (cc)
-  same_blame (Broke i) g e h r k q = strayed i g (record { so_far = (h.0.so_far, h.1); astray = inl h.0.broke }) r k q
-  same_blame (Astray i) g e h r k q = strayed i g (record { so_far = h.1; astray = h.2 }) r k q
+  same_blame f g e h r k q = grind (arith, strayed)
 
 -- and as it says more
 pub blame_stays : (begin : Seen) (us : List (List ℕ)) (said more : List Told) (f g : Finding) → broke_session f ≡ true
@@ -63,9 +60,7 @@ blame_stays begin us said more f g e h r k q = by f e h r
     by (Astray i) e h r = on i h.0 (record { so_far = h.1; astray = h.2 }) r
 
 pub not_both : (d : Direction) (j : Joined) → IsToBlame d j → IsBlameless d j → ⊥
-not_both d j h k =
-    let b = same_blame (begin_of d) _ _ h.finding k.finding h.broke h.found.found h.found.room k.found.found k.found.room in
-    let n = k.none in absurd (cc)
+not_both d j h k = grind (arith, same_blame)
 
 -- ---- by what is kept of the connection
 
@@ -73,8 +68,7 @@ pub found_of : (d : Direction) (c : Connection) (j : Joined) → HoldsJoined c j
 found_of d c j h = record { found = found_at d c j h; room = room_at d c j h }
 
 not_true : (b : Bool) → (b ≡ true → ⊥) → b ≡ false
-not_true true f = absurd (f refl)
-not_true false f = refl
+not_true b f = grind arith
 
 pub broken : (d : Direction) (c : Connection) (j : Joined) → HoldsJoined c j → IsToBlame d j
     → broke_session (line_in d c).side.finding ≡ true
@@ -89,21 +83,15 @@ unbroken d c j h k =
 -- what is found of it stays, so it stays blameless
 still_blameless : (d : Direction) (c e : Connection) (j i : Joined) → HoldsJoined c j → HoldsJoined e i
     → (line_in d e).side.finding ≡ (line_in d c).side.finding → IsBlameless d j → IsBlameless d i
-still_blameless d c e j i h k same b = record {
-  finding = (line_in d e).side.finding;
-  found = found_of d e i k;
-  none = ap broke_session same ∙ unbroken d c j h b;
-}
+still_blameless d c e j i h k same b = grind (arith, found_of, unbroken)
 
 -- ---- both sides of all connections
 
 one_of : (d : Direction) (j : Joined) → IsBlameless Left j × IsBlameless Right j → IsBlameless d j
-one_of Left j h = h.0
-one_of Right j h = h.1
+one_of d j h = grind arith
 
 both_of : (d : Direction) (j : Joined) → IsBlameless d j → IsBlameless (other d) j → IsBlameless Left j × IsBlameless Right j
-both_of Left j h k = (h, k)
-both_of Right j h k = (k, h)
+both_of d j h k = grind arith
 
 all_but : (d : Direction) (i : ℕ) (js : List Joined) → AreBlameless js → AreBlamelessBut d i js
 all_but d i [] h = tt
@@ -114,8 +102,7 @@ else_is : (d : Direction) (i : ℕ) (s : Sessions) → NobodyIs s → NobodyElse
 else_is d i s h = record { live = all_but d i s.live h.live; done = h.done }
 
 pub nobody_else : (d : Direction) (place : Option ℕ) (s : Sessions) → NobodyIs s → NobodyElse d place s
-nobody_else d None s h = h
-nobody_else d (Some i) s h = else_is d i s h
+nobody_else d place s h = grind (arith, else_is)
 
 -- ---- a unit for a connection
 
@@ -130,28 +117,19 @@ changes : (d : Direction) (cs : List Connection) (js : List Joined) (i : ℕ) (c
     → Changes d i js f
 changes d [] js i c e f lt step same h b = absurd (omega arith)
 changes d (x ∷ cs) [] i c e f lt step same h b = absurd h
-changes d (x ∷ cs) (j ∷ js) zero c e f lt step same h b = record {
-  joined = j;
-  there = refl;
-  others = (still_blameless (other d) x e j (f j) h.0 (step j h.0) same (one_of (other d) j b.0), b.1);
-}
-changes d (x ∷ cs) (j ∷ js) (suc i) c e f lt step same h b =
-    let r = changes d cs js i c e f (omega arith) step same h.1 b.1 in
-    record { joined = r.joined; there = r.there; others = (b.0, r.others) }
+changes d (x ∷ cs) (j ∷ js) zero c e f lt step same h b =
+    grind (arith, still_blameless (other d) x e j (f j) h.0 (step j h.0) same (one_of (other d) j b.0), one_of (other d) j b.0)
+changes d (x ∷ cs) (j ∷ js) (suc i) c e f lt step same h b = grind (arith, changes d cs js i c e f (omega arith) step same h.1 b.1)
 
 pub one_changes : (d : Direction) (cs : List Connection) (s : Sessions) (i : ℕ) (c e : Connection) (f : Joined → Joined) → i < length cs
     → ((j : Joined) → HoldsJoined (get_or cs i c) j → HoldsJoined e (f j))
     → (line_in (other d) e).side.finding ≡ (line_in (other d) (get_or cs i c)).side.finding → HoldAll cs s.live → NobodyIs s
     → NobodyElseIs d i (changed i f s (slice_get s.live i))
-one_changes d cs s i c e f lt step same h b =
-    let r = changes d cs s.live i c e f lt step same h b.live in
-    subst (λ (o : Option Joined). NobodyElseIs d i (changed i f s o)) (sym r.there) (record { live = r.others; done = b.done })
+one_changes d cs s i c e f lt step same h b = grind (arith, changes d cs s.live i c e f lt step same h b.live)
 
 pub none_changes : (d : Direction) (cs : List Connection) (s : Sessions) (i : ℕ) (f : Joined → Joined) → length cs ≤ i → HoldAll cs s.live
     → NobodyIs s → NobodyElseIs d i (changed i f s (slice_get s.live i))
-none_changes d cs s i f le h b =
-    let e = all_length cs s.live h in
-    subst (λ (o : Option Joined). NobodyElseIs d i (changed i f s o)) (sym (none_there s.live i (omega arith))) (else_is d i s b)
+none_changes d cs s i f le h b = grind (arith, all_length, none_there, else_is)
 
 -- ---- a connection is requested
 
@@ -192,26 +170,15 @@ one_over (x ∷ js) (suc i) j b h = (h.0, one_over js i j b h.1)
 
 placed_at : (i : ℕ) (j : Joined) (s : Sessions) (o : Option Joined) → slice_get s.live i ≡ o → IsBlameless Left j × IsBlameless Right j
     → NobodyIs s → NobodyIs (placed i j s o)
-placed_at i j s None e b h = record { live = one_more s.live j b h.live; done = h.done }
-placed_at i j s (Some over) e b h = record {
-  live = one_over s.live i j b h.live;
-  done = one_more s.done over (at_place s.live i over e h.live) h.done;
-}
+placed_at i j s o e b h = grind (arith, one_more, one_over, at_place)
 
 pub one_asked : (d : Direction) (i calling : ℕ) (s : Sessions) → NobodyIs s → NobodyElseIs d i (asked_at i calling s)
-one_asked d i calling s h =
-    else_is d i (asked_at i calling s) (placed_at i _ s (slice_get s.live i) refl (
-      begin_blameless Left _ calling s.room,
-      begin_blameless Right _ calling s.room,
-    ) h)
+one_asked d i calling s h = grind (arith, else_is, placed_at, begin_blameless)
 
 -- ---- a packet begins
 
 begun : (e d : Direction) (j : Joined) → IsBlameless d j → IsBlameless d (packet_begins e j)
-begun Left Left j h = record { finding = h.finding; found = record { found = h.found.found; room = h.found.room }; none = h.none }
-begun Left Right j h = record { finding = h.finding; found = record { found = h.found.found; room = h.found.room }; none = h.none }
-begun Right Left j h = record { finding = h.finding; found = record { found = h.found.found; room = h.found.room }; none = h.none }
-begun Right Right j h = record { finding = h.finding; found = record { found = h.found.found; room = h.found.room }; none = h.none }
+begun e d j h = search arith
 
 all_begun : (e : Direction) (js : List Joined) → AreBlameless js → AreBlameless (map (packet_begins e) js)
 all_begun e [] h = tt
@@ -241,7 +208,5 @@ with_one d (x ∷ cs) (j ∷ js) (suc i) c lt h e b = (b.0, with_one d cs js i c
 
 pub one_blamed : (b : Bool) (d : Direction) (cs : List Connection) (js : List Joined) (i : ℕ) (c : Connection) → i < length cs
     → HoldAll cs js → broke_session (line_in d (get_or cs i c)).side.finding ≡ b → Blames b d i js
-one_blamed true d cs js i c lt h e =
-    let r = element cs js i c lt h in
-    (r.joined, r.there, record { finding = (line_in d (get_or cs i c)).side.finding; found = found_of d _ r.joined r.holds; broke = e })
+one_blamed true d cs js i c lt h e = grind (arith, found_of, element cs js i c lt h)
 one_blamed false d cs js i c lt h e = with_one d cs js i c lt h e

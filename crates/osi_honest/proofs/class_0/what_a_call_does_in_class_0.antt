@@ -2,16 +2,15 @@
 -- For runs of an end.
 use Rattle.osi_honest.proofs.Vocabulary.{[], ap, arith, Bool, false, if◌then◌else◌, inl, inr, is_some, IsSome, length, List, map, None, not}
 use Rattle.osi_honest.proofs.Vocabulary.{Option, refl, Some, subst, sym, true, ℕ, ◌++◌, ◌==◌, ◌∙◌, ◌∷◌, ◌≡◌, ◌≢◌, eq-eqb, eqb-true}
-use Rattle.osi_honest.proofs.Vocabulary.{append-nil, append_cancel_left, Class, class_error, closed_on, closed_with, link_of, open_link}
-use Rattle.osi_honest.proofs.Vocabulary.{or_else, room_error, Rows, value_at, Connection, packets, State as Carrier, EndReason, Broken}
-use Rattle.osi_honest.proofs.Vocabulary.{OpenError, Ended, NotCaller, OneConnection, tsdus_sent, SessionCall, HasSerial, after_input}
-use Rattle.osi_honest.proofs.Vocabulary.{called, Listener, session_react as react, limit_of, says_is, closed_and_given, disconnect_carrier}
-use Rattle.osi_honest.proofs.Vocabulary.{disconnect_is, given_other, after_open, call_error, connect_error, terms_error, disconnects}
-use Rattle.osi_honest.proofs.Vocabulary.{gives_up, ends, IsAccepted, AreShort, IsGranted, kept_at, to_session, user_does, UserCall}
-use Rattle.osi_honest.proofs.Vocabulary.{breaking, calling, connecting, disconnecting, Call, Calls, carried_in, carrying, feeding, telling}
-use Rattle.osi_honest.proofs.Vocabulary.{End, Holding, session_in, Request as Connect, ConnectError, sends, Carry, dt, put_along, Stands}
-use Rattle.osi_honest.proofs.Vocabulary.{gone, talking, History, Moves, Said, said_after, Talks, Act, Acts, carried_by, HasSerialIn, Run}
-use Rattle.osi_honest.proofs.Vocabulary.{Takes, Turn, used_by, serving, using}
+use Rattle.osi_honest.proofs.Vocabulary.{append-nil, append_cancel_left, closed_on, closed_with, link_of, open_link, or_else, value_at}
+use Rattle.osi_honest.proofs.Vocabulary.{Connection, packets, State as Carrier, EndReason, Broken, OpenError, Ended, NotCaller}
+use Rattle.osi_honest.proofs.Vocabulary.{OneConnection, SessionCall, HasSerial, after_input, called, Listener, session_react as react}
+use Rattle.osi_honest.proofs.Vocabulary.{says_is, closed_and_given, disconnect_carrier, disconnect_is, given_other, after_open, call_error}
+use Rattle.osi_honest.proofs.Vocabulary.{connect_error, disconnects, gives_up, ends, IsAccepted, AreShort, IsGranted, kept_at, to_session}
+use Rattle.osi_honest.proofs.Vocabulary.{user_does, UserCall, breaking, calling, connecting, disconnecting, Call, Calls, carried_in}
+use Rattle.osi_honest.proofs.Vocabulary.{carrying, feeding, telling, End, Holding, session_in, Request as Connect, ConnectError, sends}
+use Rattle.osi_honest.proofs.Vocabulary.{Carry, dt, put_along, Stands, gone, talking, History, Moves, Said, said_after, Talks, Act, Acts}
+use Rattle.osi_honest.proofs.Vocabulary.{carried_by, HasSerialIn, Run, Takes, Turn, used_by, serving, using}
 use Rattle.osi_stack.specs.Calls.{breaks}
 use Rattle.osi_honest.specs.Stretches.{Goes}
 use Rattle.osi_honest.specs.Talking as history
@@ -24,47 +23,28 @@ use Rattle.osi_honest.proofs.class_0.what_a_turn_does_in_class_0.{nothing_put, o
 
 -- no other reference has an open connection
 none_other : (q r : ℕ) (x : Connection) (b : Bool) → (r == q) ≡ b → r ≢ q → link_of (value_at q ((r, x) ∷ [])) ≡ None
-none_other q r x true e ne = absurd (ne (eqb-true r q e))
-none_other q r x false e ne = rw e refl
+none_other q r x b e ne = grind (arith, eqb-true)
 
 other_link : (q r : ℕ) (session : Listener) (begun : List ℕ) (e : End) → Talks r session begun e → r ≢ q → open_link q e.carrier ≡ None
-other_link q r session begun e t ne =
-    ap (λ (x : Bool). if x then None else link_of (value_at q e.carrier.live)) (ap is_some t.is_open.lasts)
-    ∙ ap (λ (rows : Rows Connection). link_of (value_at q rows)) t.is_open.live ∙ none_other q r _ (r == q) refl ne
+other_link q r session begun e t ne = grind (arith, none_other)
 
 the_one : (q r : ℕ) (session : Listener) (begun : List ℕ) (e : End) → Talks r session begun e → IsSome (open_link q e.carrier) → r ≡ q
-the_one q r session begun e t some = by (r == q) refl
-  where
-    by : (b : Bool) → (r == q) ≡ b → r ≡ q
-    by true e0 = eqb-true r q e0
-    by false e0 = absurd (never_lasts (open_link q e.carrier) some
-        (other_link q r session begun e t (λ same. let yes = eq-eqb r q same in let not_both : true ≡ false = sym yes ∙ e0 in cc)))
+the_one q r session begun e t some = grind (arith, eqb-true, never_lasts, other_link, eq-eqb)
 
 -- ---- a request for a connection: class 0 has the one
 
 one_only : (b : Bool) (o : Option EndReason) (e : Option OpenError) → (error : Option ConnectError) → o ≡ None →
     after_open (if not b then Some NotCaller else (if is_some o then Some Ended else or_else (Some OneConnection) e)) error ≡ None → ⊥
-one_only true None e error lasts h = cc
-one_only false None e error lasts h = cc
-one_only b (Some x) e error lasts h = cc
+one_only b o e error lasts h = grind arith
 
 no_request : (c : Connect) (r : ℕ) (session : Listener) (begun : List ℕ) (e : End) → Talks r session begun e → connect_error c e ≡ None → ⊥
-no_request c r session begun e t h =
-    one_only e.carrier.is_caller e.carrier.ended (room_error e.carrier) (terms_error c) t.is_open.lasts
-    (ap (λ (k : Option Class). after_open
-    (if not e.carrier.is_caller then Some NotCaller else
-    (if is_some e.carrier.ended then Some Ended else or_else (class_error k e.carrier.live) (room_error e.carrier))) (terms_error c))
-    (sym t.class) ∙ h)
+no_request c r session begun e t h = grind (arith, one_only)
 
 -- ---- a call of the session
 
 pub granted_proper : (r : ℕ) (call : SessionCall) (session : Listener) (c : Carrier) → IsGranted r call session c →
     IsProper session (called call)
-granted_proper r call session c g = record {
-  same = refl;
-  short = subst AreShort (sym (ap (tsdus_sent (limit_of session.state)) g.reply)) g.short;
-  silent = λ closes. let both : true ≡ false = sym closes ∙ g.closes in absurd (cc);
-}
+granted_proper r call session c g = grind arith
 
 -- what the session of the one connection is granted
 granted_here : (q r : ℕ) (call : SessionCall) (session : Listener) (begun : List ℕ) (e : End) → Talks r session begun e →
@@ -166,11 +146,7 @@ module _ (begin : Listener) (r : ℕ) (took : List (List ℕ)) (said : List Said
 
   break_turn : (put : List ℕ) (old new : Holding) → Talks r session begun old.end → new ≡ record old { end = breaks old.end } →
       new.end.carrier.outgoing ≡ old.end.carrier.outgoing ++ put → Goes begin r took said begun [] put old new
-  break_turn put old new t is outgoing =
-      let there : new.end ≡ ends Broken old.end = ap (λ (x : Holding). x.end) is ∙ broken_is old.end t.is_open.lasts in
-      over_turn begin r took said begun [] put old new false session h (ap (λ (x : End). is_some x.carrier.ended) there)
-      (nothing_put begin r took said begun old.end.carrier.outgoing new.end.carrier.outgoing put outgoing
-      (ap (λ (x : End). x.carrier.outgoing) there))
+  break_turn put old new t is outgoing = search (arith, broken_is, over_turn, nothing_put)
 
   using_turn : (call : UserCall) (put : List ℕ) (old new : Holding) → Talks r session begun old.end → IsAccepted call old.end →
       HasSerialIn call →
@@ -196,31 +172,13 @@ module _ (begin : Listener) (r : ℕ) (took : List (List ℕ)) (said : List Said
 over_calls : (call : Call) (put : List ℕ) (old new : Holding) → IsSome old.end.carrier.ended → Calls old call new →
     carried_in call ++ new.end.carrier.outgoing ≡ old.end.carrier.outgoing ++ put →
     IsSome new.end.carrier.ended × (put ≡ [])
-over_calls (feeding piece fed) put old new over c outgoing =
-    let same = (c.over over).1 in (
-      subst (λ (x : Holding). IsSome x.end.carrier.ended) (sym same) over,
-      append_cancel_left old.end.carrier.outgoing put []
-          (sym outgoing ∙ ap (λ (x : Holding). x.end.carrier.outgoing) same ∙ sym (append-nil old.end.carrier.outgoing)),
-    )
-over_calls (telling shown) put old new over c outgoing = (
-  subst (λ (x : Holding). IsSome x.end.carrier.ended) (sym c.1) over,
-  append_cancel_left old.end.carrier.outgoing put []
-      (sym outgoing ∙ ap (λ (x : Holding). x.end.carrier.outgoing) c.1 ∙ sym (append-nil old.end.carrier.outgoing)),
-)
-over_calls (carrying octets) put old new over c outgoing = (
-  subst (λ (x : Holding). IsSome x.end.carrier.ended) c over,
-  append_cancel_left old.end.carrier.outgoing put []
-      (sym outgoing ∙ sym (ap (λ (x : Holding). x.end.carrier.outgoing) c) ∙ sym (append-nil old.end.carrier.outgoing)),
-)
+over_calls (feeding piece fed) put old new over c outgoing = grind (arith, append_cancel_left, append-nil old.end.carrier.outgoing)
+over_calls (telling shown) put old new over c outgoing = grind (arith, append_cancel_left, append-nil old.end.carrier.outgoing)
+over_calls (carrying octets) put old new over c outgoing = grind (arith, append_cancel_left, append-nil old.end.carrier.outgoing)
 
 pub over_acts : (turn : Turn) (old new : Holding) → IsSome old.end.carrier.ended → Takes old turn new →
     IsSome new.end.carrier.ended × (turn.put ≡ [])
-over_acts turn old new over takes = by takes.act takes.acts takes.put
-  where
-    by : (act : Act) → Acts old act new → carried_by act ++ new.end.carrier.outgoing ≡ old.end.carrier.outgoing ++ turn.put →
-        IsSome new.end.carrier.ended × (turn.put ≡ [])
-    by (serving call) acts put = over_calls call turn.put old new over acts put
-    by (using call) acts put = absurd (never_lasts old.end.carrier.ended over acts.0)
+over_acts turn old new over takes = grind (arith, over_calls, never_lasts)
 
 -- any turn
 pub turn_goes : AllProper →

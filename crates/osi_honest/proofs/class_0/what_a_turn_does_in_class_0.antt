@@ -55,9 +55,7 @@ module _ (begin : Listener) (r : ℕ) (took : List (List ℕ)) (said : List Said
   pub front_packets : (front back : List (List ℕ)) (s rest : List ℕ) → ArePackets (front ++ back) s rest →
       (left : List ℕ) × ArePackets front s left × ArePackets back left rest
   front_packets [] back s rest h = (s, refl, h)
-  front_packets (u ∷ front) back s rest h =
-      let more = front_packets front back h.1 rest h.4 in
-      (more.0, (h.0, h.1, h.2, h.3, more.1), more.2)
+  front_packets (u ∷ front) back s rest h = search (arith, front_packets front back h.1 rest h.4)
 
   as_turn : (units : List (List ℕ)) (used put rest : List ℕ) (old new : Holding) → Extends begin r took said begun units old.end new.end →
       ArePackets units (old.held.octets ++ used) rest → (new.end.carrier.ended ≡ None → rest ≡ new.held.octets) →
@@ -112,22 +110,8 @@ module _ (begin : Listener) (r : ℕ) (took : List (List ℕ)) (said : List Said
     pub stopped_within : (piece : List ℕ) (used : ℕ) (old new : Holding) (stop : StopsBehind old piece used new) (o : Option EndReason)
         (b : Bool) → new.end.carrier.ended ≡ o → uses_all new.end ≡ b →
         Within stop.units old new piece used
-    stopped_within piece used old new stop None b lasts all =
-        let same : used ≡ stop.within = uses_within new.end (length piece) stop.within used stop.stopped lasts stop.uses in
-        record {
-          rest = [];
-          cut = subst (λ (n : ℕ). ArePackets stop.units (old.held.octets ++ take n piece) [])
-              (sym same) stop.packets;
-          held = λ l. sym stop.held;
-        }
-    stopped_within piece used old new stop (Some reason) false over all =
-        let same : used ≡ stop.within = stop.uses ∙ ap (λ (x : Bool). if x then length piece else stop.within) all in
-        record {
-          rest = [];
-          cut = subst (λ (n : ℕ). ArePackets stop.units (old.held.octets ++ take n piece) [])
-              (sym same) stop.packets;
-          held = λ l. sym stop.held;
-        }
+    stopped_within piece used old new stop None b lasts all = grind (arith, uses_within)
+    stopped_within piece used old new stop (Some reason) false over all = grind arith
     stopped_within piece used old new stop (Some reason) true over all =
         let same : used ≡ length piece = stop.uses ∙ ap (λ (x : Bool). if x then length piece else stop.within) all in
         let whole : take used piece ≡ piece = take_all used piece (omega arith) in
@@ -164,10 +148,8 @@ module _ (begin : Listener) (r : ℕ) (took : List (List ℕ)) (said : List Said
     pub starved_by : (more : List (List ℕ)) (told : List Said) (later packet : List ℕ) (before new : End) → before.carrier.ended ≡ None →
         Stands begin r (took ++ more) (said ++ told) later before →
         IsOctets packet → Starves before packet new → new.carrier.outgoing ≡ before.carrier.outgoing
-    starved_by more told later packet before new lasts
-        (talking s hs ts) octets starved = starved_still r s later packet before new ts octets starved
-    starved_by more told later packet before new lasts (gone closed s hs ended) octets starved = absurd
-        (never_lasts before.carrier.ended ended lasts)
+    starved_by more told later packet before new lasts (talking s hs ts) octets starved = search (arith, starved_still)
+    starved_by more told later packet before new lasts (gone closed s hs ended) octets starved = grind (arith, never_lasts)
 
     no_memory : (piece : List ℕ) (used : ℕ) (old new : Holding) (f : FindsNoMemory old piece used new) →
         Extends begin r took said begun f.units old.end f.before →
@@ -266,15 +248,7 @@ module _ (begin : Listener) (r : ℕ) (took : List (List ℕ)) (said : List Said
     }
 
     carried_still : (octets : List ℕ) (e : End) → Talks r session begun (put_back octets e) → Talks r session begun e
-    carried_still octets e t = record {
-      peer = t.peer;
-      limit = t.limit;
-      is_open = record { some = t.is_open.some; lasts = t.is_open.lasts; live = t.is_open.live };
-      class = t.class;
-      told = t.told;
-      here = t.here;
-      begun_long_ago = t.begun_long_ago;
-    }
+    carried_still octets e t = grind arith
 
     pub serving_turn : (call : Call) (put : List ℕ) (old new : Holding) → Talks r session begun old.end → Calls old call new →
         carried_in call ++ new.end.carrier.outgoing ≡ old.end.carrier.outgoing ++ put →

@@ -1,11 +1,11 @@
 -- A TSDU that is handed to an open connection of class 0 is written at once, whole, and the link is as it was before.
 -- For what a session of class 0 puts.
-use Rattle.osi_honest.proofs.Vocabulary.{[], ap, append_assoc, arith, Bool, drop, false, if◌then◌else◌, is_some, length, length-drop, List}
-use Rattle.osi_honest.proofs.Vocabulary.{map, nat_lt, None, refl, Some, subst, suc, sym, take, true, zero, ℕ, ◌++◌, ◌<◌, ◌∙◌, ◌∷◌, ◌≡◌, ◌≤◌}
-use Rattle.osi_honest.proofs.Vocabulary.{eq-eqb, ltb-true, append-nil, map-append, packet_of, Value, written, drained_none, drained_some}
-use Rattle.osi_honest.proofs.Vocabulary.{Drained, drained, joining, Given, next, part0, Standing, unit_of, zero_standing, Part, tsdus_after}
-use Rattle.osi_honest.proofs.Vocabulary.{link_of, open_link, sent, sent_all, sent_on, put, Rows, value_at, Connection, linked, packets}
-use Rattle.osi_honest.proofs.Vocabulary.{State, Carry, dt, ends_whole, IsOpenZero, IsWritten, resting}
+use Rattle.osi_honest.proofs.Vocabulary.{[], ap, append_assoc, arith, Bool, drop, false, length, length-drop, List, map, nat_lt, refl, Some}
+use Rattle.osi_honest.proofs.Vocabulary.{suc, sym, take, true, zero, ℕ, ◌++◌, ◌<◌, ◌∙◌, ◌∷◌, ◌≡◌, ◌≤◌, eq-eqb, ltb-true, append-nil}
+use Rattle.osi_honest.proofs.Vocabulary.{map-append, packet_of, Value, written, drained_none, drained_some, Drained, drained, joining}
+use Rattle.osi_honest.proofs.Vocabulary.{Given, next, part0, Standing, unit_of, zero_standing, Part, tsdus_after, open_link, sent, sent_all}
+use Rattle.osi_honest.proofs.Vocabulary.{sent_on, put, value_at, linked, packets, State, Carry, dt, ends_whole, IsOpenZero, IsWritten}
+use Rattle.osi_honest.proofs.Vocabulary.{resting}
 use Rattle.std.proofs.Common.{take-append-drop}
 use Rattle.std.proofs.lemmas.List.Concat.{flat_map-append}
 use Rattle.osi_honest.specs.Parts.{adds}
@@ -82,10 +82,7 @@ put_one r x y = rw (eq-eqb r r refl) refl
 
 pub open_is : (r peer limit : ℕ) (begun : List ℕ) (s : State) → IsOpenZero r peer limit begun s →
     open_link r s ≡ Some (peer, zero_standing (resting limit begun))
-open_is r peer limit begun s h =
-    ap (λ (x : Bool). if x then None else link_of (value_at r s.live)) (ap is_some h.lasts)
-    ∙ ap (λ (rows : Rows Connection). link_of (value_at r rows)) h.live
-    ∙ ap link_of (one_at r (linked peer (zero_standing (resting limit begun))))
+open_is r peer limit begun s h = grind (arith, one_at)
 
 as_units : (peer : ℕ) (parts : List Part) → map (unit_of peer) (map as_given parts) ≡ map dt parts
 as_units peer [] = refl
@@ -122,11 +119,7 @@ ends_more before (part ∷ parts) more = ends_more part.0 parts more
 
 pub carry_more : (parts more : List Part) (tsdus others : List (List ℕ)) → Carry parts tsdus → Carry more others →
     Carry (parts ++ more) (tsdus ++ others)
-carry_more parts more tsdus others c d = (
-  ends_more true parts more ∙ ap (λ (b : Bool). ends_whole b more) c.0 ∙ d.0,
-  λ later. ap (tsdus_after []) (append_assoc parts more later) ∙ c.1 (more ++ later)
-      ∙ ap (λ (x : List (List ℕ)). tsdus ++ x) (d.1 later) ∙ sym (append_assoc tsdus others (tsdus_after [] later)),
-)
+carry_more parts more tsdus others c d = grind (arith, ends_more, append_assoc)
 
 pub written_more : (tsdus others : List (List ℕ)) (old mid new : State) → IsWritten tsdus old mid → IsWritten others mid new →
     IsWritten (tsdus ++ others) old new
@@ -140,17 +133,11 @@ written_more tsdus others old mid new w v = record {
 }
 
 pub none_written : (s : State) → IsWritten [] s s
-none_written s = record {
-  parts = [];
-  carry = (refl, λ later. refl);
-  is = ap (λ (x : List ℕ). record s { outgoing = x })
-      (sym (append-nil s.outgoing));
-}
+none_written s = grind (arith, append-nil)
 
 pub written_open : (r peer limit : ℕ) (begun : List ℕ) (tsdus : List (List ℕ)) (old new : State) → IsWritten tsdus old new →
     IsOpenZero r peer limit begun old → IsOpenZero r peer limit begun new
-written_open r peer limit begun tsdus old new w h = subst (IsOpenZero r peer limit begun) (sym w.is)
-    (added_open r peer limit begun (packets (map dt w.parts)) old h)
+written_open r peer limit begun tsdus old new w h = grind (arith, added_open)
 
 -- TSDUs that are sent together
 pub all_written : (r peer limit : ℕ) (begun : List ℕ) (tsdus : List (List ℕ)) (s : State) → IsOpenZero r peer limit begun s →

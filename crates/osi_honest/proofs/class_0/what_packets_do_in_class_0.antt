@@ -1,7 +1,7 @@
 -- Packets one after the other at an open connection of class 0: what the session took, sent and put.
 -- For the turns of an end.
 use Rattle.osi_honest.proofs.Vocabulary.{[], ap, append_assoc, arith, Bool, false, inl, inr, IsSome, length, List, map, None, Option, refl}
-use Rattle.osi_honest.proofs.Vocabulary.{Some, subst, sym, true, ℕ, ◌++◌, ◌+◌, ◌∙◌, ◌∷◌, ◌≡◌, ◌≤◌, append-nil, map-append, AllByRecursion}
+use Rattle.osi_honest.proofs.Vocabulary.{subst, sym, true, ℕ, ◌++◌, ◌+◌, ◌∙◌, ◌∷◌, ◌≡◌, ◌≤◌, append-nil, map-append, AllByRecursion}
 use Rattle.osi_honest.proofs.Vocabulary.{IsOctets, packets, State as Carrier, after_input, came, Listener, session_react as react}
 use Rattle.osi_honest.proofs.Vocabulary.{lasting_of, TakesPackets, after_packet, AreShort, End, waits, sends, dt, AllSaidBy, Extends}
 use Rattle.osi_honest.proofs.Vocabulary.{octets_said, Stands, gone, talking, History, IsPart, Packet, Puts, Said, said_after, Talks, last}
@@ -34,14 +34,7 @@ put_more tsdus others old mid new a b = record {
 }
 
 pub put_from : (tsdus : List (List ℕ)) (old other new : Carrier) → other.outgoing ≡ old.outgoing → Puts tsdus other new → Puts tsdus old new
-put_from tsdus old other new same p =
-    record {
-      parts = p.parts;
-      carry = p.carry;
-      short = p.short;
-      outgoing = p.outgoing
-          ∙ ap (λ (x : List ℕ). x ++ packets (map dt p.parts)) same;
-    }
+put_from tsdus old other new same p = grind arith
 
 -- ---- what is said
 
@@ -62,9 +55,7 @@ said_more n (s ∷ some) others a b = (a.0, said_more n some others a.1 b)
 pub stands_still : (begin : Listener) (r : ℕ) (took : List (List ℕ)) (said : List Said) (begun : List ℕ) (e : End) →
     Stands begin r took said begun e →
     Stands begin r (took ++ []) (said ++ []) begun e
-stands_still begin r took said begun e s =
-    subst (λ (x : List (List ℕ)). Stands begin r x (said ++ []) begun e) (sym (append-nil took))
-    (subst (λ (x : List Said). Stands begin r took x begun e) (sym (append-nil said)) s)
+stands_still begin r took said begun e s = search (arith, append-nil)
 
 -- an end that is over takes no packet
 pub over_takes : (units : List (List ℕ)) (e new : End) → IsSome e.carrier.ended → TakesPackets e units new → new ≡ e
@@ -72,8 +63,7 @@ over_takes [] e new is h = h
 over_takes (v ∷ units) e new is h = let none = lasting_of e.carrier.ended (waits e.lines) h.0 in absurd (cc)
 
 pub never_lasts : {A : Type 0} (o : Option A) → IsSome o → o ≡ None → ⊥
-never_lasts None is none = cc
-never_lasts (Some x) is none = cc
+never_lasts o is none = grind arith
 
 module _ (begin : Listener) (r : ℕ) where
   -- the packets that come after one with which the end was over
@@ -119,8 +109,7 @@ module _ (begin : Listener) (r : ℕ) where
 
   now_put : (took : List (List ℕ)) (session : Listener) (tsdu : List ℕ) (old mid : Carrier) → Puts (sends session (came tsdu)) old mid →
       Puts (octets_said (said_after (length took + 1) (sends session (came tsdu)))) old mid
-  now_put took session tsdu old mid p = subst (λ (x : List (List ℕ)). Puts x old mid)
-      (sym (said_octets (length took + 1) (sends session (came tsdu)))) p
+  now_put took session tsdu old mid p = grind (arith, said_octets)
 
   taken_more : (took : List (List ℕ)) (said : List Said) (session : Listener) (begun octets u : List ℕ) (units : List (List ℕ))
       (old mid new : End) → IsPart u true octets begun →
@@ -185,8 +174,7 @@ module _ (begin : Listener) (r : ℕ) where
       History begin took said false session → Talks r session begun old → Rest units mid new → TakesPackets mid units new →
       Packet r session begun u old mid →
       Extends begin r took said begun (u ∷ units) old new
-  packet_then took said begun u units session old mid new h t rest takes (part o is same then_talks) =
-      part_more took said begun o u units old mid new is same (rest took said (begun ++ o) session h then_talks)
+  packet_then took said begun u units session old mid new h t rest takes (part o is same then_talks) = search (arith, part_more)
   packet_then took said begun u units session old mid new h t rest takes (last o is m) =
       let tsdu = begun ++ o in
       let then_history = history.takes took said session tsdu h t.begun_long_ago in
@@ -200,8 +188,7 @@ module _ (begin : Listener) (r : ℕ) where
             (react session (came tsdu)).closes (after_input session (came tsdu)) mid new
             then_history k.1 takes
       ])
-  packet_then took said begun u units session old mid new h t rest takes (over is same) =
-      still_over took said begun u units false session old mid new h is same takes
+  packet_then took said begun u units session old mid new h t rest takes (over is same) = grind (arith, still_over)
 
   pub packets_act : AllProper →
       (took : List (List ℕ)) (said : List Said) (begun : List ℕ) (units : List (List ℕ)) (session : Listener) (old new : End) →

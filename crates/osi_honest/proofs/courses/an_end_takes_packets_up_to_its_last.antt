@@ -30,8 +30,7 @@ none_after at r last e (u ∷ us) k (b, t, p, is, more) = absurd (end_no_packet 
 takes_split : (us vs : List (List ℕ)) (old new : End) → TakesPackets old (us ++ vs) new →
     (mid : End) × TakesPackets old us mid × TakesPackets mid vs new
 takes_split [] vs old new t = (old, refl, t)
-takes_split (u ∷ us) vs old new t =
-    let (mid, a, b) = takes_split us vs (after_packet old u) new t.1 in (mid, (t.0, a), b)
+takes_split (u ∷ us) vs old new t = search (arith, takes_split us vs (after_packet old u) new t.1)
 
 -- one of two lists of packets goes on with this one, or it is within the other
 pub prefix_or : (xs : List (List ℕ)) (b : List ℕ) (more ys zs : List (List ℕ)) → xs ++ b ∷ more ≡ ys ++ zs →
@@ -205,8 +204,7 @@ module _ (old : Holding) (lasts : old.end.carrier.ended ≡ None) (quiet : waits
   dry_first : (used left : List (List ℕ)) (more r : List ℕ) (mid : End) → front ≡ used ++ left →
       ArePackets used (old.held.octets ++ more) r → TakesPackets old.end used mid → stops mid ≡ false →
       mid.carrier.outgoing ≡ old.end.carrier.outgoing ++ put → (put ≡ []) ⊎ TakesFirst front put old
-  dry_first [] left more r mid parts cut taken still outgoing =
-      inl (nothing_more old.end.carrier.outgoing mid.carrier.outgoing put outgoing (ap (λ (e : End). e.carrier.outgoing) taken))
+  dry_first [] left more r mid parts cut taken still outgoing = grind (arith, nothing_more)
   dry_first (u ∷ us) left more r mid parts cut taken still outgoing =
       let g = dry_to u us more r mid cut taken still outgoing in
       inr (record {
@@ -246,9 +244,7 @@ module _ (old : Holding) (lasts : old.end.carrier.ended ≡ None) (quiet : waits
         }
 
     never_quiet : {A : Type 0} (m : List (List ℕ)) (x : End) → TakesPackets old.end (front ++ b ∷ m) x → stops x ≡ false → A
-    never_quiet m x t still =
-        let r = reached m x t in
-        absurd (never_lasts x.carrier.ended r.over (lasting_of x.carrier.ended (waits x.lines) still))
+    never_quiet m x t still = grind (arith, reached, never_lasts, lasting_of)
 
     module _ (new : Holding) (outgoing : new.end.carrier.outgoing ≡ old.end.carrier.outgoing ++ put) (piece rest : List ℕ) where
       -- it was taken
@@ -484,8 +480,7 @@ module _ (old new : Holding) (turn : Turn) (lasts : old.end.carrier.ended ≡ No
   fed_so : (piece : List ℕ) (fed : Fed) → Feeds old piece fed new → new.end.carrier.outgoing ≡ old.end.carrier.outgoing ++ turn.put →
       ArePackets (front ++ b ∷ more) (old.held.octets ++ take fed.used piece) rest → (w : Bool) → waits old.end.lines ≡ w →
       Stopped front turn.put old new
-  fed_so piece fed f outgoing cut true w =
-      none_used (take fed.used piece) (ap (λ (n : ℕ). take n piece) (f.waiting lasts w).0) cut
+  fed_so piece fed f outgoing cut true w = grind (arith, none_used)
   fed_so piece fed f outgoing cut false w = by (f.goes (quiet_stops old.end (ap is_some lasts) w))
     where
       whole : fed.used ≡ length piece → ArePackets (front ++ b ∷ more) (old.held.octets ++ piece) rest

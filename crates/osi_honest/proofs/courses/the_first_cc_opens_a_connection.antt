@@ -4,13 +4,11 @@ use Rattle.osi_honest.proofs.Vocabulary.{[], ap, append_assoc, arith, Bool, fals
 use Rattle.osi_honest.proofs.Vocabulary.{refl, Some, append-nil, nat_tests, subst, sym, true, ℕ, ◌&&◌, ◌++◌, ◌==◌, ◌∙◌, ◌∷◌, ◌≡◌, ◌≤◌}
 use Rattle.osi_honest.proofs.Vocabulary.{AllByRecursion, confirm, Value, Class, Two, Zero, react_quiet, put_here, confirmed, in_class}
 use Rattle.osi_honest.proofs.Vocabulary.{in_two, before_class, opens_by as opens, to_connection, value_at, asked, closing, Connection}
-use Rattle.osi_honest.proofs.Vocabulary.{EndReason, Happening, linked, State as Carrier, open_link, opens_line, hears, to_session}
-use Rattle.osi_honest.proofs.Vocabulary.{session_carried, End, Line, Input, broken, came, linked_up as opened, has_given, Answers}
-use Rattle.osi_honest.proofs.Vocabulary.{AreApart, Opens, Marked}
+use Rattle.osi_honest.proofs.Vocabulary.{EndReason, Happening, linked, State as Carrier, opens_line, hears, to_session, session_carried}
+use Rattle.osi_honest.proofs.Vocabulary.{End, Line, Input, has_given, Answers, AreApart, Opens, Marked}
 use Rattle.osi_tpdu.specs.Value.{Connect}
 use Rattle.osi_carrier.specs.React.{react}
 use Rattle.osi_carrier.specs.Happenings as told
-use Rattle.osi_session.specs.Listening.{refused}
 use Rattle.osi_stack.proofs.carried.what_each_step_preserves.{Carries}
 use Rattle.osi_stack.proofs.sound.the_invariant_is_kept.{closed_given, sent_given, units_rise}
 use Rattle.osi_honest.proofs.class_0.what_packets_do_in_class_0.{never_lasts}
@@ -118,9 +116,7 @@ module _ (is_caller : Bool) (r : ℕ) where
 
 opens_live : {A : Type 0} (r : ℕ) (x : Connect) (k : Option Class) (s : Carrier) → value_at r s.live ≡ Some asked →
     (opens r x k s).ended ≡ None → value_at r (opens r x k s).live ≡ Some asked → A
-opens_live r x None s was lasts now = absurd (never_lasts (opens r x None s).ended refl lasts)
-opens_live r x (Some class) s was lasts now =
-    absurd (let both = sym (put_here r _ asked s.live was) ∙ now in cc)
+opens_live r x k s was lasts now = grind (arith, never_lasts, put_here)
 
 cc_reference : {A : Type 0} (r : ℕ) (x : Connect) (s : Carrier) (o : Option Connection) → value_at r s.live ≡ Some asked → o ≡ Some asked →
     (to_connection r o (confirm r x) s).ended ≡ None → value_at r (to_connection r o (confirm r x) s).live ≡ Some asked → A
@@ -162,13 +158,10 @@ asked_by false given (Some (linked peer link)) has is = absurd (cc)
 asked_by false given (Some (closing peer)) has is = absurd (cc)
 
 lasts_by : (o : Option EndReason) → is_some o ≡ false → o ≡ None
-lasts_by None e = refl
-lasts_by (Some reason) e = absurd (cc)
+lasts_by o e = grind arith
 
 pub asked_so : (r : ℕ) (c : Carrier) → has_given r c ≡ true → stage_at r c ≡ early → (c.ended ≡ None) × (value_at r c.live ≡ Some asked)
-asked_so r c has is =
-    let (lasts, here) = asked_by (is_some c.ended) (has_given r c) (value_at r c.live) has is in
-    (lasts_by c.ended lasts, here)
+asked_so r c has is = grind (arith, asked_by, lasts_by)
 
 -- a reference that was given stays so
 pub given_more : (r m n : ℕ) → m ≤ n → (nat_lt 0 r && nat_le r m) ≡ true → (nat_lt 0 r && nat_le r n) ≡ true
@@ -176,24 +169,16 @@ given_more r m n less has = grind (arith, nat_tests)
 
 -- sessions give none
 carries_given : (g : ℕ) → Carries (λ (c : Carrier). c.given ≡ g)
-carries_given g = record {
-  sends = λ r tsdu c p. sent_given r tsdu (open_link r c) c ∙ p;
-  closes = λ r c p. closed_given r 128 (open_link r c) c ∙ p;
-}
+carries_given g = grind (arith, sent_given, closed_given)
 
 pub session_given : (q : ℕ) (input : Input) (e : End) → (to_session q input e).carrier.given ≡ e.carrier.given
 session_given q input e = session_carried (λ (c : Carrier). c.given ≡ e.carrier.given) (carries_given e.carrier.given) q input e refl
 
 opening_given : (q : ℕ) (o : Option Line) (e : End) → (opens_line q o e).carrier.given ≡ e.carrier.given
-opening_given q None e = refl
-opening_given q (Some line) e = session_given q opened e
+opening_given q o e = grind (arith, session_given)
 
 pub event_given : (x : Happening) (e : End) → (hears x e).carrier.given ≡ e.carrier.given
-event_given (told.opened q) e = opening_given q (value_at q e.lines) e
-event_given (told.refused q reason) e = session_given q (refused reason) e
-event_given (told.tsdu q octets) e = session_given q (came octets) e
-event_given (told.closed q reason) e = session_given q broken e
-event_given (told.faulted q fault) e = session_given q broken e
+event_given x e = grind (arith, opening_given, session_given)
 
 -- so a unit after which it still awaits its CC is none
 pub unit_not_cc : (r : ℕ) (v : Value) (s : Carrier) → IsSound s → has_given r s ≡ true → stage_at r s ≡ early →

@@ -1,8 +1,8 @@
 -- Units in order, each with the connection that it is of: which are of one connection.
 -- For the course of a connection.
 use Rattle.osi_honest.proofs.Vocabulary.{[], ap, arith, Bool, false, if◌then◌else◌, List, map, nat_lt, refl, sym, true, ℕ, ◌++◌, ◌<◌, ◌==◌}
-use Rattle.osi_honest.proofs.Vocabulary.{◌∙◌, ◌∷◌, ◌≡◌, ◌≢◌, eq-eqb, eqb-true, nat_tests, map-append, AllByRecursion, Value, Given, part0}
-use Rattle.osi_honest.proofs.Vocabulary.{unit_of, all_units, AreByLinks, if_of, is_of_link, Marked, units_at, CanBeWritten}
+use Rattle.osi_honest.proofs.Vocabulary.{◌∙◌, ◌∷◌, ◌≡◌, ◌≢◌, eq-eqb, eqb-true, nat_tests, map-append, AllByRecursion, Value, Given, unit_of}
+use Rattle.osi_honest.proofs.Vocabulary.{all_units, AreByLinks, if_of, is_of_link, Marked, units_at, CanBeWritten}
 use Rattle.std.proofs.lemmas.Grind.{flat_map-append}
 
 -- ---- one list after another
@@ -45,24 +45,17 @@ pub unequal : (q r : ℕ) → (r == q) ≡ false → r ≢ q
 unequal q r e same = let both : true ≡ false = sym (eq-eqb r q same) ∙ e in absurd (cc)
 
 pub other_mark : (q r : ℕ) → r ≢ q → (q == r) ≡ false
-other_mark q r ne = by (q == r) refl
-  where
-    by : (b : Bool) → (q == r) ≡ b → (q == r) ≡ false
-    by false e = e
-    by true e = absurd (ne (sym (eqb-true q r e)))
+other_mark q r ne = grind (arith, eqb-true)
 
 one_own : (r : ℕ) (b : Bool) (unit : Value) (units : List Value) → b ≡ true → (if b then unit ∷ [] else []) ++ units ≡ unit ∷ units
-one_own r true unit units e = refl
-one_own r false unit units e = absurd (cc)
+one_own r b unit units e = grind arith
 
 one_other : (r : ℕ) (b : Bool) (unit : Value) (units : List Value) → b ≡ false → (if b then unit ∷ [] else []) ++ units ≡ units
-one_other r false unit units e = refl
-one_other r true unit units e = absurd (cc)
+one_other r b unit units e = grind arith
 
 pub marked_own : (r : ℕ) (units : List Value) → units_at r (marked r units) ≡ units
 marked_own r [] = refl
-marked_own r (unit ∷ units) =
-    one_own r (r == r) unit (units_at r (marked r units)) (eq-eqb r r refl) ∙ ap (λ (l : List Value). unit ∷ l) (marked_own r units)
+marked_own r (unit ∷ units) = grind (arith, one_own, eq-eqb, marked_own r units)
 
 marked_other : (q r : ℕ) (units : List Value) → (q == r) ≡ false → units_at r (marked q units) ≡ []
 marked_other q r [] e = refl
@@ -96,8 +89,7 @@ plain_accounted [] all = tt
 plain_accounted (unit ∷ units) all = ((all.0.0, λ plain. all.0.1), plain_accounted units all.1)
 
 given_by_link : (peer : ℕ) (given : Given) → is_of_link (unit_of peer given) ≡ true
-given_by_link peer (part0 last octets) = refl
-given_by_link peer _ = refl
+given_by_link peer given = grind arith
 
 is_above : (q : ℕ) → 0 < q → nat_lt 0 q ≡ true
 is_above q some = grind (arith, nat_tests)
@@ -108,7 +100,4 @@ of_link unit is plain = absurd (let both : true ≡ false = sym is ∙ plain in 
 
 pub given_accounted : (q peer : ℕ) (units : List Given) → 0 < q → AreAccounted (marked q (map (unit_of peer) units))
 given_accounted q peer [] some = tt
-given_accounted q peer (given ∷ units) some = (
-  (given_by_link peer given ∙ sym (is_above q some), λ plain. of_link (unit_of peer given) (given_by_link peer given) plain),
-  given_accounted q peer units some,
-)
+given_accounted q peer (given ∷ units) some = grind (arith, given_by_link, is_above, of_link, given_accounted q peer units some)

@@ -1,18 +1,17 @@
 -- A call of the user: what becomes of the course of one connection, whichever connection the call is for.
 -- For the course of a connection.
 use Rattle.osi_honest.proofs.Vocabulary.{[], ap, arith, Bool, false, if◌then◌else◌, is_some, length, List, nat_le, nat_lt, None, not}
-use Rattle.osi_honest.proofs.Vocabulary.{Option}
-use Rattle.osi_honest.proofs.Vocabulary.{option_map, refl, Some, subst, sym, true, ℕ, ◌&&◌, ◌++◌, ◌+◌, ◌<◌, ◌==◌, ◌∙◌, ◌∷◌, ◌≡◌, ◌≢◌}
-use Rattle.osi_honest.proofs.Vocabulary.{eqb-true, tsap_octets, request, Value, Standing, tsdus_out, push_other, push_here, closed_on}
+use Rattle.osi_honest.proofs.Vocabulary.{Option, option_map, refl, Some, subst, sym, true, ℕ, ◌&&◌, ◌++◌, ◌+◌, ◌<◌, ◌==◌, ◌∙◌, ◌∷◌, ◌≡◌}
+use Rattle.osi_honest.proofs.Vocabulary.{◌≢◌, eqb-true, tsap_octets, request, Value, Standing, tsdus_out, push_other, push_here, closed_on}
 use Rattle.osi_honest.proofs.Vocabulary.{closed_with, link_of, may_connect, open_link, proposal, proposes_two, IsOrderly, value_at, asked}
 use Rattle.osi_honest.proofs.Vocabulary.{Connection, State as Carrier, EndReason, Broken, OpenError, Ended, NotCaller, SessionCall as Call}
 use Rattle.osi_honest.proofs.Vocabulary.{HasSerial, after_input, called, Listener, both, says_is, used_live, disconnect_carrier}
 use Rattle.osi_honest.proofs.Vocabulary.{disconnect_is, given_other, closed_given, open_none, after_open, call_error, calls_with}
 use Rattle.osi_honest.proofs.Vocabulary.{connect_error, connects, has_given, terms_error, awaits_transport, disconnect_error, disconnects}
 use Rattle.osi_honest.proofs.Vocabulary.{ends, IsAccepted, IsGranted, kept_at, to_session, user_does, UserCall, breaking, calling}
-use Rattle.osi_honest.proofs.Vocabulary.{connecting, disconnecting, End, fresh_line, session_at, session_in, Request as Connect}
-use Rattle.osi_honest.proofs.Vocabulary.{ConnectError, sends, Course, Deeds, Gone, IsOpen, IsShut, said_in, awaited, is_gone, is_open}
-use Rattle.osi_honest.proofs.Vocabulary.{unknown, closed, Marked, History, said_after, HasSerialIn, never}
+use Rattle.osi_honest.proofs.Vocabulary.{connecting, disconnecting, End, fresh_line, session_in, Request as Connect, ConnectError, sends}
+use Rattle.osi_honest.proofs.Vocabulary.{Course, Deeds, Gone, IsOpen, IsShut, said_in, awaited, is_gone, is_open, unknown, closed, Marked}
+use Rattle.osi_honest.proofs.Vocabulary.{History, said_after, HasSerialIn, never}
 use Rattle.osi_stack.specs.Calls.{breaks}
 use Rattle.osi_honest.specs.Talking as history
 use Rattle.osi_honest.proofs.class_0.a_session_of_class_0_puts_what_it_sends.{still_begun}
@@ -25,7 +24,7 @@ use Rattle.osi_honest.proofs.courses.units_of_each_connection.{AreAccounted, mar
 use Rattle.osi_honest.proofs.courses.what_a_session_puts.{Puts, closing_accounted, closing_puts, put_closing, puts_none, session_accounted}
 use Rattle.osi_honest.proofs.courses.what_a_session_puts.{session_others, session_puts, session_written}
 use Rattle.osi_honest.proofs.courses.what_sessions_hear_of_it.{CourseAll, course_given}
-use Rattle.osi_honest.proofs.courses.what_a_link_takes_and_is_handed.{Leaves, closed_leaves, closed_shut, link_shut}
+use Rattle.osi_honest.proofs.courses.what_a_link_takes_and_is_handed.{closed_leaves, closed_shut, link_shut}
 use Rattle.osi_honest.proofs.courses.what_a_unit_does_to_a_connection.{given_before, given_next, next_ungiven}
 use Rattle.osi_honest.proofs.courses.what_another_connection_leaves.{Beside, course_beside, course_over, gone_same, session_beside}
 use Rattle.osi_honest.proofs.courses.what_another_connection_leaves.{used_none}
@@ -63,12 +62,10 @@ module _ (is_caller : Bool) (r : ℕ) (moves : Deeds) (e : End) (lasts : e.carri
 
   caller_by : (b has_ended : Bool) (error : Option OpenError) →
       (if not b then Some NotCaller else (if has_ended then Some Ended else error)) ≡ None → b ≡ true
-  caller_by true has_ended error h = refl
-  caller_by false has_ended error h = absurd (cc)
+  caller_by b has_ended error h = grind arith
 
   terms_by : (o : Option OpenError) (error : Option ConnectError) → after_open o error ≡ None → error ≡ None
-  terms_by None error h = h
-  terms_by (Some x) error h = absurd (cc)
+  terms_by o error h = grind arith
 
   -- a connection with the next reference is awaited
   connects_next : (c : Connect) → connect_error c e ≡ None → r ≡ e.carrier.given + 1 → Course is_caller r moves e →
@@ -85,48 +82,24 @@ module _ (is_caller : Bool) (r : ℕ) (moves : Deeds) (e : End) (lasts : e.carri
       (ap (λ (n : ℕ). nat_lt 0 n && nat_le n (e.carrier.given + 1)) next ∙ given_next e.carrier.given) here
       (ap session_in
       (used_live r (connects c e).carrier.live (e.lines ++ (e.carrier.given + 1, fresh_line (calls_with c)) ∷ []) (ap is_some here) ∙ line))
-  connects_next c allowed next (awaited none d terms side was given here kept) =
-      both (has_given r e.carrier) given (ap (λ (n : ℕ). has_given n e.carrier) next ∙ next_ungiven e.carrier.given)
-  connects_next c allowed next (is_open given o) =
-      both (has_given r e.carrier) given (ap (λ (n : ℕ). has_given n e.carrier) next ∙ next_ungiven e.carrier.given)
-  connects_next c allowed next (is_gone (closed at calls is session speaks given shut)) =
-      both (has_given r e.carrier) given (ap (λ (n : ℕ). has_given n e.carrier) next ∙ next_ungiven e.carrier.given)
-  connects_next c allowed next (is_gone (over at calls heard unheard is session speaks parts none ended)) =
-      absurd (never_lasts e.carrier.ended ended lasts)
+  connects_next c allowed next (awaited none d terms side was given here kept) = grind (arith, both, next_ungiven)
+  connects_next c allowed next (is_open given o) = grind (arith, both, next_ungiven)
+  connects_next c allowed next (is_gone (closed at calls is session speaks given shut)) = grind (arith, both, next_ungiven)
+  connects_next c allowed next (is_gone (over at calls heard unheard is session speaks parts none ended)) = grind (arith, never_lasts)
   connects_next c allowed next (is_gone (never none ended)) = absurd (never_lasts e.carrier.ended ended lasts)
 
   connects_other : (c : Connect) → r ≢ e.carrier.given + 1 → Beside r e (connects c e)
-  connects_other c ne =
-      let live : value_at r (connects c e).carrier.live ≡ value_at r e.carrier.live =
-      push_other r (e.carrier.given + 1) asked e.carrier.live ne in
-      let lines : value_at r (e.lines ++ (e.carrier.given + 1, fresh_line (calls_with c)) ∷ []) ≡ value_at r e.lines =
-      push_other r (e.carrier.given + 1) (fresh_line (calls_with c)) e.lines ne in
-      record {
-        live = live;
-        given = ap (λ (b : Bool). nat_lt 0 r && b) (given_before r e.carrier.given ne);
-        side = refl;
-        ended = refl;
-        unlined = λ none. used_none r (connects c e).carrier.live (e.lines ++ (e.carrier.given + 1, fresh_line (calls_with c)) ∷ [])
-            (lines ∙ none);
-        kept = λ some. ap session_in
-            (used_live r (connects c e).carrier.live (e.lines ++ (e.carrier.given + 1, fresh_line (calls_with c)) ∷ [])
-            (ap is_some live ∙ some) ∙ lines);
-      }
+  connects_other c ne = grind (arith, push_other, given_before, used_none, used_live)
 
   connect_steps : (c : Connect) (b : Bool) → (r == e.carrier.given + 1) ≡ b → connect_error c e ≡ None → Course is_caller r moves e →
       Then (marked 0 (request_put c e)) (connects c e)
-  connect_steps c true is allowed course =
-      idle (marked 0 (request_put c e)) (connects c e) (nowhere r (request_put c e))
-      (connects_next c allowed (eqb-true r (e.carrier.given + 1) is) course)
-  connect_steps c false is allowed course =
-      others (marked 0 (request_put c e)) (connects c e) (nowhere r (request_put c e))
-      (λ still. connects_other c (unequal (e.carrier.given + 1) r is)) course
+  connect_steps c true is allowed course = search (arith, idle, nowhere, connects_next, eqb-true)
+  connect_steps c false is allowed course = search (arith, others, nowhere, connects_other, unequal)
 
   -- ---- a call of the session
 
   unlinked : (x : Option Connection) → value_at r e.carrier.live ≡ x → link_of x ≡ None → open_link r e.carrier ≡ None
-  unlinked x here none =
-      ap (λ (b : Bool). if b then None else link_of (value_at r e.carrier.live)) (ap is_some lasts) ∙ ap link_of here ∙ none
+  unlinked x here none = grind arith
 
   open_speaks : (call : Call) (o : IsOpen is_caller r moves e) → has_given r e.carrier ≡ true → HasSerial call →
       IsGranted r call o.session e.carrier → CanSpeak is_caller r moves o.session (called call) e
@@ -154,14 +127,12 @@ module _ (is_caller : Bool) (r : ℕ) (moves : Deeds) (e : End) (lasts : e.carri
 
   own_call : (call : Call) → call_error r call e ≡ None → HasSerial call → Course is_caller r moves e →
       Then (session_puts r (called call) e) (to_session r (called call) e)
-  own_call call allowed serial (unknown none side free live lines) =
-      absurd (never_lasts (open_link r e.carrier) (says_is r call e allowed).granted.opened (unlinked None live refl))
+  own_call call allowed serial (unknown none side free live lines) = grind (arith, never_lasts, says_is, unlinked)
   own_call call allowed serial (awaited none c terms side was given here kept) =
       absurd (never_lasts (open_link r e.carrier) (says_is r call e allowed).granted.opened (unlinked (Some asked) here refl))
   own_call call allowed serial (is_gone (closed at calls is session speaks given shut)) =
       absurd (never_lasts (open_link r e.carrier) (says_is r call e allowed).granted.opened (link_shut r e.carrier shut))
-  own_call call allowed serial (is_gone (over at calls heard unheard is session speaks parts none ended)) =
-      absurd (never_lasts e.carrier.ended ended lasts)
+  own_call call allowed serial (is_gone (over at calls heard unheard is session speaks parts none ended)) = grind (arith, never_lasts)
   own_call call allowed serial (is_gone (never none ended)) = absurd (never_lasts e.carrier.ended ended lasts)
   own_call call allowed serial (is_open given o) =
       let says = says_is r call e allowed in
@@ -177,9 +148,7 @@ module _ (is_caller : Bool) (r : ℕ) (moves : Deeds) (e : End) (lasts : e.carri
       let same = eqb-true r q is in
       subst (λ (n : ℕ). Then (session_puts n (called call) e) (to_session n (called call) e)) same
       (own_call call (ap (λ (n : ℕ). call_error n call e) same ∙ allowed) serial course)
-  call_steps q call false is allowed serial course =
-      others (session_puts q (called call) e) (to_session q (called call) e) (session_others q r (called call) e (unequal q r is))
-      (λ still. session_beside q r (unequal q r is) (called call) e still) course
+  call_steps q call false is allowed serial course = search (arith, others, session_others, unequal, session_beside)
 
   -- ---- a connection is given up
 
@@ -188,14 +157,11 @@ module _ (is_caller : Bool) (r : ℕ) (moves : Deeds) (e : End) (lasts : e.carri
 
   waits_still : (b : Bool) (o : Option Listener) (c : Connect) → b ≡ true → o ≡ Some (calls_with c) →
       awaits_transport (if b then o else None) ≡ true
-  waits_still true o c is here = ap awaits_transport here
-  waits_still false o c is here = absurd (cc)
+  waits_still b o c is here = grind arith
 
   refused_by : {E : Type 0} (known waiting : Bool) (a b : E) →
       (if not known then Some a else (if waiting then Some b else None)) ≡ None → (known ≡ true) × (waiting ≡ false)
-  refused_by true false a b h = (refl, refl)
-  refused_by true true a b h = absurd (cc)
-  refused_by false waiting a b h = absurd (cc)
+  refused_by known waiting a b h = grind arith
 
   gone_given : Gone is_caller r moves e → Course is_caller r moves (disconnects r e)
   gone_given (closed at calls is session speaks given shut) =
@@ -208,12 +174,8 @@ module _ (is_caller : Bool) (r : ℕ) (moves : Deeds) (e : End) (lasts : e.carri
   own_given : (o : Option EndReason) → (disconnects r e).carrier.ended ≡ o → disconnect_error r e ≡ None → Course is_caller r moves e →
       Course is_caller r moves (disconnects r e)
   own_given (Some reason) ended allowed course = is_gone (course_over is_caller r moves e (disconnects r e) course (ap is_some ended))
-  own_given None still allowed (unknown none side free live lines) =
-      both (has_given r e.carrier) (refused_by (has_given r e.carrier) (awaits_transport (session_at r e)) _ _ allowed).0 free
-  own_given None still allowed (awaited none c terms side was given here kept) =
-      both (awaits_transport (session_at r e))
-      (waits_still (is_some (value_at r e.carrier.live)) (session_in (value_at r e.lines)) c (ap is_some here) kept)
-      (refused_by (has_given r e.carrier) (awaits_transport (session_at r e)) _ _ allowed).1
+  own_given None still allowed (unknown none side free live lines) = grind (arith, both, refused_by)
+  own_given None still allowed (awaited none c terms side was given here kept) = grind (arith, both, waits_still, refused_by)
   own_given None still allowed (is_open given o) =
       let carrier = disconnect_carrier r e in
       let shut = closed_shut r o.peer o.calls.link e.carrier lasts o.here (sym (ap (λ (c : Carrier). c.ended) carrier) ∙ still) in
@@ -223,20 +185,7 @@ module _ (is_caller : Bool) (r : ℕ) (moves : Deeds) (e : End) (lasts : e.carri
   own_given None still allowed (is_gone g) = gone_given g
 
   other_given : (q : ℕ) → r ≢ q → (disconnects q e).carrier.ended ≡ None → Beside r e (disconnects q e)
-  other_given q ne still =
-      let carrier = disconnect_carrier q e in
-      let l : Leaves r e.carrier (closed_with q 128 e.carrier) = closed_leaves q r ne (open_link q e.carrier) e.carrier refl in
-      let still_on : (closed_with q 128 e.carrier).ended ≡ None = sym (ap (λ (c : Carrier). c.ended) carrier) ∙ still in
-      let lines : value_at r (disconnects q e).lines ≡ value_at r e.lines =
-      ap (λ (x : End). value_at r x.lines) (disconnect_is q e still) ∙ given_other r q e.lines ne in
-      record {
-        live = ap (λ (c : Carrier). value_at r c.live) carrier ∙ l.live still_on;
-        given = ap (has_given r) carrier ∙ ap (λ (n : ℕ). nat_lt 0 r && nat_le r n) l.given;
-        side = ap (λ (c : Carrier). c.is_caller) carrier ∙ l.side;
-        ended = still ∙ sym lasts;
-        unlined = λ none. lines ∙ none;
-        kept = λ some. ap session_in lines;
-      }
+  other_given q ne still = grind (arith, disconnect_carrier, closed_leaves, disconnect_is, given_other)
 
   given_steps : (q : ℕ) (b : Bool) → (r == q) ≡ b → disconnect_error q e ≡ None → Course is_caller r moves e →
       Then (marked 0 (closed_puts q)) (disconnects q e)
@@ -245,8 +194,7 @@ module _ (is_caller : Bool) (r : ℕ) (moves : Deeds) (e : End) (lasts : e.carri
       subst (λ (n : ℕ). Then (marked 0 (closed_puts n)) (disconnects n e)) same
       (idle (marked 0 (closed_puts r)) (disconnects r e) (nowhere r (closed_puts r))
       (own_given (disconnects r e).carrier.ended refl (ap (λ (n : ℕ). disconnect_error n e) same ∙ allowed) course))
-  given_steps q false is allowed course =
-      others (marked 0 (closed_puts q)) (disconnects q e) (nowhere r (closed_puts q)) (λ still. other_given q (unequal q r is) still) course
+  given_steps q false is allowed course = search (arith, others, nowhere, other_given, unequal)
 
   -- ---- the byte connection breaks
 

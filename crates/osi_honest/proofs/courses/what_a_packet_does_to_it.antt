@@ -32,12 +32,7 @@ use Rattle.osi_honest.proofs.keeping.what_a_unit_keeps_a_turn_keeps.{IsKept, kep
 -- ---- what holds of each carrier
 
 pub orderly_kept : IsKept IsOrderly
-orderly_kept = record {
-  reacts_to = λ v c h. orderly_unit v c h;
-  carries = record { sends = λ r tsdu c h. orderly_sent r tsdu c h; closes = λ r c h. orderly_closed r 128 c h };
-  untold = λ events c h. orderly_same c c.outgoing events h;
-  ends_so = λ reason c h. orderly_end reason c h;
-}
+orderly_kept = search (arith, orderly_unit, orderly_sent, orderly_closed, orderly_same, orderly_end)
 
 pub sound_kept : IsKept IsSound
 sound_kept = record {
@@ -59,10 +54,7 @@ pub record Between (e : End) : Type 0 where
   pub attended : IsAttended e
 
 pub takes_between : (units : List (List ℕ)) (old new : End) → Between old → TakesPackets old units new → Between new
-takes_between units old new b takes = record {
-  sound = kept_takes IsSound sound_kept units old new b.sound takes;
-  attended = packets_kept IsAttended attended_kept units old new takes b.attended;
-}
+takes_between units old new b takes = grind (arith, kept_takes, sound_kept, packets_kept, attended_kept)
 
 module _ (known : Known) (is_caller : Bool) where
   abbrev CourseSteps : List Value → (ℕ → Deeds) → End → End → Type 0
@@ -103,8 +95,7 @@ module _ (known : Known) (is_caller : Bool) where
   pub takes_steps : (packets : List (List ℕ)) (moves : ℕ → Deeds) (old new : End) → AllByRecursion IsOctets packets → Between old →
       Courses moves old → TakesPackets old packets new → CourseSteps (units_in packets) moves old new
   takes_steps [] moves old new octets b course takes =
-      subst (CourseSteps [] moves old) (sym takes)
-      (step_none is_caller (CourseAll is_caller) moves old.carrier old refl (same_rest old.carrier) course)
+      grind (arith, step_none is_caller (CourseAll is_caller) moves old.carrier old refl (same_rest old.carrier) course)
   takes_steps (u ∷ packets) moves old new octets b course takes =
       let mid = after_packet old u in
       let lasts = lasting_of old.carrier.ended (waits old.lines) takes.0 in
@@ -178,15 +169,7 @@ module _ (known : Known) (is_caller : Bool) where
   all_used : (moves : ℕ → Deeds) (used : List (List ℕ)) (piece rest : List ℕ) (n : ℕ) (old new : Holding) → n ≡ length piece →
       ArePackets used (old.held.octets ++ piece) rest → IsSome new.end.carrier.ended → CourseSteps (units_in used) moves old.end new.end →
       FeedSteps moves (take n piece) old new
-  all_used moves used piece rest n old new all cut ended steps =
-      let whole : take n piece ≡ piece = take_all n piece (omega arith) in
-      record {
-        used = used;
-        rest = rest;
-        cut = subst (λ (l : List ℕ). ArePackets used (old.held.octets ++ l) rest) (sym whole) cut;
-        held = λ lasts. absurd (never_lasts new.end.carrier.ended ended lasts);
-        steps = steps;
-      }
+  all_used moves used piece rest n old new all cut ended steps = grind (arith, take_all, never_lasts)
 
   -- packets, and then the end
   then_over : (packets : List (List ℕ)) (moves : ℕ → Deeds) (old before new : End) → AllByRecursion IsOctets packets → Between old →
@@ -200,15 +183,7 @@ module _ (known : Known) (is_caller : Bool) where
   module _ (moves : ℕ → Deeds) (piece : List ℕ) (n : ℕ) (old new : Holding) (b : Between old.end)
       (course : Courses moves old.end) where
     dry_steps : RunsDry old piece n new → FeedSteps moves (take n piece) old new
-    dry_steps dry =
-        let whole : take n piece ≡ piece = let all = dry.all in take_all n piece (omega arith) in
-        record {
-          used = dry.units;
-          rest = new.held.octets;
-          cut = subst (λ (l : List ℕ). ArePackets dry.units (old.held.octets ++ l) new.held.octets) (sym whole) dry.packets;
-          held = λ lasts. refl;
-          steps = takes_steps dry.units moves old.end new.end (all_octets dry.units _ _ dry.packets) b course dry.taken;
-        }
+    dry_steps dry = grind (arith, take_all, takes_steps, all_octets)
 
     stop_steps : StopsBehind old piece n new → FeedSteps moves (take n piece) old new
     stop_steps stop =
@@ -223,10 +198,7 @@ module _ (known : Known) (is_caller : Bool) where
         }
 
     refused_steps : Refuses old piece n new → FeedSteps moves (take n piece) old new
-    refused_steps f =
-        all_used moves f.units piece f.cut.0 n old new f.all f.cut.1 (ap (λ (e : End). is_some e.carrier.ended) f.ended)
-        (then_over f.units moves old.end f.before new.end (all_octets f.units _ _ f.cut.1) b course f.taken
-        (ap (λ (e : End). e.carrier.outgoing) f.ended) (ap (λ (e : End). is_some e.carrier.ended) f.ended))
+    refused_steps f = grind (arith, all_used, then_over, all_octets)
 
     one_more : (f : FindsNoMemory old piece n new) (packet : List ℕ) → ArePackets (packet ∷ []) f.rest [] →
         ArePackets (f.units ++ packet ∷ []) (old.held.octets ++ piece) ([] ++ drop f.within piece)
@@ -239,9 +211,7 @@ module _ (known : Known) (is_caller : Bool) where
 
     units_one_more : (packets : List (List ℕ)) (packet : List ℕ) →
         units_in packets ++ units_read (units_of packet) ≡ units_in (packets ++ packet ∷ [])
-    units_one_more packets packet =
-        ap (λ (l : List Value). units_in packets ++ l) (sym (append-nil (units_read (units_of packet))))
-        ∙ sym (flat_map-append (λ (u : List ℕ). units_read (units_of u)) packets (packet ∷ []))
+    units_one_more packets packet = grind (arith, append-nil, flat_map-append)
 
     short_steps : (f : FindsNoMemory old piece n new) →
         (new.end ≡ ends NoMemory f.before) ⊎ ((packet : List ℕ) × ArePackets (packet ∷ []) f.rest [] × Starves f.before packet new.end) →

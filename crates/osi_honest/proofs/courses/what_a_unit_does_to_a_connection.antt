@@ -1,18 +1,17 @@
 -- What a unit that arrives does to one connection of a carrier, of either class: nothing; it opens it; the link takes it; or the
 -- connection or the carrier ends. And what is put then.
 -- For the course of a connection.
-use Rattle.osi_honest.proofs.Vocabulary.{[], ap, arith, Bool, Err, false, if◌then◌else◌, inl, inr, is_some, IsSome, List, nat_le, nat_lt}
-use Rattle.osi_honest.proofs.Vocabulary.{None, Ok, Option, refl, Result, Some, subst, sym, true, ℕ, ◌&&◌, ◌++◌, ◌+◌, ◌∙◌, ◌∷◌, ◌≡◌, ◌≢◌}
-use Rattle.osi_honest.proofs.Vocabulary.{eq-eqb, nat_tests, append-nil, AllByRecursion, acknowledge, confirm, data0, data2, disconnect}
-use Rattle.osi_honest.proofs.Vocabulary.{disconnected, error, HasFieldsInRange, IsConnect, may_be_followed, request, Value, Standing, taken}
-use Rattle.osi_honest.proofs.Vocabulary.{accept, refuse, selected_by, Selection, LinkFault, Class, Two, Zero, Local, changes_one, effect}
-use Rattle.osi_honest.proofs.Vocabulary.{How, react_quiet, push_here, put_here, without_here, Happening, told_opened as opened, acceptance}
-use Rattle.osi_honest.proofs.Vocabulary.{agreed_size, confirmed, opened_link, connection_by, connection_of, only_of, RiseFrom, answers}
-use Rattle.osi_honest.proofs.Vocabulary.{answers_request, before_class, denies, has_peer, in_class, in_two, in_zero, is_full, leaves}
-use Rattle.osi_honest.proofs.Vocabulary.{opens_by as opens, settles, taking, to_asked, to_closing, to_connection, to_linked, to_only}
-use Rattle.osi_honest.proofs.Vocabulary.{to_reference, to_unknown, put, Rows, value_at, without, asked, closing, Connection, linked}
-use Rattle.osi_honest.proofs.Vocabulary.{packets, State as Carrier, has_given, Answers, is_for, Opens, IsFreshLink, IsShut, is_of_link}
-use Rattle.osi_honest.proofs.Vocabulary.{CanBeWritten}
+use Rattle.osi_honest.proofs.Vocabulary.{[], ap, arith, Bool, Err, false, if◌then◌else◌, IsSome, List, nat_le, nat_lt, None, Ok, Option}
+use Rattle.osi_honest.proofs.Vocabulary.{refl, Result, Some, subst, sym, true, ℕ, ◌&&◌, ◌++◌, ◌+◌, ◌∙◌, ◌∷◌, ◌≡◌, ◌≢◌, eq-eqb, nat_tests}
+use Rattle.osi_honest.proofs.Vocabulary.{append-nil, AllByRecursion, acknowledge, confirm, data0, data2, disconnect, disconnected, error}
+use Rattle.osi_honest.proofs.Vocabulary.{HasFieldsInRange, IsConnect, may_be_followed, request, Value, Standing, taken, accept, refuse}
+use Rattle.osi_honest.proofs.Vocabulary.{selected_by, Selection, LinkFault, Class, Two, Zero, Local, changes_one, effect, How, react_quiet}
+use Rattle.osi_honest.proofs.Vocabulary.{push_here, put_here, without_here, Happening, told_opened as opened, acceptance, agreed_size}
+use Rattle.osi_honest.proofs.Vocabulary.{confirmed, opened_link, connection_by, connection_of, only_of, RiseFrom, answers, answers_request}
+use Rattle.osi_honest.proofs.Vocabulary.{before_class, denies, has_peer, in_class, in_two, in_zero, is_full, leaves, opens_by as opens}
+use Rattle.osi_honest.proofs.Vocabulary.{settles, taking, to_asked, to_closing, to_connection, to_linked, to_only, to_reference, to_unknown}
+use Rattle.osi_honest.proofs.Vocabulary.{put, Rows, value_at, without, asked, closing, Connection, linked, packets, State as Carrier}
+use Rattle.osi_honest.proofs.Vocabulary.{has_given, Answers, is_for, Opens, IsFreshLink, IsShut, is_of_link, CanBeWritten}
 use Rattle.osi_tpdu.specs.Value.{Connect}
 use Rattle.osi_carrier.specs.Orderly.{told_of}
 use Rattle.osi_carrier.specs.React.{breaks, react}
@@ -87,12 +86,7 @@ pub data Does (r : ℕ) (v : Value) (old new : Carrier) : Type 0 where
 -- ---- a unit of another connection
 
 pub given_by_how : (q r : ℕ) (old new : Carrier) → r ≢ q → new.ended ≡ None → How q old new → has_given r new ≡ has_given r old
-given_by_how q r old new ne lasts (inl kept) = ap (λ (n : ℕ). nat_lt 0 r && nat_le r n) kept.given
-given_by_how q r old new ne lasts (inr (inl joined)) =
-    ap (λ (n : ℕ). nat_lt 0 r && nat_le r n) joined.given
-    ∙ ap (λ (b : Bool). nat_lt 0 r && b) (given_before r old.given (λ same. ne (same ∙ sym joined.next)))
-given_by_how q r old new ne lasts (inr (inr gone)) =
-    absurd (let some = gone.ended in let none : is_some new.ended ≡ false = ap is_some lasts in cc)
+given_by_how q r old new ne lasts h = grind (arith, given_before)
 
 pub acts_elsewhere : (r : ℕ) (v : Value) (units : List Value) (s : Carrier) → r ≢ connection_of v s → (react v s).ended ≡ None →
     IsDeaf r v s → Acts r v units s (react v s)
@@ -161,8 +155,7 @@ module _ (s : Carrier) (rise : RiseFrom 0 s.live) where
       (if in_use then denies 131 c.source s else (if full then denies 1 c.source s else answers c (selected_by c s.local) s.class s))
   request_by c true full called fits = acts_denies c 131
   request_by c false true called fits = acts_denies c 1
-  request_by c false false called fits =
-      acts_selected c (selected_by c s.local) s.class called fits (selected_in_range c s.local fits)
+  request_by c false false called fits = search (arith, acts_selected, selected_in_range)
 
   acts_request : (c : Connect) → s.is_caller ≡ false → IsConnect c → Does (s.given + 1) (request c) s (answers_request c s)
   acts_request c called fits = request_by c (has_peer c.source s.live) (is_full s) called fits
@@ -173,9 +166,7 @@ module _ (s : Carrier) (rise : RiseFrom 0 s.live) where
       puts r (disconnect destination source reason user) (disconnected source destination) _ refl refl tt
       (acts_none r (disconnect destination source reason user) _ (to_unknown (disconnect destination source reason user) s) refl refl refl
       (λ peer link here. refl))
-  acts_unknown r (disconnected destination source) =
-      nothing r (disconnected destination source) s refl
-      (acts_none r (disconnected destination source) _ s refl refl refl (λ peer link here. refl))
+  acts_unknown r (disconnected destination source) = search (arith, nothing, acts_none)
   acts_unknown r v = ends_it r v _ refl refl
 
   -- the CC is awaited
@@ -201,12 +192,8 @@ module _ (s : Carrier) (rise : RiseFrom 0 s.live) where
 
   acts_asked : (r : ℕ) (v : Value) → IsNamed r v → value_at r s.live ≡ Some asked → Does r v s (to_asked r v s)
   acts_asked r (confirm destination c) named here = acts_opens r destination c (confirmed c s.local s.class) named here
-  acts_asked r (disconnect destination source reason user) named here =
-      nothing r (disconnect destination source reason user) (to_asked r (disconnect destination source reason user) s) refl
-      (dropped r (disconnect destination source reason user) _ asked _ here refl refl)
-  acts_asked r (error destination cause) named here =
-      nothing r (error destination cause) (to_asked r (error destination cause) s) refl
-      (dropped r (error destination cause) _ asked _ here refl refl)
+  acts_asked r (disconnect destination source reason user) named here = search (arith, nothing, dropped)
+  acts_asked r (error destination cause) named here = search (arith, nothing, dropped)
   acts_asked r v named here = acts_unknown r v
 
   -- it is open
@@ -236,8 +223,7 @@ module _ (s : Carrier) (rise : RiseFrom 0 s.live) where
 
   acts_linked : (r peer : ℕ) (link : Standing) (v : Value) → value_at r s.live ≡ Some (linked peer link) →
       Does r v s (to_linked r peer link v s)
-  acts_linked r peer link (disconnect destination source reason user) here =
-      acts_leaves r peer reason link (disconnect destination source reason user) s.class here
+  acts_linked r peer link (disconnect destination source reason user) here = search (arith, acts_leaves)
   acts_linked r peer link v here = acts_taking r peer link v _ here refl
 
   -- it is closing
@@ -245,15 +231,9 @@ module _ (s : Carrier) (rise : RiseFrom 0 s.live) where
   closing_deaf r peer v here q link is = absurd (let both : Some (closing peer) ≡ Some (linked q link) = sym here ∙ is in cc)
 
   acts_closing : (r peer : ℕ) (v : Value) → value_at r s.live ≡ Some (closing peer) → Does r v s (to_closing r v s)
-  acts_closing r peer (disconnected destination source) here =
-      nothing r (disconnected destination source) (to_closing r (disconnected destination source) s) refl
-      (dropped r (disconnected destination source) _ (closing peer) _ here refl refl)
-  acts_closing r peer (disconnect destination source reason user) here =
-      nothing r (disconnect destination source reason user) (to_closing r (disconnect destination source reason user) s) refl
-      (dropped r (disconnect destination source reason user) _ (closing peer) _ here refl refl)
-  acts_closing r peer v here =
-      nothing r v s refl
-      (acts_none r v _ s refl refl refl (closing_deaf r peer v here))
+  acts_closing r peer (disconnected destination source) here = search (arith, nothing, dropped)
+  acts_closing r peer (disconnect destination source reason user) here = search (arith, nothing, dropped)
+  acts_closing r peer v here = search (arith, nothing, acts_none, closing_deaf)
 
   acts_connection : (r : ℕ) (o : Option Connection) (v : Value) → (o ≡ Some asked → IsNamed r v) → value_at r s.live ≡ o →
       Does r v s (to_connection r o v s)
@@ -269,8 +249,7 @@ module _ (s : Carrier) (rise : RiseFrom 0 s.live) where
 
   acts_before : (b : Bool) (v : Value) → s.is_caller ≡ b → HasFieldsInRange v → Does (connection_by None v s) v s (before_class b v s)
   acts_before true (confirm destination c) is fits = acts_reference destination (confirm destination c) refl
-  acts_before true (disconnect destination source reason user) is fits =
-      acts_reference destination (disconnect destination source reason user) tt
+  acts_before true (disconnect destination source reason user) is fits = search (arith, acts_reference)
   acts_before true (error destination cause) is fits = acts_reference destination (error destination cause) tt
   acts_before true v is fits = ends_it _ v _ refl refl
   acts_before false (request c) is fits = acts_request c is fits
@@ -298,10 +277,8 @@ module _ (s : Carrier) (rise : RiseFrom 0 s.live) where
   acts_two false (data0 end user) is fits = ends_it _ (data0 end user) _ refl refl
   acts_two true (confirm destination c) is fits = acts_reference destination (confirm destination c) refl
   acts_two false (confirm destination c) is fits = acts_reference destination (confirm destination c) refl
-  acts_two true (disconnect destination source reason user) is fits =
-      acts_reference destination (disconnect destination source reason user) tt
-  acts_two false (disconnect destination source reason user) is fits =
-      acts_reference destination (disconnect destination source reason user) tt
+  acts_two true (disconnect destination source reason user) is fits = search (arith, acts_reference)
+  acts_two false (disconnect destination source reason user) is fits = search (arith, acts_reference)
   acts_two true (disconnected destination source) is fits = acts_reference destination (disconnected destination source) tt
   acts_two false (disconnected destination source) is fits = acts_reference destination (disconnected destination source) tt
   acts_two true (data2 destination number end user) is fits = acts_reference destination (data2 destination number end user) tt
@@ -319,6 +296,4 @@ module _ (s : Carrier) (rise : RiseFrom 0 s.live) where
   acts_class (Some Two) v fits never = acts_two s.is_caller v refl fits
 
 pub unit_does : (v : Value) (s : Carrier) → IsSound s → s.ended ≡ None → HasFieldsInRange v → Does (connection_of v s) v s (react v s)
-unit_does v s h lasts fits =
-    subst (Does (connection_of v s) v s) (sym (react_quiet v s lasts))
-    (acts_class s h.orderly.rise s.class v fits (λ is r was. zero_asks_none s r h.by_class is was))
+unit_does v s h lasts fits = search (arith, react_quiet, acts_class, zero_asks_none)

@@ -1,10 +1,10 @@
 -- Calls of a link one after the other: what they hand in and out and give, and all that is given for TSDUs that are handed in.
 -- For the course of a connection.
-use Rattle.osi_honest.proofs.Vocabulary.{[], ap, append_assoc, arith, length, List, map, Option, refl, subst, suc, sym, ℕ, ◌++◌, ◌+◌, ◌∙◌}
-use Rattle.osi_honest.proofs.Vocabulary.{◌∷◌, ◌≡◌, append-nil, map-append, Value, drained_leaves, drained_moves, given_by, all_given, Given}
-use Rattle.osi_honest.proofs.Vocabulary.{Standing, unit_of, with_tsdu, give_out, hand_in, hand_out, Move, MovesAlong, take_in, tsdu_out}
-use Rattle.osi_honest.proofs.Vocabulary.{tsdus_in, tsdus_out, Class, Two, Zero, Local, opened_link, pumped, Deeds, IsFreshLink, no_deeds}
-use Rattle.osi_honest.proofs.Vocabulary.{said_in, taken_in, then_did, units_given, units_taken, Said, said_after}
+use Rattle.osi_honest.proofs.Vocabulary.{[], ap, append_assoc, arith, length, List, map, Option, refl, subst, sym, ℕ, ◌++◌, ◌+◌, ◌∷◌, ◌≡◌}
+use Rattle.osi_honest.proofs.Vocabulary.{append-nil, map-append, Value, drained_leaves, drained_moves, given_by, all_given, Given, Standing}
+use Rattle.osi_honest.proofs.Vocabulary.{unit_of, with_tsdu, give_out, hand_in, hand_out, Move, MovesAlong, take_in, tsdu_out, tsdus_in}
+use Rattle.osi_honest.proofs.Vocabulary.{tsdus_out, Class, Local, opened_link, pumped, Deeds, IsFreshLink, no_deeds, said_in, taken_in}
+use Rattle.osi_honest.proofs.Vocabulary.{then_did, units_given, units_taken, Said, said_after}
 use Rattle.std.proofs.lemmas.Grind.{flat_map-append}
 use Rattle.osi_class.specs.Between.{IsFresh}
 
@@ -26,10 +26,7 @@ taken_more xs ys = flat_map-append taken_in xs ys
 pub said_more : (n : ℕ) (xs ys : List Move) → said_in n (xs ++ ys) ≡ said_in n xs ++ said_in (n + length (tsdus_out xs)) ys
 said_more n [] ys = ap (λ (m : ℕ). said_in m ys) (let t : n ≡ n + 0 = omega arith in t)
 said_more n (hand_in tsdu ∷ xs) ys = ap (λ (l : List Said). record { octets = tsdu; taken = n } ∷ l) (said_more n xs ys)
-said_more n (hand_out tsdu ∷ xs) ys =
-    said_more (n + 1) xs ys
-    ∙ ap (λ (m : ℕ). said_in (n + 1) xs ++ said_in m ys)
-    (let t : n + 1 + length (tsdus_out xs) ≡ n + suc (length (tsdus_out xs)) = omega arith in t)
+said_more n (hand_out tsdu ∷ xs) ys = grind (arith, said_more (n + 1) xs ys)
 said_more n (give_out unit ∷ xs) ys = said_more n xs ys
 said_more n (take_in unit ∷ xs) ys = said_more n xs ys
 
@@ -69,9 +66,7 @@ none_said n (take_in unit ∷ moves) h = none_said n moves h
 -- what was put before, and what the link gave then
 pub put_more : (peer : ℕ) (xs ys : List Move) (put : List Value) → put ≡ map (unit_of peer) (units_given xs) →
     put ++ map (unit_of peer) (units_given ys) ≡ map (unit_of peer) (units_given (xs ++ ys))
-put_more peer xs ys put is =
-    ap (λ (l : List Value). l ++ map (unit_of peer) (units_given ys)) is
-    ∙ sym (map-append (unit_of peer) (units_given xs) (units_given ys)) ∙ ap (map (unit_of peer)) (sym (given_more xs ys))
+put_more peer xs ys put is = grind (arith, map-append, given_more)
 
 -- ---- what was done
 
@@ -84,8 +79,7 @@ then_joined a b c = λ i. record { calls = append_assoc a.calls b.calls c.calls 
 -- ---- a link as it is opened
 
 opened_fresh : (class : Class) (size : Option ℕ) (local : Local) (credit : ℕ) → IsFresh (opened_link class size local credit)
-opened_fresh Zero size local credit = (refl, refl, refl)
-opened_fresh Two size local credit = (refl, refl, refl)
+opened_fresh class size local credit = grind arith
 
 pub fresh_of : (link : Standing) → IsFreshLink link → IsFresh link
 fresh_of link f = subst IsFresh (sym f.is) (opened_fresh f.class f.size f.local f.credit)
@@ -106,15 +100,7 @@ abbrev pub one_in : List ℕ → Standing → List Move
 one_in tsdu link = hand_in tsdu ∷ gives (all_given (with_tsdu link tsdu))
 
 pub hands_one : (link : Standing) (tsdu : List ℕ) → HandsIn link (tsdu ∷ []) (pumped (with_tsdu link tsdu)) (one_in tsdu link)
-hands_one link tsdu =
-    let units = all_given (with_tsdu link tsdu) in
-    record {
-      along = (with_tsdu link tsdu, refl, drained_moves (with_tsdu link tsdu));
-      said = λ n. ap (λ (l : List Said). record { octets = tsdu; taken = n } ∷ l) (gives_unsaid n units);
-      out = gives_none_out units;
-      taken = gives_untaken units;
-      joining = (drained_leaves (with_tsdu link tsdu)).1;
-    }
+hands_one link tsdu = grind (arith, drained_moves, gives_unsaid, gives_none_out, gives_untaken, drained_leaves)
 
 after_both : (n : ℕ) (some others : List (List ℕ)) → said_after n (some ++ others) ≡ said_after n some ++ said_after n others
 after_both n [] others = refl
@@ -122,14 +108,4 @@ after_both n (tsdu ∷ some) others = ap (λ (l : List Said). record { octets = 
 
 pub hands_more : (link mid after : Standing) (tsdus others : List (List ℕ)) (xs ys : List Move) → HandsIn link tsdus mid xs →
     HandsIn mid others after ys → HandsIn link (tsdus ++ others) after (xs ++ ys)
-hands_more link mid after tsdus others xs ys a b = record {
-  along = along_more xs ys link mid after a.along b.along;
-  said = λ n. said_more n xs ys ∙ ap (λ (l : List Said). l ++ said_in (n + length (tsdus_out xs)) ys) (a.said n)
-      ∙ ap (λ (m : ℕ). said_after n tsdus ++ said_in m ys)
-      (ap (λ (l : List (List ℕ)). n + length l) a.out ∙ (let t : n + 0 ≡ n = omega arith in t))
-      ∙ ap (λ (l : List Said). said_after n tsdus ++ l) (b.said n)
-      ∙ sym (after_both n tsdus others);
-  out = out_more xs ys ∙ ap (λ (l : List (List ℕ)). l ++ tsdus_out ys) a.out ∙ b.out;
-  taken = taken_more xs ys ∙ ap (λ (l : List Value). l ++ units_taken ys) a.taken ∙ b.taken;
-  joining = b.joining ∙ a.joining;
-}
+hands_more link mid after tsdus others xs ys a b = grind (arith, along_more, said_more, after_both, out_more, taken_more)

@@ -12,13 +12,10 @@ use Rattle.osi_honest.proofs.reading.what_a_link_gives_can_be_written.{IsNumbere
 -- ---- what was put for one connection
 
 fresh_numbered : (link : Standing) → IsFreshLink link → IsNumbered link.flow
-fresh_numbered link fresh =
-    subst (λ (s : Standing). IsNumbered s.flow) (sym fresh.is) (link_opens fresh.class fresh.size fresh.local fresh.credit)
+fresh_numbered link fresh = grind (arith, link_opens)
 
 calls_written : (peer : ℕ) (deeds : Deeds) → AreCalls peer deeds → AllByRecursion CanBeWritten deeds.put
-calls_written peer deeds c =
-    subst (AllByRecursion CanBeWritten) (sym c.put)
-    (moves_written peer deeds.calls c.first c.link (fresh_numbered c.first c.fresh) c.along)
+calls_written peer deeds c = grind (arith, moves_written peer deeds.calls c.first c.link (fresh_numbered c.first c.fresh) c.along)
 
 none_put : (deeds : Deeds) → deeds ≡ no_deeds → AllByRecursion CanBeWritten deeds.put
 none_put deeds none = subst (λ (d : Deeds). AllByRecursion CanBeWritten d.put) (sym none) tt
@@ -47,8 +44,7 @@ each_more m units each = λ r some. later_part (if_of r m) (units_at r units) (e
 
 own_unit : (b : Bool) (unit : Value) (others : List Value) → b ≡ true →
     AllByRecursion CanBeWritten ((if b then unit ∷ [] else []) ++ others) → CanBeWritten unit
-own_unit true unit others e all = all.0
-own_unit false unit others e all = absurd (cc)
+own_unit b unit others e all = grind arith
 
 one_written : (r : ℕ) (unit : Value) (units : List Marked) → is_of_link unit ≡ nat_lt 0 r → (is_of_link unit ≡ false → CanBeWritten unit) →
     CanEach ((r, unit) ∷ units) → CanBeWritten unit
@@ -58,8 +54,7 @@ one_written (suc n) unit units mark plain each =
 
 all_written : (units : List Marked) → AreAccounted units → CanEach units → AllByRecursion CanBeWritten (all_units units)
 all_written [] all each = tt
-all_written (m ∷ units) all each =
-    (one_written m.0 m.1 units all.0.0 all.0.1 each, all_written units all.1 (each_more m units each))
+all_written (m ∷ units) all each = search (arith, one_written, each_more, all_written units all.1 (each_more m units each))
 
 pub turn_written : (is_caller : Bool) (deeds more : ℕ → Deeds) (e : End) (put : List Marked) →
     ((r : ℕ) → Course is_caller r (then_did (deeds r) (more r)) e) → ((r : ℕ) → 0 < r → (more r).put ≡ units_at r put) →

@@ -2,18 +2,17 @@
 -- For the course of a connection.
 use Rattle.osi_honest.proofs.Vocabulary.{[], ap, arith, Bool, false, is_some, length, List, map, nat_le, nat_lt, None, Option, refl, Some}
 use Rattle.osi_honest.proofs.Vocabulary.{subst, sym, true, ℕ, ◌&&◌, ◌++◌, ◌+◌, ◌∙◌, ◌≡◌, append-nil, Joining, Standing, unit_of, Move}
-use Rattle.osi_honest.proofs.Vocabulary.{MovesAlong, tsdus_out, closed_with, open_link, send_all_error, sent_all, value_at, linked}
-use Rattle.osi_honest.proofs.Vocabulary.{State as Carrier, EndReason, SendError, tsdus_sent, after_input, Input, Listener}
-use Rattle.osi_honest.proofs.Vocabulary.{session_react as react, is_wait_transport, handed, lengths_fit, closed_given, has_given, kept_at}
-use Rattle.osi_honest.proofs.Vocabulary.{limit_for, to_session, End, Line, answers_by, hands, sends, AreCalls, Course, Deeds, Gone}
-use Rattle.osi_honest.proofs.Vocabulary.{IsFreshLink, IsNew, IsShut, said_in, Speaks, units_given, is_gone, is_open, closed, units_at}
-use Rattle.osi_honest.proofs.Vocabulary.{History, Said, said_after}
+use Rattle.osi_honest.proofs.Vocabulary.{MovesAlong, tsdus_out, closed_with, open_link, sent_all, value_at, linked, State as Carrier}
+use Rattle.osi_honest.proofs.Vocabulary.{EndReason, tsdus_sent, after_input, Input, Listener, session_react as react, is_wait_transport}
+use Rattle.osi_honest.proofs.Vocabulary.{handed, lengths_fit, closed_given, has_given, kept_at, limit_for, to_session, End, hands, sends}
+use Rattle.osi_honest.proofs.Vocabulary.{AreCalls, Course, Deeds, Gone, IsFreshLink, IsNew, IsShut, said_in, Speaks, units_given, is_gone}
+use Rattle.osi_honest.proofs.Vocabulary.{is_open, closed, units_at, History, Said, said_after}
 use Rattle.osi_honest.specs.Courses.Gone.{over}
 use Rattle.osi_honest.proofs.class_0.a_session_of_class_0_puts_what_it_sends.{HasLine, IsProper, kept_then, line_there, moved_by}
 use Rattle.osi_honest.proofs.courses.steps_of_a_course.{HasNone, StepAt, done_by, step_idle}
 use Rattle.osi_honest.proofs.courses.units_of_each_connection.{marked, marked_own, nowhere}
-use Rattle.osi_honest.proofs.courses.what_a_session_puts.{all_put, answer_puts, line_puts, move_puts, put_closing, put_unless, session_puts}
-use Rattle.osi_honest.proofs.courses.what_a_link_takes_and_is_handed.{Sends, closed_shut, link_open, sends_all}
+use Rattle.osi_honest.proofs.courses.what_a_session_puts.{all_put, answer_puts, line_puts, move_puts, put_closing, session_puts}
+use Rattle.osi_honest.proofs.courses.what_a_link_takes_and_is_handed.{Sends, closed_shut, sends_all}
 use Rattle.osi_honest.proofs.courses.what_calls_of_a_link_say.{along_more, out_more, put_more, said_more}
 
 -- The connection is open, and this would be said by its session with an input.
@@ -45,14 +44,10 @@ module _ (is_caller : Bool) (r : ℕ) (moves : Deeds) (session : Listener) (inpu
   -- it closes its connection, and sends nothing
   nothing_said : (react session input).closes ≡ true →
       said_in 0 moves.calls ++ said_after (length (tsdus_out moves.calls)) (sends session input) ≡ said_in 0 moves.calls
-  nothing_said closes =
-      ap (λ (l : List (List ℕ)). said_in 0 moves.calls ++ said_after (length (tsdus_out moves.calls)) l) (t.proper.silent closes)
-      ∙ append-nil (said_in 0 moves.calls)
+  nothing_said closes = grind (arith, append-nil)
 
   closed_is : (react session input).closes ≡ true → HasLine r session e.lines → there.carrier ≡ closed_with r 128 e.carrier
-  closed_is closes h =
-      ap (λ (x : End). x.carrier) (moved_by r session input e h)
-      ∙ ap (λ (b : Bool). answers_by b r (tsdus_sent (limit_for session input) (react session input).reply) e.carrier) closes
+  closed_is closes h = grind (arith, moved_by)
 
   these_calls : AreCalls t.peer moves
   these_calls = record { first = t.first; link = t.link; fresh = t.fresh; along = t.along; handed = t.handed; put = t.put }
@@ -83,58 +78,24 @@ module _ (is_caller : Bool) (r : ℕ) (moves : Deeds) (session : Listener) (inpu
   -- it sends these TSDUs
   said_then : (more : List Move) → tsdus_out more ≡ [] → ((n : ℕ) → said_in n more ≡ said_after n (sends session input)) →
       (react session input).closes ≡ false → Speaks is_caller (moves.calls ++ more) false (after_input session input)
-  said_then more none said closes =
-      let took : tsdus_out (moves.calls ++ more) ≡ tsdus_out moves.calls =
-      out_more moves.calls more ∙ ap (λ (l : List (List ℕ)). tsdus_out moves.calls ++ l) none ∙ append-nil (tsdus_out moves.calls) in
-      let all : said_in 0 (moves.calls ++ more)
-      ≡ said_in 0 moves.calls ++ said_after (length (tsdus_out moves.calls)) (sends session input) =
-      said_more 0 moves.calls more ∙ ap (λ (l : List Said). said_in 0 moves.calls ++ l) (said (0 + length (tsdus_out moves.calls)))
-      ∙ ap (λ (n : ℕ). said_in 0 moves.calls ++ said_after n (sends session input))
-      (let same : 0 + length (tsdus_out moves.calls) ≡ length (tsdus_out moves.calls) = omega arith in same) in
-      record {
-        begin = t.begin;
-        new = t.new;
-        history = subst (λ (b : Bool). History t.begin (tsdus_out (moves.calls ++ more)) (said_in 0 (moves.calls ++ more)) b
-            (after_input session input))
-            closes
-            (subst (λ (l : List Said). History t.begin (tsdus_out (moves.calls ++ more)) l (react session input).closes
-            (after_input session input))
-            (sym all)
-            (subst (λ (l : List (List ℕ)). History t.begin l
-            (said_in 0 moves.calls ++ said_after (length (tsdus_out moves.calls)) (sends session input)) (react session input).closes
-            (after_input session input)) (sym took) t.history));
-      }
+  said_then more none said closes = grind (arith, out_more, append-nil, said_more)
 
   sent_is : (react session input).closes ≡ false → HasLine r session e.lines → there.carrier ≡ sent_all r (sends session input) e.carrier
-  sent_is closes h =
-      ap (λ (x : End). x.carrier) (moved_by r session input e h)
-      ∙ ap (λ (b : Bool). answers_by b r (tsdus_sent (limit_for session input) (react session input).reply) e.carrier) closes
-      ∙ ap (λ (l : List (List ℕ)). hands r l e.carrier) t.proper.same
-      ∙ handed r (sends session input) e.carrier t.proper.short
+  sent_is closes h = grind (arith, moved_by, handed)
 
   -- what is put then
   abbrev TSDUS : List (List ℕ)
   TSDUS = tsdus_sent (limit_for session input) (react session input).reply
 
   put_is : HasLine r session e.lines → session_puts r input e ≡ answer_puts (react session input).closes r TSDUS e.carrier
-  put_is h =
-      ap (λ (o : Option Line). line_puts r o input e) h.here
-      ∙ ap (λ (o : Option Listener). move_puts r o input e.carrier) h.is
+  put_is h = grind (arith, line_puts, move_puts)
 
   none_put : (react session input).closes ≡ true → HasLine r session e.lines → HasNone r (session_puts r input e)
-  none_put closes h = λ some.
-      ap (units_at r) (put_is h ∙ ap (λ (b : Bool). answer_puts b r TSDUS e.carrier) closes)
-      ∙ nowhere r (put_closing r (open_link r e.carrier) e.carrier) some
+  none_put closes h = grind (arith, put_is, answer_puts, nowhere, put_closing)
 
   all_sent : (react session input).closes ≡ false → HasLine r session e.lines →
       session_puts r input e ≡ marked r (all_put r (sends session input) e.carrier)
-  all_sent closes h =
-      put_is h ∙ ap (λ (b : Bool). answer_puts b r TSDUS e.carrier) closes
-      ∙ ap (λ (l : List (List ℕ)). answer_puts false r l e.carrier) t.proper.same
-      ∙ ap (λ (o : Option (ℕ × Standing)). marked r (put_unless (send_all_error (sends session input) o) r (sends session input) e.carrier))
-      (link_open r t.peer t.link e.carrier t.lasts t.here)
-      ∙ ap (λ (o : Option SendError). marked r (put_unless o r (sends session input) e.carrier))
-      (lengths_fit (sends session input) t.proper.short)
+  all_sent closes h = grind (arith, lengths_fit)
 
   speaks_by : (b : Bool) → (react session input).closes ≡ b → HasLine r session e.lines →
       StepAt r (session_puts r input e) [] (Course is_caller r) moves there

@@ -1,26 +1,25 @@
 -- Units that arrive, one after the other: what becomes of the course of one connection, before the sessions hear of it.
 -- For the course of a connection.
-use Rattle.osi_honest.proofs.Vocabulary.{[], ap, arith, Bool, false, inl, inr, is_some, IsSome, IsTrue, length, List, map, None, Ok, Option}
-use Rattle.osi_honest.proofs.Vocabulary.{refl, Some, subst, suc, sym, take, true, zero, ℕ, ◌++◌, ◌+◌, ◌<◌, ◌==◌, ◌∙◌, ◌∷◌, ◌≡◌, ◌≢◌}
-use Rattle.osi_honest.proofs.Vocabulary.{eqb-true, append-nil, units_fit, AreUnits, may_be_followed, Value, Fits, all_given, Standing}
-use Rattle.osi_honest.proofs.Vocabulary.{taken, unit_of, Move, tsdus_in, tsdus_out, Zero, Local, react_over, absent, put_here}
-use Rattle.osi_honest.proofs.Vocabulary.{told_opened as opened, tsdu, opened_link, connection_of, RiseFrom, pumped, written_by, handed_out}
-use Rattle.osi_honest.proofs.Vocabulary.{reacts, settles, Rows, value_at, asked, Connection, linked, packets, State as Carrier, EndReason}
-use Rattle.osi_honest.proofs.Vocabulary.{Listener, both, along_units, calls_with, has_given, terms_error, with_carrier, End}
-use Rattle.osi_honest.proofs.Vocabulary.{Request as Connect, AreCalls, Course, Deeds, Gone, IsFreshLink, IsNew, IsOpen, IsShut, no_deeds}
-use Rattle.osi_honest.proofs.Vocabulary.{said_in, Speaks, then_did, units_given, units_taken, awaited, is_gone, is_open, unknown, closed}
-use Rattle.osi_honest.proofs.Vocabulary.{never, History, Said}
+use Rattle.osi_honest.proofs.Vocabulary.{[], ap, arith, Bool, false, inl, inr, is_some, IsSome, IsTrue, List, map, None, Ok, Option, refl}
+use Rattle.osi_honest.proofs.Vocabulary.{Some, subst, sym, take, true, ℕ, ◌++◌, ◌+◌, ◌<◌, ◌==◌, ◌∙◌, ◌∷◌, ◌≡◌, ◌≢◌, eqb-true, append-nil}
+use Rattle.osi_honest.proofs.Vocabulary.{units_fit, AreUnits, may_be_followed, Value, Fits, all_given, Standing, taken, unit_of, Move}
+use Rattle.osi_honest.proofs.Vocabulary.{tsdus_in, tsdus_out, Zero, Local, react_over, absent, put_here, told_opened as opened, tsdu}
+use Rattle.osi_honest.proofs.Vocabulary.{opened_link, connection_of, RiseFrom, pumped, written_by, handed_out, reacts, settles, Rows}
+use Rattle.osi_honest.proofs.Vocabulary.{value_at, asked, Connection, linked, packets, State as Carrier, EndReason, Listener, both}
+use Rattle.osi_honest.proofs.Vocabulary.{along_units, calls_with, has_given, terms_error, with_carrier, End, Request as Connect, AreCalls}
+use Rattle.osi_honest.proofs.Vocabulary.{Course, Deeds, Gone, IsFreshLink, IsNew, IsOpen, IsShut, no_deeds, Speaks, then_did, units_given}
+use Rattle.osi_honest.proofs.Vocabulary.{units_taken, awaited, is_gone, is_open, unknown, closed, never}
 use Rattle.osi_carrier.specs.React.{react}
 use Rattle.osi_honest.specs.Courses.Gone.{over}
 use Rattle.osi_honest.specs.Talking as history
 use Rattle.osi_honest.proofs.class_0.what_packets_do_in_class_0.{never_lasts}
-use Rattle.osi_honest.proofs.courses.how_long_a_connection_is_open.{Life, life_to_past, stage_at, stage_over}
+use Rattle.osi_honest.proofs.courses.how_long_a_connection_is_open.{Life, stage_at}
 use Rattle.osi_honest.proofs.courses.steps_of_a_course.{HoldEach, StepAt, States, StepsBy, done_by, same_rest, step_as, step_each}
 use Rattle.osi_honest.proofs.courses.steps_of_a_course.{step_idle, step_none, step_then}
 use Rattle.osi_honest.proofs.courses.the_connections_of_each_class.{IsSound, sound_unit}
 use Rattle.osi_honest.proofs.courses.the_first_cc_opens_a_connection.{FirstOf, first_of, unit_not_cc}
-use Rattle.osi_honest.proofs.courses.units_of_each_connection.{elsewhere, given_accounted, marked, marked_all, marked_own, none_marked}
-use Rattle.osi_honest.proofs.courses.units_of_each_connection.{nowhere, plain_accounted, unequal}
+use Rattle.osi_honest.proofs.courses.units_of_each_connection.{elsewhere, given_accounted, marked, marked_all, marked_own, nowhere}
+use Rattle.osi_honest.proofs.courses.units_of_each_connection.{plain_accounted, unequal}
 use Rattle.osi_honest.proofs.courses.what_a_link_takes_and_is_handed.{HasFew, has_few, takes_in}
 use Rattle.osi_honest.proofs.courses.what_a_unit_does_to_a_connection.{Acts, Does, NoneOf, acts_elsewhere, none_more, unit_does}
 use Rattle.osi_honest.proofs.courses.what_a_unit_does_to_a_connection.Acts.{answers_it, joins, leaves_it, rests, over as carrier_over}
@@ -28,7 +27,7 @@ use Rattle.osi_honest.proofs.courses.what_a_unit_does_to_a_connection.Does.{pass
 use Rattle.osi_honest.proofs.courses.what_another_connection_leaves.{Beside, course_beside, course_over, gone_beside, gone_over}
 use Rattle.osi_honest.proofs.courses.what_calls_of_a_link_say.{along_more, none_said, out_more, put_more, said_more}
 use Rattle.osi_honest.proofs.courses.what_waits_to_be_heard.{Due, JustOpened, Waits, due_last}
-use Rattle.osi_honest.proofs.courses.what_waits_to_be_heard.Waits.{answered, away, called, came, still}
+use Rattle.osi_honest.proofs.courses.what_waits_to_be_heard.Waits.{answered, away, came, still}
 use Rattle.osi_honest.proofs.courses.which_connection_a_unit_is_for.{elsewhere_deaf, passed_life, taken_life}
 
 -- ---- no event of this connection waits
@@ -66,16 +65,7 @@ last_after is_caller r v moves e alone now = (now, λ followed. absurd (let both
 
 more_said : (is_caller : Bool) (moves more : List Move) (is_closed : Bool) (session : Listener) → tsdus_out more ≡ [] → tsdus_in more ≡ [] →
     Speaks is_caller moves is_closed session → Speaks is_caller (moves ++ more) is_closed session
-more_said is_caller moves more is_closed session none into s = record {
-  begin = s.begin;
-  new = s.new;
-  history = subst (λ (l : List (List ℕ)). History s.begin l (said_in 0 (moves ++ more)) is_closed session)
-      (sym (out_more moves more ∙ ap (λ (l : List (List ℕ)). tsdus_out moves ++ l) none ∙ append-nil (tsdus_out moves)))
-      (subst (λ (l : List Said). History s.begin (tsdus_out moves) l is_closed session)
-      (sym (said_more 0 moves more ∙ ap (λ (l : List Said). said_in 0 moves ++ l) (none_said (0 + length (tsdus_out moves)) more into)
-      ∙ append-nil (said_in 0 moves)))
-      s.history);
-}
+more_said is_caller moves more is_closed session none into s = grind (arith, out_more, append-nil, said_more, none_said)
 
 -- no call was made yet
 pub no_calls : (peer : ℕ) (local : Local) (moves : Deeds) → moves ≡ no_deeds → AreCalls peer moves
@@ -117,14 +107,7 @@ module _ (is_caller : Bool) (r : ℕ) (moves : Deeds) (v : Value) (e : End) (h :
 
   module _ (lasts : new.carrier.ended ≡ None) (lasted : e.carrier.ended ≡ None) where
     beside : value_at r new.carrier.live ≡ value_at r e.carrier.live → has_given r new.carrier ≡ has_given r e.carrier → Beside r e new
-    beside live given = record {
-      live = live;
-      given = given;
-      side = (along_units (v ∷ []) e.carrier h.orderly).side;
-      ended = lasts ∙ sym lasted;
-      unlined = λ none. none;
-      kept = λ some. refl;
-    }
+    beside live given = grind (arith, along_units (v ∷ []) e.carrier h.orderly)
 
     -- ---- its link takes the unit
 
@@ -216,29 +199,14 @@ module _ (is_caller : Bool) (r : ℕ) (moves : Deeds) (v : Value) (e : End) (h :
     opens_now : may_be_followed v ≡ false → has_given r new.carrier ≡ true → (peer : ℕ) (first : Standing) → IsFreshLink first →
         moves ≡ no_deeds →
         value_at r new.carrier.live ≡ Some (linked peer first) → JustOpened r moves new
-    opens_now alone given peer first fresh none here =
-        record { none = none; peer = peer; first = first; lasts = lasts; given = given; here = here; fresh = fresh }
+    opens_now alone given peer first fresh none here = grind arith
 
     module _ (none : NoneOf r e.carrier.events) where
       joins_now : Course is_caller r moves e → e.carrier.is_caller ≡ false → may_be_followed v ≡ false → has_given r e.carrier ≡ false →
           has_given r new.carrier ≡ true → (peer : ℕ) (first : Standing) → IsFreshLink first →
           (value_at r e.carrier.live ≡ None → value_at r new.carrier.live ≡ Some (linked peer first)) →
           new.carrier.events ≡ e.carrier.events ++ opened r ∷ [] → Idle
-      joins_now (unknown no_moves side ungiven live lines) called_end alone free given peer first fresh here events =
-          last_after is_caller r v moves new alone
-          (called (subst (Due r (opened r)) (sym events) (due_last r (opened r) e.carrier.events none)) (sym side ∙ called_end)
-          lines
-          (opens_now alone given peer first fresh no_moves (here live)))
-      joins_now (awaited no_moves c terms side lasts given live kept) called_end alone free then_given peer first fresh here events =
-          both (has_given r e.carrier) given free
-      joins_now (is_open given o) called_end alone free then_given peer first fresh here events = both (has_given r e.carrier) given free
-      joins_now (is_gone (closed at calls is session speaks given shut)) called_end alone free then_given peer first fresh here events =
-          both (has_given r e.carrier) given free
-      joins_now (is_gone (over at calls heard unheard is session speaks parts into ended)) called_end alone free then_given peer first
-          fresh here events =
-          absurd (never_lasts e.carrier.ended ended lasted)
-      joins_now (is_gone (never no_moves ended)) called_end alone free then_given peer first fresh here events =
-          absurd (never_lasts e.carrier.ended ended lasted)
+      joins_now h called_end alone free given peer first fresh here events = grind (arith, due_last)
 
       answers_now : Course is_caller r moves e → may_be_followed v ≡ false → value_at r e.carrier.live ≡ Some asked →
           has_given r new.carrier ≡ has_given r e.carrier → (peer : ℕ) (first : Standing) → IsFreshLink first →
@@ -318,12 +286,7 @@ module _ (is_caller : Bool) (r : ℕ) (moves : Deeds) (v : Value) (e : End) (h :
 
     take_calm : Calm is_caller r moves e → (peer : ℕ) (link after : Standing) → value_at r e.carrier.live ≡ Some (linked peer link) →
         taken link v ≡ Ok after → react v e.carrier ≡ settles r peer after e.carrier → Took peer after
-    take_calm (is_still none course) peer link after here is then_is = takes_now none course peer link after here is then_is
-    take_calm (is_away (over at calls heard unheard is_closed session speaks parts into ended)) peer link after here is then_is =
-        absurd (never_lasts e.carrier.ended ended lasted)
-    take_calm (is_away (never no_moves ended)) peer link after here is then_is = absurd (never_lasts e.carrier.ended ended lasted)
-    take_calm (is_away (closed at calls is_closed session speaks given shut)) peer link after here is then_is =
-        absurd (subst IsShut here shut)
+    take_calm h peer link after here is then_is = grind (arith, takes_now, never_lasts)
 
   -- ---- a unit that its link doesn't take
 
@@ -374,8 +337,7 @@ module _ (is_caller : Bool) (r : ℕ) (moves : Deeds) (v : Value) (e : End) (h :
 -- ---- at all connections
 
 above_zero : (q : ℕ) (x : Connection) (rows : Rows Connection) → RiseFrom 0 rows → value_at q rows ≡ Some x → 0 < q
-above_zero zero x rows rise here = absurd (let none : value_at 0 rows ≡ None = absent 0 0 rows (omega arith) rise in cc)
-above_zero (suc n) x rows rise here = omega arith
+above_zero q x rows rise here = search (arith, absent)
 
 module _ (is_caller : Bool) where
   abbrev pub CalmAll : States
@@ -393,19 +355,12 @@ module _ (is_caller : Bool) where
 
     gone_side : (r : ℕ) → e.carrier.ended ≡ None → Gone is_caller r (moves r) e → has_given r e.carrier ≡ false →
         e.carrier.is_caller ≡ is_caller
-    gone_side r lasted (closed at calls is session speaks given shut) free = both (has_given r e.carrier) given free
-    gone_side r lasted (over at calls heard unheard is session speaks parts into ended) free =
-        absurd (never_lasts e.carrier.ended ended lasted)
-    gone_side r lasted (never no_moves ended) free = absurd (never_lasts e.carrier.ended ended lasted)
+    gone_side r lasted h free = grind (arith, both, never_lasts)
 
     -- if a reference was not given, its course says on which side the end is
     side_by : (r : ℕ) → e.carrier.ended ≡ None → Calm is_caller r (moves r) e → has_given r e.carrier ≡ false →
         e.carrier.is_caller ≡ is_caller
-    side_by r lasted (is_still quiet (unknown no_moves side ungiven live lines)) free = side
-    side_by r lasted (is_still quiet (awaited no_moves c terms side lasts given live kept)) free = both (has_given r e.carrier) given free
-    side_by r lasted (is_still quiet (is_open given o)) free = both (has_given r e.carrier) given free
-    side_by r lasted (is_still quiet (is_gone g)) free = gone_side r lasted g free
-    side_by r lasted (is_away g) free = gone_side r lasted g free
+    side_by r lasted h free = grind (arith, both, gone_side)
 
     side_of : (r : ℕ) → e.carrier.ended ≡ None → has_given r e.carrier ≡ false → e.carrier.is_caller ≡ is_caller
     side_of r lasted free = side_by r lasted (calm r) free
@@ -413,9 +368,7 @@ module _ (is_caller : Bool) where
     -- the carrier had ended
     over_life : (r : ℕ) → 0 < r → IsSome e.carrier.ended → IsSome changed.carrier.ended →
         Life is_caller r (stage_at r e.carrier) (marked 0 (v ∷ [])) [] (stage_at r changed.carrier)
-    over_life r some ended then_ended =
-        subst (Life is_caller r (stage_at r e.carrier) (marked 0 (v ∷ [])) []) (sym (stage_over r changed.carrier then_ended))
-        (life_to_past is_caller r (stage_at r e.carrier) (marked 0 (v ∷ [])) [] (none_marked r (v ∷ []) some) tt)
+    over_life r some ended then_ended = grind arith
 
     unit_first : (r q : ℕ) (units : List Value) →
         Life is_caller r (stage_at r e.carrier) (marked q (v ∷ [])) (marked q units) (stage_at r changed.carrier) →

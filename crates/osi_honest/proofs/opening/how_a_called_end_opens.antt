@@ -3,14 +3,12 @@
 use Rattle.osi_honest.proofs.Vocabulary.{[], ap, arith, Bool, Err, false, if◌then◌else◌, IsSome, List, min, None, Ok, Option, option_map}
 use Rattle.osi_honest.proofs.Vocabulary.{refl, Result, Some, subst, sym, true, ℕ, ◌&&◌, ◌++◌, ◌+◌, ◌-◌, ◌<◌, ◌^◌, ◌∙◌, ◌∷◌, ◌≡◌, ◌≤◌}
 use Rattle.osi_honest.proofs.Vocabulary.{pow_mono, eq-eqb, append-nil, AllByRecursion, IfSome, IsOctets, units_found, size_code, AreUnits}
-use Rattle.osi_honest.proofs.Vocabulary.{units_of, confirm, disconnect, may_be_followed, request, Value, TpduFault, accept}
-use Rattle.osi_honest.proofs.Vocabulary.{keeps_flow_control, proposes, proposes_zero_alone, refuse, selected_by, selected_size, Selection}
-use Rattle.osi_honest.proofs.Vocabulary.{Class, Two, Zero, Local, react_quiet, reacts_over, Happening, told_opened as opened, acceptance}
-use Rattle.osi_honest.proofs.Vocabulary.{opened_link, unit_octets, accepts, answers, before_class, denies, has_peer, in_class, is_full}
-use Rattle.osi_honest.proofs.Vocabulary.{reacts, Rows, value_at, Connection, linked, packets, State as Carrier, awaits, packet_is}
-use Rattle.osi_honest.proofs.Vocabulary.{one_heard, TakesPackets, after_packet, attends, concludes, hears, opens_line as opens}
-use Rattle.osi_honest.proofs.Vocabulary.{with_carrier, with_events, kept_at, End, fresh_line, joins, Line, used_lines, IsOtherAnswer, Waits}
-use Rattle.osi_honest.proofs.Vocabulary.{one_open, IsPrefix, Extends, Talks}
+use Rattle.osi_honest.proofs.Vocabulary.{units_of, confirm, disconnect, may_be_followed, request, Value, TpduFault, accept, proposes}
+use Rattle.osi_honest.proofs.Vocabulary.{refuse, selected_by, Selection, Class, Two, Zero, Local, react_quiet, reacts_over}
+use Rattle.osi_honest.proofs.Vocabulary.{told_opened as opened, acceptance, unit_octets, accepts, answers, before_class, denies, has_peer}
+use Rattle.osi_honest.proofs.Vocabulary.{is_full, reacts, Connection, packets, State as Carrier, awaits, packet_is, one_heard, TakesPackets}
+use Rattle.osi_honest.proofs.Vocabulary.{after_packet, attends, with_carrier, with_events, kept_at, End, fresh_line, joins, used_lines}
+use Rattle.osi_honest.proofs.Vocabulary.{IsOtherAnswer, Waits, one_open, IsPrefix, Extends, Talks}
 use Rattle.osi_tpdu.specs.Value.{Connect}
 use Rattle.osi_carrier.specs.Packets as carriers
 use Rattle.osi_carrier.specs.React.{react}
@@ -62,19 +60,11 @@ enough (Some code) local h =
 selection_proposes : (a b e d : Bool) (size some : Option ℕ) →
     (if a then accept Two some else (if b && e then accept Zero some else (if d then refuse 0 else refuse 130))) ≡ accept Zero size →
     e ≡ true
-selection_proposes true b e d size some h = absurd (cc)
-selection_proposes false true true d size some h = refl
-selection_proposes false true false true size some h = absurd (cc)
-selection_proposes false true false false size some h = absurd (cc)
-selection_proposes false false e true size some h = absurd (cc)
-selection_proposes false false e false size some h = absurd (cc)
+selection_proposes a b e d size some h = grind arith
 
 selection_size : (a b d : Bool) (size some : Option ℕ) →
     (if a then accept Two some else (if b then accept Zero some else (if d then refuse 0 else refuse 130))) ≡ accept Zero size → some ≡ size
-selection_size true b d size some e = absurd (cc)
-selection_size false true d size some e = cc
-selection_size false false true size some e = absurd (cc)
-selection_size false false false size some e = absurd (cc)
+selection_size a b d size some e = grind arith
 
 abbrev pub HasSize : Value → Type 0
 HasSize (request cr) = IfSome cr.parameters.size (λ code. (7 ≤ code) × (code ≤ 13))
@@ -82,14 +72,7 @@ HasSize v = Unit {0}
 
 module _ (c : Carrier) (lasts : c.ended ≡ None) (live : c.live ≡ []) (quiet : c.events ≡ []) where
   zero_accepted : (cr : Connect) (size : Option ℕ) → 0 < unit_octets size - 3 → IsAccepted cr size c (accepts Zero size cr c)
-  zero_accepted cr size some = record {
-    some = some;
-    lasts = lasts;
-    class = refl;
-    live = ap (λ (rows : Rows Connection). rows ++ (c.given + 1, linked cr.source (opened_link Zero size c.local cr.credit)) ∷ []) live;
-    told = ap (λ (events : List Happening). events ++ opened (c.given + 1) ∷ []) quiet;
-    outgoing = refl;
-  }
+  zero_accepted cr size some = grind arith
 
   by_selection : (cr : Connect) (s : Selection) (held : Option Class) →
       ((size : Option ℕ) → s ≡ accept Zero size → (0 < unit_octets size - 3) × (proposes cr 0 ≡ true)) →
@@ -111,22 +94,14 @@ module _ (c : Carrier) (lasts : c.ended ≡ None) (live : c.live ≡ []) (quiet 
 
   sized : (cr : Connect) → IfSome cr.parameters.size (λ code. (7 ≤ code) × (code ≤ 13)) → (size : Option ℕ) →
       selected_by cr c.local ≡ accept Zero size → (0 < unit_octets size - 3) × (proposes cr 0 ≡ true)
-  sized cr range size e =
-      let proposed = selection_proposes (c.local.class2 && (proposes cr 2 && keeps_flow_control cr)) c.local.class0 (proposes cr 0)
-      (proposes_zero_alone cr) size (selected_size cr c.local) e in
-      let same = selection_size (c.local.class2 && (proposes cr 2 && keeps_flow_control cr)) (c.local.class0 && proposes cr 0)
-      (proposes_zero_alone cr) size (selected_size cr c.local) e in
-      (subst (λ (o : Option ℕ). 0 < unit_octets o - 3) same (enough cr.parameters.size c.local range), proposed)
+  sized cr range size e = search (arith, selection_proposes, selection_size, enough)
 
   called_first : (v : Value) → HasSize v → FirstUnit v c (before_class false v c)
   called_first (request cr) range = by_room cr (has_peer cr.source c.live) (is_full c) (sized cr range)
   called_first _ range = at_an_end (refl, refl)
 
   pub unit_first : c.is_caller ≡ false → c.class ≡ None → (v : Value) → HasSize v → FirstUnit v c (react v c)
-  unit_first side none v range =
-      subst (FirstUnit v c)
-      (sym (react_quiet v c lasts ∙ ap (λ (x : Option Class). in_class x v c) none ∙ ap (λ (x : Bool). before_class x v c) side))
-      (called_first v range)
+  unit_first side none v range = grind (arith, react_quiet v c lasts, called_first v range)
 
 -- ---- one packet
 
@@ -137,10 +112,7 @@ pub data FirstActed (u : List ℕ) (c d : Carrier) : Type 0 where
   over_in : Over c.outgoing d → FirstActed u c d
 
 pub first_range : (v : Value) (vs : List Value) (u : List ℕ) → AreUnits (v ∷ vs) u → HasSize v
-first_range (request cr) [] u us = us.in_range.parameters.size
-first_range (request cr) (w ∷ vs) u us = absurd (let followed : false ≡ true = us.0 in cc)
-first_range (confirm destination cr) vs u us = tt
-first_range _ vs u us = tt
+first_range v vs u us = grind arith
 
 then_units : (u : List ℕ) (c : Carrier) (v : Value) (vs : List Value) → units_of u ≡ Ok (v ∷ vs) → AreUnits (v ∷ vs) u →
     FirstUnit v c (react v c) → FirstActed u c (reacts (v ∷ vs) c)
@@ -148,9 +120,7 @@ then_units u c v vs e us (accepted cr size is proposed a) =
     let none = alone v vs u (ap may_be_followed is) us in
     accepted_in cr size (e ∙ (λ i. Ok (is i ∷ none i))) proposed
     (subst (λ (l : List Value). IsAccepted cr size c (reacts l (react v c))) (sym none) a)
-then_units u c v vs e us (elsewhere t) =
-    elsewhere_in (turned_on c.outgoing (react v c).outgoing (reacts vs (react v c)).outgoing t
-    (λ octets p. ahead_reacts octets vs (react v c) p))
+then_units u c v vs e us (elsewhere t) = grind (arith, turned_on, ahead_reacts)
 then_units u c v vs e us (at_an_end p) = over_in (subst (Over c.outgoing) (sym (reacts_over vs (react v c) p.0)) p)
 
 by_units : (u : List ℕ) (c : Carrier) (units : Result (List Value) TpduFault) → units_of u ≡ units → IsOctets u → c.ended ≡ None →
@@ -159,8 +129,7 @@ by_units : (u : List ℕ) (c : Carrier) (units : Result (List Value) TpduFault) 
 by_units u c (Err fault) e octets lasts live quiet side none = over_in (refl, refl)
 by_units u c (Ok []) e octets lasts live quiet side none = absurd (units_found u [] octets e)
 by_units u c (Ok (v ∷ vs)) e octets lasts live quiet side none =
-    let us = units_found u (v ∷ vs) octets e in
-    then_units u c v vs e us (unit_first c lasts live quiet side none v (first_range v vs u us))
+    search (arith, then_units, unit_first, first_range, units_found u (v ∷ vs) octets e)
 
 pub acted_first : (u : List ℕ) (e : End) → Waits e → IsOctets u → FirstActed u e.carrier (carriers.after_packet e.carrier u)
 unfolding carriers.after_packet
@@ -181,24 +150,7 @@ kept_joined r x = rw (eq-eqb r r refl) (rw (eq-eqb r r refl) refl)
 opened_talks : (cr : Connect) (size : Option ℕ) (e : End) (d : Carrier) → Waits e → IsAccepted cr size e.carrier d →
     (attends (with_carrier d e) ≡ joins (e.carrier.given + 1) awaits (with_events [] (with_carrier d e)))
     × Talks (e.carrier.given + 1) awaits [] (joins (e.carrier.given + 1) awaits (with_events [] (with_carrier d e)))
-opened_talks cr size e d w a =
-    let r = e.carrier.given + 1 in
-    let mid = with_events [] (with_carrier d e) in
-    let there = joins r awaits mid in
-    let heard : hears (opened r) mid ≡ there = ap (λ (rows : Rows Line). opens r (value_at r rows) mid) w.lines in
-    let attended : attends (with_carrier d e) ≡ there =
-    ap concludes (one_heard (with_carrier d e) (opened r) a.told ∙ heard) ∙ lasting there a.lasts in (
-      attended,
-      record {
-        peer = cr.source;
-        limit = unit_octets size - 3;
-        is_open = record { some = a.some; lasts = a.lasts; live = a.live };
-        class = a.class;
-        told = refl;
-        here = (λ i. kept_at r (used_lines (a.live i) (w.lines i ++ (r, fresh_line awaits) ∷ []))) ∙ kept_joined r _;
-        begun_long_ago = refl;
-      },
-    )
+opened_talks cr size e d w a = grind (arith, one_heard, lasting, kept_joined)
 
 first_heard : (u : List ℕ) (e : End) (d : Carrier) → Waits e → FirstActed u e.carrier d → FirstPacket u e (attends (with_carrier d e))
 first_heard u e d w (accepted_in cr size is proposed a) =
@@ -235,12 +187,9 @@ then_packets proper u units old mid new octets takes (opens_now cr size is propo
 then_packets proper u units old mid new octets takes (otherwise t) =
     another_way (turned_on old.carrier.outgoing mid.carrier.outgoing new.carrier.outgoing t
     (λ octets p. ahead_takes octets units mid new p takes))
-then_packets proper u units old mid new octets takes (at_the_end ended same) =
-    let there = over_takes units mid new ended takes in
-    ended_by (subst (λ (x : End). IsSome x.carrier.ended) (sym there) ended) (ap (λ (x : End). x.carrier.outgoing) there ∙ same)
+then_packets proper u units old mid new octets takes (at_the_end ended same) = grind (arith, over_takes)
 
 pub first_packets : AllProper → (units : List (List ℕ)) (old new : End) → Waits old → AllByRecursion IsOctets units →
     TakesPackets old units new → FirstStretch units old new
 first_packets proper [] old new w octets takes = nothing_came refl takes
-first_packets proper (u ∷ units) old new w octets takes = then_packets proper u units old (after_packet old u) new octets.1 takes.1
-    (first_packet u old w octets.0)
+first_packets proper (u ∷ units) old new w octets takes = search (arith, then_packets, first_packet)

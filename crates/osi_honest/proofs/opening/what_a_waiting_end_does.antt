@@ -1,15 +1,14 @@
 -- Each turn of a called end that waits for the first CR, and runs of it.
 -- For the laws of an end and its captures.
-use Rattle.osi_honest.proofs.Vocabulary.{[], ap, append_assoc, arith, Bool, drop, false, if◌then◌else◌, inl, inr, is_some, IsSome, length}
-use Rattle.osi_honest.proofs.Vocabulary.{List, map, None, Option, refl, Some, subst, sym, take, true, ℕ, ◌++◌, ◌+◌, ◌∙◌, ◌∷◌, ◌≡◌, ◌⊎◌}
-use Rattle.osi_honest.proofs.Vocabulary.{append-nil, append_cancel_left, take_all, packet_of, ArePackets, written, Standing, closed_on}
-use Rattle.osi_honest.proofs.Vocabulary.{closed_with, link_of, open_link, Rows, value_at, Connection, packets, State as Carrier, Broken}
-use Rattle.osi_honest.proofs.Vocabulary.{NoMemory, awaits, lasting_of, quiet_stops, says_is, disconnect_carrier, disconnect_is, none_ended}
-use Rattle.osi_honest.proofs.Vocabulary.{found_how, connect_error, without_first, disconnects, gives_up, gives_up_by, Goes as GoesThrough}
-use Rattle.osi_honest.proofs.Vocabulary.{uses_all, ends, Starves, IsAccepted, user_does, UserCall, breaking, calling, connecting}
-use Rattle.osi_honest.proofs.Vocabulary.{disconnecting, Call, Calls, carried_in, put_back, used_in, carrying, feeding, telling, End}
-use Rattle.osi_honest.proofs.Vocabulary.{Holding, Line, waits, WaitingTurn, Waits, answers_last, is_over, turns_away, waits_on, dt}
-use Rattle.osi_honest.proofs.Vocabulary.{IsPrefix, Act, Acts, carried_by, Takes, Turn, used_by, serving, using}
+use Rattle.osi_honest.proofs.Vocabulary.{[], ap, append_assoc, arith, drop, inl, inr, is_some, IsSome, length, List, map, None, Option}
+use Rattle.osi_honest.proofs.Vocabulary.{refl, subst, sym, take, ℕ, ◌++◌, ◌+◌, ◌∙◌, ◌∷◌, ◌≡◌, ◌⊎◌, append-nil, append_cancel_left, take_all}
+use Rattle.osi_honest.proofs.Vocabulary.{packet_of, ArePackets, written, Standing, closed_on, closed_with, open_link, Rows, value_at}
+use Rattle.osi_honest.proofs.Vocabulary.{packets, State as Carrier, NoMemory, awaits, lasting_of, quiet_stops, says_is, disconnect_carrier}
+use Rattle.osi_honest.proofs.Vocabulary.{disconnect_is, none_ended, found_how, without_first, disconnects, gives_up, gives_up_by}
+use Rattle.osi_honest.proofs.Vocabulary.{Goes as GoesThrough, uses_all, ends, Starves, IsAccepted, user_does, UserCall, breaking, calling}
+use Rattle.osi_honest.proofs.Vocabulary.{connecting, disconnecting, Call, Calls, carried_in, used_in, carrying, feeding, telling, End}
+use Rattle.osi_honest.proofs.Vocabulary.{Holding, Line, waits, WaitingTurn, Waits, answers_last, is_over, turns_away, dt, Act, Acts}
+use Rattle.osi_honest.proofs.Vocabulary.{carried_by, Takes, Turn, used_by, serving, using}
 use Rattle.osi_honest.specs.Openings.WaitingTurn.{opens}
 use Rattle.osi_honest.specs.Talking as history
 use Rattle.osi_honest.proofs.opening.how_a_called_end_opens.{FirstStretch, answer_to, first_packets, turned_on}
@@ -28,9 +27,7 @@ none_put old new put is same = nothing_put awaits 0 [] [] [] old.end.carrier.out
 still_waits : (used put : List ℕ) (old new : Holding) → Waits new.end → used ≡ [] →
     new.end.carrier.outgoing ≡ old.end.carrier.outgoing ++ put → new.end.carrier.outgoing ≡ old.end.carrier.outgoing →
     new.held.octets ≡ old.held.octets → WaitingTurn used put old new
-still_waits used put old new w none is same held =
-    waits_on w (none_put old new put is same)
-    (held ∙ sym (append-nil old.held.octets) ∙ ap (λ (l : List ℕ). old.held.octets ++ l) (sym none))
+still_waits used put old new w none is same held = search (arith, none_put, append-nil)
 
 -- ---- packets
 
@@ -38,10 +35,7 @@ as_waiting : (units : List (List ℕ)) (used put rest : List ℕ) (old new : Hol
     ArePackets units (old.held.octets ++ used) rest →
     (new.end.carrier.ended ≡ None → rest ≡ new.held.octets) → new.end.carrier.outgoing ≡ old.end.carrier.outgoing ++ put →
     WaitingTurn used put old new
-as_waiting units used put rest old new w (nothing_came none same) cut held is =
-    let still : Waits new.end = subst Waits (sym same) w in
-    let whole : old.held.octets ++ used ≡ rest = subst (λ (us : List (List ℕ)). ArePackets us (old.held.octets ++ used) rest) none cut in
-    waits_on still (none_put old new put is (ap (λ (e : End). e.carrier.outgoing) same)) (sym (whole ∙ held still.lasts))
+as_waiting units used put rest old new w (nothing_came none same) cut held is = search (arith, none_put)
 as_waiting units used put rest old new w (opened_by cr size u later mid us request proposed outgoing x) cut held is =
     let r = old.end.carrier.given + 1 in
     let all = subst (λ (l : List (List ℕ)). ArePackets l (old.held.octets ++ used) rest) us cut in
@@ -86,9 +80,7 @@ first_over units old before new (nothing_came none is) ended same = ended_by end
 first_over units old before new (opened_by cr size u later mid us request proposed outgoing x) ended same =
     opened_by cr size u later mid us request proposed outgoing
     (extends_over awaits (old.carrier.given + 1) [] [] [] later mid before new x ended same)
-first_over units old before new (another_way t) ended same =
-    another_way (turned_on old.carrier.outgoing before.carrier.outgoing new.carrier.outgoing t
-    (λ octets p. subst (IsPrefix octets) (sym same) p))
+first_over units old before new (another_way t) ended same = grind (arith, turned_on)
 first_over units old before new (answered_last over answer is) ended same = answered_last ended answer (same ∙ is)
 first_over units old before new (ended_by e is) ended same = ended_by ended (same ∙ is)
 
@@ -109,8 +101,7 @@ module _ (proper : AllProper) where
   no_memory_first units old before new rest w lasts (another_way t) ended (inr p) =
       another_way (turned_on old.carrier.outgoing before.carrier.outgoing new.carrier.outgoing t
       (λ octets q. ahead_starves octets p.0 before new q p.2))
-  no_memory_first units old before new rest w lasts (answered_last over answer is) ended (inr p) =
-      absurd (never_lasts before.carrier.ended over lasts)
+  no_memory_first units old before new rest w lasts (answered_last over answer is) ended (inr p) = grind (arith, never_lasts)
   no_memory_first units old before new rest w lasts (ended_by e is) ended (inr p) = absurd (never_lasts before.carrier.ended e lasts)
 
   ended_waiting : (units : List (List ℕ)) (piece put rest : List ℕ) (used : ℕ) (old new : Holding) → Waits old.end → used ≡ length piece →
@@ -168,29 +159,15 @@ module _ (proper : AllProper) where
       } in
       still_waits [] put old new (subst (λ (x : Holding). Waits x.end) (sym c.1) still) refl is
       (ap (λ (x : Holding). x.end.carrier.outgoing) c.1) (ap (λ (x : Holding). x.held.octets) c.1)
-  serving_waiting (carrying octets) put old new w c is =
-      let before : Waits (put_back octets new.end) = subst (λ (x : Holding). Waits x.end) c w in
-      let none : put ≡ [] = none_put old (record old { end = put_back octets new.end }) put is
-      (sym (ap (λ (x : Holding). x.end.carrier.outgoing) c)) in
-      waits_on (record {
-        lasts = before.lasts;
-        is_called = before.is_called;
-        class = before.class;
-        live = before.live;
-        told = before.told;
-        lines = before.lines;
-      }) none (sym (ap (λ (x : Holding). x.held.octets) c) ∙ sym (append-nil old.held.octets))
+  serving_waiting (carrying octets) put old new w c is = search (arith, none_put, append-nil)
 
 -- ---- a call of the user
 
 no_links : (q : ℕ) (e : End) → Waits e → open_link q e.carrier ≡ None
-no_links q e w =
-    ap (λ (x : Bool). if x then None else link_of (value_at q e.carrier.live)) (ap is_some w.lasts)
-    ∙ ap (λ (rows : Rows Connection). link_of (value_at q rows)) w.live
+no_links q e w = grind arith
 
 pub not_open : (o : Option (ℕ × Standing)) → IsSome o → o ≡ None → ⊥
-not_open None some none = cc
-not_open (Some x) some none = cc
+not_open o some none = grind arith
 
 given_none : (q : ℕ) (e : End) → Waits e → gives_up q e.lines ≡ []
 given_none q e w = ap (λ (rows : Rows Line). gives_up_by q (value_at q rows) rows) w.lines
@@ -198,13 +175,8 @@ given_none q e w = ap (λ (rows : Rows Line). gives_up_by q (value_at q rows) ro
 using_waiting : (call : UserCall) (put : List ℕ) (old new : Holding) → Waits old.end → IsAccepted call old.end →
     new ≡ record old { end = user_does call old.end } →
     new.end.carrier.outgoing ≡ old.end.carrier.outgoing ++ put → WaitingTurn [] put old new
-using_waiting (connecting c) put old new w allowed is outgoing = absurd (no_caller old.end.carrier.is_caller w.is_called allowed)
-  where
-    no_caller : (b : Bool) → b ≡ false → connect_error c (record old.end { carrier = record old.end.carrier { is_caller = b } }) ≡ None → ⊥
-    no_caller true e h = cc
-    no_caller false e h = cc
-using_waiting (calling q call) put old new w allowed is outgoing =
-    absurd (not_open (open_link q old.end.carrier) (says_is q call old.end allowed).granted.opened (no_links q old.end w))
+using_waiting (connecting c) put old new w allowed is outgoing = grind arith
+using_waiting (calling q call) put old new w allowed is outgoing = search (arith, not_open, says_is, no_links)
 using_waiting (disconnecting q) put old new w allowed is outgoing =
     let rests : closed_with q 128 old.end.carrier ≡ old.end.carrier = ap (λ o. closed_on q 128 o old.end.carrier) (no_links q old.end w) in
     let carrier : (disconnects q old.end).carrier ≡ old.end.carrier = disconnect_carrier q old.end ∙ rests in
@@ -219,10 +191,7 @@ using_waiting (disconnecting q) put old new w allowed is outgoing =
       told = w.told;
       lines = refl;
     })) refl outgoing (ap (λ (e : End). e.carrier.outgoing) there) (ap (λ (x : Holding). x.held.octets) is)
-using_waiting breaking put old new w allowed is outgoing =
-    let there : new.end ≡ ends Broken old.end = ap (λ (x : Holding). x.end) is
-    ∙ ap (λ (b : Bool). if b then old.end else ends Broken old.end) (ap is_some w.lasts) in
-    is_over (ap (λ (e : End). is_some e.carrier.ended) there) (none_put old new put outgoing (ap (λ (e : End). e.carrier.outgoing) there))
+using_waiting breaking put old new w allowed is outgoing = grind (arith, none_put)
 
 pub turn_waits : AllProper → (turn : Turn) (old new : Holding) → Waits old.end → Takes old turn new → WaitingTurn turn.used turn.put old new
 turn_waits proper turn old new w takes = subst (λ (x : List ℕ). WaitingTurn x turn.put old new) (sym takes.used)

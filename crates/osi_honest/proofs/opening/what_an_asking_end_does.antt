@@ -3,20 +3,18 @@
 use Rattle.osi_honest.proofs.Vocabulary.{[], ap, arith, Bool, drop, false, if◌then◌else◌, inl, inr, is_some, IsSome, length, List, map}
 use Rattle.osi_honest.proofs.Vocabulary.{None, not, Option, refl, Some, subst, sym, take, true, ℕ, ◌++◌, ◌==◌, ◌∙◌, ◌∷◌, ◌≡◌, ◌≢◌, ◌≤◌, ◌⊎◌}
 use Rattle.osi_honest.proofs.Vocabulary.{eq-eqb, eqb-true, leb-true, ltb-false, not-false, append-nil, append_cancel_left, map-append}
-use Rattle.osi_honest.proofs.Vocabulary.{take_all, ArePackets, Fed, Standing, Class, class_error, closed_on, closed_with, link_of}
-use Rattle.osi_honest.proofs.Vocabulary.{open_link, or_else, room_error, Rows, value_at, asked, Connection, packets, State as Carrier}
-use Rattle.osi_honest.proofs.Vocabulary.{EndReason, Broken, NoMemory, OpenError, Ended, Negotiating, NotCaller, unit_bits, sent_alone}
-use Rattle.osi_honest.proofs.Vocabulary.{IsAddress, IsSendable, asked_sendable, most_user_data, Listener, linked_up as opened}
-use Rattle.osi_honest.proofs.Vocabulary.{is_wait_transport, limit_of, is_profile, BadState, NoSuchConnection, sent_short, SpduLaws}
-use Rattle.osi_honest.proofs.Vocabulary.{lasting_of, or_first, or_second, quiet_stops, kept_first, says_is, disconnect_carrier}
-use Rattle.osi_honest.proofs.Vocabulary.{disconnect_is, given_other, none_ended, found_how, after_open, asked_for, called_octets}
-use Rattle.osi_honest.proofs.Vocabulary.{calling_octets, calls_with, connect_error, has_given, is_long, is_long_address, opening_of}
-use Rattle.osi_honest.proofs.Vocabulary.{terms_error, without_first, awaits_transport, disconnect_error, disconnects, gives_up, Feeds}
-use Rattle.osi_honest.proofs.Vocabulary.{Goes as GoesThrough, uses_all, ends, Starves, IsAccepted, AreShort, user_does, UserCall, breaking}
-use Rattle.osi_honest.proofs.Vocabulary.{calling, connecting, disconnecting, Call, Calls, carried_in, put_back, used_in, carrying, feeding}
-use Rattle.osi_honest.proofs.Vocabulary.{telling, End, Holding, session_at, session_in, waits, Request as Connect, ConnectError}
-use Rattle.osi_honest.proofs.Vocabulary.{NotSelected, TooLong, sends, AskingTurn, Asks, asks_on, goes_away, is_answered, turns_aside, Carry}
-use Rattle.osi_honest.proofs.Vocabulary.{dt, IsPrefix, octets_said, Act, Acts, carried_by, Takes, Turn, used_by, serving, using}
+use Rattle.osi_honest.proofs.Vocabulary.{take_all, ArePackets, Fed, Standing, closed_on, closed_with, link_of, open_link, or_else, asked}
+use Rattle.osi_honest.proofs.Vocabulary.{packets, State as Carrier, EndReason, NoMemory, OpenError, Ended, Negotiating, NotCaller}
+use Rattle.osi_honest.proofs.Vocabulary.{sent_alone, IsAddress, IsSendable, asked_sendable, Listener, linked_up as opened}
+use Rattle.osi_honest.proofs.Vocabulary.{is_wait_transport, BadState, NoSuchConnection, sent_short, SpduLaws, lasting_of, or_first}
+use Rattle.osi_honest.proofs.Vocabulary.{or_second, quiet_stops, kept_first, says_is, disconnect_carrier, disconnect_is, given_other}
+use Rattle.osi_honest.proofs.Vocabulary.{none_ended, found_how, after_open, asked_for, calls_with, connect_error, is_long_address}
+use Rattle.osi_honest.proofs.Vocabulary.{terms_error, without_first, disconnect_error, disconnects, gives_up, Feeds, Goes as GoesThrough}
+use Rattle.osi_honest.proofs.Vocabulary.{uses_all, ends, Starves, IsAccepted, AreShort, user_does, UserCall, breaking, calling, connecting}
+use Rattle.osi_honest.proofs.Vocabulary.{disconnecting, Call, Calls, carried_in, used_in, carrying, feeding, telling, End, Holding}
+use Rattle.osi_honest.proofs.Vocabulary.{session_at, session_in, waits, Request as Connect, ConnectError, NotSelected, TooLong, sends}
+use Rattle.osi_honest.proofs.Vocabulary.{AskingTurn, Asks, goes_away, is_answered, turns_aside, Carry, dt, octets_said, Act, Acts}
+use Rattle.osi_honest.proofs.Vocabulary.{carried_by, Takes, Turn, used_by, serving, using}
 unfoldable use Rattle.osi_message.specs.Written.{unit_of, user_data_of}
 use Rattle.osi_message.specs.Written.{written}
 unfoldable use Rattle.osi_session.specs.Listening.{react}
@@ -35,32 +33,14 @@ use Rattle.osi_honest.proofs.class_0.what_a_turn_does_in_class_0.{stopped_within
 -- ---- the CN of a request that was accepted
 
 address_fits : (o : Option (List ℕ)) → is_long_address o ≡ false → IsAddress o
-address_fits None h = tt
-address_fits (Some octets) h = ltb-false 16 (length octets) h
+address_fits o h = grind (arith, ltb-false)
 
 terms_by : (b long : Bool) → (if not b then Some NotSelected else (if long then Some TooLong else None)) ≡ None → long ≡ false
-terms_by true true h = absurd (cc)
-terms_by true false h = refl
-terms_by false long h = absurd (cc)
+terms_by b long h = grind arith
 
 cn_sendable : (c : Connect) → terms_error c ≡ None → IsSendable (asked_for c)
 unfolding user_data_of
-cn_sendable c h =
-    let short = terms_by (is_profile (unit_bits c.requirements)) (is_long c) h in
-    let rest = or_second (is_long_address (calling_octets c)) _ short in
-    let few = leb-true (length c.user_data.now) most_user_data (not-false _ (or_second (is_long_address (called_octets c)) _ rest)) in
-    let s = asked_sendable (opening_of c) (omega arith) in
-    record {
-      version = refl;
-      numbered = s.numbered;
-      sized = s.sized;
-      addressed = (
-        address_fits (calling_octets c) (or_first (is_long_address (calling_octets c)) _ short),
-        address_fits
-            (called_octets c) (or_first (is_long_address (called_octets c)) _ rest),
-      );
-      short = s.short;
-    }
+cn_sendable c h = grind (arith, terms_by, or_second, leb-true, not-false, asked_sendable, address_fits, or_first)
 
 cn_short : SpduLaws → (c : Connect) → terms_error c ≡ None → length (written (asked_for c)) ≤ 1048576
 unfolding unit_of
@@ -68,15 +48,7 @@ cn_short law c h = sent_short law (asked_for c) (cn_sendable c h) refl
 
 pub can_begin : SpduLaws → (c : Connect) → terms_error c ≡ None → CanBegin (calls_with c)
 unfolding react
-can_begin law c h = record {
-  proper = record {
-    same = sent_alone 0 (asked_for c) refl ∙ sym (sent_alone (limit_of (calls_with c).state) (asked_for c) refl);
-    short = subst AreShort (sym (sent_alone (limit_of (calls_with c).state) (asked_for c) refl)) (cn_short law c h, tt);
-    silent = λ closes. absurd (let both : false ≡ true = closes in cc);
-  };
-  then_begun = refl;
-  stays = refl;
-}
+can_begin law c h = grind (arith, sent_alone, cn_short)
 
 -- ---- packets
 
@@ -88,9 +60,7 @@ none_put old new put is same = append_cancel_left old.end.carrier.outgoing put [
 still_asks : (r : ℕ) (session : Listener) (used put : List ℕ) (old new : Holding) → Asks r session new.end → used ≡ [] →
     new.end.carrier.outgoing ≡ old.end.carrier.outgoing ++ put →
     new.end.carrier.outgoing ≡ old.end.carrier.outgoing → new.held.octets ≡ old.held.octets → AskingTurn r session used put old new
-still_asks r session used put old new w none is same held =
-    asks_on w (none_put old new put is same)
-    (held ∙ sym (append-nil old.held.octets) ∙ ap (λ (l : List ℕ). old.held.octets ++ l) (sym none))
+still_asks r session used put old new w none is same held = search (arith, none_put, append-nil)
 
 module _ (r : ℕ) (session : Listener) where
   as_elsewhere : (used put : List ℕ) (old new : Holding) → new.end.carrier.outgoing ≡ old.end.carrier.outgoing ++ put →
@@ -104,10 +74,7 @@ module _ (r : ℕ) (session : Listener) where
       ArePackets units (old.held.octets ++ used) rest → (new.end.carrier.ended ≡ None → rest ≡ new.held.octets) →
       new.end.carrier.outgoing ≡ old.end.carrier.outgoing ++ put →
       AskingTurn r session used put old new
-  as_asking units used put rest old new w (nothing_came none same) cut held is =
-      let still : Asks r session new.end = subst (Asks r session) (sym same) w in
-      let whole : old.held.octets ++ used ≡ rest = subst (λ (us : List (List ℕ)). ArePackets us (old.held.octets ++ used) rest) none cut in
-      asks_on still (none_put old new put is (ap (λ (e : End). e.carrier.outgoing) same)) (sym (whole ∙ held still.lasts))
+  as_asking units used put rest old new w (nothing_came none same) cut held is = search (arith, none_put)
   as_asking units used put rest old new w (opened_by destination answer u later mid us is_cc zero puts x) cut held is =
       let all = subst (λ (l : List (List ℕ)). ArePackets l (old.held.octets ++ used) rest) us cut in
       let fronts = front_packets session r [] (cn_said session) [] x.front x.back all.1 rest
@@ -148,12 +115,7 @@ module _ (r : ℕ) (session : Listener) where
   first_over units old before new (opened_by destination answer u later mid us is_cc zero puts x) ended same =
       opened_by destination answer u later mid us is_cc zero puts
       (extends_over session r [] (cn_said session) [] later mid before new x ended same)
-  first_over units old before new (another_way (inl p)) ended same =
-      another_way (inl (record {
-        unit = p.unit;
-        other = p.other;
-        ahead = subst (IsPrefix (old.carrier.outgoing ++ packets (p.unit ∷ []))) (sym same) p.ahead;
-      }))
+  first_over units old before new (another_way (inl p)) ended same = grind arith
   first_over units old before new (another_way (inr p)) ended same = another_way (inr (over ended, same ∙ p.1))
   first_over units old before new (ended_by e is) ended same = ended_by ended (same ∙ is)
 
@@ -239,70 +201,38 @@ module _ (r : ℕ) (session : Listener) where
         } in
         still_asks r session [] put old new (subst (λ (x : Holding). Asks r session x.end) (sym c.1) still) refl is
         (ap (λ (x : Holding). x.end.carrier.outgoing) c.1) (ap (λ (x : Holding). x.held.octets) c.1)
-    serving_asking (carrying octets) put old new w c is =
-        let before : Asks r session (put_back octets new.end) = subst (λ (x : Holding). Asks r session x.end) c w in
-        let none : put ≡ [] = none_put old (record old { end = put_back octets new.end }) put is
-        (sym (ap (λ (x : Holding). x.end.carrier.outgoing) c)) in
-        asks_on (record {
-          lasts = before.lasts;
-          is_caller = before.is_caller;
-          class = before.class;
-          live = before.live;
-          told = before.told;
-          here = before.here;
-        }) none (sym (ap (λ (x : Holding). x.held.octets) c) ∙ sym (append-nil old.held.octets))
+    serving_asking (carrying octets) put old new w c is = search (arith, none_put, append-nil)
 
   -- ---- a call of the user
 
   no_link_in : (q : ℕ) (b : Bool) → link_of (if b then Some asked else None) ≡ None
-  no_link_in q true = refl
-  no_link_in q false = refl
+  no_link_in q b = grind arith
 
   no_links : (q : ℕ) (e : End) → Asks r session e → open_link q e.carrier ≡ None
-  no_links q e w =
-      ap (λ (x : Bool). if x then None else link_of (value_at q e.carrier.live)) (ap is_some w.lasts)
-      ∙ ap (λ (rows : Rows Connection). link_of (value_at q rows)) w.live ∙ no_link_in q (r == q)
+  no_links q e w = grind (arith, no_link_in)
 
   not_open : (o : Option (ℕ × Standing)) → IsSome o → o ≡ None → ⊥
-  not_open None some none = cc
-  not_open (Some x) some none = cc
+  not_open o some none = grind arith
 
   one_request : (b : Bool) (o : Option EndReason) (e : Option OpenError) (error : Option ConnectError) → b ≡ true → o ≡ None →
       after_open (if not b then Some NotCaller else (if is_some o then Some Ended else or_else (Some Negotiating) e)) error ≡ None → ⊥
-  one_request true None e error side lasts h = cc
-  one_request false o e error side lasts h = cc
-  one_request b (Some x) e error side lasts h = cc
+  one_request b o e error side lasts h = grind arith
 
   no_request : (c : Connect) (e : End) → Asks r session e → connect_error c e ≡ None → ⊥
-  no_request c e w h =
-      let busy : class_error e.carrier.class e.carrier.live ≡ Some Negotiating =
-      ap (λ (k : Option Class). class_error k e.carrier.live) w.class ∙ ap (λ (rows : Rows Connection). class_error None rows) w.live in
-      one_request e.carrier.is_caller e.carrier.ended (room_error e.carrier) (terms_error c) w.is_caller w.lasts
-      (ap (λ (k : Option OpenError). after_open
-      (if not e.carrier.is_caller then Some NotCaller else
-      (if is_some e.carrier.ended then Some Ended else or_else k (room_error e.carrier))) (terms_error c)) (sym busy) ∙ h)
+  no_request c e w h = grind (arith, one_request)
 
   not_given_up : (given waiting : Bool) → waiting ≡ true →
       (if not given then Some NoSuchConnection else (if waiting then Some BadState else None)) ≡ None → ⊥
-  not_given_up true true e h = cc
-  not_given_up false true e h = cc
-  not_given_up given false e h = cc
+  not_given_up given waiting e h = grind arith
 
   asked_at : (e : End) → Asks r session e → session_at r e ≡ Some session
-  asked_at e w =
-      ap (λ (rows : Rows Connection). if is_some (value_at r rows) then session_in (value_at r e.lines) else None) w.live
-      ∙ ap (λ (b : Bool). if is_some (if b then Some asked else None) then session_in (value_at r e.lines) else None) (eq-eqb r r refl)
-      ∙ w.here
+  asked_at e w = grind (arith, eq-eqb)
 
   give_asking : (q : ℕ) (b : Bool) (put : List ℕ) (old new : Holding) → (r == q) ≡ b → is_wait_transport session.state.phase ≡ true →
       Asks r session old.end → disconnect_error q old.end ≡ None →
       new ≡ record old { end = disconnects q old.end } → new.end.carrier.outgoing ≡ old.end.carrier.outgoing ++ put →
       AskingTurn r session [] put old new
-  give_asking q true put old new e waiting w allowed is outgoing =
-      let same = eqb-true r q e in
-      let here : awaits_transport (session_at q old.end) ≡ true = ap (λ n. awaits_transport (session_at n old.end)) (sym same)
-      ∙ ap awaits_transport (asked_at old.end w) ∙ waiting in
-      absurd (not_given_up (has_given q old.end.carrier) (awaits_transport (session_at q old.end)) here allowed)
+  give_asking q true put old new e waiting w allowed is outgoing = search (arith, eqb-true, asked_at, not_given_up)
   give_asking q false put old new e waiting w allowed is outgoing =
       let ne : r ≢ q = (λ same. let both : true ≡ false = sym (eq-eqb r q same) ∙ e in cc) in
       let rests : closed_with q 128 old.end.carrier ≡ old.end.carrier = ap (λ o. closed_on q 128 o old.end.carrier)
@@ -329,11 +259,7 @@ module _ (r : ℕ) (session : Listener) where
       absurd (not_open (open_link q old.end.carrier) (says_is q call old.end allowed).granted.opened (no_links q old.end w))
   using_asking (disconnecting q) put old new waiting w allowed is outgoing = give_asking q
       (r == q) put old new refl waiting w allowed is outgoing
-  using_asking breaking put old new waiting w allowed is outgoing =
-      let there : new.end ≡ ends Broken old.end = ap (λ (x : Holding). x.end) is
-      ∙ ap (λ (b : Bool). if b then old.end else ends Broken old.end) (ap is_some w.lasts) in
-      goes_away (over (ap (λ (e : End). is_some e.carrier.ended) there))
-      (none_put old new put outgoing (ap (λ (e : End). e.carrier.outgoing) there))
+  using_asking breaking put old new waiting w allowed is outgoing = grind (arith, none_put)
 
   pub turn_asks : AllProper → CanBegin session → is_wait_transport session.state.phase ≡ true → (turn : Turn) (old new : Holding) →
       Asks r session old.end → Takes old turn new →

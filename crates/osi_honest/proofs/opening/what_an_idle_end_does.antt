@@ -1,18 +1,16 @@
 -- Each turn of a calling end that has requested nothing yet.
 -- For what a calling end did in all.
-use Rattle.osi_honest.proofs.Vocabulary.{[], ap, arith, Bool, Err, false, if◌then◌else◌, inl, inr, is_some, length, List, None, Ok, Option}
+use Rattle.osi_honest.proofs.Vocabulary.{[], ap, arith, Err, false, if◌then◌else◌, inl, inr, is_some, length, List, None, Ok, Option}
 use Rattle.osi_honest.proofs.Vocabulary.{option_map, refl, Result, Some, subst, sym, take, true, ℕ, ◌++◌, ◌+◌, ◌∙◌, ◌∷◌, ◌≡◌, ◌⊎◌, eq-eqb}
 use Rattle.osi_honest.proofs.Vocabulary.{append-nil, append_cancel_left, take_all, AllByRecursion, IsOctets, ArePackets, units_found}
-use Rattle.osi_honest.proofs.Vocabulary.{tsap_octets, units_of, confirm, disconnect, disconnected, error, Value, TpduFault, Class}
-use Rattle.osi_honest.proofs.Vocabulary.{react_quiet, reacts_over, closed_on, closed_with, link_of, may_connect, open_link, sent, Happening}
-use Rattle.osi_honest.proofs.Vocabulary.{proposal, before_class, in_class, reacts, to_connection, to_reference, to_unknown, Rows, value_at}
-use Rattle.osi_honest.proofs.Vocabulary.{asked, Connection, packets, State as Carrier, EndReason, Broken, NoMemory, OpenError, Listener}
-use Rattle.osi_honest.proofs.Vocabulary.{packet_is, quiet_stops, says_is, disconnect_carrier, disconnect_is, found_how, after_open}
-use Rattle.osi_honest.proofs.Vocabulary.{calls_with, connects, terms_error, without_first, disconnects, gives_up, gives_up_by}
-use Rattle.osi_honest.proofs.Vocabulary.{Goes as GoesThrough, TakesPackets, after_packet, ends, Starves, with_carrier, IsAccepted, kept_at}
-use Rattle.osi_honest.proofs.Vocabulary.{user_does, UserCall, breaking, calling, connecting, disconnecting, Call, Calls, carried_in}
-use Rattle.osi_honest.proofs.Vocabulary.{put_back, used_in, carrying, feeding, telling, End, fresh_line, Holding, Line, used_lines, waits}
-use Rattle.osi_honest.proofs.Vocabulary.{Request, ConnectError, Asks, Idles, IdleTurn, idle_over, idles_on, puts_a_dc, requests, Act, Acts}
+use Rattle.osi_honest.proofs.Vocabulary.{tsap_octets, units_of, confirm, disconnect, disconnected, error, Value, TpduFault, react_quiet}
+use Rattle.osi_honest.proofs.Vocabulary.{reacts_over, closed_with, may_connect, open_link, sent, Happening, proposal, before_class, reacts}
+use Rattle.osi_honest.proofs.Vocabulary.{to_reference, to_unknown, Connection, packets, State as Carrier, EndReason, NoMemory, OpenError}
+use Rattle.osi_honest.proofs.Vocabulary.{Listener, packet_is, quiet_stops, says_is, found_how, after_open, calls_with, connects}
+use Rattle.osi_honest.proofs.Vocabulary.{terms_error, Goes as GoesThrough, TakesPackets, after_packet, ends, Starves, with_carrier}
+use Rattle.osi_honest.proofs.Vocabulary.{IsAccepted, kept_at, user_does, UserCall, breaking, calling, connecting, disconnecting, Call}
+use Rattle.osi_honest.proofs.Vocabulary.{Calls, carried_in, used_in, carrying, feeding, telling, End, fresh_line, Holding, used_lines}
+use Rattle.osi_honest.proofs.Vocabulary.{waits, Request, ConnectError, Asks, Idles, IdleTurn, idle_over, puts_a_dc, requests, Act, Acts}
 use Rattle.osi_honest.proofs.Vocabulary.{carried_by, Takes, Turn, used_by, serving, using}
 use Rattle.osi_carrier.specs.Packets as carriers
 use Rattle.osi_carrier.specs.React.{react}
@@ -39,11 +37,7 @@ Settled octets c = PutDc octets c ⊎ Over octets c
 
 module _ (octets : List ℕ) where
   dc_then : (c d : Carrier) → ((front : List ℕ) → Ahead front c → Ahead front d) → PutDc octets c → PutDc octets d
-  dc_then c d on p = record {
-    destination = p.destination;
-    source = p.source;
-    ahead = on (octets ++ packets (disconnected p.destination p.source ∷ [])) p.ahead;
-  }
+  dc_then c d on p = grind arith
 
   settled_reacts : (v : Value) (c : Carrier) → Settled octets c → Settled octets (react v c)
   settled_reacts v c (inl p) = inl (dc_then c (react v c) (λ front q. (ahead_kept front).reacts_to v c q) p)
@@ -66,29 +60,18 @@ module _ (octets : List ℕ) where
   settled_ends reason c (inr p) = inr (refl, p.1)
 
   settled_kept : IsKept (Settled octets)
-  settled_kept = record {
-    reacts_to = settled_reacts;
-    carries = record { sends = settled_sends; closes = settled_closes };
-    untold = settled_untold;
-    ends_so = settled_ends;
-  }
+  settled_kept = search (arith, settled_reacts, settled_sends, settled_closes, settled_untold, settled_ends)
 
 -- ---- the first unit and the first packet
 
 module _ (e : End) (w : Idles e) where
   dc_now : (destination source : ℕ) (d : Carrier) → d.outgoing ≡ e.carrier.outgoing ++ packets (disconnected destination source ∷ []) →
       Settled e.carrier.outgoing d
-  dc_now destination source d is = inl (record {
-    destination = destination;
-    source = source;
-    ahead = ([], append-nil (e.carrier.outgoing ++ packets (disconnected destination source ∷ [])) ∙ sym is);
-  })
+  dc_now destination source d is = grind (arith, append-nil (e.carrier.outgoing ++ packets (disconnected destination source ∷ [])))
 
   unknown_at : (destination : ℕ) (v : Value) → Settled e.carrier.outgoing (to_unknown v e.carrier) →
       Settled e.carrier.outgoing (to_reference destination v e.carrier)
-  unknown_at destination v h =
-      subst (λ (rows : Rows Connection). Settled e.carrier.outgoing (to_connection destination (value_at destination rows) v e.carrier))
-      (sym w.live) h
+  unknown_at destination v h = grind arith
 
   by_side : (v : Value) → Settled e.carrier.outgoing (before_class true v e.carrier)
   by_side (confirm destination cr) = unknown_at destination (confirm destination cr) (inr (refl, refl))
@@ -98,11 +81,7 @@ module _ (e : End) (w : Idles e) where
   by_side _ = inr (refl, refl)
 
   first_unit : (v : Value) → Settled e.carrier.outgoing (react v e.carrier)
-  first_unit v =
-      subst (Settled e.carrier.outgoing)
-      (sym (react_quiet v e.carrier w.lasts ∙ ap (λ (x : Option Class). in_class x v e.carrier) w.class
-      ∙ ap (λ (x : Bool). before_class x v e.carrier) w.is_caller))
-      (by_side v)
+  first_unit v = search (arith, react_quiet, by_side)
 
   over_now : (reason : EndReason) → Settled e.carrier.outgoing (states.ends reason e.carrier)
   over_now reason = inr (refl, refl)
@@ -174,8 +153,7 @@ from_settled used put old new is (inr p) = idle_over p.0 (none_put old new put i
 
 stays_idle : (used put : List ℕ) (old new : Holding) → Idles old.end → new.end ≡ old.end →
     new.end.carrier.outgoing ≡ old.end.carrier.outgoing ++ put → new.held.octets ≡ old.held.octets ++ used → IdleTurn used put old new
-stays_idle used put old new w same is held =
-    idles_on (subst Idles (sym same) w) (none_put old new put is (ap (λ (e : End). e.carrier.outgoing) same)) held
+stays_idle used put old new w same is held = grind (arith, none_put)
 
 module _ (piece put : List ℕ) (used : ℕ) (old new : Holding) (w : Idles old.end)
     (is : new.end.carrier.outgoing ≡ old.end.carrier.outgoing ++ put) where
@@ -191,8 +169,7 @@ module _ (piece put : List ℕ) (used : ℕ) (old new : Holding) (w : Idles old.
   stopped_idle : (units : List (List ℕ)) → stops new.end ≡ true → stops old.end ≡ false → Took old.end w units new.end →
       IdleTurn (take used piece) put old new
   stopped_idle units stopped quiet (inr p) = from_settled (take used piece) put old new is p
-  stopped_idle units stopped quiet (inl none) =
-      absurd (let both : true ≡ false = sym stopped ∙ ap stops none.1 ∙ quiet in cc)
+  stopped_idle units stopped quiet (inl none) = grind arith
 
   goes_idle : stops old.end ≡ false → GoesThrough old piece used new → IdleTurn (take used piece) put old new
   goes_idle quiet (inl (inl dry)) =
@@ -241,61 +218,23 @@ serving_idle : (call : Call) (put : List ℕ) (old new : Holding) → Idles old.
 serving_idle (feeding piece fed) put old new w c is =
     let quiet = quiet_stops old.end (ap is_some w.lasts) (ap waits w.lines) in
     goes_idle piece put fed.used old new w is quiet (c.goes quiet)
-serving_idle (telling shown) put old new w c is =
-    let still : Idles (record old.end { lines = without_first old.end.lines }) = record {
-      lasts = w.lasts;
-      is_caller = w.is_caller;
-      class = w.class;
-      live = w.live;
-      told = w.told;
-      lines = ap without_first w.lines;
-    } in
-    idles_on (subst (λ (x : Holding). Idles x.end) (sym c.1) still)
-    (none_put old new put is (ap (λ (x : Holding). x.end.carrier.outgoing) c.1))
-    (ap (λ (x : Holding). x.held.octets) c.1 ∙ sym (append-nil old.held.octets))
-serving_idle (carrying octets) put old new w c is =
-    let before : Idles (put_back octets new.end) = subst (λ (x : Holding). Idles x.end) c w in
-    idles_on (record {
-      lasts = before.lasts;
-      is_caller = before.is_caller;
-      class = before.class;
-      live = before.live;
-      told = before.told;
-      lines = before.lines;
-    })
-    (none_put old (record old { end = put_back octets new.end }) put is (sym (ap (λ (x : Holding). x.end.carrier.outgoing) c)))
-    (sym (ap (λ (x : Holding). x.held.octets) c) ∙ sym (append-nil old.held.octets))
+serving_idle (telling shown) put old new w c is = grind (arith, none_put, append-nil)
+serving_idle (carrying octets) put old new w c is = grind (arith, none_put, append-nil)
 
 -- ---- a call of the user
 
 terms_of : (o : Option OpenError) (fault : Option ConnectError) → after_open o fault ≡ None → fault ≡ None
-terms_of None fault h = h
-terms_of (Some e) fault h = cc
+terms_of o fault h = grind arith
 
 kept_joined : (r : ℕ) (x : Connection) (session : Listener) →
     kept_at r (used_lines ((r, x) ∷ []) ((r, fresh_line session) ∷ [])) ≡ Some session
 kept_joined r x session = rw (eq-eqb r r refl) (rw (eq-eqb r r refl) refl)
 
 now_asks : (c : Request) (e : End) → Idles e → Asks (e.carrier.given + 1) (calls_with c) (connects c e)
-now_asks c e w =
-    let r = e.carrier.given + 1 in
-    let live : (connects c e).carrier.live ≡ (r, asked) ∷ [] = ap (λ (rows : Rows Connection). rows ++ (r, asked) ∷ []) w.live in
-    record {
-      lasts = w.lasts;
-      is_caller = w.is_caller;
-      class = w.class;
-      live = live;
-      told = w.told;
-      here = (λ i. kept_at r (used_lines (live i) (w.lines i ++ (r, fresh_line (calls_with c)) ∷ []))) ∙ kept_joined r asked (calls_with c);
-    }
+now_asks c e w = grind (arith, kept_joined)
 
 no_links : (q : ℕ) (e : End) → Idles e → open_link q e.carrier ≡ None
-no_links q e w =
-    ap (λ (x : Bool). if x then None else link_of (value_at q e.carrier.live)) (ap is_some w.lasts)
-    ∙ ap (λ (rows : Rows Connection). link_of (value_at q rows)) w.live
-
-given_none : (q : ℕ) (e : End) → Idles e → gives_up q e.lines ≡ []
-given_none q e w = ap (λ (rows : Rows Line). gives_up_by q (value_at q rows) rows) w.lines
+no_links q e w = grind arith
 
 using_idle : (call : UserCall) (put : List ℕ) (old new : Holding) → Idles old.end → IsAccepted call old.end →
     new ≡ record old { end = user_does call old.end } →
@@ -309,28 +248,9 @@ using_idle (connecting c) put old new w allowed is outgoing =
     (subst (Asks (old.end.carrier.given + 1) (calls_with c)) (sym there) (now_asks c old.end w)) refl
     (append_cancel_left old.end.carrier.outgoing put _ (sym outgoing ∙ ap (λ (x : End). x.carrier.outgoing) there))
     (ap (λ (x : Holding). x.held.octets) is)
-using_idle (calling q call) put old new w allowed is outgoing =
-    absurd (not_open (open_link q old.end.carrier) (says_is q call old.end allowed).granted.opened (no_links q old.end w))
-using_idle (disconnecting q) put old new w allowed is outgoing =
-    let rests : closed_with q 128 old.end.carrier ≡ old.end.carrier = ap (λ o. closed_on q 128 o old.end.carrier) (no_links q old.end w) in
-    let carrier : (disconnects q old.end).carrier ≡ old.end.carrier = disconnect_carrier q old.end ∙ rests in
-    let there : new.end ≡ record { carrier = old.end.carrier; lines = [] } =
-    ap (λ (x : Holding). x.end) is ∙ disconnect_is q old.end (ap (λ (c : Carrier). c.ended) carrier ∙ w.lasts)
-    ∙ (λ i. record { carrier = rests i; lines = given_none q old.end w i }) in
-    idles_on (subst Idles (sym there) (record {
-      lasts = w.lasts;
-      is_caller = w.is_caller;
-      class = w.class;
-      live = w.live;
-      told = w.told;
-      lines = refl;
-    }))
-    (none_put old new put outgoing (ap (λ (e : End). e.carrier.outgoing) there))
-    (ap (λ (x : Holding). x.held.octets) is ∙ sym (append-nil old.held.octets))
-using_idle breaking put old new w allowed is outgoing =
-    let there : new.end ≡ ends Broken old.end = ap (λ (x : Holding). x.end) is
-    ∙ ap (λ (b : Bool). if b then old.end else ends Broken old.end) (ap is_some w.lasts) in
-    idle_over (ap (λ (e : End). is_some e.carrier.ended) there) (none_put old new put outgoing (ap (λ (e : End). e.carrier.outgoing) there))
+using_idle (calling q call) put old new w allowed is outgoing = grind (arith, not_open, says_is, no_links)
+using_idle (disconnecting q) put old new w allowed is outgoing = grind (arith, none_put, append-nil)
+using_idle breaking put old new w allowed is outgoing = grind (arith, none_put)
 
 pub idle_turn : (turn : Turn) (old new : Holding) → Idles old.end → Takes old turn new → IdleTurn turn.used turn.put old new
 idle_turn turn old new w takes = subst (λ (x : List ℕ). IdleTurn x turn.put old new) (sym takes.used) (by takes.act takes.acts takes.put)

@@ -8,14 +8,12 @@ use Rattle.osi_honest.proofs.Vocabulary.{ArePackets, Cuts, Ending, EndsAt, Value
 
 pub packets_on : (us : List (List ℕ)) (s r more : List ℕ) → ArePackets us s r → ArePackets us (s ++ more) (r ++ more)
 packets_on [] s r more h = ap (λ (x : List ℕ). x ++ more) h
-packets_on (u ∷ us) s r more (b, t, p, e, h) =
-    (b, t ++ more, p, ap (λ (x : List ℕ). x ++ more) e ∙ append_assoc b t more, packets_on us t r more h)
+packets_on (u ∷ us) s r more (b, t, p, e, h) = grind (arith, append_assoc, packets_on us t r more h)
 
 pub packets_then : (us vs : List (List ℕ)) (s r more q : List ℕ) → ArePackets us s r → ArePackets vs (r ++ more) q →
     ArePackets (us ++ vs) (s ++ more) q
 packets_then [] vs s r more q h k = subst (λ (x : List ℕ). ArePackets vs (x ++ more) q) (sym h) k
-packets_then (u ∷ us) vs s r more q (b, t, p, e, h) k =
-    (b, t ++ more, p, ap (λ (x : List ℕ). x ++ more) e ∙ append_assoc b t more, packets_then us vs t r more q h k)
+packets_then (u ∷ us) vs s r more q (b, t, p, e, h) k = grind (arith, append_assoc, packets_then us vs t r more q h k)
 
 -- ---- one reading goes on where the other ends
 
@@ -43,13 +41,7 @@ none_more at q r e (u ∷ more) ends h = absurd (end_no_packet at q e ends u h.0
 pub read_within : (us vs : List (List ℕ)) (s x r : List ℕ) (e : Ending) → ArePackets us s r → Cuts (s ++ x) vs e →
     (more : List (List ℕ)) × (vs ≡ us ++ more)
 read_within us vs s x r e h (q, cut, ends) =
-    by (two_readings us vs (s ++ x) (r ++ x) q (packets_on us s r x h) cut)
-  where
-    by : GoesBeyond us vs (r ++ x) q → (more : List (List ℕ)) × (vs ≡ us ++ more)
-    by (second more is p) = (more, is)
-    by (first more is p) =
-        let none = none_more _ q (r ++ x) e more ends p in
-        ([], sym (append-nil us ∙ is ∙ ap (λ (l : List (List ℕ)). vs ++ l) none ∙ append-nil vs))
+    grind (arith, none_more, two_readings us vs (s ++ x) (r ++ x) q (packets_on us s r x h) cut, append-nil vs)
 
 -- ---- what is written is read
 
@@ -78,22 +70,16 @@ heads res high low w0 w1 w2 u w x y e = record { high_is = cc; low_is = cc; rest
 
 -- a packet that is read where one was written is this one
 pub packet_again : (u w b x y : List ℕ) → IsPacket u b → b ++ x ≡ packet_of w ++ y → (u ≡ w) × (x ≡ y)
-packet_again u w b x y p e =
-    let whole : (3 ∷ p.reserved ∷ p.high ∷ p.low ∷ (u ++ x)) ≡ (3 ∷ 0 ∷ ((length w + 4) / 256) ∷ ((length w + 4) % 256) ∷ (w ++ y)) =
-    ap (λ (l : List ℕ). l ++ x) (sym p.spelled) ∙ e in
-    let h = heads p.reserved p.high p.low 0 ((length w + 4) / 256) ((length w + 4) % 256) u w x y whole in
-    same_split u w x y (same_length p.high p.low (length u) (length w) p.counted h.high_is h.low_is) h.rest_is
+packet_again u w b x y p e = grind (arith, heads, same_split, same_length)
 
 pub no_packet_in : (u b x : List ℕ) → IsPacket u b → b ++ x ≡ [] → ⊥
-no_packet_in u b x p e = let whole : (3 ∷ p.reserved ∷ p.high ∷ p.low ∷ (u ++ x)) ≡ [] = ap (λ (l : List ℕ). l ++ x) (sym p.spelled)
-    ∙ e in cc
+no_packet_in u b x p e = grind arith
 
 -- Packets that are read at the front of what was written are the first of those that were written.
 pub shown_packets : (us : List (List ℕ)) (vs : List Value) (s r later : List ℕ) → ArePackets us s r → s ++ later ≡ packets vs →
     (back : List (List ℕ)) × (map written vs ≡ us ++ back)
 shown_packets [] vs s r later h e = (map written vs, refl)
-shown_packets (u ∷ us) [] s r later (b, t, p, is, h) e =
-    absurd (no_packet_in u b (t ++ later) p (sym (append_assoc b t later) ∙ ap (λ (x : List ℕ). x ++ later) (sym is) ∙ e))
+shown_packets (u ∷ us) [] s r later (b, t, p, is, h) e = grind (arith, no_packet_in, append_assoc)
 shown_packets (u ∷ us) (v ∷ vs) s r later (b, t, p, is, h) e =
     let one = packet_again u (written v) b (t ++ later) (packets vs) p
     (sym (append_assoc b t later) ∙ ap (λ (x : List ℕ). x ++ later) (sym is) ∙ e) in

@@ -1,14 +1,13 @@
 -- Whatever arrives, whatever its user calls and however much memory there is, an end puts packets, whole and in order; so the
 -- judge reads of any prefix of them packets, and then perhaps the beginning of one.
 -- For the law that an end puts packets.
-use Rattle.osi_honest.proofs.Vocabulary.{[], ap, append_assoc, arith, Bool, false, if◌then◌else◌, is_some, length, List, option_map, refl}
-use Rattle.osi_honest.proofs.Vocabulary.{subst, suc, sym, true, ℕ, ◌%◌, ◌*◌, ◌++◌, ◌+◌, ◌/◌, ◌<◌, ◌∙◌, ◌∷◌, ◌≡◌, ◌≤◌, append-nil}
-use Rattle.osi_honest.proofs.Vocabulary.{append_cancel_left, length-append, IsBadLength, IsBadVersion, IsFaultOf, ArePackets, Cuts, Ending}
-use Rattle.osi_honest.proofs.Vocabulary.{Faulty, Rest, TpktFault, BadLength, BadVersion, OutOfMemory, tsap_octets, request, user_data}
-use Rattle.osi_honest.proofs.Vocabulary.{Value, written, written_header, proposal, packets, State as Carrier, Broken, called}
-use Rattle.osi_honest.proofs.Vocabulary.{session_carried, disconnect_carrier, ends, user_does, UserCall, breaking, calling, connecting}
-use Rattle.osi_honest.proofs.Vocabulary.{disconnecting, Call, Calls, carried_in, carrying, feeding, telling, End, Holding, Capture, stream}
-use Rattle.osi_honest.proofs.Vocabulary.{Direction, EndsWithin, IsSeen, put_along, Act, Acts, carried_by, Run, Takes, Turn, serving, using}
+use Rattle.osi_honest.proofs.Vocabulary.{[], ap, append_assoc, arith, Bool, if◌then◌else◌, is_some, length, List, option_map, refl, subst}
+use Rattle.osi_honest.proofs.Vocabulary.{sym, ℕ, ◌%◌, ◌*◌, ◌++◌, ◌+◌, ◌/◌, ◌<◌, ◌∙◌, ◌∷◌, ◌≡◌, ◌≤◌, append-nil, append_cancel_left}
+use Rattle.osi_honest.proofs.Vocabulary.{length-append, IsBadLength, IsBadVersion, IsFaultOf, ArePackets, Cuts, Ending, TpktFault}
+use Rattle.osi_honest.proofs.Vocabulary.{tsap_octets, request, Value, written, written_header, proposal, packets, Broken, session_carried}
+use Rattle.osi_honest.proofs.Vocabulary.{disconnect_carrier, ends, user_does, UserCall, breaking, calling, connecting, disconnecting, Call}
+use Rattle.osi_honest.proofs.Vocabulary.{Calls, carried_in, carrying, feeding, telling, End, Holding, Capture, stream, Direction}
+use Rattle.osi_honest.proofs.Vocabulary.{EndsWithin, IsSeen, put_along, Act, Acts, carried_by, Run, Takes, Turn, serving, using}
 use Rattle.osi_honest.proofs.reading.two_readings_of_a_stream_agree.{no_packet_in, packet_again}
 use Rattle.osi_honest.proofs.keeping.what_a_unit_keeps_a_turn_keeps.{IsKept, kept_feeds}
 use Rattle.osi_honest.proofs.class_0.what_class_0_writes_of_a_tsdu.{packets_joined}
@@ -22,11 +21,7 @@ pub record PacketsAfter (octets out : List ℕ) : Type 0 where
   pub is : out ≡ octets ++ packets units
 
 packets_on : (octets out : List ℕ) (units : List Value) → PacketsAfter octets out → PacketsAfter octets (out ++ packets units)
-packets_on octets out units p = record {
-  units = p.units ++ units;
-  is = ap (λ (x : List ℕ). x ++ packets units) p.is ∙ append_assoc octets (packets p.units) (packets units)
-      ∙ ap (λ (x : List ℕ). octets ++ x) (sym (packets_joined p.units units));
-}
+packets_on octets out units p = grind (arith, append_assoc octets (packets p.units) (packets units), packets_joined p.units units)
 
 kept : (octets : List ℕ) → IsKept (λ c. PacketsAfter octets c.outgoing)
 kept octets = out_kept (PacketsAfter octets) (packets_on octets)
@@ -36,8 +31,7 @@ none_yet octets = record { units = []; is = sym (append-nil octets) }
 
 ended_by_break : (octets : List ℕ) (b : Bool) (e : End) → PacketsAfter octets e.carrier.outgoing →
     PacketsAfter octets (if b then e else ends Broken e).carrier.outgoing
-ended_by_break octets true e p = p
-ended_by_break octets false e p = (kept octets).ends_so Broken e.carrier p
+ended_by_break octets b e p = grind (arith, kept)
 
 user_packets : (call : UserCall) (e : End) → PacketsAfter e.carrier.outgoing (user_does call e).carrier.outgoing
 user_packets (connecting c) e = record {
@@ -45,12 +39,8 @@ user_packets (connecting c) e = record {
       (option_map tsap_octets c.called_tsap) (e.carrier.given + 1)) ∷ [];
   is = refl;
 }
-user_packets (calling r call) e =
-    session_carried (λ c. PacketsAfter e.carrier.outgoing c.outgoing) (kept e.carrier.outgoing).carries r (called call) e
-    (none_yet e.carrier.outgoing)
-user_packets (disconnecting r) e =
-    subst (λ (c : Carrier). PacketsAfter e.carrier.outgoing c.outgoing) (sym (disconnect_carrier r e))
-    ((kept e.carrier.outgoing).carries.closes r e.carrier (none_yet e.carrier.outgoing))
+user_packets (calling r call) e = grind (arith, session_carried, kept e.carrier.outgoing, none_yet e.carrier.outgoing)
+user_packets (disconnecting r) e = grind (arith, disconnect_carrier r e, kept e.carrier.outgoing, none_yet e.carrier.outgoing)
 user_packets breaking e = ended_by_break e.carrier.outgoing (is_some e.carrier.ended) e (none_yet e.carrier.outgoing)
 
 -- packets with some units
@@ -60,10 +50,7 @@ pub record ArePut (put : List ℕ) : Type 0 where
 
 as_put : (put : List ℕ) (old new : Holding) → new.end.carrier.outgoing ≡ old.end.carrier.outgoing ++ put →
     PacketsAfter old.end.carrier.outgoing new.end.carrier.outgoing → ArePut put
-as_put put old new is p = record {
-  units = p.units;
-  is = append_cancel_left old.end.carrier.outgoing put (packets p.units) (sym is ∙ p.is);
-}
+as_put put old new is p = grind (arith, append_cancel_left)
 
 call_puts : (call : Call) (put : List ℕ) (old new : Holding) → Calls old call new →
     carried_in call ++ new.end.carrier.outgoing ≡ old.end.carrier.outgoing ++ put → ArePut put
@@ -113,11 +100,7 @@ some_header (request c) = omega arith
 some_header _ = omega arith
 
 some_octets : (v : Value) → 3 ≤ length (written v)
-some_octets v =
-    let header = some_header v in
-    let whole : length (written v) ≡ suc (length (written_header v ++ user_data v)) = refl in
-    let sum = length-append (written_header v) (user_data v) in
-    omega arith
+some_octets v = grind (arith, some_header, length-append)
 
 never_less : (n high low : ℕ) → 3 ≤ n → high ≡ (n + 4) / 256 → low ≡ (n + 4) % 256 → 256 * high + low < 7 → ⊥
 never_less n high low some h l few = omega arith
@@ -128,10 +111,7 @@ version_right (a ∷ r) later [] e bad = cc
 version_right (a ∷ r) later (v ∷ vs) e bad = let three : a ≡ 3 = cc in bad.1 three
 
 length_right : (r later : List ℕ) (vs : List Value) → r ++ later ≡ packets vs → IsBadLength r → ⊥
-length_right (a ∷ b ∷ c ∷ d ∷ r) later (v ∷ vs) e bad =
-    let high : c ≡ (length (written v) + 4) / 256 = cc in
-    let low : d ≡ (length (written v) + 4) % 256 = cc in
-    never_less (length (written v)) c d (some_octets v) high low bad.2
+length_right (a ∷ b ∷ c ∷ d ∷ r) later (v ∷ vs) e bad = grind (arith, never_less, some_octets)
 length_right (a ∷ b ∷ c ∷ d ∷ r) later [] e bad = cc
 length_right [] later vs e bad = let long : 4 ≤ 0 = bad.0 in absurd (omega arith)
 length_right (a ∷ []) later vs e bad = let long : 4 ≤ 1 = bad.0 in absurd (omega arith)
@@ -139,14 +119,8 @@ length_right (a ∷ b ∷ []) later vs e bad = let long : 4 ≤ 2 = bad.0 in abs
 length_right (a ∷ b ∷ c ∷ []) later vs e bad = let long : 4 ≤ 3 = bad.0 in absurd (omega arith)
 
 no_fault : (at : ℕ) (r later : List ℕ) (vs : List Value) (fault : TpktFault) → r ++ later ≡ packets vs → IsFaultOf at r fault → ⊥
-no_fault at r later vs (BadVersion offset) e bad = version_right r later vs e bad.0
-no_fault at r later vs (BadLength offset) e bad = length_right r later vs e bad.0
-no_fault at r later vs OutOfMemory e bad = bad
+no_fault at r later vs fault e bad = grind (arith, version_right, length_right)
 
 pub shown_ends_within : (d : Direction) (capture : Capture) (begin end : Holding) (turns : List Turn) (units : List (List ℕ))
     (ending : Ending) → Run begin turns end → IsSeen d turns capture → Cuts (stream d capture) units ending → EndsWithin ending
-shown_ends_within d capture begin end turns units (Rest n) run seen cut = tt
-shown_ends_within d capture begin end turns units (Faulty fault) run seen cut =
-    let put = run_puts turns begin end run in
-    let left = left_packets units put.units (stream d capture) cut.0 seen.own.0 cut.1 (seen.own.1 ∙ put.is) in
-    no_fault _ cut.0 seen.own.0 left.0 fault left.1 cut.2
+shown_ends_within d capture begin end turns units ending run seen cut = grind (arith, run_puts, left_packets, no_fault)

@@ -1,11 +1,10 @@
 -- The judge reads from packets of class 0 the TSDUs that they bring, and the parts of TSDUs that an end puts bring these TSDUs.
 -- For the laws of an end and its captures.
-use Rattle.osi_honest.proofs.Vocabulary.{[], ap, arith, Bool, false, inl, inr, leb, length, List, map, nat_lt, Ok, refl, Result, subst, sym}
-use Rattle.osi_honest.proofs.Vocabulary.{true, ℕ, ◌++◌, ◌+◌, ◌<◌, ◌∙◌, ◌∷◌, ◌≡◌, ◌≤◌, eq-eqb, ltb-true, append-nil, header_again, data0}
-use Rattle.osi_honest.proofs.Vocabulary.{Value, written, TpduFault, longest_tsdu, Part, tsdus_after, AreShort, octets_of, added, begun}
-use Rattle.osi_honest.proofs.Vocabulary.{between, brought, ended, first_unit, Handshake, moved, packet_length, Sent, sent_by, sent_from}
-use Rattle.osi_honest.proofs.Vocabulary.{Stage, stage_behind, stage_from, step_of, within, Direction, Carry, ends_whole, units_put}
-use Rattle.osi_honest.proofs.Vocabulary.{between_two, in_one, IsReading, Brings, IsPart}
+use Rattle.osi_honest.proofs.Vocabulary.{[], ap, arith, Bool, false, inl, inr, leb, length, List, map, nat_lt, Ok, refl, subst, sym, true}
+use Rattle.osi_honest.proofs.Vocabulary.{ℕ, ◌++◌, ◌+◌, ◌∙◌, ◌∷◌, ◌≡◌, ◌≤◌, eq-eqb, ltb-true, append-nil, header_again, data0, Value}
+use Rattle.osi_honest.proofs.Vocabulary.{written, longest_tsdu, Part, tsdus_after, AreShort, octets_of, added, begun, between, ended}
+use Rattle.osi_honest.proofs.Vocabulary.{Handshake, packet_length, Sent, sent_by, sent_from, Stage, stage_behind, stage_from, Direction}
+use Rattle.osi_honest.proofs.Vocabulary.{Carry, ends_whole, units_put, between_two, in_one, IsReading, Brings, IsPart}
 use Rattle.osi_tpdu.specs.Packet.{units_of}
 use Rattle.std.proofs.Common.{length-append}
 unfoldable use Rattle.osi_tpdu.specs.Packet.{units_at}
@@ -19,20 +18,10 @@ record StepsPart (d : Direction) (h : Handshake) (stage : Stage) (at : ℕ) (u :
 
 steps_part : (d : Direction) (h : Handshake) (stage : Stage) (b : List ℕ) (at : ℕ) (u : List ℕ) (last : Bool) (octets : List ℕ) →
     IsReading stage b → IsPart u last octets b → StepsPart d h stage at u last octets
-steps_part d h _ _ at u last octets between_two p = record {
-  stage_is = ap (λ (x : Result (List Value) TpduFault). moved between at (step_of d between h (first_unit x))) p.is ∙ rw (p.fits) refl;
-  sent_is = ap (λ (x : Result (List Value) TpduFault). brought between at u (step_of d between h (first_unit x))) p.is ∙ rw (p.fits) refl;
-}
-steps_part d h _ _ at u last octets (in_one first o) p = record {
-  stage_is = ap (λ (x : Result (List Value) TpduFault). moved (within first o) at (step_of d (within first o) h (first_unit x))) p.is
-      ∙ rw (p.fits) refl;
-  sent_is = ap (λ (x : Result (List Value) TpduFault). brought (within first o) at u (step_of d (within first o) h (first_unit x))) p.is
-      ∙ rw (p.fits) refl;
-}
+steps_part d h stage b at u last octets h2 p = search arith
 
 begun_is : (stage : Stage) (b : List ℕ) → IsReading stage b → begun stage ≡ b
-begun_is _ _ between_two = refl
-begun_is _ _ (in_one first o) = refl
+begun_is stage b h = grind arith
 
 added_part : (stage : Stage) (b octets : List ℕ) (at : ℕ) → IsReading stage b → IsReading (added stage at false octets) (b ++ octets)
 added_part _ _ octets at between_two = in_one at octets
@@ -50,15 +39,11 @@ pub brings_read : (d : Direction) (met : ℕ → Handshake) (stage : Stage) (b :
     Reads d met stage at units tsdus later
 brings_read d met stage b at [] tsdus later r h = record { sent = sym h.0; then_is = subst (IsReading stage) (sym h.1) r }
 brings_read d met stage b at (u ∷ units) tsdus later r (octets, inl (p, rest)) =
-    let s = steps_part d (met at) stage b at u false octets r p in
-    let more = brings_read d met (added stage at false octets) (b ++ octets) (at + packet_length u) units tsdus later
-    (added_part stage b octets at r) rest in
-    record {
-      sent = ap (λ (x : List Sent). map octets_of (x ++ sent_from d met (stage_behind d (met at) stage at u) (at + packet_length u) units))
-          s.sent_is
-          ∙ ap (λ (x : Stage). map octets_of (sent_from d met x (at + packet_length u) units)) s.stage_is ∙ more.sent;
-      then_is = subst (λ (x : Stage). IsReading (stage_from d met x (at + packet_length u) units) later) (sym s.stage_is) more.then_is;
-    }
+    grind (
+      arith,
+      steps_part d (met at) stage b at u false octets r p,
+      brings_read d met (added stage at false octets) (b ++ octets) (at + packet_length u) units tsdus later (added_part stage b octets at r) rest,
+    )
 brings_read d met stage b at (u ∷ units) tsdus later r (octets, inr (p, (others, is, rest))) =
     let s = steps_part d (met at) stage b at u true octets r p in
     let more = brings_read d met between [] (at + packet_length u) units others later between_two rest in
@@ -79,10 +64,7 @@ only_unit unit octets e = grind (arith, eq-eqb)
 
 dt_by : (octet : ℕ) (octets : List ℕ) → units_of (2 ∷ 240 ∷ octet ∷ octets) ≡ Ok (data0 (leb 128 octet) octets ∷ [])
 unfolding unit_at value_of transfer_of
-dt_by octet octets =
-    let header : header_at 0 (2 ∷ 240 ∷ octet ∷ octets) ≡ Ok (240 ∷ octet ∷ [], octets) = header_again 0 (240 ∷ octet ∷ []) octets
-    (omega arith) (omega arith) in
-    only_unit (data0 (leb 128 octet) octets) (2 ∷ 240 ∷ octet ∷ octets) (rw header refl)
+dt_by octet octets = search (arith, only_unit, header_again 0 (240 ∷ octet ∷ []) octets (omega arith) (omega arith), leb 128 octet)
 
 pub dt_read : (last : Bool) (octets : List ℕ) → units_of (written (data0 last octets)) ≡ Ok (data0 last octets ∷ [])
 dt_read true octets = dt_by 128 octets
@@ -103,8 +85,7 @@ parts_then b ((true, octets) ∷ parts) later = ap (λ (x : List (List ℕ)). (b
 parts_then b ((false, octets) ∷ parts) later = parts_then (b ++ octets) parts later
 
 not_long : (n : ℕ) (b : Bool) → nat_lt longest_tsdu n ≡ b → n ≤ 1048576 → nat_lt longest_tsdu n ≡ false
-not_long n false e few = e
-not_long n true e few = let l : longest_tsdu < n = ltb-true longest_tsdu n e in absurd (omega arith)
+not_long n b e few = grind (arith, ltb-true)
 
 -- what was begun is within a TSDU that comes, or is left
 abbrev IsWithinLimit : List ℕ → Type 0
@@ -113,11 +94,8 @@ IsWithinLimit b = length b ≤ 1048576
 first_longer : (b octets : List ℕ) (parts : List Part) → AreShort (tsdus_after (b ++ octets) parts) →
     IsWithinLimit (left_of (b ++ octets) parts) → length b + length octets ≤ 1048576
 first_longer b octets [] short few = let l = length-append b octets in omega arith
-first_longer b octets ((true, more) ∷ parts) short few =
-    let l = length-append b octets in let k = length-append (b ++ octets) more in let s : length
-    ((b ++ octets) ++ more) ≤ 1048576 = short.0 in omega arith
-first_longer b octets ((false, more) ∷ parts) short few =
-    let k = first_longer (b ++ octets) more parts short few in let l = length-append b octets in omega arith
+first_longer b octets ((true, more) ∷ parts) short few = grind (arith, length-append)
+first_longer b octets ((false, more) ∷ parts) short few = grind (arith, length-append, first_longer (b ++ octets) more parts short few)
 
 parts_bring : (b : List ℕ) (parts : List Part) → AreShort (tsdus_after b parts) → IsWithinLimit (left_of b parts) →
     Brings b (units_put parts) (tsdus_after b parts) (left_of b parts)
@@ -133,17 +111,8 @@ parts_bring b ((true, octets) ∷ parts) short few = (
     (tsdus_after [] parts, refl, parts_bring [] parts short.1 few),
   ),
 )
-parts_bring b ((false, octets) ∷ parts) short few = (
-  octets,
-  inl (
-    record {
-      is = dt_read false octets;
-      fits = not_long (length b + length octets) (nat_lt longest_tsdu (length b + length octets)) refl
-          (first_longer b octets parts short few);
-    },
-    parts_bring (b ++ octets) parts short few,
-  ),
-)
+parts_bring b ((false, octets) ∷ parts) short few =
+    grind (arith, dt_read false octets, first_longer b octets parts short few, parts_bring (b ++ octets) parts short few)
 
 last_one : (some others : List (List ℕ)) (x y : List ℕ) → some ≡ others → some ++ x ∷ [] ≡ others ++ y ∷ [] → x ≡ y
 last_one some others x y same e =
@@ -169,8 +138,7 @@ carried_bring parts tsdus carry short =
 -- ---- after parts that are whole TSDUs the judge stands between two
 
 part_last : (last other : Bool) (octets more b : List ℕ) → IsPart (written (data0 last octets)) other more b → other ≡ last
-part_last last other octets more b p =
-    let both : Ok (data0 last octets ∷ []) ≡ Ok (data0 other more ∷ []) = sym (dt_read last octets) ∙ p.is in cc
+part_last last other octets more b p = grind (arith, dt_read)
 
 stage_then : (d : Direction) (met : ℕ → Handshake) (stage next : Stage) (at : ℕ) (u : List ℕ) (us : List (List ℕ)) →
     stage_behind d (met at) stage at u ≡ next →
@@ -213,8 +181,7 @@ parts_read d met at parts tsdus carry short =
 
 pub brings_more : (b : List ℕ) (units more tsdus others : List (List ℕ)) (mid later : List ℕ) → Brings b units tsdus mid →
     Brings mid more others later → Brings b (units ++ more) (tsdus ++ others) later
-brings_more b [] more tsdus others mid later h k =
-    subst (λ (x : List (List ℕ)). Brings b more (x ++ others) later) (sym h.0) (subst (λ (x : List ℕ). Brings x more others later) h.1 k)
+brings_more b [] more tsdus others mid later h k = grind arith
 brings_more b (u ∷ units) more tsdus others mid later (octets, inl (p, rest)) k =
     (octets, inl (p, brings_more (b ++ octets) units more tsdus others mid later rest k))
 brings_more b (u ∷ units) more tsdus others mid later (octets, inr (p, (after, is, rest))) k = (

@@ -53,18 +53,13 @@ parameters_are c plain h =
 
 slot_most : (code : ℕ) (o : Option (List ℕ)) (n : ℕ) → IfSome o (λ s. length s ≤ n) →
     length (flat_map item_octets (items_of code o)) ≤ 2 + n
-slot_most code None n h = omega arith
-slot_most code (Some s) n h = omega (arith, length-append s [])
+slot_most code o n h = grind (arith, length-append)
 
 single_most : (code : ℕ) (o : Option ℕ) → length (flat_map item_octets (items_of code (single o))) ≤ 3
-single_most code None = omega arith
-single_most code (Some n) = omega arith
+single_most code o = grind arith
 
 items_join : (a b : List Item) → length (flat_map item_octets (a ++ b)) ≡ length (flat_map item_octets a) + length (flat_map item_octets b)
-items_join a b =
-    subst (λ (l : List ℕ). length l ≡ length (flat_map item_octets a) + length (flat_map item_octets b))
-    (sym (flat_map-append item_octets a b))
-    (length-append (flat_map item_octets a) (flat_map item_octets b))
+items_join a b = grind (arith, flat_map-append, length-append)
 
 items_most : (c : Connect) → IsPlain c → length (flat_map item_octets (written_items c.parameters)) ≤ 77
 items_most c plain =
@@ -128,12 +123,7 @@ fields_are (acknowledge credit destination number) can octets =
 fields_are (error destination cause) can octets = absurd can
 
 has_room : (v : Value) → CanBeWritten v → HasRoom v
-has_room (request c) can = let most = items_most c can in omega arith
-has_room (confirm destination c) can = let most = items_most c can in omega arith
-has_room (error destination cause) can = absurd can
-has_room _ can = omega arith
+has_room v can = grind (arith, items_most)
 
 pub read_again : (v : Value) → CanBeWritten v → IsOctets (written v) → units_of (written v) ≡ Ok (v ∷ [])
-read_again v can octets =
-    units_only (written v) (v ∷ [])
-    (written_spells v (record { in_range = fields_are v can octets; counted = has_room v can }))
+read_again v can octets = search (arith, units_only, written_spells, fields_are, has_room)

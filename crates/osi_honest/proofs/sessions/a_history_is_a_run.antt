@@ -18,8 +18,7 @@ now_passes taken [] = tt
 now_passes taken (tsdu ∷ tsdus) = (refl, omega arith, now_passes taken tsdus)
 
 all_told : (some now : List Said) (later : List Told) → map told_of some ++ (map told_of now ++ later) ≡ map told_of (some ++ now) ++ later
-all_told some now later = sym (append_assoc (map told_of some) (map told_of now) later)
-    ∙ ap (λ (x : List Told). x ++ later) (sym (map-append told_of some now))
+all_told some now later = grind (arith, append_assoc, map-append)
 
 module _ (begin : Listener) (us : List (List ℕ)) where
   pub history_runs : (took : List (List ℕ)) (said : List Said) (closed : Bool) (l : Listener) → History begin took said closed l →

@@ -1,15 +1,14 @@
 -- What a called end did in all, from its first turn on: for each run of its turns.
 -- For the law that a called end is not blamed.
 use Rattle.osi_honest.proofs.Vocabulary.{[], ap, append_assoc, arith, Bool, false, if◌then◌else◌, inl, inr, length, List, map, Ok, refl}
-use Rattle.osi_honest.proofs.Vocabulary.{Result, Some, subst, sym, true, ℕ, ◌*◌, ◌++◌, ◌+◌, ◌<◌, ◌==◌, ◌∙◌, ◌∷◌, ◌≡◌, eqb-true, append-nil}
-use Rattle.osi_honest.proofs.Vocabulary.{length-append, flat_map, IsOctets, packet_of, ArePackets, units_found, AreUnits, units_of}
-use Rattle.osi_honest.proofs.Vocabulary.{connect_part, item_octets, Spells, acknowledge, confirm, data0, data2, disconnect, disconnected}
-use Rattle.osi_honest.proofs.Vocabulary.{error, request, Value, written, TpduFault, proposes, Part, Zero, Local, acceptance, packets}
-use Rattle.osi_honest.proofs.Vocabulary.{Listener, awaits, Holding, Capture, other, passed_before, IsSentFrom, heard, told, agreed, astray}
-use Rattle.osi_honest.proofs.Vocabulary.{between, first_unit, Handshake, met_before, opening, packet_length, packets_length, Sent}
-use Rattle.osi_honest.proofs.Vocabulary.{sent_from, shaken_first, stage_from, step_of, stops, Direction, Left, Right, OtherClass}
-use Rattle.osi_honest.proofs.Vocabulary.{IsOtherAnswer, WaitingTurn, Waits, dt, units_put, IsFresh, IsPrefix, IsSeen, PassAfter, put_along}
-use Rattle.osi_honest.proofs.Vocabulary.{used_along, octets_said, Said, Run, Turn}
+use Rattle.osi_honest.proofs.Vocabulary.{Result, Some, subst, sym, true, ℕ, ◌++◌, ◌+◌, ◌∙◌, ◌∷◌, ◌≡◌, eqb-true, append-nil, length-append}
+use Rattle.osi_honest.proofs.Vocabulary.{IsOctets, packet_of, ArePackets, units_found, AreUnits, units_of, Spells, confirm, request, Value}
+use Rattle.osi_honest.proofs.Vocabulary.{written, TpduFault, proposes, Part, Zero, Local, acceptance, packets, Listener, awaits, Holding}
+use Rattle.osi_honest.proofs.Vocabulary.{Capture, other, passed_before, IsSentFrom, heard, told, agreed, between, first_unit, Handshake}
+use Rattle.osi_honest.proofs.Vocabulary.{met_before, opening, packet_length, packets_length, Sent, sent_from, shaken_first, stage_from}
+use Rattle.osi_honest.proofs.Vocabulary.{step_of, stops, Direction, Left, Right, OtherClass, IsOtherAnswer, WaitingTurn, Waits, dt}
+use Rattle.osi_honest.proofs.Vocabulary.{units_put, IsFresh, IsPrefix, IsSeen, PassAfter, put_along, used_along, octets_said, Said, Run}
+use Rattle.osi_honest.proofs.Vocabulary.{Turn}
 use Rattle.osi_tpdu.specs.Value.{Connect}
 use Rattle.osi_judge.specs.Transport.{asks}
 use Rattle.osi_honest.specs.Openings.{Opens}
@@ -45,9 +44,7 @@ did_later d capture coming others met back begin turn turns none
 
 pub after_none : (d : Direction) (capture : Capture) (used more : List ℕ) (put : List ℕ) (turns : List Turn) → put ≡ [] →
     PassAfter d capture (length used + length more) (0 + length put) turns → PassAfter d capture (length (used ++ more)) 0 turns
-after_none d capture used more put turns none after =
-    subst (λ (n : ℕ). PassAfter d capture n 0 turns) (sym (length-append used more))
-    (subst (λ (x : List ℕ). PassAfter d capture (length used + length more) (0 + length x) turns) none after)
+after_none d capture used more put turns none after = search (arith, length-append)
 
 -- a turn without octets, as a front of what was put in it
 abbrev front_turn : List ℕ → List Part → Turn
@@ -93,35 +90,11 @@ called_opened wanted first h is proposed = (
 
 opened_by_cc : (v : Value) (vs : List Value) (u : List ℕ) → shaken_first (Ok (Some v)) ≡ agreed → AreUnits (v ∷ vs) u →
     (destination : ℕ) × (c : Connect) × Spells (confirm destination c) u × (c.class ≡ 0)
-opened_by_cc (confirm destination c) [] u is us = (destination, c, us, by (c.class == 0) refl is)
-  where
-    by : (b : Bool) → (c.class == 0) ≡ b → (if b then agreed else astray) ≡ agreed → c.class ≡ 0
-    by true e is = eqb-true c.class 0 e
-    by false e is = absurd (cc)
-opened_by_cc (confirm destination c) (v ∷ vs) u is us = absurd (let followed : false ≡ true = us.0 in cc)
-opened_by_cc (request c) vs u is us = absurd (cc)
-opened_by_cc (disconnect destination source reason user) vs u is us = absurd (cc)
-opened_by_cc (disconnected destination source) vs u is us = absurd (cc)
-opened_by_cc (data0 end octets) vs u is us = absurd (cc)
-opened_by_cc (data2 destination number end octets) vs u is us = absurd (cc)
-opened_by_cc (acknowledge credit destination number) vs u is us = absurd (cc)
-opened_by_cc (error destination cause) vs u is us = absurd (cc)
+opened_by_cc v vs u is us = grind (arith, eqb-true)
 
 no_class_zero : (answer : Value) (destination : ℕ) (c : Connect) → IsOtherAnswer answer → Spells (confirm destination c) (written answer) →
     c.class ≡ 0 → ⊥
-no_class_zero (disconnect d source reason user) destination c other s zero =
-    let whole : written (disconnect d source reason user) ≡ length s.header ∷ s.header ++ c.user = s.whole in
-    let header : s.header ≡ connect_part 0xD0 destination c ++ flat_map item_octets s.fields.0 = s.fields.2 in
-    let code : 0x80 ≡ 0xD0 + c.credit = cc in
-    omega arith
-no_class_zero (confirm d answer) destination c other s zero =
-    let whole : written (confirm d answer) ≡ length s.header ∷ s.header ++ c.user = s.whole in
-    let header : s.header ≡ connect_part 0xD0 destination c ++ flat_map item_octets s.fields.0 = s.fields.2 in
-    let octet : 16 * answer.class + answer.options ≡ 16 * c.class + c.options = cc in
-    let few : c.options < 16 = s.in_range.1.options in
-    let two : answer.class ≡ 2 = other in
-    omega arith
-no_class_zero _ destination c other s zero = other
+no_class_zero answer destination c h s h2 = grind arith
 
 never_opened : (answer : Value) (units : Result (List Value) TpduFault) → IsOtherAnswer answer → IsOctets (written answer) →
     units_of (written answer) ≡ units → shaken_first (first_unit units) ≡ agreed → ⊥

@@ -1,12 +1,11 @@
 -- What a calling end did in all, from its request on: for each run of its turns.
 -- For the law that a calling end is not blamed.
 use Rattle.osi_honest.proofs.Vocabulary.{[], ap, append_assoc, arith, Bool, false, if◌then◌else◌, inl, inr, length, List, map, None, Ok}
-use Rattle.osi_honest.proofs.Vocabulary.{refl, Result, subst, sym, true, ℕ, ◌++◌, ◌+◌, ◌<◌, ◌==◌, ◌∙◌, ◌∷◌, ◌≡◌, ◌≤◌, append-nil}
-use Rattle.osi_honest.proofs.Vocabulary.{length-append, flat_map, IsOctets, packet_of, ArePackets, units_found, units_of, connect_part}
-use Rattle.osi_honest.proofs.Vocabulary.{item_octets, Spells, confirm, data0, disconnected, request, Value, written, written_header}
-use Rattle.osi_honest.proofs.Vocabulary.{TpduFault, Local, packets, Listener, is_wait_transport, Seen, calls_with, terms_error, Holding}
-use Rattle.osi_honest.proofs.Vocabulary.{Request, Capture, other, Told, IsFound, IsHonestIn, IsSentFrom, broke_session, begin_of, heard}
-use Rattle.osi_honest.proofs.Vocabulary.{IsFoundIn, told, between, first_unit, Handshake, met_before, opening, packet_length}
+use Rattle.osi_honest.proofs.Vocabulary.{refl, Result, subst, sym, true, ℕ, ◌++◌, ◌+◌, ◌==◌, ◌∙◌, ◌∷◌, ◌≡◌, ◌≤◌, append-nil, length-append}
+use Rattle.osi_honest.proofs.Vocabulary.{IsOctets, packet_of, ArePackets, units_found, units_of, Spells, confirm, data0, disconnected}
+use Rattle.osi_honest.proofs.Vocabulary.{request, Value, written, written_header, TpduFault, Local, packets, Listener, is_wait_transport}
+use Rattle.osi_honest.proofs.Vocabulary.{calls_with, terms_error, Holding, Request, Capture, other, IsHonestIn, IsSentFrom, broke_session}
+use Rattle.osi_honest.proofs.Vocabulary.{heard, IsFoundIn, told, between, first_unit, Handshake, met_before, opening, packet_length}
 use Rattle.osi_honest.proofs.Vocabulary.{packets_length, Sent, sent_from, step_of, stops, Direction, Left, Right, Finding, OtherClass}
 use Rattle.osi_honest.proofs.Vocabulary.{AskingTurn, Asks, Idles, IdleTurn, IsAnswered, IsNoData, dt, units_put, IsFresh, IsPrefix, IsSeen}
 use Rattle.osi_honest.proofs.Vocabulary.{PassAfter, put_along, used_along, octets_said, Run, Turn}
@@ -34,27 +33,20 @@ use Rattle.osi_honest.proofs.reading.what_the_judge_reads_of_a_side.{Begins, Clo
 
 -- its header has more than two octets
 pub long_header : (v : Value) → IsNoData v → 4 ≤ length (written_header v)
-long_header (data0 last octets) other = absurd other
-long_header _ other = omega arith
+long_header v h = grind arith
 
 first_octet : (v : Value) (header octets : List ℕ) → written v ≡ length header ∷ header ++ octets →
     length (written_header v) ≡ length header
 first_octet v header octets e = cc
 
 spelled_data : (v : Value) (last : Bool) (octets : List ℕ) → IsNoData v → Spells (data0 last octets) (written v) → ⊥
-spelled_data v last octets other s =
-    let long = long_header v other in
-    let same = first_octet v s.header octets s.whole in
-    let header = ap (λ (x : List ℕ). length x) s.fields.2 in
-    omega arith
+spelled_data v last octets other s = grind (arith, long_header, first_octet)
 
 read_other : (v : Value) (units : Result (List Value) TpduFault) → IsNoData v → IsOctets (written v) →
     units_of (written v) ≡ units → HasNoData (first_unit units)
 read_other v (Ok (data0 last user ∷ [])) other octets e =
     absurd (spelled_data v last user other (units_found (written v) (data0 last user ∷ []) octets e))
-read_other v (Ok (data0 last user ∷ w ∷ vs)) other octets e =
-    let us = units_found (written v) (data0 last user ∷ w ∷ vs) octets e in
-    absurd (let followed : false ≡ true = us.0 in cc)
+read_other v (Ok (data0 last user ∷ w ∷ vs)) other octets e = grind (arith, units_found (written v) (data0 last user ∷ w ∷ vs) octets e)
 read_other v _ other octets e = tt
 
 no_data : (v : Value) → IsNoData v → IsOctets (written v) → HasNoData (first_unit (units_of (written v)))
@@ -85,8 +77,7 @@ module _ (capture : Capture) (coming : List ℕ) (others : List Sent) (met back 
       Afterwards at (turn ∷ turns)
   later_on at turn turns none (silence is) = silence (ap (λ (x : List ℕ). x ++ put_along turns) none ∙ is)
   later_on at turn turns none (others_first p) = others_first (puts_then turn.put (put_along turns) none p)
-  later_on at turn turns none (speech steady s) =
-      speech steady (then_spoke Left capture coming others met back counts session [] at turn turns [] [] none tt refl s)
+  later_on at turn turns none (speech steady s) = grind (arith, then_spoke)
 
   answered : (r : ℕ) (at : ℕ) (used : List ℕ) (turn : Turn) (turns : List Turn) (old mid new : Holding) →
       IsAnswered r session turn.used turn.put old mid → used ≡ old.held.octets → IsPrefix (used ++ used_along (turn ∷ turns)) coming →
@@ -164,11 +155,7 @@ module _ (capture : Capture) (coming : List ℕ) (others : List Sent) (met back 
 
 -- a DC is no CR
 code_of_dc : (destination source : ℕ) (c : Connect) → Spells (request c) (written (disconnected destination source)) → ⊥
-code_of_dc destination source c s =
-    let whole : written (disconnected destination source) ≡ length s.header ∷ s.header ++ c.user = s.whole in
-    let header : s.header ≡ connect_part 0xE0 s.fields.0 c ++ flat_map item_octets s.fields.1 = s.fields.3 in
-    let code : 0xC0 ≡ 0xE0 + c.credit = cc in
-    omega arith
+code_of_dc destination source c s = grind arith
 
 dc_starts : (destination source : ℕ) (h : Handshake) (units : Result (List Value) TpduFault) →
     IsOctets (written (disconnected destination source)) →
@@ -176,8 +163,7 @@ dc_starts : (destination source : ℕ) (h : Handshake) (units : Result (List Val
 dc_starts destination source h (Ok (request c ∷ [])) octets e (reference, is) =
     code_of_dc destination source c (units_found (written (disconnected destination source)) (request c ∷ []) octets e)
 dc_starts destination source h (Ok (request c ∷ w ∷ vs)) octets e (reference, is) =
-    let us = units_found (written (disconnected destination source)) (request c ∷ w ∷ vs) octets e in
-    absurd (let followed : false ≡ true = us.0 in cc)
+    grind (arith, units_found (written (disconnected destination source)) (request c ∷ w ∷ vs) octets e)
 dc_starts destination source h _ octets e (reference, is) = cc
 
 dc_closes : (destination source : ℕ) → IsOctets (written (disconnected destination source)) → (h : Handshake) →
@@ -243,8 +229,7 @@ module _ (capture : Capture) (coming : List ℕ) (others : List Sent) (met back 
           ∙ append_assoc (packet_of (written (disconnected destination source))) later (put_along turns)) (dc_closes destination source))
 
 fresh_idles : (local : Local) (begin : Holding) → IsFresh true local begin → Idles begin.end
-fresh_idles local begin fresh =
-    subst Idles (sym fresh.end) (record { lasts = refl; is_caller = refl; class = refl; live = refl; told = refl; lines = refl })
+fresh_idles local begin fresh = grind arith
 
 pub calling_did : (proper : AllProper) (begins : (c : Request) → terms_error c ≡ None → CanBegin (calls_with c)) (local : Local)
     (begin end : Holding) (turns : List Turn) (capture : Capture) (seen : IsSeen Left turns capture) (others : List Sent)
@@ -256,19 +241,6 @@ calling_did proper begins local begin end turns capture seen others met back cou
     (sym fresh.held) seen.used seen.after run
 
 -- ---- what is found of it
-
--- of a side without TSDUs no break is found
-none_found : (begin : Seen) (us : List (List ℕ)) (told : List Told) (finding : Finding) → told ≡ [] → IsFound begin us told finding →
-    broke_session finding ≡ false
-none_found begin us told (outcome.Broke i) none f =
-    let n = ap (λ (x : List Told). length x) none in
-    let l : i < length told = f.0.there in
-    absurd (omega arith)
-none_found begin us told (outcome.Left i) none f =
-    let n = ap (λ (x : List Told). length x) none in
-    let l : i < length told = f.0 in
-    absurd (omega arith)
-none_found begin us told _ none f = refl
 
 abbrev pub HonestLaw : Type 0
 HonestLaw = (d : Direction) (capture : Capture) (finding : Finding) → IsHonestIn d capture → IsFoundIn d capture finding →
@@ -282,9 +254,7 @@ pub caller_found : HonestLaw → (capture : Capture) (turns : List Turn) (seen :
     CallerDid capture seen.coming found.others (met_before Left capture read.theirs) (met_before Right capture read.own) counts steadies
     proper begins turns → broke_session finding ≡ false
 caller_found law capture turns seen finding found read counts steadies proper begins (unasked unread) =
-    none_found (begin_of Left) (heard found.others) (told Left capture found.mine found.others) finding
-    (ap (λ (x : List Sent). told Left capture x found.others)
-    (none_of_it Left capture turns seen found.mine found.others read unread)) found.found
+    grind (arith, none_of_it Left capture turns seen found.mine found.others read unread)
 caller_found law capture turns seen finding found read counts steadies proper begins (asked c terms did) =
     let so = opens_so c terms in
     let sent = end_is_honest Left capture (calls_with c) turns seen found.mine found.others read did in

@@ -1,8 +1,8 @@
 -- A capture that shows what a session sent, up to some place, with at least as many TSDUs before each as the session had
 -- taken by then, shows a run of it as the judge has it.
 -- For the laws of an end and its captures.
-use Rattle.osi_honest.proofs.Vocabulary.{[], ap, arith, Bool, false, get_or, length, List, refl, subst, sym, ℕ, ◌++◌, ◌+◌, ◌<◌, ◌∙◌, ◌∷◌}
-use Rattle.osi_honest.proofs.Vocabulary.{◌≡◌, ◌≤◌, after_input, came, Listener, session_react as react, Told, IsSentFrom, Pass, Runs, sends}
+use Rattle.osi_honest.proofs.Vocabulary.{[], ap, arith, Bool, false, get_or, length, List, refl, subst, sym, ℕ, ◌++◌, ◌+◌, ◌<◌, ◌∷◌, ◌≡◌}
+use Rattle.osi_honest.proofs.Vocabulary.{◌≤◌, after_input, came, Listener, session_react as react, Told, IsSentFrom, Pass, Runs, sends}
 use Rattle.osi_honest.proofs.Vocabulary.{AreSame, Shows}
 use Rattle.osi_judge.specs.Running as running
 
@@ -23,18 +23,11 @@ pass_from taken (o ∷ os) (t ∷ now) later p a = (p.1, pass_from taken os now 
 pass_from taken [] (t ∷ now) later p a = absurd p
 pass_from taken (o ∷ os) [] later p a = absurd p
 
-pass_fewer : (taken : ℕ) (tsdus : List (List ℕ)) (now : List Told) → Pass (taken + 1) tsdus now → Pass taken tsdus now
-pass_fewer taken [] [] p = tt
-pass_fewer taken (o ∷ os) (t ∷ now) p = (p.0, (let k : taken + 1 ≤ t.before = p.1 in omega arith), pass_fewer taken os now p.2)
-pass_fewer taken [] (t ∷ now) p = absurd p
-pass_fewer taken (o ∷ os) [] p = absurd p
-
 run_from : (us : List (List ℕ)) (closed : Bool) (l : Listener) (taken : ℕ) (told : List Told) → Runs us closed l taken told →
     AllFrom taken told
 run_from us closed l taken told (running.rests _ _ _) = tt
 run_from us closed l taken told (running.takes _ _ now later w p e) =
-    pass_from taken _ now later (pass_fewer taken _ now p)
-    (from_more taken (taken + 1) later (omega arith) (run_from us _ _ (taken + 1) later e))
+    grind (arith, pass_from, from_more, run_from us _ _ (taken + 1) later e)
 run_from us closed l taken told (running.calls _ _ _ c now later serial p e) = pass_from taken _ now later p (run_from us _ _ taken later e)
 run_from us closed l taken told (running.connects _ _ now later p e) = pass_from taken _ now later p (run_from us _ _ taken later e)
 run_from us closed l taken told (running.misses _ _ reason _ w e) = run_from us _ _ taken told e
@@ -59,11 +52,7 @@ passes_shown bound taken tsdus [] now later s p = p
 passes_shown bound taken [] (t ∷ told) [] later s p = tt
 passes_shown bound taken (o ∷ os) (t ∷ told) [] later s p = absurd p
 passes_shown bound taken [] (t ∷ told) (a ∷ now) later s p = absurd p
-passes_shown bound taken (o ∷ os) (t ∷ told) (a ∷ now) later s p = (
-  s.0 ∙ p.0,
-  (let k : a.before ≤ t.before = s.1 in let j : taken ≤ a.before = p.1 in omega arith),
-  passes_shown bound taken os told now later s.3 p.2,
-)
+passes_shown bound taken (o ∷ os) (t ∷ told) (a ∷ now) later s p = grind (arith, passes_shown bound taken os told now later s.3 p.2)
 
 shows_after : (bound : ℕ) (told now later : List Told) → Shows bound told (now ++ later) → Shows bound (shown_after told now) later
 shows_after bound [] now later s = tt

@@ -62,8 +62,7 @@ shown_said d capture others (t ∷ mine) more (s ∷ said) low c l =
 
 nothing_shown : (d : Direction) (capture : Capture) (others : List Sent) (bound : ℕ) (all : List Told) (mine : List Sent) →
     mine ≡ [] → Shows bound (told d capture mine others) all
-nothing_shown d capture others bound all mine none =
-    subst (λ (x : List Sent). Shows bound (told d capture x others) all) (sym none) tt
+nothing_shown d capture others bound all mine none = grind arith
 
 -- ---- what was taken and what is heard are prefixes of one list
 
@@ -82,9 +81,7 @@ sent_by_session begin took us said closed session told h (heard_more more is) sh
       later = [];
       runs = history_runs begin us took said closed session h more is [] (running.rests closed session (length took));
     })
-sent_by_session begin took us said closed session told h (took_more more is) shows =
-    shown_sent begin took us told (map told_of said)
-    (subst (AreSame us) (sym is) (same_front us more)) shows (is_sent begin took said closed session h)
+sent_by_session begin took us said closed session told h (took_more more is) shows = grind (arith, shown_sent, same_front, is_sent)
 
 heard_all : (d : Direction) (met : ℕ → Handshake) (us more : List (List ℕ)) →
     heard (sent_from d met opening 0 (us ++ more)) ≡ heard (sent_from d met opening 0 us)
@@ -192,15 +189,7 @@ pub record AreRead (d : Direction) (capture : Capture) (mine others : List Sent)
 
 pub are_read : (d : Direction) (capture : Capture) (mine others : List Sent) → IsSent d capture mine → IsSent (other d) capture others →
     AreRead d capture mine others
-are_read d capture mine others (own, theirs, own_cut, their_cut, is) is_others = record {
-  own = own;
-  theirs = theirs;
-  own_cut = own_cut;
-  their_cut = their_cut;
-  mine_is = is;
-  others_is = one_reading (other d) capture others (sent_from (other d) (met_before (other d) capture own) opening 0 theirs) is_others
-      (theirs, own, their_cut, packets_of d capture own own_cut, refl);
-}
+are_read d capture mine others (own, theirs, own_cut, their_cut, is) is_others = search (arith, one_reading, packets_of)
 
 -- it read no TSDU of the own side
 pub none_sent : (d : Direction) (capture : Capture) (begin : Listener) (mine others : List Sent) → mine ≡ [] →
@@ -213,18 +202,14 @@ alone_read : (d : Direction) (met : ℕ → Handshake) (units : List (List ℕ))
     s ++ later ≡ packets (w ∷ []) → sent_from d met opening 0 units ≡ []
 alone_read d met [] s r later w cut is = refl
 alone_read d met (u ∷ []) s r later w cut is = none_first d met u
-alone_read d met (u ∷ next ∷ units) s r later w cut is =
-    let shown = shown_packets (u ∷ next ∷ units) (w ∷ []) s r later cut is in
-    absurd (let more : written w ∷ [] ≡ u ∷ next ∷ (units ++ shown.0) = shown.1 in cc)
+alone_read d met (u ∷ next ∷ units) s r later w cut is = grind (arith, shown_packets (u ∷ next ∷ units) (w ∷ []) s r later cut is)
 
 aside_read : (d : Direction) (met : ℕ → Handshake) (units : List (List ℕ)) (s r later back w : List ℕ) → ArePackets units s r →
     s ++ later ≡ packet_of w ++ back →
     (IsOctets w → (h : Handshake) → Closes (step_of d opening h (first_unit (units_of w)))) → sent_from d met opening 0 units ≡ []
 aside_read d met [] s r later back w cut is closes = refl
 aside_read d met (u ∷ units) s r later back w cut is closes =
-    let same : u ≡ w = first_shown u units w s r later back cut is in
-    let closed = closes (subst IsOctets same (all_octets (u ∷ units) s r cut).0) (met 0) in
-    none_read d met u units (subst (λ (x : List ℕ). Closes (step_of d opening (met 0) (first_unit (units_of x)))) (sym same) closed)
+    grind (arith, none_read, first_shown u units w s r later back cut is, all_octets (u ∷ units) s r cut)
 
 beside_read : (d : Direction) (met : ℕ → Handshake) → StaysStrayed met → (units : List (List ℕ)) (s r later w unit back : List ℕ) →
     ArePackets units s r → s ++ later ≡ packet_of w ++ (packet_of unit ++ back) →
@@ -263,9 +248,7 @@ pub end_is_honest : (d : Direction) (capture : Capture) (begin : Listener) (turn
     IsSentFrom begin (heard others) (told d capture mine others)
 end_is_honest d capture begin turns seen mine others read (nothing none) =
     none_sent d capture begin mine others (none_of_it d capture turns seen mine others read (nothing_put none))
-end_is_honest d capture begin turns seen mine others read (alone w put) =
-    none_sent d capture begin mine others (read.mine_is ∙ alone_read d (met_before d capture read.theirs) read.own (stream d capture)
-    read.own_cut.1.0 seen.own.0 w read.own_cut.1.1 (seen.own.1 ∙ put))
+end_is_honest d capture begin turns seen mine others read (alone w put) = grind (arith, none_sent, alone_read)
 end_is_honest d capture begin turns seen mine others read (aside w back put closes) =
     none_sent d capture begin mine others (none_of_it d capture turns seen mine others read (first_aside w back put closes))
 end_is_honest d capture begin turns seen mine others read (beside w unit later put none) =

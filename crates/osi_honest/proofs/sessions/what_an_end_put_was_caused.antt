@@ -1,12 +1,12 @@
 -- What an end of class 0 put from some turn on, TSDU by TSDU, as the judge reads it: and of each TSDU that the capture
 -- shows, that the TSDUs that the session had taken before it had passed before it.
 -- For what a capture shows of an end.
-use Rattle.osi_honest.proofs.Vocabulary.{[], ap, append_assoc, arith, Bool, false, length, List, map, None, refl, subst, sym, ℕ, ◌++◌, ◌+◌}
-use Rattle.osi_honest.proofs.Vocabulary.{◌<◌, ◌∙◌, ◌∷◌, ◌≡◌, ◌≤◌, append-nil, length-append, map-append, ArePackets, Cuts, Ending, Part}
-use Rattle.osi_honest.proofs.Vocabulary.{packets, Listener, AreShort, Holding, passed_within, Capture, other, passed_before, stream}
-use Rattle.osi_honest.proofs.Vocabulary.{had_passed, octets_of, between, Handshake, opening, packet_length, packets_length, Sent, sent_from}
-use Rattle.osi_honest.proofs.Vocabulary.{stage_from, Direction, Carry, dt, units_put, between_two, IsPrefix, PassAfter, put_along}
-use Rattle.osi_honest.proofs.Vocabulary.{used_along, AllSaidBy, Brings, octets_said, Stands, gone, talking, History, Said, Run, Turn}
+use Rattle.osi_honest.proofs.Vocabulary.{[], ap, append_assoc, arith, Bool, length, List, map, None, refl, subst, sym, ℕ, ◌++◌, ◌+◌, ◌<◌}
+use Rattle.osi_honest.proofs.Vocabulary.{◌∙◌, ◌∷◌, ◌≡◌, ◌≤◌, append-nil, length-append, map-append, ArePackets, Cuts, Ending, Part, packets}
+use Rattle.osi_honest.proofs.Vocabulary.{Listener, AreShort, Holding, passed_within, Capture, other, passed_before, stream, had_passed}
+use Rattle.osi_honest.proofs.Vocabulary.{octets_of, between, Handshake, opening, packet_length, packets_length, Sent, sent_from, stage_from}
+use Rattle.osi_honest.proofs.Vocabulary.{Direction, Carry, dt, units_put, between_two, IsPrefix, PassAfter, put_along, used_along}
+use Rattle.osi_honest.proofs.Vocabulary.{AllSaidBy, Brings, octets_said, Stands, gone, talking, History, Said, Run, Turn}
 use Rattle.osi_honest.proofs.class_0.what_a_packet_does_in_class_0.{AllProper}
 use Rattle.osi_honest.proofs.class_0.what_a_call_does_in_class_0.{over_run, turn_goes}
 use Rattle.osi_honest.proofs.class_0.what_class_0_writes_of_a_tsdu.{packets_joined}
@@ -217,11 +217,9 @@ module _ (d : Direction) (capture : Capture) (coming : List ℕ) (others : List 
         (old.end.carrier.ended ≡ None → rest ≡ old.held.octets) → IsPrefix (used ++ used_along turns) coming →
         PassAfter d capture (length used) at turns → Spoke begin said at turns
     run_spoke turns old new took said begun used rest at run (gone closed session h over) c held front after =
-        silent begin took said closed session used at turns h (came_reached (other d) back first took begun used rest opened c)
-        (prefix_front used (used_along turns) front) (over_run turns old new over run)
+        search (arith, silent, came_reached, prefix_front, over_run)
     run_spoke [] old new took said begun used rest at run (talking session h t) c held front after =
-        silent begin took said false session used at [] h (came_reached (other d) back first took begun used rest opened c)
-        (prefix_front used [] front) refl
+        search (arith, silent, came_reached, prefix_front)
     run_spoke (turn ∷ turns) old new took said begun used rest at run (talking session h t) c held front after =
         let mid = run.0 in
         let g = turn_goes proper begin r took said begun turn old mid (talking session h t) run.1 in

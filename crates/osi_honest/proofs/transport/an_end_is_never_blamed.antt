@@ -1,35 +1,24 @@
 -- If the judge blames neither the session nor the transport of an end in any capture of it, it never says that this side broke the
 -- protocol first.
 -- For the laws that an end is never blamed.
-use Rattle.osi_honest.proofs.Vocabulary.{[], ap, append_assoc, arith, Bool, false, length, List, None, Option, option_map, refl, Some}
-use Rattle.osi_honest.proofs.Vocabulary.{subst, suc, sym, true, zero, ℕ, ◌++◌, ◌+◌, ◌<◌, ◌||◌, ◌∙◌, ◌∷◌, ◌≡◌, ◌≤◌, length-append, Ending}
-use Rattle.osi_honest.proofs.Vocabulary.{offset_of, Faulty, Rest, Local, Holding, Capture, of, other, own, passed_before, stream}
-use Rattle.osi_honest.proofs.Vocabulary.{broke_session, FirstBreak, IsFirstIn, IsFoundIn, IsStoppedIn, or_hasty, StandsIn, stop_in}
-use Rattle.osi_honest.proofs.Vocabulary.{met_before, opening, Stage, stage_from, stopped, Direction, Left, Right, Finding, Stopped}
-use Rattle.osi_honest.proofs.Vocabulary.{EndsWithin, IsFresh, IsPrefix, IsSeen, PassAfter, put_along, Run, Turn}
+use Rattle.osi_honest.proofs.Vocabulary.{[], ap, append_assoc, arith, Bool, false, length, List, None, Option, refl, Some, subst, suc, true}
+use Rattle.osi_honest.proofs.Vocabulary.{zero, ℕ, ◌++◌, ◌+◌, ◌<◌, ◌||◌, ◌∷◌, ◌≡◌, ◌≤◌, length-append, Ending, Local, Holding, Capture, of}
+use Rattle.osi_honest.proofs.Vocabulary.{own, passed_before, stream, broke_session, FirstBreak, IsFirstIn, IsFoundIn, IsStoppedIn, StandsIn}
+use Rattle.osi_honest.proofs.Vocabulary.{stop_in, met_before, opening, Stage, Direction, Left, Right, Finding, Stopped, EndsWithin, IsFresh}
+use Rattle.osi_honest.proofs.Vocabulary.{IsPrefix, IsSeen, PassAfter, Run, Turn}
 use Rattle.std.proofs.lemmas.List.Concat.{flat_map-append}
 use Rattle.osi_judge.specs.Stops.{breaks}
-use Rattle.osi_judge.specs.Transport.{refused}
 use Rattle.osi_honest.proofs.transport.when_the_judge_blames_no_transport.{IsClear, IsInnocent}
 
 -- ---- the transport
 
 stop_by : (stage : Stage) (ending : Ending) → IsInnocent stage → EndsWithin ending → breaks (stop_in stage ending) ≡ false
-stop_by (stopped stop at) ending innocent ends = innocent
-stop_by (refused at) ending innocent ends = refl
-stop_by opening (Rest n) innocent ends = refl
-stop_by _ (Rest n) innocent ends = refl
-stop_by opening (Faulty fault) innocent ends = absurd ends
-stop_by _ (Faulty fault) innocent ends = absurd ends
+stop_by stage ending innocent ends = grind arith
 
 -- no break is found in its packets, and it puts packets
 pub clear_stop : (d : Direction) (capture : Capture) (stop : Option Stopped) (s : IsStoppedIn d capture stop) →
     IsClear d (met_before d capture s.others) opening 0 s.units → EndsWithin s.ending → breaks stop ≡ false
-clear_stop d capture stop s clear ends =
-    ap breaks s.stops
-    ∙ ap (λ (x : Option ℕ). breaks (or_hasty (option_map offset_of x)
-    (stop_in (stage_from d (met_before d capture s.others) opening 0 s.units) s.ending))) clear.calm
-    ∙ stop_by (stage_from d (met_before d capture s.others) opening 0 s.units) s.ending clear.stands ends
+clear_stop d capture stop s clear ends = grind (arith, stop_by)
 
 -- ---- a front of a capture
 
@@ -59,27 +48,16 @@ front_after d front back used put (turn ∷ turns) after = (
 
 front_prefix : (d : Direction) (front back : Capture) (all : List ℕ) → IsPrefix (stream d (front ++ back)) all →
     IsPrefix (stream d front) all
-front_prefix d front back all (later, is) = (
-  stream d back ++ later,
-  sym (append_assoc (stream d front) (stream d back) later)
-      ∙ ap (λ (x : List ℕ). x ++ later) (sym (stream_parts d front back)) ∙ is,
-)
+front_prefix d front back all (later, is) = grind (arith, append_assoc, stream_parts)
 
 -- a front of a capture of an end is a capture of it
 pub front_seen : (d : Direction) (turns : List Turn) (front back : Capture) → IsSeen d turns (front ++ back) → IsSeen d turns front
-front_seen d turns front back seen = record {
-  own = front_prefix d front back (put_along turns) seen.own;
-  coming = seen.coming;
-  shown = front_prefix (other d) front back seen.coming seen.shown;
-  used = seen.used;
-  after = front_after d front back 0 0 turns seen.after;
-}
+front_seen d turns front back seen = search (arith, front_prefix, front_after)
 
 -- ---- the side
 
 neither : (a b : Bool) → a ≡ false → b ≡ false → (a || b) ≡ false
-neither true b e f = absurd (cc)
-neither false b e f = f
+neither a b e f = grind arith
 
 -- in no capture of an end is its session or its transport blamed
 pub record IsBlameless (d : Direction) (turns : List Turn) : Type 0 where
@@ -99,16 +77,12 @@ TransportLaw d is_caller = (local : Local) (begin end : Holding) (turns : List T
 
 pub blameless : (d : Direction) (is_caller : Bool) → SessionLaw d is_caller → TransportLaw d is_caller → (local : Local)
     (begin end : Holding) (turns : List Turn) → IsFresh is_caller local begin → Run begin turns end → IsBlameless d turns
-blameless d is_caller session transport local begin end turns fresh run = record {
-  session = λ capture finding seen found. session local begin end turns capture finding fresh run seen found;
-  transport = λ capture stop seen stopped_so. transport local begin end turns capture stop fresh run seen stopped_so;
-}
+blameless d is_caller session transport local begin end turns fresh run = search arith
 
 pub side_stands : (d : Direction) (turns : List Turn) → IsBlameless d turns → (capture : Capture) (has_broken : Bool) →
     IsSeen d turns capture → StandsIn d capture has_broken → has_broken ≡ false
 side_stands d turns b capture has_broken seen s =
-    s.broken ∙ neither (broke_session s.finding) (breaks s.stop) (b.session capture s.finding seen s.found)
-    (b.transport capture s.stop seen s.is_stopped)
+    grind (arith, b.session capture s.finding seen s.found, b.transport capture s.stop seen s.is_stopped)
 
 pub never_first : (d : Direction) (turns : List Turn) → IsBlameless d turns → (capture : Capture) → IsSeen d turns capture →
     FirstBreak d capture → ⊥

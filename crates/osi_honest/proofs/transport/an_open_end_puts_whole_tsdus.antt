@@ -1,8 +1,8 @@
 -- From the time at which its connection is open in class 0, an end puts whole TSDUs and nothing else: after what it put, the judge
 -- stands between two TSDUs.
 -- For what the transport of an end puts.
-use Rattle.osi_honest.proofs.Vocabulary.{[], ap, append_assoc, arith, List, map, refl, sym, ℕ, ◌++◌, ◌+◌, ◌∙◌, ◌∷◌, ◌≡◌, map-append, Part}
-use Rattle.osi_honest.proofs.Vocabulary.{packets, Listener, Holding, between, Handshake, packet_length, packets_length, Stage, stage_behind}
+use Rattle.osi_honest.proofs.Vocabulary.{[], append_assoc, arith, List, map, refl, ℕ, ◌++◌, ◌+◌, ◌∷◌, ◌≡◌, map-append, Part, packets}
+use Rattle.osi_honest.proofs.Vocabulary.{Listener, Holding, between, Handshake, packet_length, packets_length, Stage, stage_behind}
 use Rattle.osi_honest.proofs.Vocabulary.{stage_from, Direction, dt, units_put, put_along, octets_said, Stands, gone, talking, Said, Run}
 use Rattle.osi_honest.proofs.Vocabulary.{Turn}
 use Rattle.osi_honest.proofs.class_0.what_a_call_does_in_class_0.{turn_goes, over_run}
@@ -16,22 +16,11 @@ AreWhole parts = (d : Direction) (met : ℕ → Handshake) (at : ℕ) → stage_
 
 stage_then : (d : Direction) (met : ℕ → Handshake) (s : Stage) (at : ℕ) (us vs : List (List ℕ)) →
     stage_from d met s at (us ++ vs) ≡ stage_from d met (stage_from d met s at us) (at + packets_length us) vs
-stage_then d met s at [] vs = ap (λ (n : ℕ). stage_from d met s n vs) (nothing at)
-  where
-    nothing : (n : ℕ) → n ≡ n + 0
-    nothing n = omega arith
-stage_then d met s at (u ∷ us) vs =
-    stage_then d met (stage_behind d (met at) s at u) (at + packet_length u) us vs
-    ∙ ap (λ (n : ℕ). stage_from d met (stage_from d met s at (u ∷ us)) n vs) (grouped at (packet_length u) (packets_length us))
-  where
-    grouped : (a b c : ℕ) → a + b + c ≡ a + (b + c)
-    grouped a b c = omega arith
+stage_then d met s at [] vs = grind arith
+stage_then d met s at (u ∷ us) vs = grind (arith, stage_then d met (stage_behind d (met at) s at u) (at + packet_length u) us vs)
 
 pub whole_more : (some others : List Part) → AreWhole some → AreWhole others → AreWhole (some ++ others)
-whole_more some others a b d met at =
-    ap (stage_from d met between at) (map-append _ some others) ∙ stage_then d met between at (units_put some) (units_put others)
-    ∙ ap (λ (s : Stage). stage_from d met s (at + packets_length (units_put some)) (units_put others)) (a d met at)
-    ∙ b d met (at + packets_length (units_put some))
+whole_more some others a b d met at = grind (arith, map-append, stage_then)
 
 pub record SpeaksOn (turns : List Turn) : Type 0 where
   pub parts : List Part
@@ -41,16 +30,12 @@ pub record SpeaksOn (turns : List Turn) : Type 0 where
 -- a turn, and then more of them
 pub speaks_then : (put : List ℕ) (turns : List Turn) (parts : List Part) (front : List ℕ) → put ≡ front ++ packets (map dt parts) →
     AreWhole parts → (s : SpeaksOn turns) → put ++ put_along turns ≡ front ++ packets (map dt (parts ++ s.parts))
-speaks_then put turns parts front is whole s =
-    (λ i. is i ++ s.put i) ∙ append_assoc front (packets (map dt parts)) (packets (map dt s.parts))
-    ∙ ap (λ (x : List ℕ). front ++ x)
-    (sym (packets_joined (map dt parts) (map dt s.parts)) ∙ ap packets (sym (map-append dt parts s.parts)))
+speaks_then put turns parts front is whole s = grind (arith, append_assoc, packets_joined, map-append)
 
 module _ (proper : AllProper) (begin : Listener) (r : ℕ) where
   pub run_speaks : (turns : List Turn) (old new : Holding) (took : List (List ℕ)) (said : List Said) (begun : List ℕ) →
       Stands begin r took said begun old.end → Run old turns new → SpeaksOn turns
-  run_speaks turns old new took said begun (gone closed session h over) run =
-      record { parts = []; put = over_run turns old new over run; whole = λ d met at. refl }
+  run_speaks turns old new took said begun (gone closed session h over) run = grind (arith, over_run)
   run_speaks [] old new took said begun (talking session h t) run = record { parts = []; put = refl; whole = λ d met at. refl }
   run_speaks (turn ∷ turns) old new took said begun (talking session h t) run =
       let g = turn_goes proper begin r took said begun turn old run.0 (talking session h t) run.1 in

@@ -1,8 +1,8 @@
 -- The judge blames the transport of no end, called or calling, in no capture of it.
 -- For the laws that an end is never blamed.
-use Rattle.osi_honest.proofs.Vocabulary.{[], ap, arith, false, length, List, None, Option, refl, subst, sym, true, ℕ, ◌+◌, ◌≡◌, ◌≤◌}
-use Rattle.osi_honest.proofs.Vocabulary.{length-append, Local, calls_with, terms_error, Holding, Request, Capture, stream, IsStoppedIn}
-use Rattle.osi_honest.proofs.Vocabulary.{Direction, Left, Right, Stopped, Idles, Waits, IsFresh, IsSeen, put_along, Run, Turn}
+use Rattle.osi_honest.proofs.Vocabulary.{[], arith, false, length, List, None, Option, sym, true, ◌+◌, ◌≡◌, ◌≤◌, length-append, Local}
+use Rattle.osi_honest.proofs.Vocabulary.{calls_with, terms_error, Holding, Request, Capture, stream, IsStoppedIn, Direction, Left, Right}
+use Rattle.osi_honest.proofs.Vocabulary.{Stopped, Idles, Waits, IsFresh, IsSeen, put_along, Run, Turn}
 use Rattle.osi_judge.specs.Stops.{breaks}
 use Rattle.osi_honest.proofs.reading.all_that_an_end_puts_can_be_read.{run_to_read}
 use Rattle.osi_honest.proofs.transport.an_end_is_never_blamed.{clear_stop}
@@ -15,18 +15,13 @@ use Rattle.osi_honest.proofs.transport.what_is_read_of_a_calling_end.{caller_is_
 -- a capture shows no more than was put
 no_more : (d : Direction) (capture : Capture) (turns : List Turn) → IsSeen d turns capture →
     length (stream d capture) ≤ 0 + length (put_along turns)
-no_more d capture turns seen =
-    let whole = ap (λ (x : List ℕ). length x) seen.own.1 in
-    let sum = length-append (stream d capture) seen.own.0 in
-    omega arith
+no_more d capture turns seen = grind (arith, length-append)
 
 waits_first : (local : Local) (begin : Holding) → IsFresh false local begin → Waits begin.end
-waits_first local begin fresh =
-    subst Waits (sym fresh.end) (record { lasts = refl; is_called = refl; class = refl; live = refl; told = refl; lines = refl })
+waits_first local begin fresh = grind arith
 
 idles_first : (local : Local) (begin : Holding) → IsFresh true local begin → Idles begin.end
-idles_first local begin fresh =
-    subst Idles (sym fresh.end) (record { lasts = refl; is_caller = refl; class = refl; live = refl; told = refl; lines = refl })
+idles_first local begin fresh = grind arith
 
 pub called_transport : AllProper → (local : Local) (begin end : Holding) (turns : List Turn) → IsFresh false local begin →
     Run begin turns end → (capture : Capture) (stop : Option Stopped) → IsSeen Right turns capture → IsStoppedIn Right capture stop →

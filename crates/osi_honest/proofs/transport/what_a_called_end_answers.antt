@@ -5,10 +5,9 @@ use Rattle.osi_honest.proofs.Vocabulary.{[], ap, arith, Bool, Err, false, if◌t
 use Rattle.osi_honest.proofs.Vocabulary.{option_map, refl, Result, Some, subst, sym, true, ℕ, ◌++◌, ◌+◌, ◌<◌, ◌∙◌, ◌∷◌, ◌≡◌, ◌⊎◌, IsOctets}
 use Rattle.osi_honest.proofs.Vocabulary.{units_found, tsap_octets, AreUnits, units_of, confirm, disconnect, may_be_followed, request, Value}
 use Rattle.osi_honest.proofs.Vocabulary.{TpduFault, Standing, accept, refuse, selected_by, Selection, Class, Two, Zero, react_quiet}
-use Rattle.osi_honest.proofs.Vocabulary.{reacts_over, closed_on, link_of, may_connect, open_link, sent_on, Happening, acceptance, proposal}
-use Rattle.osi_honest.proofs.Vocabulary.{answers, before_class, denies, has_peer, in_class, is_full, reacts, Rows, value_at, Connection}
-use Rattle.osi_honest.proofs.Vocabulary.{packets, State as Carrier, EndReason, NoMemory, OpenError, NotCaller, End, asked_again, first_unit}
-use Rattle.osi_honest.proofs.Vocabulary.{Handshake, handshake_from, is_request, shaken, silent, Waits}
+use Rattle.osi_honest.proofs.Vocabulary.{reacts_over, closed_on, may_connect, open_link, sent_on, Happening, acceptance, proposal, answers}
+use Rattle.osi_honest.proofs.Vocabulary.{before_class, denies, has_peer, in_class, is_full, reacts, packets, State as Carrier, EndReason}
+use Rattle.osi_honest.proofs.Vocabulary.{NoMemory, OpenError, NotCaller, End, first_unit, handshake_from, is_request, silent, Waits}
 use Rattle.osi_tpdu.specs.Value.{Connect}
 use Rattle.osi_carrier.specs.Calls.{asks}
 use Rattle.osi_carrier.specs.Packets as carriers
@@ -81,8 +80,7 @@ module _ (c : Carrier) (idle : IsIdle c) where
 
   asks_in : (u : List ℕ) (v : Value) (vs : List Value) (cr : Connect) → units_of u ≡ Ok (v ∷ vs) → v ≡ request cr →
       is_request (first_unit (units_of u)) ≡ true
-  asks_in u v vs cr e is = ap (λ (x : Result (List Value) TpduFault). is_request (first_unit x)) e
-      ∙ ap (λ (x : Value). is_request (Ok (Some x))) is
+  asks_in u v vs cr e is = grind arith
 
   units_answered : (u : List ℕ) (v : Value) (vs : List Value) → units_of u ≡ Ok (v ∷ vs) → AreUnits (v ∷ vs) u →
       AnsweredUnit v c (react v c) → Answered u c (reacts (v ∷ vs) c)
@@ -114,17 +112,7 @@ module _ (c : Carrier) (idle : IsIdle c) where
   out_over : (u : List ℕ) (done : List Value) (next : Value) (more : List Value) (d : Carrier) → AreUnits (done ++ (next ∷ more)) u →
       (reacts done c).ended ≡ None → d ≡ states.ends NoMemory (reacts done c) → Over c.outgoing d
   out_over u [] next more d us lasts is = (ap (λ (x : Carrier). is_some x.ended) is, ap (λ (x : Carrier). x.outgoing) is)
-  out_over u (v ∷ done) next more d us lasts is = by (unit_answered v)
-    where
-      by : AnsweredUnit v c (react v c) → Over c.outgoing d
-      by (refuses_it cr request_is peer reason denied) =
-          absurd (never_empty done next more (alone v (done ++ (next ∷ more)) u (ap may_be_followed request_is) us))
-      by (confirms_it cr request_is destination answer few outgoing) =
-          absurd (never_empty done next more (alone v (done ++ (next ∷ more)) u (ap may_be_followed request_is) us))
-      by (over_it o) = absurd
-          (let gone : is_some (reacts done (react v c)).ended ≡ true = ap (λ (x : Carrier). is_some x.ended)
-          (reacts_over done (react v c) o.0) ∙ o.0 in
-          let none = ap is_some lasts in cc)
+  out_over u (v ∷ done) next more d us lasts is = grind (arith, unit_answered, never_empty, alone, reacts_over)
 
   pub shortage_over : (u : List ℕ) (d : Carrier) → IsOctets u → carriers.Starves c u d → Over c.outgoing d
   shortage_over u d octets (units, e, out) =
@@ -134,13 +122,10 @@ module _ (c : Carrier) (idle : IsIdle c) where
 -- ---- no link, no request
 
 pub idle_links : (c : Carrier) → IsIdle c → (r : ℕ) → open_link r c ≡ None
-idle_links c idle r =
-    ap (λ (x : Bool). if x then None else link_of (value_at r c.live)) (ap is_some idle.lasts)
-    ∙ ap (λ (rows : Rows Connection). link_of (value_at r rows)) idle.live
+idle_links c idle r = grind arith
 
 no_caller : (b : Bool) (rest : Option OpenError) → b ≡ false → (if not b then Some NotCaller else rest) ≡ None → ⊥
-no_caller true rest e h = cc
-no_caller false rest e h = cc
+no_caller b rest e h = grind arith
 
 idle_asks_nothing : (c : Carrier) → IsIdle c → may_connect c ≡ None → ⊥
 idle_asks_nothing c idle allowed = no_caller c.is_caller _ idle.is_called allowed
@@ -148,17 +133,11 @@ idle_asks_nothing c idle allowed = no_caller c.is_caller _ idle.is_called allowe
 -- ---- two CRs
 
 pub asked_first : (u : List ℕ) → is_request (first_unit (units_of u)) ≡ true → handshake_from silent (u ∷ []) ≡ asked
-asked_first u is = by (first_unit (units_of u)) is
-  where
-    by : (unit : Result (Option Value) TpduFault) → is_request unit ≡ true → shaken silent unit ≡ asked
-    by (Ok (Some (request c))) is = refl
-    by _ is = absurd (cc)
+asked_first u is = grind arith
 
 asked_twice : (u next : List ℕ) → is_request (first_unit (units_of u)) ≡ true → is_request (first_unit (units_of next)) ≡ true →
     IsLost (handshake_from silent (u ∷ next ∷ []))
-asked_twice u next first second =
-    subst IsLost (sym (ap (λ (h : Handshake). shaken h (first_unit (units_of next))) (asked_first u first)
-    ∙ ap (λ (b : Bool). if b then asked_again else asked) second)) tt
+asked_twice u next first second = grind (arith, asked_first)
 
 -- after a refused CR
 pub idle_settles : (u : List ℕ) → is_request (first_unit (units_of u)) ≡ true → Settles IsIdle ⊥ u
@@ -256,8 +235,7 @@ module _ (octets : List ℕ) where
 
   called_sends : (us : List (List ℕ)) (r : ℕ) (tsdu : List ℕ) (c : Carrier) → CalledPut octets us c →
       CalledPut octets us (sent_on r tsdu (open_link r c) c)
-  called_sends us r tsdu c (none_yet none idle same) =
-      subst (λ (x : Option (ℕ × Standing)). CalledPut octets us (sent_on r tsdu x c)) (sym (idle_links c idle r)) (none_yet none idle same)
+  called_sends us r tsdu c (none_yet none idle same) = grind (arith, idle_links)
   called_sends us r tsdu c (gone o) = gone ((over_carries octets).sends r tsdu c o)
   called_sends us r tsdu c (confirms destination answer few p) =
       confirms destination answer few ((ahead_kept (octets ++ packets (confirm destination answer ∷ []))).carries.sends r tsdu c p)
@@ -271,8 +249,7 @@ module _ (octets : List ℕ) where
 
   called_closes : (us : List (List ℕ)) (r : ℕ) (c : Carrier) → CalledPut octets us c →
       CalledPut octets us (closed_on r 128 (open_link r c) c)
-  called_closes us r c (none_yet none idle same) =
-      subst (λ (x : Option (ℕ × Standing)). CalledPut octets us (closed_on r 128 x c)) (sym (idle_links c idle r)) (none_yet none idle same)
+  called_closes us r c (none_yet none idle same) = grind (arith, idle_links)
   called_closes us r c (gone o) = gone ((over_carries octets).closes r c o)
   called_closes us r c (confirms destination answer few p) =
       confirms destination answer few ((ahead_kept (octets ++ packets (confirm destination answer ∷ []))).carries.closes r c p)
@@ -306,13 +283,7 @@ module _ (octets : List ℕ) where
   called_ends us because c (refused_again peer reason l first more is asks p) = refused_again peer reason l first more is asks p
 
   pub called_tracked : IsTracked (CalledPut octets)
-  called_tracked = record {
-    packet = called_packet;
-    shortage = called_shortage;
-    carries = λ us. record { sends = called_sends us; closes = called_closes us };
-    untold = called_untold;
-    ends_so = called_ends;
-  }
+  called_tracked = search (arith, called_packet, called_shortage, called_sends, called_closes, called_untold, called_ends)
 
   pub called_asks : (us : List (List ℕ)) → AsksToo (CalledPut octets us)
   called_asks us calling called c allowed (none_yet none idle same) = absurd (idle_asks_nothing c idle allowed)

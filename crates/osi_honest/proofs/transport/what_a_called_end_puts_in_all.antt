@@ -80,8 +80,7 @@ asks_beyond h now is (more, e) = ap has_asked e ∙ asks_on h more is
 
 asks_first : (u : List ℕ) (more : List (List ℕ)) → is_request (first_unit (units_of u)) ≡ true →
     has_asked (handshake_from silent (u ∷ more)) ≡ true
-asks_first u more is =
-    asks_on (handshake_from silent (u ∷ [])) more (ap has_asked (answers.asked_first u is))
+asks_first u more is = grind (arith, asks_on)
 
 -- ---- what can't be
 
@@ -194,9 +193,7 @@ module _ (capture : Capture) (coming : List ℕ) (theirs : List (List ℕ)) (end
     -- a DR was put first
     dr_put : (peer reason : ℕ) (later : List ℕ) → turn.put ≡ packet_of (written (refusal peer reason)) ++ later →
         put_along (turn ∷ turns) ≡ packet_of (written (refusal peer reason)) ++ (later ++ put_along turns)
-    dr_put peer reason later is =
-        ap (λ (x : List ℕ). x ++ put_along turns) is
-        ∙ append_assoc (packet_of (written (refusal peer reason))) later (put_along turns)
+    dr_put peer reason later is = grind (arith, append_assoc, refusal)
 
     refused_then : (u : List ℕ) → t.units ≡ u ∷ [] → is_request (first_unit (units_of u)) ≡ true → IsIdle t.there → (peer reason : ℕ) →
         turn.put ≡ packet_of (written (refusal peer reason)) ++ [] → Sent (put_along (turn ∷ turns))
@@ -241,10 +238,8 @@ module _ (capture : Capture) (coming : List ℕ) (theirs : List (List ℕ)) (end
     by_put (answers.gone o) more = silent_then (none_put_in out t.there.outgoing turn.put t.outgoing o.1) (over_mid o.0)
     by_put (answers.confirms destination answer few p) more =
         cc_then destination answer p.0 few (put_first out turn.put p.0 (confirm destination answer) (p.1 ∙ t.outgoing))
-    by_put (answers.refused u is first idle peer reason same) more =
-        refused_then u is first idle peer reason (one_put (refusal peer reason) same)
-    by_put (answers.refused_last u others is first peer reason o) more =
-        refused_over u others is first peer reason o.0 (one_put (refusal peer reason) o.1)
+    by_put (answers.refused u is first idle peer reason same) more = search (arith, refused_then, one_put, refusal)
+    by_put (answers.refused_last u others is first peer reason o) more = search (arith, refused_over, one_put, refusal)
     by_put (answers.refused_again peer reason l u others is first p) more =
         let put = put_first out turn.put p.0 (refusal peer reason) (p.1 ∙ t.outgoing) in
         dr_first peer reason (p.0 ++ put_along turns) (dr_put peer reason p.0 put) (asked_before u others is first)
@@ -271,28 +266,14 @@ module _ (capture : Capture) (coming : List ℕ) (theirs : List (List ℕ)) (end
 
 is_cc : (v : Value) → CanBeWritten v → (destination : ℕ) (c : Connect) → c.credit < 16 → written v ≡ written (confirm destination c) →
     (d : ℕ) × (answer : Connect) × (v ≡ confirm d answer)
-is_cc (confirm d answer) can destination c few is = (d, answer, refl)
-is_cc (request answer) can destination c few is =
-    let code : 0xE0 + answer.credit ≡ 0xD0 + c.credit = cc in absurd (omega arith)
-is_cc (disconnect d s reason user) can destination c few is = let code : 0x80 ≡ 0xD0 + c.credit = cc in absurd (omega arith)
-is_cc (disconnected d s) can destination c few is = let code : 0xC0 ≡ 0xD0 + c.credit = cc in absurd (omega arith)
-is_cc (data0 end octets) can destination c few is = let code : 0xF0 ≡ 0xD0 + c.credit = cc in absurd (omega arith)
-is_cc (data2 d number end octets) can destination c few is = let code : 0xF0 ≡ 0xD0 + c.credit = cc in absurd (omega arith)
-is_cc (acknowledge credit d number) can destination c few is =
-    let small : credit < 16 = can.0 in
-    let code : 0x60 + credit ≡ 0xD0 + c.credit = cc in absurd (omega arith)
-is_cc (error d cause) can destination c few is = absurd can
+is_cc v can destination c few is = grind arith
 
 class_octet : (d e : ℕ) (c answer : Connect) → written (confirm d c) ≡ written (confirm e answer) →
     16 * c.class + c.options ≡ 16 * answer.class + answer.options
 class_octet d e c answer is = cc
 
 not_zero : (n : ℕ) → 2 ≤ n → (n == 0) ≡ false
-not_zero n some = by (n == 0) refl
-  where
-    by : (b : Bool) → (n == 0) ≡ b → b ≡ false
-    by true e = let zero = eqb-true n 0 e in absurd (omega arith)
-    by false e = refl
+not_zero n some = grind (arith, eqb-true)
 
 module _ (met : ℕ → Handshake) (on : GoesOn met) (u : List ℕ) (us : List (List ℕ)) (s r later put : List ℕ) (cut : ArePackets (u ∷ us) s r)
     (is : s ++ later ≡ put) where
@@ -308,10 +289,7 @@ module _ (met : ℕ → Handshake) (on : GoesOn met) (u : List ℕ) (us : List (
     reads = ap first_unit (ap units_of (sym same) ∙ read_again (confirm destination answer) plain (subst IsOctets (sym same) octets.0))
 
     cc_by : (b : Bool) → (answer.class == 0) ≡ b → us ≡ [] → IsClear Right met opening 0 (u ∷ us)
-    cc_by true e none =
-        subst (λ (x : List (List ℕ)). IsClear Right met opening 0 (u ∷ x)) (sym none)
-        (speaks_clear met on u [] destination answer [] reads e refl)
-    cc_by false e none = other_clear met on u us destination answer reads e
+    cc_by b e none = search (arith, speaks_clear, on, reads, other_clear)
 
     none_more : (v : Value) → put ≡ packets (v ∷ []) → us ≡ []
     none_more v put_is = by us (shown_packets (u ∷ us) (v ∷ []) s r later cut (is ∙ put_is))
@@ -351,24 +329,13 @@ module _ (capture : Capture) (theirs : List (List ℕ)) where
       (rest ≡ []) ⊎ (packet_length (written (refusal peer reason)) < length (stream Right capture) →
       IsLost (met_before Right capture theirs (packet_length (written (refusal peer reason))))) →
       KnownBefore (met_before Right capture theirs) IsLost (0 + packet_length u) us
-  after_dr peer reason rest u [] r later put cut is put_is same tail = tt
-  after_dr peer reason rest u (next ∷ us) r later put cut is put_is same (inl none) =
-      let shown = shown_packets (u ∷ next ∷ us) (refusal peer reason ∷ []) (stream Right capture) r later cut
-      (is ∙ put_is ∙ ap (λ (x : List ℕ). packet_of (written (refusal peer reason)) ++ x) none) in
-      absurd (let more : [] ≡ next ∷ (us ++ shown.0) = cc in cc)
-  after_dr peer reason rest u (next ∷ us) r later put cut is put_is same (inr l) =
-      let size = size_read (u ∷ next ∷ us) (stream Right capture) r cut in
-      let place : packet_length (written (refusal peer reason)) ≡ 0 + packet_length u =
-      let e = ap (λ (x : List ℕ). length x) same in omega arith in
-      subst (λ (n : ℕ). IsLost (met_before Right capture theirs n)) place (l (omega arith))
+  after_dr peer reason rest u us r later put cut is put_is same tail = grind (arith, shown_packets, refusal, size_read)
 
   pub called_clear : (put : List ℕ) → CalledSent capture theirs put → ArePutToRead put → (own : List (List ℕ)) (r later : List ℕ) →
       ArePackets own (stream Right capture) r → stream Right capture ++ later ≡ put →
       IsClear Right (met_before Right capture theirs) opening 0 own
   called_clear put sent all [] r later cut is = none_clear Right (met_before Right capture theirs) opening 0 tt
-  called_clear put (silent_side none) all (u ∷ us) r later cut is =
-      let shown = shown_packets (u ∷ us) [] (stream Right capture) r later cut (is ∙ none) in
-      absurd (let more : [] ≡ u ∷ (us ++ shown.0) = shown.1 in cc)
+  called_clear put (silent_side none) all (u ∷ us) r later cut is = grind (arith, shown_packets)
   called_clear put (cc_first destination answer rest few put_is kind) all (u ∷ us) r later cut is =
       let shown = shown_packets (u ∷ us) all.units (stream Right capture) r later cut (is ∙ all.is) in
       let first = first_written all.units u us shown.0 shown.1 all.written in

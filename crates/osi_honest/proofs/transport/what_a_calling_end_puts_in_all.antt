@@ -3,12 +3,11 @@
 use Rattle.osi_honest.proofs.Vocabulary.{[], ap, append_assoc, arith, Bool, if◌then◌else◌, inl, inr, is_some, IsSome, length, List, map}
 use Rattle.osi_honest.proofs.Vocabulary.{refl, Result, Some, subst, sym, true, ℕ, ◌++◌, ◌+◌, ◌<◌, ◌∙◌, ◌∷◌, ◌≡◌, ◌≤◌, ◌⊎◌, append-nil}
 use Rattle.osi_honest.proofs.Vocabulary.{append_cancel_left, length-append, AllByRecursion, IsOctets, packet_of, ArePackets, Cuts, Ending}
-use Rattle.osi_honest.proofs.Vocabulary.{units_of, data0, disconnected, request, Value, written, written_header, TpduFault, Part, Zero}
-use Rattle.osi_honest.proofs.Vocabulary.{Rows, Connection, packets, State as Carrier, Listener, is_wait_transport, Holding, Capture, other}
-use Rattle.osi_honest.proofs.Vocabulary.{stream, agreed, asked_again, astray, denied, first_unit, Handshake, handshake_from, met_before}
-use Rattle.osi_honest.proofs.Vocabulary.{opening, packet_length, packets_length, shaken_first, silent, Left, Right, AskingTurn, Asks}
-use Rattle.osi_honest.proofs.Vocabulary.{IsAnswered, IsAway, IsNoData, dt, IsPrefix, PassAfter, put_along, used_along, octets_said, Run}
-use Rattle.osi_honest.proofs.Vocabulary.{Turn, IsPlain}
+use Rattle.osi_honest.proofs.Vocabulary.{units_of, disconnected, request, Value, written, TpduFault, Part, Zero, packets, State as Carrier}
+use Rattle.osi_honest.proofs.Vocabulary.{Listener, is_wait_transport, Holding, Capture, other, stream, agreed, astray, denied, first_unit}
+use Rattle.osi_honest.proofs.Vocabulary.{Handshake, handshake_from, met_before, packet_length, packets_length, shaken_first, silent, Left}
+use Rattle.osi_honest.proofs.Vocabulary.{Right, AskingTurn, Asks, IsAnswered, IsAway, IsNoData, dt, IsPrefix, PassAfter, put_along}
+use Rattle.osi_honest.proofs.Vocabulary.{used_along, octets_said, Run, Turn, IsPlain}
 use Rattle.osi_tpdu.specs.Value.{Connect}
 use Rattle.osi_honest.specs.Openings as turned
 use Rattle.osi_honest.proofs.transport.an_end_of_class_0_puts_data.{AreZero}
@@ -50,9 +49,7 @@ agreed_beyond : (h now : Handshake) → h ≡ agreed → IsBeyond h now → now 
 agreed_beyond h now is (more, e) = e ∙ ap (λ (x : Handshake). handshake_from x more) is ∙ agreed_from more
 
 lost_strays : (h : Handshake) → IsLost h → IsStrayed h
-lost_strays asked_again l = tt
-lost_strays astray l = tt
-lost_strays _ l = absurd l
+lost_strays h l = grind arith
 
 -- ---- what it put after its CR
 
@@ -73,17 +70,12 @@ pub data AfterCr (met : ℕ → Handshake) (shown at : ℕ) (put : List ℕ) : T
 
 -- a DT of class 0 has a shorter header than any other unit
 no_data_first : (v w : Value) (x y : List ℕ) → IsNoData v → IsData w → packet_of (written v) ++ x ≡ packet_of (written w) ++ y → ⊥
-no_data_first v (data0 end octets) x y other data_is is =
-    let long = long_header v other in
-    let same : length (written_header v) ≡ 2 = cc in
-    omega arith
-no_data_first v _ x y other data_is is = data_is
+no_data_first v w x y h data_is is = grind (arith, long_header)
 
 none_of_data : (units : List Value) (v : Value) (put later : List ℕ) → IsNoData v → AllByRecursion IsData units → put ≡ packets units →
     put ≡ packet_of (written v) ++ later → ⊥
 none_of_data [] v put later other all is put_is = never_none put (written v) later put_is is
-none_of_data (w ∷ units) v put later other all is put_is =
-    no_data_first v w later (packets units) other all.0 (sym put_is ∙ is)
+none_of_data (w ∷ units) v put later other all is put_is = grind (arith, no_data_first)
 
 module _ (capture : Capture) (coming : List ℕ) (theirs : List (List ℕ)) (ending : Ending) (cut : Cuts (stream Right capture) theirs ending)
     (shown : IsPrefix (stream Right capture) coming) (proper : AllProper) (session : Listener) where
@@ -178,8 +170,7 @@ module _ (capture : Capture) (coming : List ℕ) (theirs : List (List ℕ)) (end
     -- a DR was answered by a DC
     dc_put : (q source : ℕ) → turn.put ≡ packet_of (written (disconnected source q)) ++ [] →
         put_along (turn ∷ turns) ≡ packet_of (written (disconnected source q)) ++ put_along turns
-    dc_put q source is =
-        ap (λ (x : List ℕ). x ++ put_along turns) (is ∙ append-nil (packet_of (written (disconnected source q))))
+    dc_put q source is = grind (arith, append-nil)
 
     past_now : (u : List ℕ) → t.units ≡ u ∷ [] → (q source : ℕ) → handshake_from silent (u ∷ []) ≡ denied q source →
         at < length (stream Left capture) → IsPast q source (met_before Left capture theirs at)
@@ -220,50 +211,33 @@ module _ (capture : Capture) (coming : List ℕ) (theirs : List (List ℕ)) (end
     -- ---- nothing was put in it
 
     asks_away : (c : Carrier) → AsksIn r c → IsAway c → ⊥
-    asks_away c a (turned.over ended) = let none = ap is_some a.lasts in cc
-    asks_away c a (turned.has_none lasts side class live) =
-        let none : length c.live ≡ 0 = ap (λ (rows : Rows Connection). length rows) live in
-        let one : length c.live ≡ 1 = ap (λ (rows : Rows Connection). length rows) a.live in
-        omega arith
-    asks_away c a (turned.has_two lasts side two all) = let none = a.class in cc
+    asks_away c a h = grind arith
 
     zero_away : (c : Carrier) → IsSome c.ended ⊎ ((c.class ≡ Some Zero) × AreZero c.live) → IsAway c → IsSome c.ended
-    zero_away c (inl over) away = over
-    zero_away c (inr (class, live)) (turned.over ended) = ended
-    zero_away c (inr (class, live)) (turned.has_none lasts side none rows) = absurd (cc)
-    zero_away c (inr (class, live)) (turned.has_two lasts side two all) = absurd (cc)
+    zero_away c h away = grind arith
 
     away_there : (octets : List ℕ) (c : Carrier) → IsAway (record c { outgoing = octets }) → IsAway c
-    away_there octets c (turned.over ended) = turned.over ended
-    away_there octets c (turned.has_none lasts side class live) = turned.has_none lasts side class live
-    away_there octets c (turned.has_two lasts side class all) = turned.has_two lasts side class all
+    away_there octets c h = grind arith
 
     pub away_then : IsAway mid.end.carrier → turn.put ≡ [] → AskingPut r out t.units t.there → After at (put_along (turn ∷ turns))
-    away_then away none (asks.still nothing a same) =
-        absurd (asks_away t.there a (away_there mid.end.carrier.outgoing t.there (subst IsAway t.same away)))
+    away_then away none (asks.still nothing a same) = grind (arith, asks_away, away_there)
     away_then away none (asks.gone o) = silent_then none (over_mid o.0)
     away_then away none (asks.opened is p) =
         silent_then none (over_mid (zero_away t.there p.rest (away_there mid.end.carrier.outgoing t.there (subst IsAway t.same away))))
     away_then away none (asks.refused u is q source denies has same) = refused_then u is q source denies has none
-    away_then away none (asks.closed u is q source denies has same) =
-        absurd (never_none turn.put (written (disconnected source q)) [] (one_put (disconnected source q) same) none)
+    away_then away none (asks.closed u is q source denies has same) = search (arith, never_none, one_put)
     away_then away none (asks.strays l) = strays_then l
 
     -- ---- something else was put first
 
     pub aside_then : (v : Value) (later : List ℕ) → IsNoData v → turn.put ≡ packet_of (written v) ++ later →
         AskingPut r out t.units t.there → After at (put_along (turn ∷ turns))
-    aside_then v later other is (asks.still nothing a same) =
-        absurd (never_none turn.put (written v) later is (none_put_in out t.there.outgoing turn.put t.outgoing same))
-    aside_then v later other is (asks.gone o) =
-        absurd (never_none turn.put (written v) later is (none_put_in out t.there.outgoing turn.put t.outgoing o.1))
+    aside_then v later other is (asks.still nothing a same) = grind (arith, never_none, none_put_in)
+    aside_then v later other is (asks.gone o) = grind (arith, never_none, none_put_in)
     aside_then v later other is (asks.opened agrees p) =
-        absurd (none_of_data p.units v turn.put later other p.are_data
-        (append_cancel_left out turn.put (packets p.units) (sym t.outgoing ∙ p.is)) is)
-    aside_then v later other is (asks.refused u units q source denies has same) =
-        absurd (never_none turn.put (written v) later is (none_put_in out t.there.outgoing turn.put t.outgoing same))
-    aside_then v later other is (asks.closed u units q source denies has same) =
-        closed_then u units q source denies has (one_put (disconnected source q) same)
+        search (arith, none_of_data, append_cancel_left out turn.put (packets p.units) (sym t.outgoing ∙ p.is))
+    aside_then v later other is (asks.refused u units q source denies has same) = grind (arith, never_none, none_put_in)
+    aside_then v later other is (asks.closed u units q source denies has same) = search (arith, closed_then, one_put)
     aside_then v later other is (asks.strays l) = strays_then l
 
   pub asks_run : CanBegin session → is_wait_transport session.state.phase ≡ true → (turns : List Turn) (r : ℕ) (used : List ℕ) (at : ℕ)
@@ -302,13 +276,11 @@ module _ (met : ℕ → Handshake) (shown : ℕ) where
   -- so many octets of packets are shown
   before_first : (P : Handshake → Type 0) (at : ℕ) (us : List (List ℕ)) → at + packets_length us ≤ shown → (at < shown → P (met at)) →
       KnownBefore met P at us
-  before_first P at [] within known = tt
-  before_first P at (u ∷ us) within known = known (omega arith)
+  before_first P at us within known = grind arith
 
   before_later : (P : Handshake → Type 0) (at place : ℕ) (us : List (List ℕ)) → place ≡ at → at + packets_length us ≤ shown →
       (place < shown → P (met place)) → KnownBefore met P at us
-  before_later P at place us same within known =
-      before_first P at us within (subst (λ (n : ℕ). n < shown → P (met n)) same known)
+  before_later P at place us same within known = grind (arith, before_first)
 
   module _ (us : List (List ℕ)) (at : ℕ) (s r later put : List ℕ) (cut : ArePackets us s r) (is : s ++ later ≡ put)
       (read : AreAllRead us) (octets : AllByRecursion IsOctets us) (within : at + packets_length us ≤ shown) where
@@ -341,9 +313,7 @@ module _ (met : ℕ → Handshake) (shown : ℕ) where
         subst (KnownBefore met IsLost (at + packet_length u))
         (sym (none_after (u ∷ more) at s r later put cut is read octets within u more refl v
         (put_is ∙ ap (λ (x : List ℕ). packet_of w ++ x) none ∙ ap (λ (x : List ℕ). packet_of x ++ []) w_is))) tt
-    then_lost w rest same put_is v w_is (inr l) =
-        before_later IsLost (at + packet_length u) (at + packet_length w) more (ap (λ (x : List ℕ). at + packet_length x) (sym same))
-        (omega arith) l
+    then_lost w rest same put_is v w_is (inr l) = grind (arith, before_later)
 
     closes_first : (q source : ℕ) (rest : List ℕ) → put ≡ packet_of (written (disconnected source q)) ++ rest → IsPast q source (met at) →
         (rest ≡ []) ⊎ (at + packet_length (written (disconnected source q)) < shown →
@@ -372,8 +342,7 @@ module _ (met : ℕ → Handshake) (shown : ℕ) where
   pub follows : (us : List (List ℕ)) (at : ℕ) (s r later put : List ℕ) → ArePackets us s r → s ++ later ≡ put → AreAllRead us →
       AllByRecursion IsOctets us → at + packets_length us ≤ shown → AfterCr met shown at put → FollowsCr met at us
   follows [] at s r later put cut is read octets within a = strays tt tt
-  follows (u ∷ more) at s r later put cut is read octets within (nothing_more none) =
-      absurd (let never : u ∷ more ≡ [] = none_follow (u ∷ more) at s r later put cut is read octets within none in cc)
+  follows (u ∷ more) at s r later put cut is read octets within (nothing_more none) = grind (arith, none_follow)
   follows (u ∷ more) at s r later put cut is read octets within (speaks_more parts put_is whole agrees) =
       speaks_first u more at s r later put cut is read octets within parts put_is whole (agrees at (omega arith) (omega arith))
   follows (u ∷ more) at s r later put cut is read octets within (strays_more l) = strays read (l (omega arith))

@@ -55,12 +55,7 @@ met_goes_on d capture others k n l =
 
 complete_front : (us vs : List (List ℕ)) (n : ℕ) → packets_length us ≤ n → (more : List (List ℕ)) × (complete_in n (us ++ vs) ≡ us ++ more)
 complete_front [] vs n l = (complete_in n vs, refl)
-complete_front (u ∷ us) vs n l =
-    let more = complete_front us vs (n - packet_length u) (omega arith) in (
-      more.0,
-      ap (λ (b : Bool). cond b (u ∷ complete_in (n - packet_length u) (us ++ vs)) []) (le-leb (packet_length u) n (omega arith))
-          ∙ ap (λ (x : List (List ℕ)). u ∷ x) more.1,
-    )
+complete_front (u ∷ us) vs n l = grind (arith, cond, le-leb, complete_front us vs (n - packet_length u) (omega arith))
 
 -- If packets that an end had used had passed before one of its octets, the judge knows of them before it.
 pub met_after : (d : Direction) (capture : Capture) (coming : List ℕ) (theirs : List (List ℕ)) (ending : Ending) →
@@ -82,9 +77,7 @@ met_after d capture coming theirs ending cut shown us used rest packets front k 
 pub passed_by : (d : Direction) (capture : Capture) (used put : ℕ) (turn : Turn) (turns : List Turn) →
     PassAfter d capture used put (turn ∷ turns) → (k : ℕ) → put ≤ k → k < put + length (put_along (turn ∷ turns)) →
     k < length (stream d capture) → used + length turn.used ≤ passed_before d capture k
-passed_by d capture used put turn [] after k low high shown =
-    let size = length-append turn.put [] in
-    after.0 k low (omega arith) shown
+passed_by d capture used put turn [] after k low high shown = grind (arith, length-append)
 passed_by d capture used put turn (next ∷ turns) after k low high shown =
     let size = length-append turn.put (put_along (next ∷ turns)) in
     elim (leb_tells (put + length turn.put) k) [

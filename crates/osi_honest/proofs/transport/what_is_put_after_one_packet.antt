@@ -1,14 +1,13 @@
 -- What an end puts that has used one packet and has no open connection: nothing, until a second packet comes, after which the judge
 -- ignores what it puts; or another request.
 -- For what the transport of an end puts.
-use Rattle.osi_honest.proofs.Vocabulary.{[], ap, append_assoc, arith, Bool, Err, false, if◌then◌else◌, inl, inr, is_some, length, List}
-use Rattle.osi_honest.proofs.Vocabulary.{None, not, Ok, Option, option_map, refl, Result, Some, subst, sym, true, ℕ, ◌++◌, ◌+◌, ◌<◌, ◌∙◌}
-use Rattle.osi_honest.proofs.Vocabulary.{◌∷◌, ◌≡◌, ◌≤◌, ◌⊎◌, append-nil, append_cancel_left, length-append, IsOctets, packet_of, ArePackets}
-use Rattle.osi_honest.proofs.Vocabulary.{Cuts, Ending, tsap_octets, units_of, request, Value, written, TpduFault, Standing, reacts_over}
-use Rattle.osi_honest.proofs.Vocabulary.{closed_on, may_connect, open_link, sent_on, Happening, proposal, proposes_two, packets}
-use Rattle.osi_honest.proofs.Vocabulary.{State as Carrier, OpenError, Ended, NotCaller, Holding, Capture, other, passed_before, stream}
-use Rattle.osi_honest.proofs.Vocabulary.{handshake_from, met_before, silent, Direction, IsPrefix, PassAfter, put_along, used_along, Run}
-use Rattle.osi_honest.proofs.Vocabulary.{Turn, IsPlain}
+use Rattle.osi_honest.proofs.Vocabulary.{[], ap, append_assoc, arith, Bool, Err, if◌then◌else◌, is_some, length, List, None, not, Ok}
+use Rattle.osi_honest.proofs.Vocabulary.{Option, option_map, refl, Result, Some, subst, sym, true, ℕ, ◌++◌, ◌+◌, ◌<◌, ◌∙◌, ◌∷◌, ◌≡◌, ◌≤◌}
+use Rattle.osi_honest.proofs.Vocabulary.{◌⊎◌, append-nil, append_cancel_left, length-append, IsOctets, packet_of, ArePackets, Cuts, Ending}
+use Rattle.osi_honest.proofs.Vocabulary.{tsap_octets, units_of, request, Value, written, TpduFault, reacts_over, closed_on, may_connect}
+use Rattle.osi_honest.proofs.Vocabulary.{open_link, sent_on, Happening, proposal, proposes_two, packets, State as Carrier, OpenError, Ended}
+use Rattle.osi_honest.proofs.Vocabulary.{NotCaller, Holding, Capture, other, passed_before, stream, handshake_from, met_before, silent}
+use Rattle.osi_honest.proofs.Vocabulary.{Direction, IsPrefix, PassAfter, put_along, used_along, Run, Turn, IsPlain}
 use Rattle.osi_tpdu.specs.Value.{Connect}
 use Rattle.osi_carrier.specs.Calls.{asks}
 use Rattle.osi_carrier.specs.Packets as carriers
@@ -26,18 +25,14 @@ use Rattle.osi_honest.proofs.keeping.what_was_put_stays_in_front.{Ahead, ahead_k
 
 over_acted : (units : Result (List Value) TpduFault) (octets : List ℕ) (c : Carrier) → Over octets c →
     Over octets (carriers.acts_by units c)
-over_acted (Ok units) octets c o = subst (Over octets) (sym (reacts_over units c o.0)) o
-over_acted (Err fault) octets c o = (refl, o.1)
+over_acted units octets c o = grind (arith, reacts_over)
 
 pub over_packet : (u octets : List ℕ) (c : Carrier) → Over octets c → Over octets (carriers.after_packet c u)
 unfolding carriers.after_packet
 over_packet u octets c o = over_acted (units_of u) octets c o
 
 pub over_shortage : (u octets : List ℕ) (c d : Carrier) → Over octets c → carriers.Starves c u d → Over octets d
-over_shortage u octets c d o (units, e, out) = (
-  ap (λ (x : Carrier). is_some x.ended) out.ended,
-  ap (λ (x : Carrier). x.outgoing) out.ended ∙ ap (λ (x : Carrier). x.outgoing) (reacts_over out.done c o.0) ∙ o.1,
-)
+over_shortage u octets c d o (units, e, out) = grind (arith, reacts_over)
 
 ahead_acted : (units : Result (List Value) TpduFault) (front : List ℕ) (c : Carrier) → Ahead front c →
     Ahead front (carriers.acts_by units c)
@@ -54,9 +49,7 @@ ahead_shortage u front c d p (units, e, out) =
 
 may_by : (b over : Bool) (e : Option OpenError) → over ≡ true →
     (if not b then Some NotCaller else (if over then Some Ended else e)) ≡ None → ⊥
-may_by true true e ended h = cc
-may_by false over e ended h = cc
-may_by true false e ended h = cc
+may_by b over e ended h = grind arith
 
 -- after the end no connection is requested
 pub over_asks_nothing : (c : Carrier) → is_some c.ended ≡ true → may_connect c ≡ None → ⊥
@@ -87,16 +80,13 @@ pub data NextPut (K : Carrier → Type 0) (Asking : Type 0) (u octets : List ℕ
 -- what is put now stands first after what had been put
 pub put_now : (octets : List ℕ) (v : Value) (c d : Carrier) → c.outgoing ≡ octets → d.outgoing ≡ c.outgoing ++ packets (v ∷ []) →
     Ahead (octets ++ packets (v ∷ [])) d
-put_now octets v c d same is =
-    ([], append-nil (octets ++ packets (v ∷ [])) ∙ ap (λ (x : List ℕ). x ++ packets (v ∷ [])) (sym same) ∙ sym is)
+put_now octets v c d same is = grind (arith, append-nil)
 
 pub put_more : (front : List ℕ) (v : Value) (c d : Carrier) → Ahead front c → d.outgoing ≡ c.outgoing ++ packets (v ∷ []) → Ahead front d
-put_more front v c d p is =
-    (p.0 ++ packets (v ∷ []), sym (append_assoc front p.0 (packets (v ∷ []))) ∙ ap (λ (x : List ℕ). x ++ packets (v ∷ [])) p.1 ∙ sym is)
+put_more front v c d p is = grind (arith, append_assoc)
 
 pub lost_more : (us : List (List ℕ)) (u : List ℕ) → IsLost (handshake_from silent us) → IsLost (handshake_from silent (us ++ u ∷ []))
-lost_more us u l =
-    lost_beyond (handshake_from silent us) (handshake_from silent (us ++ u ∷ [])) l (u ∷ [], handshake_then silent us (u ∷ []))
+lost_more us u l = grind (arith, lost_beyond, handshake_then)
 
 module _ (K : Carrier → Type 0) (Asking : Type 0) (u : List ℕ) (s : Settles K Asking u) where
   module _ (octets : List ℕ) where
@@ -105,8 +95,7 @@ module _ (K : Carrier → Type 0) (Asking : Type 0) (u : List ℕ) (s : Settles 
 
     second : (us : List (List ℕ)) (next : List ℕ) (c d : Carrier) → us ≡ u ∷ [] → c.outgoing ≡ octets →
         IsLost (handshake_from silent (u ∷ next ∷ [])) ⊎ Over c.outgoing d → Next (us ++ next ∷ []) d
-    second us next c d is same (inl l) = lost (subst (λ (x : List (List ℕ)). IsLost (handshake_from silent (x ++ next ∷ []))) (sym is) l)
-    second us next c d is same (inr o) = gone (o.0, o.1 ∙ same)
+    second us next c d is same h = grind arith
 
     next_packet : (us : List (List ℕ)) (next : List ℕ) (c : Carrier) → IsOctets next → Next us c →
         Next (us ++ next ∷ []) (carriers.after_packet c next)
@@ -124,16 +113,14 @@ module _ (K : Carrier → Type 0) (Asking : Type 0) (u : List ℕ) (s : Settles 
         again a cr plain (ahead_shortage next (octets ++ packets (request cr ∷ [])) c d p short)
 
     next_sends : (us : List (List ℕ)) (r : ℕ) (tsdu : List ℕ) (c : Carrier) → Next us c → Next us (sent_on r tsdu (open_link r c) c)
-    next_sends us r tsdu c (still is k same) =
-        subst (λ (x : Option (ℕ × Standing)). Next us (sent_on r tsdu x c)) (sym (s.links c k r)) (still is k same)
+    next_sends us r tsdu c (still is k same) = grind arith
     next_sends us r tsdu c (gone o) = gone ((over_carries octets).sends r tsdu c o)
     next_sends us r tsdu c (lost l) = lost l
     next_sends us r tsdu c (again a cr plain p) =
         again a cr plain ((ahead_kept (octets ++ packets (request cr ∷ []))).carries.sends r tsdu c p)
 
     next_closes : (us : List (List ℕ)) (r : ℕ) (c : Carrier) → Next us c → Next us (closed_on r 128 (open_link r c) c)
-    next_closes us r c (still is k same) =
-        subst (λ (x : Option (ℕ × Standing)). Next us (closed_on r 128 x c)) (sym (s.links c k r)) (still is k same)
+    next_closes us r c (still is k same) = grind arith
     next_closes us r c (gone o) = gone ((over_carries octets).closes r c o)
     next_closes us r c (lost l) = lost l
     next_closes us r c (again a cr plain p) = again a cr plain ((ahead_kept (octets ++ packets (request cr ∷ []))).carries.closes r c p)
@@ -151,13 +138,7 @@ module _ (K : Carrier → Type 0) (Asking : Type 0) (u : List ℕ) (s : Settles 
     next_ends us reason c (again a cr plain p) = again a cr plain p
 
     next_tracked : IsTracked Next
-    next_tracked = record {
-      packet = next_packet;
-      shortage = next_shortage;
-      carries = λ us. record { sends = next_sends us; closes = next_closes us };
-      untold = next_untold;
-      ends_so = next_ends;
-    }
+    next_tracked = search (arith, next_packet, next_shortage, next_sends, next_closes, next_untold, next_ends)
 
     next_asks : (us : List (List ℕ)) → AsksToo (Next us)
     next_asks us calling called c allowed (still is k same) =

@@ -97,9 +97,7 @@ module _ (capture : Capture) (theirs : List (List ℕ)) where
 
   first_clear : (put : List ℕ) (u : List ℕ) (us : List (List ℕ)) (r later : List ℕ) → ArePackets (u ∷ us) (stream Left capture) r →
       stream Left capture ++ later ≡ put → ArePutToRead put → CallerSent met (length (stream Left capture)) put → Clear (u ∷ us)
-  first_clear put u us r later cut is all (silent_side none) =
-      let shown = shown_packets (u ∷ us) [] (stream Left capture) r later cut (is ∙ none) in
-      absurd (let more : [] ≡ u ∷ (us ++ shown.0) = shown.1 in cc)
+  first_clear put u us r later cut is all (silent_side none) = grind (arith, shown_packets)
   first_clear put u us r later (b, t, p, parts, h) is all (dc_first destination source rest put_is) =
       let octets = all_octets (u ∷ us) (stream Left capture) r (b, t, p, parts, h) in
       let one = packet_again u (written (disconnected destination source)) b (t ++ later) rest p

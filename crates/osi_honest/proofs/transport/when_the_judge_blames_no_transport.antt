@@ -1,19 +1,17 @@
 -- Which packets of a side the judge blames no transport for, by what it knows of the other side before each of them.
 -- For the laws that an end is never blamed.
-use Rattle.osi_honest.proofs.Vocabulary.{[], ap, arith, Bool, false, if◌then◌else◌, List, None, Ok, Option, refl, Some, subst, sym, true, ℕ}
-use Rattle.osi_honest.proofs.Vocabulary.{◌&&◌, ◌++◌, ◌+◌, ◌==◌, ◌∙◌, ◌∷◌, ◌≡◌, eq-eqb, AllByRecursion, units_of, confirm, data0, disconnect}
-use Rattle.osi_honest.proofs.Vocabulary.{disconnected, request, Value, written, proposes, Part, is_break, added, agreed, answering_step}
-use Rattle.osi_honest.proofs.Vocabulary.{asked_again, asking, asking_step, astray, between, denied, first_unit, Handshake, has_asked}
-use Rattle.osi_honest.proofs.Vocabulary.{hasty_behind, hasty_from, hurries, ignores, is_too_long, moved, next_step, noted, opening}
-use Rattle.osi_honest.proofs.Vocabulary.{packet_length, refuses, silent, Stage, stage_behind, stage_from, step_of, stopped, stops, within}
-use Rattle.osi_honest.proofs.Vocabulary.{Direction, Left, Right, Stop, MoreConnections, NoOpening, NothingToAnswer, OtherClass, dt}
-use Rattle.osi_honest.proofs.Vocabulary.{units_put, HasOneUnit}
+use Rattle.osi_honest.proofs.Vocabulary.{[], ap, arith, Bool, false, if◌then◌else◌, List, None, Ok, Option, refl, Some, true, ℕ, ◌&&◌, ◌++◌}
+use Rattle.osi_honest.proofs.Vocabulary.{◌+◌, ◌==◌, ◌∙◌, ◌∷◌, ◌≡◌, eq-eqb, AllByRecursion, units_of, confirm, disconnect, disconnected}
+use Rattle.osi_honest.proofs.Vocabulary.{request, Value, written, proposes, Part, is_break, added, agreed, asking, asking_step, between}
+use Rattle.osi_honest.proofs.Vocabulary.{denied, first_unit, Handshake, has_asked, hasty_behind, hasty_from, hurries, ignores, moved}
+use Rattle.osi_honest.proofs.Vocabulary.{next_step, noted, opening, packet_length, refuses, Stage, stage_behind, stage_from, step_of}
+use Rattle.osi_honest.proofs.Vocabulary.{stopped, stops, within, Direction, Left, Right, Stop, MoreConnections, NoOpening, NothingToAnswer}
+use Rattle.osi_honest.proofs.Vocabulary.{OtherClass, dt, units_put, HasOneUnit}
 use Rattle.osi_tpdu.specs.Value.{Connect}
 use Rattle.osi_judge.specs.declared.stops.Stop.TheVariants.{TsduTooLong}
 use Rattle.osi_judge.specs.Transport.{Move, asks, opens, refused}
 use Rattle.osi_honest.proofs.transport.what_had_passed_goes_on.{GoesOn, IsLost, lost_beyond, strayed_beyond}
-use Rattle.osi_honest.proofs.reading.what_is_put_and_taken_is_read.{dt_read}
-use Rattle.osi_honest.proofs.reading.what_the_judge_reads_of_a_side.{FirstUnit, IsStrayed, next_same}
+use Rattle.osi_honest.proofs.reading.what_the_judge_reads_of_a_side.{FirstUnit, IsStrayed}
 
 -- it has not stopped at a break
 abbrev pub IsInnocent : Stage → Type 0
@@ -38,38 +36,27 @@ IsHarmless move = Unit {0}
 
 behind_is : (d : Direction) (h : Handshake) (s : Stage) (at : ℕ) (u : List ℕ) → IsStanding s →
     stage_behind d h s at u ≡ moved s at (step_of d s h (first_unit (units_of u)))
-behind_is d h (stopped stop place) at u standing = absurd standing
-behind_is d h _ at u standing = refl
+behind_is d h s at u standing = grind arith
 
 haste_is : (d : Direction) (h : Handshake) (s : Stage) (at : ℕ) (u : List ℕ) → IsStanding s →
     hasty_behind d h s None at u ≡ noted None at (step_of d s h (first_unit (units_of u)))
-haste_is d h (stopped stop place) at u standing = absurd standing
-haste_is d h _ at u standing = refl
+haste_is d h s at u standing = grind arith
 
 none_noted : (at : ℕ) (m : Move) → IsHarmless m → noted None at m ≡ None
-none_noted at (hurries end octets) harmless = absurd harmless
-none_noted at _ harmless = refl
+none_noted at m harmless = grind arith
 
 module _ (d : Direction) (met : ℕ → Handshake) where
   then_clear : (s : Stage) (at : ℕ) (u : List ℕ) (us : List (List ℕ)) (m : Move) → IsStanding s →
       step_of d s (met at) (first_unit (units_of u)) ≡ m → IsHarmless m → IsClear d met (moved s at m) (at + packet_length u) us →
       IsClear d met s at (u ∷ us)
-  then_clear s at u us m standing is harmless c =
-      let next : stage_behind d (met at) s at u ≡ moved s at m = behind_is d (met at) s at u standing ∙ ap (moved s at) is in
-      let none : hasty_behind d (met at) s None at u ≡ None =
-      haste_is d (met at) s at u standing ∙ ap (noted None at) is ∙ none_noted at m harmless in
-      record {
-        stands = subst (λ (x : Stage). IsInnocent (stage_from d met x (at + packet_length u) us)) (sym next) c.stands;
-        calm = (λ i. hasty_from d met (next i) (none i) (at + packet_length u) us) ∙ c.calm;
-      }
+  then_clear s at u us m standing is harmless c = grind (arith, behind_is, haste_is, none_noted)
 
   pub none_clear : (s : Stage) (at : ℕ) → IsInnocent s → IsClear d met s at []
   none_clear s at innocent = record { stands = innocent; calm = refl }
 
   stopped_clear : (stop : Stop) (place at : ℕ) (us : List (List ℕ)) → is_break stop ≡ false → IsClear d met (stopped stop place) at us
   stopped_clear stop place at [] none = record { stands = none; calm = refl }
-  stopped_clear stop place at (u ∷ us) none =
-      let c = stopped_clear stop place (at + packet_length u) us none in record { stands = c.stands; calm = c.calm }
+  stopped_clear stop place at (u ∷ us) none = grind (arith, stopped_clear stop place (at + packet_length u) us none)
 
   -- ---- packets that are ignored
 
@@ -79,15 +66,7 @@ module _ (d : Direction) (met : ℕ → Handshake) where
   Ignores s h = ⊥
 
   ignored : (s : Stage) (h : Handshake) (v : Value) → Ignores s h → step_of d s h (Ok (Some v)) ≡ ignores
-  ignored asking silent v h = absurd h
-  ignored asking agreed v h = absurd h
-  ignored asking (denied destination source) v h = absurd h
-  ignored asking _ v h = refl
-  ignored (refused place) asked_again v h = refl
-  ignored (refused place) astray v h = refl
-  ignored (refused place) _ v h = absurd h
-  ignored opening h v never = absurd never
-  ignored _ h v never = absurd never
+  ignored s h v h2 = grind arith
 
 -- each packet has a unit that can be read
 abbrev pub IsRead : List ℕ → Type 0
@@ -139,26 +118,21 @@ IsOpened stage = ⊥
 
 added_opened : (s : Stage) (at : ℕ) (long end : Bool) (octets : List ℕ) →
     IsOpened (if long then stopped TsduTooLong at else added s at end octets)
-added_opened s at true end octets = tt
-added_opened s at false true octets = tt
-added_opened s at false false octets = tt
+added_opened s at long end octets = grind arith
 
 record Continues (s : Stage) (at : ℕ) (m : Move) : Type 0 where
   harmless : IsHarmless m
   opened : IsOpened (moved s at m)
 
 next_opened : (s : Stage) (at : ℕ) (v : Value) → Continues s at (next_step v)
-next_opened s at (data0 end octets) = record { harmless = tt; opened = added_opened s at (is_too_long s octets) end octets }
-next_opened s at _ = record { harmless = tt; opened = tt }
+next_opened s at v = grind (arith, added_opened)
 
 between_opened : (d : Direction) (h : Handshake) (at : ℕ) (unit : FirstUnit) → Continues between at (step_of d between h unit)
-between_opened d h at (Ok (Some v)) = next_opened between at v
-between_opened d h at _ = record { harmless = tt; opened = tt }
+between_opened d h at unit = grind (arith, next_opened)
 
 within_opened : (d : Direction) (h : Handshake) (first : ℕ) (octets : List ℕ) (at : ℕ) (unit : FirstUnit) →
     Continues (within first octets) at (step_of d (within first octets) h unit)
-within_opened d h first octets at (Ok (Some v)) = next_opened (within first octets) at v
-within_opened d h first octets at _ = record { harmless = tt; opened = tt }
+within_opened d h first octets at unit = grind (arith, next_opened)
 
 module _ (d : Direction) (met : ℕ → Handshake) where
   no_haste : (s : Stage) (at : ℕ) (us : List (List ℕ)) → IsOpened s → hasty_from d met s None at us ≡ None
@@ -181,15 +155,12 @@ module _ (d : Direction) (met : ℕ → Handshake) where
   stays_stopped stop place at (u ∷ us) = stays_stopped stop place (at + packet_length u) us
 
   innocent_front : (s : Stage) (at : ℕ) (back : List (List ℕ)) → stage_from d met s at back ≡ between → IsInnocent s
-  innocent_front (stopped stop place) at back is =
-      let both : stopped stop place ≡ between = sym (stays_stopped stop place at back) ∙ is in absurd (cc)
-  innocent_front _ at back is = tt
+  innocent_front s at back is = grind (arith, stays_stopped)
 
   front_innocent : (s : Stage) (at : ℕ) (us back : List (List ℕ)) → stage_from d met s at (us ++ back) ≡ between →
       IsInnocent (stage_from d met s at us)
   front_innocent s at [] back is = innocent_front s at back is
-  front_innocent s at (u ∷ us) back is =
-      front_innocent (stage_behind d (met at) s at u) (at + packet_length u) us back is
+  front_innocent s at (u ∷ us) back is = grind (arith, front_innocent (stage_behind d (met at) s at u) (at + packet_length u) us back is)
 
   -- the first of packets of which the last ends a TSDU
   opened_clear : (s : Stage) (at : ℕ) (us back : List (List ℕ)) → IsOpened s → stage_from d met s at (us ++ back) ≡ between →
@@ -205,31 +176,23 @@ module _ (met : ℕ → Handshake) (on : GoesOn met) (u : List ℕ) (us : List (
 
   by_class : (destination : ℕ) (c : Connect) (b : Bool) → (c.class == 0) ≡ b → Reads (confirm destination c) → (m : Move) →
       (if b then opens c.source else stops OtherClass) ≡ m → step_of Right opening (met 0) (first_unit (units_of u)) ≡ m
-  by_class destination c b e reads m is =
-      ap (step_of Right opening (met 0)) reads ∙ ap (λ (x : Bool). if x then opens c.source else stops OtherClass) e ∙ is
+  by_class destination c b e reads m is = grind arith
 
   -- a CC of another class
   pub other_clear : (destination : ℕ) (c : Connect) → Reads (confirm destination c) → (c.class == 0) ≡ false →
       IsClear Right met opening 0 (u ∷ us)
-  other_clear destination c reads e =
-      then_clear Right met opening 0 u us (stops OtherClass) tt (by_class destination c false e reads (stops OtherClass) refl) tt
-      (stopped_clear Right met OtherClass 0 (0 + packet_length u) us refl)
+  other_clear destination c reads e = grind (arith, stopped_clear Right met OtherClass 0 (0 + packet_length u) us refl)
 
   -- a CC of class 0, and whole TSDUs of which these packets are the first
   pub speaks_clear : (destination : ℕ) (c : Connect) (back : List (List ℕ)) → Reads (confirm destination c) → (c.class == 0) ≡ true →
       stage_from Right met between (0 + packet_length u) (us ++ back) ≡ between → IsClear Right met opening 0 (u ∷ us)
-  speaks_clear destination c back reads e is =
-      then_clear Right met opening 0 u us (opens c.source) tt (by_class destination c true e reads (opens c.source) refl) tt
-      (opened_clear Right met between (0 + packet_length u) us back tt is)
+  speaks_clear destination c back reads e is = grind (arith, then_clear, by_class, opened_clear)
 
   -- a DR after a CR, and nothing, or what comes after another CR
   pub denies_clear : (destination source reason : ℕ) (user : List ℕ) → Reads (disconnect destination source reason user) →
       has_asked (met 0) ≡ true → AreAllRead us → KnownBefore met IsLost (0 + packet_length u) us → IsClear Right met opening 0 (u ∷ us)
   denies_clear destination source reason user reads asked_for read lost =
-      then_clear Right met opening 0 u us refuses tt
-      (ap (step_of Right opening (met 0)) reads
-      ∙ ap (λ (b : Bool). if b then answering_step (disconnect destination source reason user) else stops NoOpening) asked_for) tt
-      (lost_clear Right met on 0 (0 + packet_length u) us read lost)
+      grind (arith, lost_clear Right met on 0 (0 + packet_length u) us read lost)
 
 -- ---- a calling end
 
@@ -253,17 +216,7 @@ module _ (met : ℕ → Handshake) (on : GoesOn met) where
   first_data : (at : ℕ) (part : Part) (parts : List Part) (u : List ℕ) (us back : List (List ℕ)) → written (dt part) ≡ u →
       units_put parts ≡ us ++ back → stage_from Left met between at (written (dt part) ∷ units_put parts) ≡ between →
       met at ≡ agreed → IsClear Left met asking at (u ∷ us)
-  first_data at part parts u us back same rest is now =
-      let reads : units_of u ≡ Ok (dt part ∷ []) = ap units_of (sym same) ∙ dt_read part.0 part.1 in
-      let step : step_of Left asking (met at) (first_unit (units_of u)) ≡ next_step (dt part) =
-      (λ i. step_of Left asking (now i) (first_unit (reads i))) in
-      let there : stage_behind Left (met at) between at u ≡ moved between at (next_step (dt part)) =
-      (λ i. moved between at (step_of Left between (now i) (first_unit (reads i)))) in
-      let k = next_opened asking at (dt part) in
-      then_clear Left met asking at u us (next_step (dt part)) tt step k.harmless
-      (opened_clear Left met (moved asking at (next_step (dt part))) (at + packet_length u) us back k.opened
-      (ap (λ (x : Stage). stage_from Left met x (at + packet_length u) (us ++ back)) ((next_same at u (dt part)).stage_is ∙ sym there)
-      ∙ (λ i. stage_from Left met between at (sym same i ∷ sym rest i)) ∙ is))
+  first_data at part parts u us back same rest is now = grind (arith, opened_clear)
 
   speaks_on : (at : ℕ) (parts : List Part) (us back : List (List ℕ)) → units_put parts ≡ us ++ back →
       stage_from Left met between at (units_put parts) ≡ between → KnownBefore met (λ h. h ≡ agreed) at us → IsClear Left met asking at us
@@ -281,14 +234,9 @@ module _ (met : ℕ → Handshake) (on : GoesOn met) where
   follows_clear at us (strays read strayed) = strays_clear Left met on at us read strayed
   follows_clear at us (speaks parts back all is now) = speaks_on at parts us back all is now
   follows_clear at us (closes destination source u more is reads now read lost) =
-      subst (IsClear Left met asking at) (sym is)
-      (then_clear Left met asking at u more refuses tt
-      ((λ i. step_of Left asking (now i) (reads i)) ∙ by_references source destination) tt
-      (lost_clear Left met on at (at + packet_length u) more read lost))
+      grind (arith, by_references source destination, lost_clear Left met on at (at + packet_length u) more read lost)
   follows_clear at us (asks_more destination source c u more is reads now) =
-      subst (IsClear Left met asking at) (sym is)
-      (then_clear Left met asking at u more (stops MoreConnections) tt (λ i. step_of Left asking (now i) (reads i)) tt
-      (stopped_clear Left met MoreConnections at (at + packet_length u) more refl))
+      grind (arith, stopped_clear Left met MoreConnections at (at + packet_length u) more refl)
 
   -- what a calling end sends first is a CR, or the connection is not judged
   data FirstOfCaller (v : Value) : Type 0 where

@@ -29,8 +29,7 @@ pub stream_fed : (d : Direction) (c : Capture) (octets : List ℕ) → stream d 
 stream_fed d c octets = stream_more d c (piece d octets) ∙ ap (λ (x : List ℕ). stream d c ++ x) (stream_own d octets)
 
 pub stream_beside : (d : Direction) (c : Capture) (octets : List ℕ) → stream (other d) (c ++ piece d octets) ≡ stream (other d) c
-stream_beside d c octets = stream_more (other d) c (piece d octets) ∙ ap (λ (x : List ℕ). stream (other d) c ++ x) (stream_other d octets) ∙
-    append_nil (stream (other d) c)
+stream_beside d c octets = grind (arith, stream_more, stream_other, append_nil)
 
 -- ---- what had passed before an octet
 

@@ -1,8 +1,6 @@
 -- The TSDUs of a side of a capture are the first of those of a capture that goes on, and as many had passed before each of them.
 -- For the law that a capture has one first break.
-use Rattle.std.proofs.Common.{◌≡◌, ◌∙◌, refl, sym, ap, subst, ℕ, ◌+◌, ◌-◌, ◌<◌, ◌≤◌, inl, inr, Bool, true, false, cond, leb, List}
-use Rattle.std.proofs.Common.{[], ◌∷◌, ◌++◌, length, arith}
-use Rattle.std.proofs.Common.{Option}
+use Rattle.std.proofs.Common.{◌≡◌, ◌∙◌, refl, sym, ap, subst, ℕ, ◌+◌, ◌-◌, ◌<◌, ◌≤◌, cond, leb, List, [], ◌∷◌, ◌++◌, length, arith, Option}
 use Rattle.std.specs.List.{filter}
 use Rattle.std.proofs.lemmas.Bool.{lt-leb}
 use Rattle.std.proofs.lemmas.Bool.Decides.{leb_tells}
@@ -11,10 +9,10 @@ use Rattle.std.proofs.lemmas.List.Elements.{filter-append}
 use Rattle.osi_judge.specs.declared.directions.Direction.{Direction}
 use Rattle.osi_judge.specs.Captures.{Capture, other, stream, passed_before}
 use Rattle.osi_judge.specs.Explaining.{Told}
-use Rattle.osi_judge.specs.Transport.{Handshake, silent, packet_length, complete_in, handshake_from, met_before, packets_length}
-use Rattle.osi_judge.specs.Transport.{Stage, opening, asking, between, within, refused, stopped, first_of, stage_behind, stage_from}
-use Rattle.osi_judge.specs.Transport.{Sent, sent_by, sent_from, hasty_behind, hasty_from, IsSent}
-use Rattle.osi_judge.specs.Tapping.{had_passed, heard, octets_of, tell, told}
+use Rattle.osi_judge.specs.Transport.{Handshake, silent, packet_length, complete_in, handshake_from, met_before, packets_length, Stage}
+use Rattle.osi_judge.specs.Transport.{opening, first_of, stage_behind, stage_from, Sent, sent_by, sent_from, hasty_behind, hasty_from}
+use Rattle.osi_judge.specs.Transport.{IsSent}
+use Rattle.osi_judge.specs.Tapping.{had_passed, heard, told}
 use Rattle.osi_judge.specs.Following.{BeginBefore, IsSince}
 use Rattle.osi_judge.proofs.captured.a_capture_goes_on.{passed_within}
 use Rattle.osi_judge.proofs.captured.a_stream_that_goes_on_keeps_its_packets.{AreLonger, CutOn, cut_on}
@@ -78,16 +76,10 @@ begin_both n (x ∷ xs) ys h k = (h.0, begin_both n xs ys h.1 k)
 
 first_there : (d : Direction) (c : Capture) (s : Stage) (at since : ℕ) → IsSince d c [] s since → at < length (stream d c)
     → first_of s at < length (stream d c)
-first_there d c opening at since h l = l
-first_there d c asking at since h l = l
-first_there d c between at since h l = l
-first_there d c (refused packet) at since h l = l
-first_there d c (stopped stop packet) at since h l = l
-first_there d c (within first octets) at since h l = h.0
+first_there d c s at since h l = grind arith
 
 one_begins : (n : ℕ) (s : Stage) (at : ℕ) (u : List ℕ) (sent : List Sent) → first_of s at < n → OneOrNone s at u sent → BeginBefore n sent
-one_begins n s at u sent l (inl e) = subst (BeginBefore n) (sym e) tt
-one_begins n s at u sent l (inr (t, e, i)) = subst (BeginBefore n) (sym e) (let f = i.first in omega (arith, f, l), tt)
+one_begins n s at u sent l h = grind arith
 
 begins : (d : Direction) (c : Capture) (met : ℕ → Handshake) (s : Stage) (at since : ℕ) (us : List (List ℕ)) → IsSince d c [] s since
     → offset_from at us ≤ length (stream d c) → BeginBefore (length (stream d c)) (sent_from d met s at us)
@@ -112,12 +104,10 @@ end_both n (x ∷ xs) ys h k = (h.0, end_both n xs ys h.1 k)
 
 one_ends : (n : ℕ) (s : Stage) (at : ℕ) (u : List ℕ) (sent : List Sent) → n < at + packet_length u → OneOrNone s at u sent
     → EndBehind n sent
-one_ends n s at u sent l (inl e) = subst (EndBehind n) (sym e) tt
-one_ends n s at u sent l (inr (t, e, i)) = subst (EndBehind n) (sym e) (let b = i.behind in omega (arith, b, l), tt)
+one_ends n s at u sent l h = grind arith
 
 longer_than_none : (us : List (List ℕ)) → AreLonger 0 us
-longer_than_none [] = tt
-longer_than_none (u ∷ us) = omega arith
+longer_than_none us = grind arith
 
 ends_behind : (d : Direction) (met : ℕ → Handshake) (s : Stage) (at m n : ℕ) (us : List (List ℕ)) → n ≤ at + m → AreLonger m us
     → EndBehind n (sent_from d met s at us)
@@ -159,10 +149,7 @@ sent_on d c e mine whole (us, bs, cut, beside, is) (vs, ws, cut_too, beside_too,
 
 filter_behind : (n m : ℕ) (more : List Sent) → n ≤ m → EndBehind m more → filter (has_ended n) more ≡ []
 filter_behind n m [] l h = refl
-filter_behind n m (t ∷ more) l h =
-    let less = h.0 in
-    ap (λ (b : Bool). cond b (t ∷ filter (has_ended n) more) (filter (has_ended n) more)) (lt-leb t.behind n (omega (arith, l, less)))
-    ∙ filter_behind n m more l h.1
+filter_behind n m (t ∷ more) l h = grind (arith, cond, has_ended, lt-leb, filter_behind n m more l h.1)
 
 none_more_passed : (d : Direction) (c : Capture) (k : ℕ) (others more : List Sent) → EndBehind (length (stream (other d) c)) more
     → had_passed d c k (others ++ more) ≡ had_passed d c k others
@@ -175,10 +162,7 @@ none_more_passed d c k others more h =
 told_longer : (d : Direction) (c : Capture) (mine others more : List Sent) → EndBehind (length (stream (other d) c)) more
     → told d c mine (others ++ more) ≡ told d c mine others
 told_longer d c [] others more h = refl
-told_longer d c (t ∷ mine) others more h =
-    let passed = none_more_passed d c t.first others more h in
-    let rest = told_longer d c mine others more h in
-    λ i. record { octets = t.octets; before = passed i } ∷ rest i
+told_longer d c (t ∷ mine) others more h = grind (arith, none_more_passed, told_longer d c mine others more h)
 
 -- no more had passed before a TSDU than the other side sent
 abbrev pub AreBefore : ℕ → List Told → Type 0
@@ -187,18 +171,12 @@ AreBefore n (t ∷ said) = (t.before ≤ n) × AreBefore n said
 
 filter_fewer : (n : ℕ) (others : List Sent) → length (filter (has_ended n) others) ≤ length others
 filter_fewer n [] = omega arith
-filter_fewer n (t ∷ others) = fewer (leb t.behind n) (filter_fewer n others)
-  where
-    fewer : (b : Bool) → length (filter (has_ended n) others) ≤ length others
-        → length (cond b (t ∷ filter (has_ended n) others) (filter (has_ended n) others)) ≤ length (t ∷ others)
-    fewer true l = omega (arith, l)
-    fewer false l = omega (arith, l)
+filter_fewer n (t ∷ others) = grind (arith, leb, has_ended, cond, filter_fewer n others)
 
 told_before : (d : Direction) (c : Capture) (mine others : List Sent) → AreBefore (length (heard others)) (told d c mine others)
 told_before d c [] others = tt
 told_before d c (t ∷ mine) others =
-    let n = length_heard others in
-    let l = filter_fewer (passed_before d c t.first) others in (omega (arith, n, l), told_before d c mine others)
+    grind (arith, length_heard others, filter_fewer (passed_before d c t.first) others, told_before d c mine others)
 
 -- ---- of both sides
 
@@ -213,14 +191,12 @@ pub tells_on : (d : Direction) (c e : Capture) (mine others whole beside : List 
     → IsSent d (c ++ e) whole → IsSent (other d) (c ++ e) beside
     → TellsOn (told d c mine others) (told d (c ++ e) whole beside) (heard others) (heard beside)
 tells_on d c e mine others whole beside h k p q =
-    let a = sent_on d c e mine whole h p in
-    let b = sent_on (other d) c e others beside k q in
-    record {
-      more = told d (c ++ e) a.more beside;
-      later = heard b.more;
-      is = ap (λ (x : List Sent). told d (c ++ e) x beside) a.is ∙ map-append (tell d (c ++ e) beside) mine a.more
-          ∙ ap (λ (x : List Told). x ++ told d (c ++ e) a.more beside)
-          (told_stays d c e mine beside a.begins ∙ ap (told d c mine) b.is ∙ told_longer d c mine others b.more b.behind);
-      hears = ap heard b.is ∙ map-append octets_of others b.more;
-      before = told_before d c mine others;
-    }
+    grind (
+      arith,
+      map-append,
+      told_stays,
+      told_longer,
+      sent_on d c e mine whole h p,
+      sent_on (other d) c e others beside k q,
+      told_before d c mine others,
+    )

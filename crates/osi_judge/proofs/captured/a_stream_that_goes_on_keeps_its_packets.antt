@@ -10,7 +10,6 @@ use Rattle.osi_tpkt.specs.Packet.{IsPacket, IsFaultOf}
 use Rattle.osi_tpkt.specs.Stream.{ArePackets, Cuts, Ending, offset_of}
 use Rattle.osi_tpkt.specs.Stream.Ending.{Faulty}
 use Rattle.osi_tpkt.specs.declared.faults.TpktFault.{TpktFault}
-use Rattle.osi_tpkt.specs.declared.faults.TpktFault.TheVariants.{BadVersion, BadLength, OutOfMemory}
 use Rattle.osi_tpkt.proofs.a_stream_is_cut_in_one_way.{end_no_packet, one_cut}
 use Rattle.osi_tpkt.proofs.no_packet_is_a_prefix_of_another.{one_packet, stated_length-append}
 use Rattle.osi_judge.specs.declared.directions.Direction.{Direction}
@@ -88,15 +87,7 @@ cut_on d c e us vs (ending, (r, h, end)) (last, (q, k, close)) = record {
 
 -- if octets begin no packet, more octets make no packet of them
 pub faulty_on : (at : ℕ) (r more : List ℕ) (f : TpktFault) → IsFaultOf at r f → IsFaultOf at (r ++ more) f
-faulty_on at r more (BadVersion o) ((some, bad), e) =
-    let n = length-append r more in
-    ((omega (arith, some, n), λ h. bad (sym (get_or_append_left r more 0 0 some) ∙ h)), e)
-faulty_on at r more (BadLength o) ((long, version, low), e) =
-    let n = length-append r more in
-    let stated = stated_length-append r more long in
-    let kept = get_or_append_left r more 0 0 (omega (arith, long)) in
-    ((omega (arith, long, n), kept ∙ version, omega (arith, stated, low)), e)
-faulty_on at r more OutOfMemory h = absurd h
+faulty_on at r more f h = grind (arith, length-append, get_or_append_left, stated_length-append)
 
 -- a stream that ended with a fault has no further packets, and ends with it
 pub fault_stays : (d : Direction) (c e : Capture) (us vs : List (List ℕ)) (f : TpktFault) (last : Ending) → Cuts (stream d c) us (Faulty f)

@@ -1,16 +1,15 @@
 -- How far the other side had come before an octet stays so as octets pass, and so does what the packets of a side mean.
 -- For what a judge is fed.
-use Rattle.std.proofs.Common.{◌≡◌, ◌∙◌, refl, sym, ap, ℕ, ◌+◌, ◌-◌, ◌<◌, ◌≤◌, ◌⊎◌, inl, inr, Bool, cond, true, false}
-use Rattle.std.proofs.Common.{leb, List, [], ◌∷◌, ◌++◌, length, Option, None, arith}
+use Rattle.std.proofs.Common.{◌≡◌, ◌∙◌, refl, ap, ℕ, ◌+◌, ◌-◌, ◌<◌, ◌≤◌, ◌⊎◌, Bool, cond, true, false, leb, List, [], ◌∷◌, ◌++◌, length}
+use Rattle.std.proofs.Common.{Option, None, arith}
 use Rattle.std.proofs.lemmas.Bool.{le-leb, lt-leb}
 use Rattle.std.proofs.lemmas.Bool.Decides.{leb_tells}
 use Rattle.osi_tpkt.specs.Stream.{ArePackets}
 use Rattle.osi_tpdu.specs.Packet.{units_of}
 use Rattle.osi_judge.specs.declared.directions.Direction.{Direction}
-use Rattle.osi_judge.specs.Captures.{Capture, other, piece, stream, passed_before}
-use Rattle.osi_judge.specs.Transport.{Handshake, silent, first_unit, shaken, handshake_from, packet_length, complete_in, met_before}
-use Rattle.osi_judge.specs.Transport.{Stage, opening, stage_behind, Sent, sent_by, stage_from, sent_from, hasty_behind}
-use Rattle.osi_judge.specs.Transport.{hasty_from, packets_length}
+use Rattle.osi_judge.specs.Captures.{Capture, other, piece, stream}
+use Rattle.osi_judge.specs.Transport.{Handshake, silent, first_unit, shaken, handshake_from, packet_length, complete_in, met_before, Stage}
+use Rattle.osi_judge.specs.Transport.{opening, stage_behind, stage_from, sent_from, hasty_behind, hasty_from, packets_length}
 use Rattle.osi_judge.proofs.captured.a_capture_goes_on.{passed_stays, passed_by_then, passed_within}
 use Rattle.osi_judge.proofs.captured.one_more_packet_passes.{offset_from, offset_of_rest}
 
@@ -25,22 +24,19 @@ complete_none n u us l = ap (λ (b : Bool). cond b (u ∷ complete_in (n - packe
 
 complete_all : (n : ℕ) (us : List (List ℕ)) → packets_length us ≤ n → complete_in n us ≡ us
 complete_all n [] l = refl
-complete_all n (u ∷ us) l =
-    complete_one n u us (omega arith) ∙ ap (λ (x : List (List ℕ)). u ∷ x) (complete_all (n - packet_length u) us (omega arith))
+complete_all n (u ∷ us) l = grind (arith, complete_one, complete_all (n - packet_length u) us (omega arith))
 
 pub complete_by : (n : ℕ) (u : List ℕ) (xs ys : List (List ℕ))
     → (packet_length u ≤ n → complete_in (n - packet_length u) xs ≡ complete_in (n - packet_length u) ys)
     → ((leb (packet_length u) n ≡ true) × (packet_length u ≤ n)) ⊎ ((leb (packet_length u) n ≡ false) × (n < packet_length u))
     → complete_in n (u ∷ xs) ≡ complete_in n (u ∷ ys)
-complete_by n u xs ys more (inl (e, l)) = complete_one n u xs l ∙ ap (λ (x : List (List ℕ)). u ∷ x) (more l) ∙ sym (complete_one n u ys l)
-complete_by n u xs ys more (inr (e, l)) = complete_none n u xs l ∙ sym (complete_none n u ys l)
+complete_by n u xs ys more h = grind (arith, complete_one, complete_none)
 
 -- one that ends later is not among them
 complete_front : (n : ℕ) (us : List (List ℕ)) (u : List ℕ) → n < packets_length us + packet_length u
     → complete_in n (us ++ u ∷ []) ≡ complete_in n us
 complete_front n [] u l = complete_none n u [] (omega arith)
-complete_front n (v ∷ us) u l =
-    complete_by n v (us ++ u ∷ []) us (λ m. complete_front (n - packet_length v) us u (omega arith)) (leb_tells (packet_length v) n)
+complete_front n (v ∷ us) u l = grind (arith, complete_by, leb_tells, complete_front (n - packet_length v) us u (omega arith))
 
 -- ---- how far a side has come
 
@@ -57,16 +53,13 @@ met_stays d c e others k l = ap (λ (n : ℕ). handshake_from silent (complete_i
 -- also if a packet ends later
 pub met_not_yet : (d : Direction) (c : Capture) (others : List (List ℕ)) (u : List ℕ) (k : ℕ)
     → length (stream (other d) c) < packets_length others + packet_length u → met_before d c (others ++ u ∷ []) k ≡ met_before d c others k
-met_not_yet d c others u k l =
-    let w = passed_within d c k in ap (handshake_from silent) (complete_front (passed_before d c k) others u (omega arith))
+met_not_yet d c others u k l = grind (arith, passed_within, complete_front)
 
 -- before an octet that passes now, all that the other side sent had passed
 pub met_now : (d : Direction) (c : Capture) (octets : List ℕ) (others : List (List ℕ)) (k : ℕ) → length (stream d c) ≤ k
     → k < length (stream d c) + length octets
     → packets_length others ≤ length (stream (other d) c) → met_before d (c ++ piece d octets) others k ≡ handshake_from silent others
-met_now d c octets others k l m h =
-    ap (λ (n : ℕ). handshake_from silent (complete_in n others)) (passed_by_then d c octets k l m)
-    ∙ ap (handshake_from silent) (complete_all (length (stream (other d) c)) others h)
+met_now d c octets others k l m h = grind (arith, passed_by_then, complete_all)
 
 -- ---- what packets mean
 
@@ -80,18 +73,14 @@ stage_same : (d : Direction) (m p : ℕ → Handshake) (n : ℕ) → ((k : ℕ) 
     → stage_from d m s at us ≡ stage_from d p s at us
 stage_same d m p n e s at [] l = refl
 stage_same d m p n e s at (u ∷ us) l =
-    let far = offset_more (at + packet_length u) us in
-    ap (λ (h : Handshake). stage_from d m (stage_behind d h s at u) (at + packet_length u) us) (e at (omega arith))
-    ∙ stage_same d m p n e (stage_behind d (p at) s at u) (at + packet_length u) us l
+    grind (arith, offset_more, stage_same d m p n e (stage_behind d (p at) s at u) (at + packet_length u) us l)
 
 sent_same : (d : Direction) (m p : ℕ → Handshake) (n : ℕ) → ((k : ℕ) → k < n → m k ≡ p k) → (s : Stage) (at : ℕ) (us : List (List ℕ))
     → offset_from at us ≤ n
     → sent_from d m s at us ≡ sent_from d p s at us
 sent_same d m p n e s at [] l = refl
 sent_same d m p n e s at (u ∷ us) l =
-    let far = offset_more (at + packet_length u) us in
-    ap (λ (h : Handshake). sent_by d h s at u ++ sent_from d m (stage_behind d h s at u) (at + packet_length u) us) (e at (omega arith))
-    ∙ ap (λ (x : List Sent). sent_by d (p at) s at u ++ x) (sent_same d m p n e (stage_behind d (p at) s at u) (at + packet_length u) us l)
+    grind (arith, offset_more, sent_same d m p n e (stage_behind d (p at) s at u) (at + packet_length u) us l)
 
 hasty_same : (d : Direction) (m p : ℕ → Handshake) (n : ℕ) → ((k : ℕ) → k < n → m k ≡ p k)
     → (s : Stage) (hasty : Option ℕ) (at : ℕ) (us : List (List ℕ))

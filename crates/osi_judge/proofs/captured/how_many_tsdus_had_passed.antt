@@ -1,5 +1,5 @@
 -- How many TSDUs had passed before an octet, as a capture goes on: for what a judge is fed.
-use Rattle.std.proofs.Common.{◌≡◌, ◌∙◌, refl, ap, ℕ, ◌+◌, ◌<◌, ◌≤◌, Bool, cond, leb, List, [], ◌∷◌, ◌++◌, length, arith}
+use Rattle.std.proofs.Common.{◌≡◌, refl, ap, ℕ, ◌+◌, ◌<◌, ◌≤◌, Bool, cond, leb, List, [], ◌∷◌, ◌++◌, length, arith}
 use Rattle.std.specs.List.{filter}
 use Rattle.std.proofs.lemmas.Bool.{le-leb, lt-leb}
 use Rattle.std.proofs.lemmas.List.{append-nil}
@@ -7,8 +7,7 @@ use Rattle.std.proofs.lemmas.List.Elements.{filter-append}
 use Rattle.osi_judge.specs.declared.directions.Direction.{Direction}
 use Rattle.osi_judge.specs.Captures.{Capture, other, piece, stream, passed_before}
 use Rattle.osi_judge.specs.Transport.{Sent}
-use Rattle.osi_judge.specs.Explaining.{Told}
-use Rattle.osi_judge.specs.Tapping.{had_passed, tell, told}
+use Rattle.osi_judge.specs.Tapping.{had_passed, told}
 use Rattle.osi_judge.specs.Following.{BeginBefore, EndBy}
 use Rattle.osi_judge.proofs.captured.a_capture_goes_on.{passed_stays, passed_by_then, passed_within}
 
@@ -25,15 +24,11 @@ filter_none n t l = ap (λ (b : Bool). cond b (t ∷ []) []) (lt-leb t.behind n 
 
 filter_beyond : (n : ℕ) (others : List Sent) (t : Sent) → n < t.behind →
     filter (has_ended n) (others ++ t ∷ []) ≡ filter (has_ended n) others
-filter_beyond n others t l =
-    filter-append (has_ended n) others (t ∷ []) ∙ ap (λ (x : List Sent). filter (has_ended n) others ++ x) (filter_none n t l) ∙
-    append-nil (filter (has_ended n) others)
+filter_beyond n others t l = grind (arith, filter-append, filter_none, append-nil)
 
 filter_all : (n : ℕ) (others : List Sent) → EndBy n others → filter (has_ended n) others ≡ others
 filter_all n [] h = refl
-filter_all n (t ∷ others) h =
-    ap (λ (b : Bool). cond b (t ∷ filter (has_ended n) others) (filter (has_ended n) others)) (le-leb t.behind n h.0) ∙
-    ap (λ (x : List Sent). t ∷ x) (filter_all n others h.1)
+filter_all n (t ∷ others) h = grind (arith, cond, le-leb, filter_all n others h.1)
 
 -- what had passed before an octet that is there is as it was
 pub stays_passed : (d : Direction) (c e : Capture) (k : ℕ) (others : List Sent) → k < length (stream d c) →
@@ -50,24 +45,18 @@ not_yet_passed d c k others t l = let w =
 pub all_had_passed : (d : Direction) (c : Capture) (octets : List ℕ) (k : ℕ) (others : List Sent) → length (stream d c) ≤ k →
     k < length (stream d c) + length octets
     → EndBy (length (stream (other d) c)) others → had_passed d (c ++ piece d octets) k others ≡ length others
-all_had_passed d c octets k others l m h =
-    ap (λ (n : ℕ). length (filter (has_ended n) others)) (passed_by_then d c octets k l m) ∙
-    ap (λ (x : List Sent). length x) (filter_all (length (stream (other d) c)) others h)
+all_had_passed d c octets k others l m h = grind (arith, passed_by_then d c octets k l m, filter_all (length (stream (other d) c)) others h)
 
 -- what was counted of a TSDU stays so
 pub told_stays : (d : Direction) (c e : Capture) (mine others : List Sent) → BeginBefore (length (stream d c)) mine →
     told d (c ++ e) mine others ≡ told d c mine others
 told_stays d c e [] others h = refl
-told_stays d c e (t ∷ mine) others h =
-    ap (λ (n : ℕ). record { octets = t.octets; before = n } ∷ told d (c ++ e) mine others) (stays_passed d c e t.first others h.0)
-    ∙ ap (λ (x : List Told). tell d c others t ∷ x) (told_stays d c e mine others h.1)
+told_stays d c e (t ∷ mine) others h = grind (arith, stays_passed, told_stays d c e mine others h.1)
 
 pub told_beside : (d : Direction) (c : Capture) (mine others : List Sent) (t : Sent) → length (stream (other d) c) < t.behind →
     told d c mine (others ++ t ∷ []) ≡ told d c mine others
 told_beside d c [] others t l = refl
-told_beside d c (s ∷ mine) others t l =
-    ap (λ (n : ℕ). record { octets = s.octets; before = n } ∷ told d c mine (others ++ t ∷ [])) (not_yet_passed d c s.first others t l)
-    ∙ ap (λ (x : List Told). tell d c others s ∷ x) (told_beside d c mine others t l)
+told_beside d c (s ∷ mine) others t l = grind (arith, not_yet_passed, told_beside d c mine others t l)
 
 -- ---- bounds
 

@@ -1,23 +1,19 @@
 -- A side that strayed from the protocol has still strayed when both sides have said more.
 -- For the law that a capture has one first break.
-use Rattle.std.proofs.Common.{◌≡◌, ◌∙◌, refl, sym, ap, subst, ℕ, suc, zero, ◌+◌, ◌<◌, ◌≤◌, inl, inr, Bool, true, ◌&&◌, nat_lt, List, []}
-use Rattle.std.proofs.Common.{◌∷◌, ◌++◌}
-use Rattle.std.proofs.Common.{length, map, take, get_or, Result, Ok, Err, arith}
+use Rattle.std.proofs.Common.{◌≡◌, refl, sym, subst, ℕ, suc, zero, ◌+◌, ◌<◌, ◌≤◌, true, List, [], ◌∷◌, ◌++◌, length, map, take, get_or}
+use Rattle.std.proofs.Common.{Result, arith}
 use Rattle.std.proofs.lemmas.List.{take-append-le}
 use Rattle.std.specs.List.{fold}
 use Rattle.osi_spdu.specs.declared.faults.SpduFault.{SpduFault}
-use Rattle.osi_message.specs.Reading.{said_at}
 use Rattle.osi_message.specs.Words.{Words}
-use Rattle.osi_session.specs.Joining.{acting_words}
 use Rattle.osi_session.specs.Standing.{Seen, Takes, after_count}
 use Rattle.osi_judge.specs.declared.findings.Finding.{Finding}
 use Rattle.osi_judge.specs.declared.findings.Finding.TheVariants.{Kept, Broke, Left, TooMany}
 use Rattle.osi_judge.specs.declared.members.Member.{Member}
-use Rattle.osi_judge.specs.Explaining.{Remark, remark, Told, read_as, remarks_of, remarks, Explains, done, takes, answers, says}
+use Rattle.osi_judge.specs.Explaining.{Remark, remark, Told, read_as, remarks, Explains, done, takes, answers, says}
 use Rattle.osi_judge.specs.Judging.{IsKept, IsAstray, IsFound, IsFew, HasRoom}
 use Rattle.osi_judge.specs.Kept.{after_tsdu, kept}
-use Rattle.osi_judge.specs.Nearest.{count_at}
-use Rattle.osi_judge.specs.Profiles.{in_first, offered_in, accepted_in, is_outside, selects_outside}
+use Rattle.osi_judge.specs.Profiles.{selects_outside}
 use Rattle.osi_judge.specs.Stops.{broke_session}
 use Rattle.osi_judge.proofs.captured.a_capture_that_goes_on_is_read_alike.{AreBefore}
 use Rattle.osi_judge.proofs.kept.what_is_kept_is_of_what_had_passed.{tsdu_alike}
@@ -38,13 +34,11 @@ within_words n t [] l = tt
 within_words n t (w ∷ words) l = (l, within_words n t words l)
 
 within_read : (n : ℕ) (t : Told) (read : Result Words SpduFault) → t.before ≤ n → AreWithin n (read_as t read)
-within_read n t (Ok words) l = within_words n t (acting_words words) l
-within_read n t (Err fault) l = (l, tt)
+within_read n t read l = grind (arith, within_words)
 
 within_remarks : (n : ℕ) (said : List Told) → AreBefore n said → AreWithin n (remarks said)
 within_remarks n [] h = tt
-within_remarks n (t ∷ said) h =
-    within_both n (remarks_of t) (remarks said) (within_read n t (said_at t.octets) h.0) (within_remarks n said h.1)
+within_remarks n (t ∷ said) h = search (arith, within_both, within_read, within_remarks n said h.1)
 
 before_front : (n i : ℕ) (said : List Told) → AreBefore n said → AreBefore n (take i said)
 before_front n zero said h = tt
@@ -74,37 +68,23 @@ module _ (n : ℕ) (us vs : List (List ℕ)) (a : Agree n us vs) where
       says m ms taken s next word k g (explains_alike ms taken next w.1 d)
 
   selects_alike : (said : List Told) → AreBefore n said → selects_outside us said ≡ selects_outside vs said
-  selects_alike [] h = refl
-  selects_alike (t ∷ said) h = by t.before h.0
-    where
-      asked : ℕ → List ℕ → Bool
-      asked k cn = nat_lt 0 k && is_outside (in_first offered_in (said_at cn)) (in_first accepted_in (said_at t.octets))
-
-      by : (k : ℕ) → k ≤ n → asked k (get_or us 0 []) ≡ asked k (get_or vs 0 [])
-      by zero l = refl
-      by (suc k) l = ap (asked (suc k)) (a 0 (omega (arith, l)))
+  selects_alike said h = search arith
 
   same_fold : (members : List Member) (said : List Told) → AreBefore n said
       → fold (after_tsdu us) members said ≡ fold (after_tsdu vs) members said
   same_fold members [] h = refl
-  same_fold members (t ∷ said) h =
-      let within = h.0 in
-      let one = tsdu_alike us vs members t (λ i b s. ap (count_at s) (a i (omega (arith, b, within)))) in
-      ap (λ (ms : List Member). fold (after_tsdu us) ms said) one ∙ same_fold (after_tsdu vs members t) said h.1
+  same_fold members (t ∷ said) h = grind (arith, tsdu_alike, same_fold (after_tsdu vs members t) said h.1)
 
   kept_alike : (begin : Seen) (said : List Told) → AreBefore n said → kept begin us said ≡ kept begin vs said
   unfolding kept
   kept_alike begin said h = same_fold _ said h
 
   is_kept : (begin : Seen) (said : List Told) → AreBefore n said → IsKept begin us said → IsKept begin vs said
-  is_kept begin said h k =
-      (explains_alike (remarks said) 0 begin (within_remarks n said h) k.0, sym (selects_alike said h) ∙ k.1)
+  is_kept begin said h k = grind (arith, explains_alike, within_remarks, selects_alike)
 
 is_astray : (n : ℕ) (us vs : List (List ℕ)) → Agree n us vs → (begin : Seen) (said : List Told) → AreBefore n said
     → IsAstray begin us said → IsAstray begin vs said
-is_astray n us vs a begin said h (inl none) =
-    inl (λ k. none (explains_alike n vs us (back n us vs a) (remarks said) 0 begin (within_remarks n said h) k))
-is_astray n us vs a begin said h (inr outside) = inr (sym (selects_alike n us vs a said h) ∙ outside)
+is_astray n us vs a begin said h h2 = grind (arith, explains_alike, back, within_remarks, selects_alike)
 
 -- ---- the side strayed at one of the first TSDUs
 
@@ -133,7 +113,4 @@ module _ (begin : Seen) (us vs : List (List ℕ)) (said more : List Told) (a : A
 
   pub break_stays : (f g : Finding) → broke_session f ≡ true → IsFound begin us said f → HasRoom begin us said f
       → IsFound begin vs (said ++ more) g → HasRoom begin vs (said ++ more) g → broke_session g ≡ true
-  break_stays Kept g e h r k q = absurd (cc)
-  break_stays TooMany g e h r k q = absurd (cc)
-  break_stays (Broke i) g e h r k q = still i g h.0.there (record { so_far = (h.0.so_far, h.1); astray = inl h.0.broke }) r k q
-  break_stays (Left i) g e h r k q = still i g h.0 (record { so_far = h.1; astray = h.2 }) r k q
+  break_stays f g e h r k q = grind (arith, still)

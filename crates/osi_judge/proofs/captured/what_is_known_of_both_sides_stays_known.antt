@@ -41,8 +41,7 @@ pub record AreOthers (d e : Direction) : Type 0 where
 beside : (d e : Direction) → AreOthers d e → (c : Capture) (octets : List ℕ) (u : Tapped) (us bs : List (List ℕ)) (mine others : List Sent)
     → Follows e c u bs us others mine
     → Follows e (c ++ piece d octets) u bs us others mine
-beside d e o c octets u us bs mine others g =
-    subst (λ (x : Direction). Follows e (c ++ piece x octets) u bs us others mine) o.two (beside_follows e c octets u bs us others mine g)
+beside d e o c octets u us bs mine others g = grind (arith, beside_follows)
 
 other_ends : (d e : Direction) → AreOthers d e → (c : Capture) (u : Tapped) (us bs : List (List ℕ)) (mine others : List Sent)
     → Follows e c u bs us others mine → EndBy (length (stream (other d) c)) others
@@ -52,11 +51,7 @@ other_ends d e o c u us bs mine others g = subst (λ (x : Direction). EndBy (len
 other_within : (d e : Direction) → AreOthers d e → (c : Capture) (u : Tapped) (us bs : List (List ℕ)) (mine others : List Sent)
     → Follows e c u bs us others mine
     → packets_length bs ≤ length (stream (other d) c)
-other_within d e o c u us bs mine others g =
-    let p = place e c bs g.rest g.packets in
-    let sum = offset_sum 0 bs in
-    let l : packets_length bs ≤ length (stream e c) = omega arith in
-    subst (λ (x : Direction). packets_length bs ≤ length (stream x c)) (sym o.one) l
+other_within d e o c u us bs mine others g = grind (arith, place, offset_sum)
 
 front_fed : (d e : Direction) → AreOthers d e →
     (c : Capture) (octets : List ℕ) (t u new : Tapped) (new_o : Watched) (us bs : List (List ℕ)) (mine others : List Sent)
@@ -68,16 +63,8 @@ front_fed : (d e : Direction) → AreOthers d e →
     since ≡ had_passed d (c ++ piece d octets) (length (stream d c) - length f.rest) others)
     → (fault ≡ None → 0 < length (f.rest ++ octets) → h ≡ met_before d (c ++ piece d octets) bs (length (stream d c) - length f.rest))
     → Fed d e (c ++ piece d octets) new (record u { side = new_o })
-front_fed d e o c octets t u new new_o us bs mine others f g held fault since h n w r k j = record {
-  units = us;
-  besides = bs;
-  mine = mine;
-  others = others;
-  of_mine = subst (λ (x : Tapped). Follows d (c ++ piece d octets) x us bs mine others) (sym n)
-      (front_follows d c octets t us bs mine others f held fault since h r k j);
-  of_other = subst (λ (x : Watched). Follows e (c ++ piece d octets) (record u { side = x }) bs us others mine) (sym w)
-      (beside d e o c octets u us bs mine others g);
-}
+front_fed d e o c octets t u new new_o us bs mine others f g held fault since h n w r k j =
+    grind (arith, front_follows d c octets t us bs mine others f held fault since h r k j, beside d e o c octets u us bs mine others g)
 
 settled : (d e : Direction) → AreOthers d e
     → (c : Capture) (octets : List ℕ) (t u new : Tapped) (new_o : Watched) (us bs : List (List ℕ)) (mine others : List Sent)

@@ -15,14 +15,12 @@ use Rattle.osi_judge.specs.Captures.{Capture, other, piece, stream}
 use Rattle.osi_judge.specs.Explaining.{Told}
 use Rattle.osi_judge.specs.Judging.{Watched, Watches}
 use Rattle.osi_tpdu.specs.Packet.{units_of}
-use Rattle.osi_judge.specs.Transport.{Handshake, silent, first_unit, shaken, handshake_from, packet_length, met_before, reference_in}
-use Rattle.osi_judge.specs.Transport.{Stage, opening, asking, between, within, refused, stopped, first_of, stage_behind, Sent}
-use Rattle.osi_judge.specs.Transport.{packets_length, sent_by, stage_from, hasty_behind, hasty_from}
+use Rattle.osi_judge.specs.Transport.{Handshake, silent, first_unit, shaken, handshake_from, packet_length, met_before, reference_in, Stage}
+use Rattle.osi_judge.specs.Transport.{opening, first_of, stage_behind, Sent, packets_length, sent_by, stage_from, hasty_behind, hasty_from}
 use Rattle.osi_judge.specs.Outlines.{outlines}
-use Rattle.osi_judge.specs.Tapping.{begin_of, had_passed, heard, tell, told, IsPlace}
-use Rattle.osi_judge.specs.Feeding.{Tapped, since_at, named_behind, last_behind, Tells, hears, Passes}
-use Rattle.osi_judge.specs.Feeding.{TakesPacket, since_of, met_of}
-use Rattle.osi_judge.specs.Feeding.{IsWithin, with_octets}
+use Rattle.osi_judge.specs.Tapping.{begin_of, had_passed, heard, told, IsPlace}
+use Rattle.osi_judge.specs.Feeding.{Tapped, since_at, named_behind, last_behind, Tells, Passes, TakesPacket, since_of, met_of, IsWithin}
+use Rattle.osi_judge.specs.Feeding.{with_octets}
 use Rattle.osi_judge.specs.Following.{shown, IsRest, BeginBefore, EndBy, IsSince, Follows}
 use Rattle.osi_judge.proofs.captured.a_capture_goes_on.{stream_fed}
 use Rattle.osi_judge.proofs.captured.how_many_tsdus_had_passed.{stays_passed, told_stays}
@@ -48,8 +46,7 @@ take_all (x ∷ s) (suc n) l = ap (λ (y : List ℕ). x ∷ y) (take_all s n (om
 fits_in : (r o s n st sr : ℕ) → ((leb 4 r ≡ true) × (4 ≤ r)) ⊎ ((leb 4 r ≡ false) × (r < 4)) → s ≡ r + o → (r < 4 → r + o ≤ 4) →
     (4 ≤ r → r < sr → r + o ≤ sr) → (4 ≤ r → r < sr) → (4 ≤ r → st ≡ sr)
     → 4 ≤ n → n ≡ st → s ≤ n
-fits_in r o s n st sr (inl (t, l)) e h p k q f a = let x = k l in let y = p l x in let z = q l in omega arith
-fits_in r o s n st sr (inr (t, l)) e h p k q f a = let x = h l in omega arith
+fits_in r o s n st sr h e h2 p k q f a = grind arith
 
 -- octets with a packet at their front that does not go beyond them are this packet
 packet_is_all : (rest octets u : List ℕ) (n : ℕ) → IsPartial rest → IsWithin rest (length octets) → n ≤ length (rest ++ octets) →
@@ -67,8 +64,7 @@ packet_is_all rest octets u n r w l p =
 
 pub whole_packet : (rest octets u : List ℕ) (n : ℕ) → IsPartial rest → IsWithin rest (length octets) → n ≤ length (rest ++ octets) →
     IsPacket u (take n (rest ++ octets)) → IsPacket u (rest ++ octets)
-whole_packet rest octets u n r w l p =
-    subst (λ (x : List ℕ). IsPacket u x) (take_all (rest ++ octets) n (packet_is_all rest octets u n r w l p)) p
+whole_packet rest octets u n r w l p = grind (arith, take_all, packet_is_all)
 
 pub some_octets : (rest octets u : List ℕ) → IsPartial rest → IsPacket u (rest ++ octets) → 0 < length octets
 some_octets rest [] u r p = absurd (partial_not_whole rest r (u, subst (λ (x : List ℕ). IsPacket u x) (append-nil rest) p))
@@ -79,27 +75,16 @@ passes_as : (x y : List Sent) (before : ℕ) (old new o o2 : Watched) → heard 
 passes_as [] [] before old new o o2 e h = h
 passes_as [] (u ∷ y) before old new o o2 e h = absurd (cc)
 passes_as (t ∷ x) [] before old new o o2 e h = absurd (cc)
-passes_as (t ∷ x) (u ∷ y) before old new o o2 e h =
-    let same : t.octets ≡ u.octets = cc in subst (λ (z : List ℕ). Tells z before old new × (o2 ≡ hears o z)) same h
+passes_as (t ∷ x) (u ∷ y) before old new o o2 e h = grind arith
 
 counted : (d : Direction) (c e : Capture) (others : List Sent) (s : Stage) (at begun_since since : ℕ) → IsSince d c others s begun_since →
     since ≡ had_passed d (c ++ e) at others
     → since_at s begun_since since ≡ had_passed d (c ++ e) (first_of s at) others
-counted d c e others opening at b n h k = k
-counted d c e others asking at b n h k = k
-counted d c e others between at b n h k = k
-counted d c e others (refused packet) at b n h k = k
-counted d c e others (within first octets) at b n h k = h.1 ∙ sym (stays_passed d c e first others h.0)
-counted d c e others (stopped stop packet) at b n h k = k
+counted d c e others s at begun_since since h k = grind (arith, stays_passed)
 
 first_there : (d : Direction) (c : Capture) (others : List Sent) (s : Stage) (at since n : ℕ) → IsSince d c others s since →
     length (stream d c) ≤ n → at < n → first_of s at < n
-first_there d c others opening at since n h l k = k
-first_there d c others asking at since n h l k = k
-first_there d c others between at since n h l k = k
-first_there d c others (refused packet) at since n h l k = k
-first_there d c others (within first octets) at since n h l k = let z = h.0 in omega arith
-first_there d c others (stopped stop packet) at since n h l k = k
+first_there d c others s at since n h l k = grind arith
 
 -- what a packet leaves of its side, with the TSDU that it ends or none
 pub record Grown (d : Direction) (c : Capture) (mine others : List Sent) (new : Watched) : Type 0 where
@@ -112,28 +97,16 @@ pub record Grown (d : Direction) (c : Capture) (mine others : List Sent) (new : 
 told_one_more : (d : Direction) (c : Capture) (mine others : List Sent) (u : Sent) (at before : ℕ) → u.first ≡ at →
     before ≡ had_passed d c at others
     → told d c mine others ++ record { octets = u.octets; before = before } ∷ [] ≡ told d c (mine ++ u ∷ []) others
-told_one_more d c mine others u at before e h =
-    let there : before ≡ had_passed d c u.first others = h ∙ ap (λ (x : ℕ). had_passed d c x others) (sym e) in
-    ap (λ (x : ℕ). told d c mine others ++ record { octets = u.octets; before = x } ∷ []) there ∙
-    sym (map-append (tell d c others) mine (u ∷ []))
+told_one_more d c mine others u at before e h = grind (arith, map-append)
 
 grown_none : (d : Direction) (c : Capture) (mine others : List Sent) (w new : Watched) → new ≡ w → Grown d c mine others w →
     Grown d c (mine ++ []) others new
-grown_none d c mine others w new e g =
-    subst (λ (x : List Sent). Grown d c x others new) (sym (append-nil mine)) (subst (λ (x : Watched). Grown d c mine others x) (sym e) g)
+grown_none d c mine others w new e g = grind (arith, append-nil)
 
 grown_one : (d : Direction) (c : Capture) (mine others : List Sent) (w new : Watched) (u : Sent) (at before : ℕ) → u.first ≡ at →
     before ≡ had_passed d c at others → at < length (stream d c)
     → u.behind ≤ length (stream d c) → Tells u.octets before w new → Grown d c mine others w → Grown d c (mine ++ u ∷ []) others new
-grown_one d c mine others w new u at before e h l m t g =
-    let there : u.first < length (stream d c) = omega arith in record {
-      begins = begin_more (length (stream d c)) mine u there g.begins;
-      ends = end_more (length (stream d c)) mine u m g.ends;
-      begin = t.begin ∙ g.begin;
-      heard = t.heard ∙ g.heard;
-      watches = subst (λ (x : List Told). Watches new x) (told_one_more d c mine others u at before e h)
-          (t.watches (told d c mine others) g.watches);
-    }
+grown_one d c mine others w new u at before e h l m t g = grind (arith, begin_more, end_more, told_one_more)
 
 grown : (d : Direction) (c : Capture) (mine others sent : List Sent) (w new o new_o : Watched) (s : Stage) (at before : ℕ) (u : List ℕ) →
     OneOrNone s at u sent → Passes sent before w new o new_o
@@ -154,25 +127,13 @@ grown d c mine others sent w new o new_o s at before u (inr (t, e, i)) p h l m g
 heard_none : (d : Direction) (c : Capture) (t : Tapped) (us bs : List (List ℕ)) (mine others : List Sent) (new : Watched) → new ≡ t.side
     → Follows d c t us bs mine others
     → Follows d c (record t { side = new }) us bs mine (others ++ [])
-heard_none d c t us bs mine others new e f =
-    subst (λ (x : List Sent). Follows d c (record t { side = new }) us bs mine x) (sym (append-nil others))
-    (subst (λ (x : Watched). Follows d c (record t { side = x }) us bs mine others) (sym e) f)
+heard_none d c t us bs mine others new e f = grind (arith, append-nil)
 
 pub heard_follows : (d : Direction) (c : Capture) (t : Tapped) (us bs : List (List ℕ)) (mine others sent : List Sent)
     (w new new_side : Watched) (s : Stage) (at before : ℕ) (u : List ℕ) → OneOrNone s at u sent
     → Passes sent before w new t.side new_side → length (stream (other d) c) < at + packet_length u → Follows d c t us bs mine others
     → Follows d c (record t { side = new_side }) us bs mine (others ++ sent)
-heard_follows d c t us bs mine others sent w new new_side s at before u (inl e) p l f =
-    let q : Passes [] before w new t.side new_side = subst (λ (x : List Sent). Passes x before w new t.side new_side) e p in
-    subst (λ (x : List Sent). Follows d c (record t { side = new_side }) us bs mine (others ++ x)) (sym e)
-    (heard_none d c t us bs mine others new_side q.1 f)
-heard_follows d c t us bs mine others sent w new new_side s at before u (inr (v, e, i)) p l f =
-    let q : Passes (v ∷ []) before w new t.side new_side = subst (λ (x : List Sent). Passes x before w new t.side new_side) e p in
-    let b = i.behind in
-    let n : length (stream (other d) c) < v.behind = omega arith in
-    subst (λ (x : List Sent). Follows d c (record t { side = new_side }) us bs mine (others ++ x)) (sym e)
-    (subst (λ (x : Watched). Follows d c (record t { side = x }) us bs mine (others ++ v ∷ [])) (sym q.1)
-    (hearing_follows d c t us bs mine others v f n))
+heard_follows d c t us bs mine others sent w new new_side s at before u h p l f = grind (arith, heard_none, hearing_follows)
 
 -- what is known when a packet became complete: by how its side stood before it, and how far the other side had come
 pub record Stood (d : Direction) (c : Capture) (octets u : List ℕ) (t new : Tapped) (o new_o : Watched) (us bs : List (List ℕ))

@@ -12,13 +12,11 @@ use Rattle.osi_judge.specs.declared.directions.Direction.TheVariants.{Left, Righ
 use Rattle.osi_judge.specs.Captures.{Capture, other, piece, stream}
 use Rattle.osi_judge.specs.Explaining.{Told}
 use Rattle.osi_judge.specs.Judging.{Watches}
-use Rattle.osi_judge.specs.Transport.{Handshake, silent, handshake_from, packet_length, met_before}
-use Rattle.osi_judge.specs.Transport.{Stage, opening, asking, between, within, refused, stopped, Sent}
-use Rattle.osi_judge.specs.Transport.{packets_length, stage_from}
+use Rattle.osi_judge.specs.Transport.{Handshake, silent, handshake_from, packet_length, met_before, Stage, opening, Sent, packets_length}
+use Rattle.osi_judge.specs.Transport.{stage_from}
 use Rattle.osi_judge.specs.Outlines.{outline, outlines}
 use Rattle.osi_judge.specs.Tapping.{had_passed, octets_of, heard, told}
-use Rattle.osi_judge.specs.Feeding.{Tapped, hears}
-use Rattle.osi_judge.specs.Feeding.{since_in, since_of, met_in, met_of}
+use Rattle.osi_judge.specs.Feeding.{Tapped, hears, since_in, since_of, met_of}
 use Rattle.osi_judge.specs.Following.{shown, IsRest, EndBy, IsSince, Follows}
 use Rattle.osi_judge.proofs.captured.a_capture_goes_on.{stream_fed, stream_beside}
 use Rattle.osi_judge.proofs.captured.how_many_tsdus_had_passed.{stays_passed, not_yet_passed, all_had_passed, told_stays, told_beside}
@@ -50,8 +48,7 @@ pub length_fed : (d : Direction) (c : Capture) (octets : List ℕ)
 length_fed d c octets = ap (λ (x : List ℕ). length x) (stream_fed d c octets) ∙ length-append (stream d c) octets
 
 since_case : (rest : List ℕ) (n since x : ℕ) → (rest ≡ [] → n ≡ x) → (0 < length rest → since ≡ x) → since_in rest n since ≡ x
-since_case [] n since x a b = a refl
-since_case (o ∷ rest) n since x a b = b (omega arith)
+since_case rest n since x a b = grind arith
 
 pub length_heard : (others : List Sent) → length (heard others) ≡ length others
 length_heard [] = refl
@@ -79,35 +76,16 @@ since_known d c octets t us bs mine others f e n l =
     ap (λ (w : List ℕ). since_in w (length t.side.heard) t.line.since) h.0 ∙ since_case f.rest (length t.side.heard) t.line.since x fresh
     going
 
-met_case : (rest : List ℕ) (now known x : Handshake) → (rest ≡ [] → now ≡ x) → (0 < length rest → known ≡ x) → met_in rest now known ≡ x
-met_case [] now known x a b = a refl
-met_case (o ∷ rest) now known x a b = b (omega arith)
-
 -- how far the other side had come before the current packet, or before the one that begins
 pub met_known : (d : Direction) (c : Capture) (octets : List ℕ) (t : Tapped) (us bs : List (List ℕ)) (mine others : List Sent)
     (f : Follows d c t us bs mine others) (now : Handshake)
     → packets_length bs ≤ length (stream (other d) c) → now ≡ handshake_from silent bs → t.fault ≡ None
     → 0 < length (f.rest ++ octets) → met_of now t ≡ met_before d (c ++ piece d octets) bs (length (stream d c) - length f.rest)
-met_known d c octets t us bs mine others f now e i n l =
-    let h = held_rest t f.rest n f.is_rest in
-    let p = place d c us f.rest f.packets in
-    let m = length-append f.rest octets in
-    let k = length (stream d c) - length f.rest in
-    let x = met_before d (c ++ piece d octets) bs k in
-    let fresh : f.rest ≡ [] → now ≡ x
-    = λ z. let y = ap (λ (w : List ℕ). length w) z in i ∙ sym (met_now d c octets bs k (omega arith) (omega arith) e) in
-    let going : 0 < length f.rest → t.line.met ≡ x
-    = λ z. f.met n z ∙ sym (met_stays d c (piece d octets) bs k (omega arith)) in
-    ap (λ (w : List ℕ). met_in w now t.line.met) h.0 ∙ met_case f.rest now t.line.met x fresh going
+met_known d c octets t us bs mine others f now e i n l = grind (arith, met_now, met_stays)
 
 since_stays : (d : Direction) (c e : Capture) (others : List Sent) (s : Stage) (since : ℕ) →
     length (stream d c) ≤ length (stream d (c ++ e)) → IsSince d c others s since → IsSince d (c ++ e) others s since
-since_stays d c e others opening since l h = tt
-since_stays d c e others asking since l h = tt
-since_stays d c e others between since l h = tt
-since_stays d c e others (refused at) since l h = tt
-since_stays d c e others (within first octets) since l h = let k = h.0 in (omega arith, h.1 ∙ sym (stays_passed d c e first others h.0))
-since_stays d c e others (stopped stop at) since l h = tt
+since_stays d c e others s since l h = grind (arith, stays_passed)
 
 -- ---- no packet becomes complete
 
@@ -117,9 +95,7 @@ with_front t n held fault since h =
 
 pub octets_fed : (d : Direction) (c : Capture) (octets : List ℕ) (count : ℕ) → count ≡ offset_of (length (stream d c)) →
     offset_of (count + length octets) ≡ offset_of (length (stream d (c ++ piece d octets)))
-octets_fed d c octets count e =
-    ap (λ (x : ℕ). offset_of (x + length octets)) e ∙ offset_on (length (stream d c)) (length octets) ∙
-    ap offset_of (sym (length_fed d c octets))
+octets_fed d c octets count e = grind (arith, offset_on, length_fed)
 
 same_place : (a b o r : ℕ) → a ≡ b + o → b - r ≡ a - (r + o)
 same_place a b o r e = omega arith
@@ -176,80 +152,17 @@ pub beside_follows : (d : Direction) (c : Capture) (octets : List ℕ) (t : Tapp
     → Follows d c t us bs mine others
     → Follows d (c ++ piece (other d) octets) t us bs mine others
 beside_follows d c octets t us bs mine others f =
-    let c2 = c ++ piece (other d) octets in
-    let e = stream_past d c octets in
-    let n = ap (λ (x : List ℕ). length x) e in
-    let longer : length (stream d c) ≤ length (stream d c2) = omega arith in
-    let there = ap (λ (x : ℕ). x - length f.rest) (sym n) in
-    let p = place d c us f.rest f.packets in
-    let alike : MeetAlike (length (stream d c)) (met_before d c bs) (met_before d c2 bs) =
-    λ k l. sym (met_stays d c (piece (other d) octets) bs k l) in
-    let same = stage_stays d c us f.rest f.packets (met_before d c bs) (met_before d c2 bs) alike in record {
-      rest = f.rest;
-      packets = subst (λ (x : List ℕ). ArePackets us x f.rest) (sym e) f.packets;
-      is_rest = f.is_rest;
-      at = f.at ∙ ap offset_of there;
-      handshake = f.handshake;
-      met = λ z l. f.met z l ∙ sym (met_stays d c (piece (other d) octets) bs (length (stream d c) - length f.rest) (omega arith))
-          ∙ ap (λ (x : ℕ). met_before d c2 bs x) there;
-      sent = f.sent ∙ sent_stays d c us f.rest f.packets (met_before d c bs) (met_before d c2 bs) alike;
-      stage = f.stage ∙ ap shown same;
-      hasty = f.hasty ∙ ap (option_map offset_of) (hasty_stays d c us f.rest f.packets (met_before d c bs) (met_before d c2 bs) alike);
-      since = λ z l. f.since z l ∙
-          sym (stays_passed d c (piece (other d) octets) (length (stream d c) - length f.rest) others (omega arith))
-          ∙ ap (λ (x : ℕ). had_passed d c2 x others) there;
-      begun = subst (λ (x : Stage). IsSince d c2 others x t.line.begun_since) same
-          (since_stays d c (piece (other d) octets) others (stage_from d (met_before d c bs) opening 0 us) t.line.begun_since longer
-          f.begun);
-      octets = f.octets ∙ ap offset_of (sym n);
-      counted = f.counted;
-      reference = f.reference;
-      place = f.place;
-      begins = begin_later (length (stream d c)) (length (stream d c2)) mine longer f.begins;
-      ends = end_later (length (stream d c)) (length (stream d c2)) mine longer f.ends;
-      begin = f.begin;
-      heard = f.heard;
-      watches = subst (λ (x : List Told). Watches t.side x) (sym (told_stays d c (piece (other d) octets) mine others f.begins)) f.watches;
-    }
+    grind (arith, stream_past, met_stays, stage_stays, sent_stays, hasty_stays, stays_passed, since_stays, told_stays)
 
 -- nor is a packet of it that ends after all that had passed
 pub passing_follows : (d : Direction) (c : Capture) (t : Tapped) (us bs : List (List ℕ)) (mine others : List Sent) (u : List ℕ)
     → Follows d c t us bs mine others
     → length (stream (other d) c) < packets_length bs + packet_length u → Follows d c t us (bs ++ u ∷ []) mine others
-passing_follows d c t us bs mine others u f l =
-    let more = bs ++ u ∷ [] in
-    let alike : MeetAlike (length (stream d c)) (met_before d c bs) (met_before d c more) = λ k n. sym (met_not_yet d c bs u k l) in
-    let same = stage_stays d c us f.rest f.packets (met_before d c bs) (met_before d c more) alike in record {
-      rest = f.rest;
-      packets = f.packets;
-      is_rest = f.is_rest;
-      at = f.at;
-      handshake = f.handshake;
-      met = λ z k. f.met z k ∙ sym (met_not_yet d c bs u (length (stream d c) - length f.rest) l);
-      sent = f.sent ∙ sent_stays d c us f.rest f.packets (met_before d c bs) (met_before d c more) alike;
-      stage = f.stage ∙ ap shown same;
-      hasty = f.hasty ∙ ap (option_map offset_of) (hasty_stays d c us f.rest f.packets (met_before d c bs) (met_before d c more) alike);
-      since = f.since;
-      begun = subst (λ (x : Stage). IsSince d c others x t.line.begun_since) same f.begun;
-      octets = f.octets;
-      counted = f.counted;
-      reference = f.reference;
-      place = f.place;
-      begins = f.begins;
-      ends = f.ends;
-      begin = f.begin;
-      heard = f.heard;
-      watches = f.watches;
-    }
+passing_follows d c t us bs mine others u f l = grind (arith, met_not_yet, stage_stays, sent_stays, hasty_stays)
 
 since_beside : (d : Direction) (c : Capture) (others : List Sent) (u : Sent) (s : Stage) (since : ℕ) →
     length (stream (other d) c) < u.behind → IsSince d c others s since → IsSince d c (others ++ u ∷ []) s since
-since_beside d c others u opening since l h = tt
-since_beside d c others u asking since l h = tt
-since_beside d c others u between since l h = tt
-since_beside d c others u (refused at) since l h = tt
-since_beside d c others u (within first octets) since l h = (h.0, h.1 ∙ sym (not_yet_passed d c first others u l))
-since_beside d c others u (stopped stop at) since l h = tt
+since_beside d c others u s since l h = grind (arith, not_yet_passed)
 
 -- one more TSDU, which ends after all that had passed, reaches it
 pub hearing_follows : (d : Direction) (c : Capture) (t : Tapped) (us bs : List (List ℕ)) (mine others : List Sent) (u : Sent)

@@ -16,8 +16,7 @@ use Rattle.osi_judge.specs.declared.findings.Finding.{Finding}
 use Rattle.osi_judge.specs.declared.findings.Finding.TheVariants.{Kept}
 use Rattle.osi_judge.specs.declared.judge.Reading.{Reading}
 use Rattle.osi_judge.specs.declared.stops.Stopped.{Stopped as StoppedAt}
-use Rattle.osi_judge.specs.Transport.{silent, met_before, Stage, opening, asking, between, within, refused, stopped}
-use Rattle.osi_judge.specs.Transport.{Sent, packets_length, stage_from, sent_from, hasty_from, ArePacketsOf, IsSent}
+use Rattle.osi_judge.specs.Transport.{silent, met_before, Stage, opening, Sent, stage_from, hasty_from, ArePacketsOf, IsSent}
 use Rattle.osi_judge.specs.Tapping.{begin_of, heard, told, IsFoundIn, stop_in, or_hasty, IsStoppedIn, IsReadIn}
 use Rattle.osi_judge.specs.Tapping.{IsReferenceIn, IsPlace, IsPlaceIn}
 use Rattle.osi_judge.specs.Feeding.{Tapped, reading_of, stopped_by, stopped_of}
@@ -54,40 +53,12 @@ place_kept f last e = subst (λ (x : Finding). IsPlace x [] last) (sym e) tt
 
 pub nothing_follows : (d : Direction) (w : Watched) → w.begin ≡ begin_of d → w.heard ≡ [] → w.finding ≡ Kept → Watches w []
     → Follows d [] (fresh_half w) [] [] [] []
-nothing_follows d w b h y k = record {
-  rest = [];
-  packets = refl;
-  is_rest = (refl, empty_partial);
-  at = refl;
-  handshake = refl;
-  met = λ e l. absurd (omega arith);
-  sent = refl;
-  stage = refl;
-  hasty = refl;
-  since = λ e l. absurd (omega arith);
-  begun = tt;
-  octets = refl;
-  counted = refl;
-  reference = refl;
-  place = place_kept w.finding 0 y;
-  begins = tt;
-  ends = tt;
-  begin = b;
-  heard = h;
-  watches = k;
-}
+nothing_follows d w b h y k = grind (arith, empty_partial, place_kept)
 
 pub nothing_passed : (j : Judged) (l r : Watched) → j.left ≡ fresh_half l → j.right ≡ fresh_half r → l.begin ≡ begin_of Left →
     r.begin ≡ begin_of Right → l.heard ≡ [] → r.heard ≡ []
     → l.finding ≡ Kept → r.finding ≡ Kept → Watches l [] → Watches r [] → Taps j []
-nothing_passed j l r e f b c h k m n x y = record {
-  left_units = [];
-  right_units = [];
-  left = [];
-  right = [];
-  of_left = subst (λ (t : Tapped). Follows Left [] t [] [] [] []) (sym e) (nothing_follows Left l b h m x);
-  of_right = subst (λ (t : Tapped). Follows Right [] t [] [] [] []) (sym f) (nothing_follows Right r c k n y);
-}
+nothing_passed j l r e f b c h k m n x y = grind (arith, nothing_follows Left l b h m x, nothing_follows Right r c k n y)
 
 -- ---- what was found
 
@@ -104,8 +75,7 @@ ending_of at (Some f) held rest h = let g = fault_at at rest f h in (Faulty g.0,
 pub cut_as : (d : Direction) (c : Capture) (t : Tapped) (us bs : List (List ℕ)) (mine others : List Sent) → Follows d c t us bs mine others
     → ArePacketsOf d c us
 cut_as d c t us bs mine others f =
-    let e = ending_of (offset_of (0 + (length (stream d c) - length f.rest))) t.fault t.held f.rest f.is_rest in
-    (e.0, (f.rest, f.packets, e.1))
+    grind (arith, ending_of (offset_of (0 + (length (stream d c) - length f.rest))) t.fault t.held f.rest f.is_rest)
 
 pub is_sent : (d : Direction) (c : Capture) (t : Tapped) (us bs : List (List ℕ)) (mine others : List Sent)
     → Follows d c t us bs mine others → ArePacketsOf (other d) c bs → IsSent d c mine
@@ -114,14 +84,10 @@ is_sent d c t us bs mine others f b = (us, bs, cut_as d c t us bs mine others f,
 -- a side has one list of TSDUs
 pub one_reading : (d : Direction) (c : Capture) (some others : List Sent) → IsSent d c some → IsSent d c others → some ≡ others
 one_reading d c some others (us, bs, (e, cut), (f, beside), s) (vs, cs, (g, cut_too), (h, beside_too), t) =
-    let mine = (one_cut (stream d c) us vs e g cut cut_too).0 in
-    let theirs = (one_cut (stream (other d) c) bs cs f h beside beside_too).0 in
-    s ∙ ap (λ (x : List (List ℕ)). sent_from d (met_before d c bs) opening 0 x) mine
-    ∙ ap (λ (x : List (List ℕ)). sent_from d (met_before d c x) opening 0 vs) theirs ∙ sym t
+    grind (arith, one_cut (stream d c) us vs e g cut cut_too, one_cut (stream (other d) c) bs cs f h beside beside_too)
 
 other_twice : (d : Direction) → other (other d) ≡ d
-other_twice Left = refl
-other_twice Right = refl
+other_twice d = grind arith
 
 -- the packets of a side are those of the other side of the other one
 pub packets_of : (d : Direction) (c : Capture) (us : List (List ℕ)) → ArePacketsOf d c us → ArePacketsOf (other (other d)) c us
@@ -150,24 +116,7 @@ is_found Right c j h = found_of Right c j.right j.left h.right_units h.left_unit
 stops_as : (s : Stage) (fault : Option TpktFault) (held rest : List ℕ) (at : ℕ) (r : IsRest fault held rest) →
     stopped_by (shown s) fault at ≡ stop_in s (ending_of at fault held rest r).0
 unfolding ending_of fault_at
-stops_as (stopped stop place) fault held rest at r = refl
-stops_as (refused place) fault held rest at r = refl
-stops_as asking None held rest at r = refl
-stops_as asking (Some (BadVersion o)) held rest at r = refl
-stops_as asking (Some (BadLength o)) held rest at r = refl
-stops_as asking (Some OutOfMemory) held rest at r = absurd r
-stops_as opening None held rest at r = refl
-stops_as opening (Some (BadVersion o)) held rest at r = refl
-stops_as opening (Some (BadLength o)) held rest at r = refl
-stops_as opening (Some OutOfMemory) held rest at r = absurd r
-stops_as between None held rest at r = refl
-stops_as between (Some (BadVersion o)) held rest at r = refl
-stops_as between (Some (BadLength o)) held rest at r = refl
-stops_as between (Some OutOfMemory) held rest at r = absurd r
-stops_as (within first octets) None held rest at r = refl
-stops_as (within first octets) (Some (BadVersion o)) held rest at r = refl
-stops_as (within first octets) (Some (BadLength o)) held rest at r = refl
-stops_as (within first octets) (Some OutOfMemory) held rest at r = absurd r
+stops_as s fault held rest at r = grind arith
 
 zero_plus : (n : ℕ) → n ≡ 0 + n
 zero_plus n = omega arith
@@ -196,12 +145,8 @@ stopped_as d c t us bs mine others f b =
     }
 
 pub is_stopped : (d : Direction) (c : Capture) (j : Judged) → Taps j c → IsStoppedIn d c (stopped_of (half_of d j))
-is_stopped Left c j h =
-    stopped_as Left c j.left h.left_units h.right_units h.left h.right h.of_left
-    (cut_as Right c j.right h.right_units h.left_units h.right h.left h.of_right)
-is_stopped Right c j h =
-    stopped_as Right c j.right h.right_units h.left_units h.right h.left h.of_right
-    (cut_as Left c j.left h.left_units h.right_units h.left h.right h.of_left)
+is_stopped Left c j h = search (arith, stopped_as, cut_as)
+is_stopped Right c j h = search (arith, stopped_as, cut_as)
 
 -- ---- what is told beside it
 
@@ -211,17 +156,7 @@ with_rest packets octets rest = record { packets = packets; octets = octets; res
 read_as : (d : Direction) (c : Capture) (t : Tapped) (us bs : List (List ℕ)) (mine others : List Sent) → Follows d c t us bs mine others
     → IsReadIn d c (reading_of t)
 read_as d c t us bs mine others f =
-    let e = cut_as d c t us bs mine others f in
-    let place = offset_of_rest 0 us (stream d c) f.rest f.packets in
-    let sum = offset_sum 0 us in
-    let there : length (stream d c) - length f.rest ≡ packets_length us = omega arith in record {
-      units = us;
-      ending = e.0;
-      cut = e.1;
-      packets = f.counted;
-      octets = f.octets;
-      rest = ap (λ (x : ℕ). x - t.line.at) f.octets ∙ ap (λ (x : ℕ). offset_of (length (stream d c)) - x) (f.at ∙ ap offset_of there);
-    }
+    grind (arith, cut_as d c t us bs mine others f, offset_of_rest 0 us (stream d c) f.rest f.packets, offset_sum 0 us)
 
 pub is_read : (d : Direction) (c : Capture) (j : Judged) → Taps j c → IsReadIn d c (reading_of (half_of d j))
 is_read Left c j h = read_as Left c j.left h.left_units h.right_units h.left h.right h.of_left
@@ -242,9 +177,5 @@ placed_as : (d : Direction) (c : Capture) (t : Tapped) (us bs : List (List ℕ))
 placed_as d c t us bs mine others f b = record { mine = mine; is_mine = is_sent d c t us bs mine others f b; place = f.place }
 
 pub is_placed : (d : Direction) (c : Capture) (j : Judged) → Taps j c → IsPlaceIn d c (half_of d j).side.finding (half_of d j).line.last
-is_placed Left c j h =
-    placed_as Left c j.left h.left_units h.right_units h.left h.right h.of_left
-    (cut_as Right c j.right h.right_units h.left_units h.right h.left h.of_right)
-is_placed Right c j h =
-    placed_as Right c j.right h.right_units h.left_units h.right h.left h.of_right
-    (cut_as Left c j.left h.left_units h.right_units h.left h.right h.of_left)
+is_placed Left c j h = search (arith, placed_as, cut_as)
+is_placed Right c j h = search (arith, placed_as, cut_as)

@@ -1,7 +1,7 @@
 -- What a session sends for an accepted call is explained: in one TSDU, or data in parts.
 -- For the law that an honest session is explained.
 use Rattle.std.proofs.Common.{◌≡◌, ◌∙◌, refl, sym, ap, subst, ℕ, ◌+◌, ◌<◌, ◌≤◌, ◌==◌, Bool, true, false, not, ◌||◌, if◌then◌else◌, nat_le}
-use Rattle.std.proofs.Common.{nat_lt, List, [], ◌∷◌, length, map, Option, Some, None, unwrap_or, Ok, arith}
+use Rattle.std.proofs.Common.{List, [], ◌∷◌, length, map, Option, Some, None, unwrap_or, Ok, arith}
 use Rattle.std.proofs.lemmas.Bool.{cases_Bool, le-leb, leb-true, lt-ltb}
 use Rattle.std.proofs.lemmas.List.{length-append}
 use Rattle.std.proofs.Common.{inl, inr}
@@ -13,16 +13,15 @@ use Rattle.osi_message.specs.Parting.{AreFull, AreLater, AreParts, in_one, is_pa
 use Rattle.osi_message.specs.Parting.{joined as joined_in}
 use Rattle.osi_message.specs.Reading.{said_at}
 use Rattle.osi_message.specs.Sendable.{IsSendable, words_of}
-use Rattle.osi_message.specs.Tokens.{data_token, is_empty, no_token}
+use Rattle.osi_message.specs.Tokens.{data_token, no_token}
 use Rattle.osi_message.specs.Words.{Words, says, part, part_octets, word_octets}
 use Rattle.osi_message.specs.Written.{is_second, written}
 use Rattle.osi_message.proofs.units_of_the_fast_path.{data_written}
 use Rattle.osi_session.specs.declared.state.State.{State}
 use Rattle.osi_session.specs.Allowed.{AllHold, Step, after, allowed, has_right, may_call, most_data, needs, sends}
-use Rattle.osi_session.specs.Calls.{Abort, Accept, Call, Data, Give, HasSerial, Major, MajorConfirm, Minor, MinorConfirm, Please, Refuse}
-use Rattle.osi_session.specs.Calls.{Release, ReleaseAccept, ReleaseRefuse, Restart, RestartConfirm}
+use Rattle.osi_session.specs.Calls.{Call, Data, HasSerial}
 use Rattle.osi_session.specs.Joining.{is_last}
-use Rattle.osi_session.specs.Phases.{is_answering, is_major_due, is_ready, is_restart_due, is_settled, may_hold, may_restart}
+use Rattle.osi_session.specs.Phases.{is_answering, is_ready, is_settled, may_hold}
 use Rattle.osi_session.specs.Respond.{has_no_effect}
 use Rattle.osi_session.specs.Sizes.{fits_limit, is_data, limit_of}
 use Rattle.osi_session.specs.Sound.{IsSound}
@@ -52,15 +51,10 @@ no_limit s n p = let e = excluded is_answering is_settled refl s.phase p in rw e
 -- a call that is not data
 within_limit : (s : State) (c : Call) → may_call s.phase c ≡ true → fits_limit s c (sends s c) ≡ true → is_data c ≡ false →
     is_in_size s (length (written (sends s c))) ≡ true
-within_limit s (Accept requirements serial sides sizes octets) p f d = no_limit s _ p
-within_limit s (Refuse refusal) p f d = no_limit s _ p
-within_limit s (Data octets) p f d = absurd (cc)
-within_limit s _ p f d = f
+within_limit s c p f d = grind (arith, no_limit)
 
 whole_within : (s : State) (octets : List ℕ) → is_whole (limit_of s) octets ≡ true → is_in_size s (length (written (DT octets))) ≡ true
-whole_within s octets w =
-    let e : length (written (DT octets)) ≡ 4 + length octets = ap (λ (o : List ℕ). length o) (data_written octets) ∙ (omega arith) in
-    subst (λ (n : ℕ). is_in_size s n ≡ true) (sym e) w
+whole_within s octets w = grind (arith, data_written)
 
 -- a call whose message follows a GT leaves the limit as it was
 settled_limit : (s : State) (n : ℕ) → is_settled s.phase ≡ true → (if s.is_caller then s.sizes.from_asker else s.sizes.from_answerer) ≡ n →
@@ -69,32 +63,15 @@ settled_limit s n e f = rw e (sym f)
 
 same_limit : (s : State) (c : Call) → is_second (sends s c) ≡ true → may_call s.phase c ≡ true → limit_of (after s c) ≡ limit_of s
 unfolding is_second
-same_limit s (Data octets) e p = refl
-same_limit s (Minor confirm octets) e p = refl
-same_limit s (MinorConfirm n octets) e p = refl
-same_limit s (Major octets) e p = settled_limit s _ (implied is_ready is_settled refl s.phase p) refl
-same_limit s (MajorConfirm octets) e p = settled_limit s _ (implied is_major_due is_settled refl s.phase p) refl
-same_limit s (Restart n wishes octets) e p = settled_limit s _ (implied may_restart is_settled refl s.phase p) refl
-same_limit s (RestartConfirm sides octets) e p = settled_limit s _ (implied is_restart_due is_settled refl s.phase p) refl
-same_limit s (Accept requirements serial sides sizes octets) e p = absurd (cc)
-same_limit s (Refuse refusal) e p = absurd (cc)
-same_limit s (Give tokens) e p = absurd (cc)
-same_limit s (Please tokens octets) e p = absurd (cc)
-same_limit s (Release octets) e p = absurd (cc)
-same_limit s (ReleaseAccept octets) e p = absurd (cc)
-same_limit s (ReleaseRefuse octets) e p = absurd (cc)
-same_limit s (Abort octets) e p = absurd (cc)
+same_limit s c e p = grind (arith, settled_limit, implied)
 
 -- ---- a message
 
 un_not : (b : Bool) → not b ≡ true → b ≡ false
-un_not false e = refl
-un_not true e = absurd (cc)
+un_not b e = grind arith
 
 has_effect : (s : State) (c : Call) → AllHold (needs s c) → has_no_effect (sends s c) ≡ false
-has_effect s (Give tokens) h = un_not (is_empty tokens) h.1.1.0
-has_effect s (Please tokens octets) h = un_not (is_empty tokens) h.1.1.0
-has_effect s _ h = refl
+has_effect s c h = grind (arith, un_not)
 
 -- a side with nothing unfinished of its own
 abbrev pub side_with : State → Option ℕ → Option ℕ → Seen
@@ -139,8 +116,7 @@ part_can s j sent place o n z p m i = rw (i, z, p, m) refl
 
 -- this much may be sent
 may_be : (s : State) (n : ℕ) → is_ready s.phase ≡ true → has_right s data_token ≡ true → 0 < n → n ≤ most_data → may_send s n ≡ true
-may_be s n r t some few = let a : nat_lt 0 n ≡ true = lt-ltb 0 n some in let b : nat_le n most_data ≡ true =
-    le-leb n most_data few in rw (r, t, a, b) refl
+may_be s n r t some few = grind (arith, lt-ltb, le-leb)
 
 -- the state in which data may be sent in parts
 record SendsParts (s : State) : Type 0 where
@@ -149,11 +125,7 @@ record SendsParts (s : State) : Type 0 where
   right : has_right s data_token ≡ true
 
 in_limit : (s : State) (n : ℕ) → n ≤ limit_of s → is_in_size s n ≡ true
-in_limit s n l = let e : nat_le n (limit_of s) ≡ true = le-leb n (limit_of s) l in or_true (limit_of s == 0) (nat_le n (limit_of s)) e
-  where
-    or_true : (a b : Bool) → b ≡ true → (a || b) ≡ true
-    or_true true b e = refl
-    or_true false b e = e
+in_limit s n l = grind (arith, le-leb)
 
 -- one part, with the GT before it
 part_said : AsSent → (s : State) (j sent : Option ℕ) (place : Place) (o : List ℕ) (os : List (List ℕ)) (t : Seen) → SendsParts s →
@@ -173,12 +145,10 @@ part_said known s j sent place o os t k p some few short more =
     )
 
 head_short : (limit : ℕ) (o : List ℕ) (os : List (List ℕ)) → AreFull limit (o ∷ os) → length o ≤ limit
-head_short limit o [] h = h
-head_short limit o (p ∷ os) h = let e : length o ≡ limit = h.0 in omega arith
+head_short limit o os h = grind arith
 
 tail_full : (limit : ℕ) (o : List ℕ) (os : List (List ℕ)) → AreFull limit (o ∷ os) → AreFull limit os
-tail_full limit o [] h = tt
-tail_full limit o (p ∷ os) h = h.1
+tail_full limit o os h = grind arith
 
 later_said : AsSent → (s : State) (j : Option ℕ) (n : ℕ) (ws : Words) → SendsParts s → AreLater ws → 0 < n →
     n + length (joined_in ws) ≤ most_data → AreFull (limit_of s) (map word_octets ws)
@@ -200,13 +170,7 @@ later_said known s j n _ k l some few full = absurd l
 first_some : (limit : ℕ) (o : List ℕ) (ws : Words) → is_size limit ≡ true → (limit == 0) ≡ false → AreLater ws →
     AreFull limit (part_octets First o ∷ map word_octets ws) → 0 < length o
 first_some limit o [] size z l full = absurd l
-first_some limit o (w ∷ ws) size z l full =
-    let e : length (part_octets First o) ≡ limit = full.0 in
-    let b = sized limit size z in
-    omega arith
-  where
-    sized : (n : ℕ) → is_size n ≡ true → (n == 0) ≡ false → 64 ≤ n
-    sized n h e = grind arith
+first_some limit o (w ∷ ws) size z l full = grind arith
 
 parts_said : AsSent → (s : State) (j : Option ℕ) (ws : Words) → SendsParts s → is_size (limit_of s) ≡ true → AreParts ws →
     length (joined_in ws) ≤ most_data → AreFull (limit_of s) (map word_octets ws)
@@ -224,11 +188,7 @@ parts_said known s j _ k size l few full = absurd l
 -- ---- any call
 
 limited : (n : ℕ) (o : List ℕ) → is_whole n o ≡ false → (n == 0) ≡ false
-limited n o h = left_false (n == 0) (nat_le (4 + length o) n) h
-  where
-    left_false : (a b : Bool) → (a || b) ≡ false → a ≡ false
-    left_false true b e = absurd (cc)
-    left_false false b e = refl
+limited n o h = grind arith
 
 data_said : AsSent → (s : State) (j : Option ℕ) (octets : List ℕ) (x : Step) → IsSound s → allowed s (Data octets) ≡ Ok x →
     goes (side_with s j None) s ≡ side_with s j None

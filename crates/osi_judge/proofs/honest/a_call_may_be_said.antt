@@ -1,8 +1,8 @@
 -- What an accepted call sends may be sent: an observer takes it for that call, and arrives at the state that the call
 -- leaves.
 -- For the law that an honest session is explained.
-use Rattle.std.proofs.Common.{◌≡◌, ◌∙◌, refl, sym, ap, subst, ℕ, ◌+◌, ◌-◌, ◌<◌, ◌==◌, Bool, true, false, not, ◌&&◌, ◌||◌, if◌then◌else◌}
-use Rattle.std.proofs.Common.{nat_le, List, [], ◌∷◌, length, Some, None, unwrap_or, Ok, arith}
+use Rattle.std.proofs.Common.{◌≡◌, ◌∙◌, refl, sym, ap, subst, ℕ, ◌-◌, ◌==◌, Bool, true, not, ◌&&◌, ◌||◌, if◌then◌else◌, nat_le, List, []}
+use Rattle.std.proofs.Common.{◌∷◌, length, Some, None, unwrap_or, Ok, arith}
 use Rattle.std.proofs.lemmas.Bool.{and_from, and_parts, eq-eqb}
 use Rattle.osi_spdu.specs.declared.fields.TsduMaximumSize.{TsduMaximumSize}
 use Rattle.osi_spdu.specs.declared.settings.Side.{Side}
@@ -10,26 +10,23 @@ use Rattle.osi_spdu.specs.declared.settings.TokenSetting.{TokenSetting}
 use Rattle.osi_spdu.specs.declared.settings.Wish.{Wish}
 use Rattle.osi_spdu.specs.Fields.{wish_of}
 use Rattle.osi_spdu.specs.Sizes.{are_sizes}
-use Rattle.osi_message.specs.Tokens.{data_token, each, has, major, minor, release}
+use Rattle.osi_message.specs.Tokens.{data_token, major, minor, release}
 use Rattle.osi_session.specs.declared.phases.Phase.TheVariants.{Ready, Restarting}
 use Rattle.osi_session.specs.declared.selected.FunctionalUnits.{FunctionalUnits}
 use Rattle.osi_session.specs.declared.sides.Sides.{Sides}
 use Rattle.osi_session.specs.declared.state.State.{State}
-use Rattle.osi_session.specs.Allowed.{AllHold, Answer, Test, after, base_for, first_error, has_right, may_call, met, most_of, needs}
-use Rattle.osi_session.specs.Allowed.{octets_of, opened_with, sends, serial_for}
-use Rattle.osi_session.specs.Calls.{Abort, Accept, Call, Data, Give, HasSerial, Major, MajorConfirm, Minor, MinorConfirm, Please, Refusal}
-use Rattle.osi_session.specs.Calls.{Refuse, Release, ReleaseAccept, ReleaseRefuse, Restart, RestartConfirm, Unspecified, Congestion}
-use Rattle.osi_session.specs.Calls.{WithData, refusal_octets, refusal_with}
+use Rattle.osi_session.specs.Allowed.{AllHold, Answer, Test, after, base_for, first_error, may_call, met, most_of, needs, octets_of}
+use Rattle.osi_session.specs.Allowed.{opened_with, sends, serial_for}
+use Rattle.osi_session.specs.Calls.{Accept, Call, HasSerial, Refusal, Refuse, Restart, RestartConfirm, refusal_octets, refusal_with}
 use Rattle.osi_session.specs.Numbers.{restarted_at}
-use Rattle.osi_session.specs.Phases.{in_major, is_answering, is_major_due, is_ready}
+use Rattle.osi_session.specs.Phases.{is_answering}
 use Rattle.osi_session.specs.Sides.{allows, answers_wishes, of_answerer, offered, offered_wish, setting_of, settle, settled, stated}
 use Rattle.osi_session.specs.Sides.{stated_side}
 use Rattle.osi_session.specs.Sizes.{answered_sizes}
 use Rattle.osi_session.specs.Sound.{IsSound}
 use Rattle.osi_session.specs.State.{without_tokens}
-use Rattle.osi_session.specs.Standing.{accepting_in, calling, finishing, fits_user_data, said_message, where_is}
-use Rattle.osi_session.specs.Units.{available, both_units, functional_units, has_data, has_points, is_profile, units_within}
-use Rattle.osi_session.proofs.tables.what_is_true_of_each_phase.{implied}
+use Rattle.osi_session.specs.Standing.{accepting_in, calling, fits_user_data, said_message, where_is}
+use Rattle.osi_session.specs.Units.{both_units, functional_units, has_data, has_points, is_profile, units_within}
 use Rattle.osi_session.proofs.values.units_are_those_of_a_profile.{profile_of}
 use Rattle.osi_session.proofs.values.what_sizes_are_agreed.{answered_are, sizes_agreed}
 
@@ -56,30 +53,19 @@ same_setting a b d n j r = λ i. record { data_token = d i; minor = n i; major =
 
 stated_again : (u : FunctionalUnits) (w : TokenSetting) (a : Sides) → stated u (setting_of (settle u w a)) ≡ settle u w a
 unfolding stated settle
-stated_again u w a = same_sides _ _
-    (named_again (has (available u) data_token) w.data_token a.data_token) (named_again (has (available u) minor) w.minor a.minor)
-    (named_again (has (available u) major) w.major a.major) (named_again (has (available u) release) w.release a.release)
+stated_again u w a = grind (arith, same_sides, named_again)
 
 settle_again : (u : FunctionalUnits) (w : TokenSetting) (a : Sides) → settle u w (settle u w a) ≡ settle u w a
 unfolding settle
-settle_again u w a = same_sides _ _
-    (settled_again (has (available u) data_token) w.data_token a.data_token) (settled_again (has (available u) minor) w.minor a.minor)
-    (settled_again (has (available u) major) w.major a.major) (settled_again (has (available u) release) w.release a.release)
+settle_again u w a = grind (arith, same_sides, settled_again)
 
 offer_again : (u : FunctionalUnits) (w : TokenSetting) → offered u (offered u w) ≡ offered u w
 unfolding offered
-offer_again u w = same_setting _ _
-    (offered_again (has (available u) data_token) w.data_token) (offered_again (has (available u) minor) w.minor)
-    (offered_again (has (available u) major) w.major) (offered_again (has (available u) release) w.release)
+offer_again u w = grind (arith, same_setting, offered_again)
 
 settled_answers : (u : FunctionalUnits) (w : TokenSetting) (a : Sides) → answers_wishes u w (setting_of (settle u w a)) ≡ true
 unfolding answers_wishes settle
-settled_answers u w a =
-    let d = one_allowed (has (available u) data_token) w.data_token a.data_token in
-    let n = one_allowed (has (available u) minor) w.minor a.minor in
-    let j = one_allowed (has (available u) major) w.major a.major in
-    let r = one_allowed (has (available u) release) w.release a.release in
-    rw (d, n, j, r) refl
+settled_answers u w a = grind (arith, one_allowed)
 
 -- ---- what an AC selects
 
@@ -92,16 +78,11 @@ within_both a b h = search (arith, and_parts, part_both)
 
 profile_data : (u : FunctionalUnits) → u.duplex ≡ not u.half_duplex → has_data u ≡ true
 unfolding has_data
-profile_data u e = ap (λ (b : Bool). u.half_duplex || b) e ∙ either u.half_duplex
-  where
-    either : (b : Bool) → (b || not b) ≡ true
-    either true = refl
-    either false = refl
+profile_data u e = grind arith
 
 same_first : (b : Bool) (serial proposed : ℕ) →
     (if b then unwrap_or (if b then Some serial else None) proposed else 0) ≡ (if b then serial else 0)
-same_first true serial proposed = refl
-same_first false serial proposed = refl
+same_first b serial proposed = grind arith
 
 -- ---- a call that was accepted
 
@@ -120,13 +101,7 @@ where_calling : (b : Bool) (s : State) (c : Call) → b ≡ true → may_call s.
 where_calling b s c e p z h = rw e (calling_is s c p z h)
 
 refused_octets : (r : Refusal) → refusal_octets (refusal_with (refusal_octets r)) ≡ refusal_octets r
-refused_octets Unspecified = refl
-refused_octets Congestion = refl
-refused_octets (WithData []) = refl
-refused_octets (WithData (b ∷ octets)) = refl
-
-below_next : (base next : ℕ) → base < next → (next - 1 + 1 == next) ≡ true
-below_next base next l = eq-eqb (next - 1 + 1) next (omega arith)
+refused_octets r = grind arith
 
 -- ---- each message
 
@@ -182,30 +157,9 @@ refuse_said s r p z =
     calling_is s (Refuse (refusal_with (refusal_octets r))) p (subst (λ (o : List ℕ). fits_user_data o ≡ true) (sym (refused_octets r)) z)
     tt
 
-release_said : (s : State) (octets : List ℕ) → is_ready s.phase ≡ true → fits_user_data octets ≡ true → each (has_right s) ≡ true →
-    finishing s octets ≡ Some (after s (Release octets))
-release_said s octets p z h = rw (p, z, h) refl
-
 -- a message that an accepted call sends
 pub message_said : (s : State) (c : Call) → IsSound s → HasSerial c → may_call s.phase c ≡ true → AllHold (needs s c) →
     nat_le (length (octets_of c)) (most_of c) ≡ true
     → said_message s (sends s c) ≡ Some (after s c)
-message_said s (Accept requirements serial sides sizes octets) sound small p h z =
-    accept_said s requirements serial sides sizes octets p z h.0 (answered_are s.sizes sizes sound.sizes small.1)
-message_said s (Refuse r) sound small p h z = refuse_said s r p z
-message_said s (Data octets) sound small p h z = calling_is s (Data octets) p z h
-message_said s (Give tokens) sound small p h z = calling_is s (Give tokens) p z h
-message_said s (Please tokens octets) sound small p h z = calling_is s (Please tokens octets) p z h
-message_said s (Minor confirm octets) sound small p h z =
-    where_calling _ s (Minor confirm octets) (eq-eqb s.numbers.next s.numbers.next refl) p z h
-message_said s (MinorConfirm n octets) sound small p h z = calling_is s (MinorConfirm n octets) p z h
-message_said s (Major octets) sound small p h z = where_calling _ s (Major octets) (eq-eqb s.numbers.next s.numbers.next refl) p z h
-message_said s (MajorConfirm octets) sound small p h z =
-    where_calling _ s (MajorConfirm octets) (below_next s.base s.numbers.next (sound.major (implied is_major_due in_major refl s.phase p)))
-    p z h
-message_said s (Restart n wishes octets) sound small p h z = restart_said s n wishes octets p z h
-message_said s (RestartConfirm sides octets) sound small p h z = confirm_said s sides octets p z
-message_said s (Release octets) sound small p h z = release_said s octets p z (and_parts (each (has_right s)) _ h.0).0
-message_said s (ReleaseAccept octets) sound small p h z = calling_is s (ReleaseAccept octets) p z h
-message_said s (ReleaseRefuse octets) sound small p h z = calling_is s (ReleaseRefuse octets) p z h
-message_said s (Abort octets) sound small p h z = where_calling _ s (Abort octets) refl p z h
+message_said s c sound small p h z =
+    grind (arith, accept_said, answered_are, refuse_said, where_calling, eq-eqb, restart_said, confirm_said)

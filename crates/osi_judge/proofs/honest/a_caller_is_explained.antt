@@ -1,38 +1,33 @@
 -- A caller, from before its transport connection is open, is explained; and so is a prefix of whatever is explained.
 -- For the law that an honest session is explained.
-use Rattle.std.proofs.Common.{◌≡◌, ◌∙◌, refl, sym, ap, subst, ℕ, ◌+◌, ◌<◌, Bool, true, false, not, if◌then◌else◌, nat_le, List, [], ◌∷◌}
-use Rattle.std.proofs.Common.{◌++◌, length, Some, None, unwrap_or, Ok, Err, arith}
+use Rattle.std.proofs.Common.{◌≡◌, ◌∙◌, refl, sym, ap, subst, ℕ, ◌+◌, ◌<◌, Bool, true, false, if◌then◌else◌, nat_le, List, [], ◌∷◌, ◌++◌}
+use Rattle.std.proofs.Common.{length, Some, None, unwrap_or, Ok, Err, arith}
 use Rattle.std.proofs.lemmas.Bool.{leb-true}
 use Rattle.std.proofs.lemmas.List.{append_assoc}
-use Rattle.osi_spdu.specs.Fields.{unit_bits}
-use Rattle.osi_message.specs.Parting.{tsdus_of, tsdus_sent}
+use Rattle.osi_message.specs.Parting.{tsdus_of}
 use Rattle.osi_message.specs.Sendable.{IsSendable, words_of}
 use Rattle.osi_message.specs.Words.{says}
 use Rattle.osi_message.specs.Written.{is_second, written}
 use Rattle.osi_session.specs.declared.faults.CallError.{CallError}
 use Rattle.osi_session.specs.declared.opening.Opening.{Opening}
 use Rattle.osi_session.specs.declared.phases.Phase.{Phase}
-use Rattle.osi_session.specs.declared.phases.Phase.TheVariants.{Connecting}
 use Rattle.osi_session.specs.Allowed.{Answer, allowed, most_user_data}
 use Rattle.osi_session.specs.Calls.{Call}
-use Rattle.osi_session.specs.Listening.{Listener, Move, after_input, begun, broken, called, opened, react, refused}
+use Rattle.osi_session.specs.Listening.{Listener, Move, after_input, begun, called, opened, react, refused}
 use Rattle.osi_session.specs.Openings.{asked_for}
 use Rattle.osi_session.specs.Phases.{is_ended, is_over, is_wait_transport}
-use Rattle.osi_session.specs.Sessions.{asking, awaiting, awaits, opens, refusal_of}
-use Rattle.osi_session.specs.Sizes.{limit_of}
+use Rattle.osi_session.specs.Sessions.{asking, awaits, opens, refusal_of}
 use Rattle.osi_session.specs.Sound.{IsSound}
 use Rattle.osi_session.specs.Standing.{Seen, CanSay, after_count, said, seen_called, seen_calling}
-use Rattle.osi_session.specs.State.{without_tokens}
-use Rattle.osi_session.specs.Units.{functional_units, has_points, is_profile}
 use Rattle.osi_session.proofs.tsdu.the_answer_to_a_tsdu.{accepted_callable}
 use Rattle.osi_session.proofs.moves.the_move_of_each_input.{of_opened, of_refused}
 use Rattle.osi_session.proofs.tables.what_is_true_of_each_phase.{implied}
-use Rattle.osi_session.proofs.runs.what_every_run_preserves.{asking_fresh, awaiting_fresh, fresh_sound, input_sound, lost_ended}
+use Rattle.osi_session.proofs.runs.what_every_run_preserves.{asking_fresh, awaiting_fresh, fresh_sound, lost_ended}
 use Rattle.osi_session.proofs.sent.what_is_sent_can_be_written.{asked_sendable}
 use Rattle.osi_session.proofs.values.what_sizes_are_agreed.{user_sizes}
-use Rattle.osi_judge.specs.Explaining.{Explains, Remark, Told, remarks, remarks_of}
+use Rattle.osi_judge.specs.Explaining.{Explains, Remark, Told, remarks}
 use Rattle.osi_judge.specs.Explaining as explained
-use Rattle.osi_judge.specs.Running.{IsSentFrom, Pass, Runs, sends}
+use Rattle.osi_judge.specs.Running.{IsSentFrom, Runs, sends}
 use Rattle.osi_judge.specs.Running as running
 use Rattle.osi_judge.proofs.honest.a_call_is_explained.{AsSent}
 use Rattle.osi_judge.proofs.honest.a_run_is_explained.{err_sends, err_stays, none_explained, nothing_passes, run_explained, seen_of}
@@ -42,16 +37,10 @@ use Rattle.osi_judge.proofs.honest.what_is_said_is_explained.{SaysTsdus, says_me
 -- ---- the CN
 
 pub fits : (o : Opening) → refusal_of o ≡ None → nat_le (length o.user_data.now) most_user_data ≡ true
-fits o e = by (is_profile (unit_bits o.requirements)) (nat_le (length o.user_data.now) most_user_data) _ _ e
-  where
-    by : (a b : Bool) (x y : CallError) → (if not a then Some x else if not b then Some y else None) ≡ None → b ≡ true
-    by true true x y e = refl
-    by true false x y e = absurd (cc)
-    by false b x y e = absurd (cc)
+fits o e = grind arith
 
 first_number : (b : Bool) (n : ℕ) → unwrap_or (if b then Some n else None) 0 ≡ (if b then n else 0)
-first_number true n = refl
-first_number false n = refl
+first_number b n = grind arith
 
 -- the caller once its transport connection is open
 abbrev pub connecting : Opening → Listener
@@ -60,11 +49,7 @@ connecting o = (begun (opens o)).next
 asked_said : (o : Opening) (n : ℕ) → nat_le (length o.user_data.now) most_user_data ≡ true →
     CanSay seen_calling (says (asked_for o)) n (seen_of false (connecting o))
 unfolding said
-asked_said o n z =
-    let sizes = user_sizes o.sizes in
-    let first = first_number (has_points (functional_units (unit_bits o.requirements))) o.serial.number in
-    rw (z, sizes)
-    (λ i. Some (record (seen_of false (connecting o)) { state = record (without_tokens Connecting (asking o)) { proposed = first i } }))
+asked_said o n z = grind (arith, user_sizes, first_number, seen_of)
 
 pub sendable : (o : Opening) → nat_le (length o.user_data.now) most_user_data ≡ true → IsSendable (asked_for o)
 sendable o z = let few = leb-true (length o.user_data.now) most_user_data z in asked_sendable o (omega arith)
@@ -110,8 +95,7 @@ caller_run : AsSent → (us : List (List ℕ)) (o : Opening) (closed : Bool) (l 
     Runs us closed l taken told → nat_le (length o.user_data.now) most_user_data ≡ true
     → closed ≡ false → l ≡ opens o → Explains us (remarks told) taken seen_calling
 caller_run known us o closed l taken told (running.rests _ _ _) z f e = explained.done taken seen_calling
-caller_run known us o closed l taken told (running.takes _ _ now later w p r) z f e =
-    let there : is_wait_transport l.state.phase ≡ true = ap (λ (x : Listener). is_wait_transport x.state.phase) e in absurd (cc)
+caller_run known us o closed l taken told (running.takes _ _ now later w p r) z f e = grind arith
 caller_run known us o closed l taken told (running.calls _ _ _ c now later small p r) z f e =
     let none = refuses_all o c (allowed (asking o) c) refl in
     let err : allowed l.state c ≡ Err none.0 = ap (λ (x : Listener). allowed x.state c) e ∙ none.1 in
@@ -119,28 +103,16 @@ caller_run known us o closed l taken told (running.calls _ _ _ c now later small
     (sym (nothing_passes taken (sends l (called c)) now (err_sends l c none.0 err) p))
     (caller_run known us o _ _ taken later r z f (err_stays l c none.0 err ∙ e))
 caller_run known us o closed l taken told (running.connects _ _ now later p r) z f e =
-    let move = as_opened l o e in
-    let next : after_input l opened ≡ connecting o = ap (λ (m : Move). m.next) move in
-    tsdus_explained us (tsdus_of (limit_of l.state) (asked_for o)) now later taken seen_calling (seen_of false (connecting o))
-    (subst (λ (m : Move). Pass taken (tsdus_sent (limit_of l.state) m.reply) now) move p) (cn_said known o (limit_of l.state) z)
-    (subst (λ (x : Listener). Explains us (remarks later) taken (seen_of false x)) next
-    (run_explained known us _ _ taken later r (record {
-      sound = input_sound l opened tt (subst (λ (x : Listener). IsSound x.state) (sym e) (opening_sound o));
-      open_now = ap (λ (x : Listener). is_wait_transport x.state.phase) next;
-      over = λ g. absurd (cc);
-    })))
+    grind (arith, as_opened, tsdus_explained, cn_said, run_explained)
 caller_run known us o closed l taken told (running.misses _ _ reason _ w r) z f e =
     none_explained us told taken seen_calling (sends_no_more us _ _ taken told r refl (missed_ended l reason w))
-caller_run known us o closed l taken told (running.loses _ _ _ r) z f e =
-    none_explained us told taken seen_calling
-    (sends_no_more us _ _ taken told r refl (over_by (after_input l broken).state.phase (lost_ended l)))
+caller_run known us o closed l taken told (running.loses _ _ _ r) z f e = grind (arith, none_explained, sends_no_more, over_by, lost_ended)
 
 -- ---- a prefix of what is explained
 
 remarks_parts : (a b : List Told) → remarks (a ++ b) ≡ remarks a ++ remarks b
 remarks_parts [] b = refl
-remarks_parts (t ∷ a) b = ap (λ (x : List Remark). remarks_of t ++ x) (remarks_parts a b) ∙
-    sym (append_assoc (remarks_of t) (remarks a) (remarks b))
+remarks_parts (t ∷ a) b = grind (arith, append_assoc, remarks_parts a b)
 
 abbrev EachFront : List (List ℕ) → List Remark → ℕ → Seen → Type 0
 EachFront us all taken s = (front back : List Remark) → all ≡ front ++ back → Explains us front taken s
@@ -197,7 +169,4 @@ caller_explained known o us told e h =
 
 pub called_explained : AsSent → (us : List (List ℕ)) (told : List Told) → IsSentFrom awaits us told →
     Explains us (remarks told) 0 seen_called
-called_explained known us told h =
-    front_told us told h.later seen_called
-    (run_explained known us false awaits 0 (told ++ h.later) h.runs
-    (record { sound = fresh_sound awaiting awaiting_fresh; open_now = refl; over = λ g. absurd (cc) }))
+called_explained known us told h = grind (arith, front_told, run_explained, fresh_sound, awaiting_fresh)

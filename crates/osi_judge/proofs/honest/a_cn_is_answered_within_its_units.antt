@@ -1,7 +1,7 @@
 -- An honest side never selects what the profile leaves out: its AC names units of the CN, and units that may be selected together.
 -- For the law that an honest side is not blamed.
-use Rattle.std.proofs.Common.{◌≡◌, ◌∙◌, refl, sym, ap, subst, ℕ, ◌+◌, ◌==◌, ◌⊎◌, inl, inr, Bool, true, false, not, ◌&&◌, ◌||◌}
-use Rattle.std.proofs.Common.{if◌then◌else◌, is_none, List, [], ◌∷◌, get_or, Option, Some, None, unwrap_or, Result, Ok, Err, arith}
+use Rattle.std.proofs.Common.{◌≡◌, refl, sym, subst, ℕ, ◌+◌, ◌⊎◌, inl, inr, Bool, true, false, not, ◌&&◌, ◌||◌, if◌then◌else◌, is_none}
+use Rattle.std.proofs.Common.{List, [], ◌∷◌, get_or, Option, Some, None, unwrap_or, Result, Ok, Err, arith}
 use Rattle.std.specs.Int.RustNames.{bit_and}
 use Rattle.std.specs.List.{AllByRecursion, list_any}
 use Rattle.std.proofs.lemmas.Bool.{and_from, and_parts, cases_Bool, eq-eqb, eqb-true}
@@ -13,22 +13,22 @@ use Rattle.osi_spdu.specs.declared.kinds.Kind.{Kind}
 use Rattle.osi_spdu.specs.declared.settings.TokenSetting.{TokenSetting}
 use Rattle.osi_spdu.specs.Kinds.{category_of}
 use Rattle.osi_spdu.specs.Known.{Known}
-use Rattle.osi_message.specs.Meanings.{Meaning, AA, AB, AC, CN, DN, DT, FN, GT, MAA, MAP, MIA, MIP, NF, PT, RA, RF, RS}
+use Rattle.osi_message.specs.Meanings.{Meaning, CN}
 use Rattle.osi_message.specs.Reading.{meaning_by, names, said_at}
-use Rattle.osi_message.specs.Words.{Word, Words, as_message, part, says}
+use Rattle.osi_message.specs.Words.{Word, Words, says}
 use Rattle.osi_session.specs.declared.phases.Phase.{Phase}
 use Rattle.osi_session.specs.declared.phases.Phase.TheVariants.{Answering, Ended, RestartDue}
 use Rattle.osi_session.specs.declared.selected.FunctionalUnits.{FunctionalUnits}
 use Rattle.osi_session.specs.declared.state.State.{State}
 use Rattle.osi_session.specs.Allowed.{Step, after}
-use Rattle.osi_session.specs.Calls.{Call, Data, Give, Minor, MinorConfirm, Please}
+use Rattle.osi_session.specs.Calls.{Call}
 use Rattle.osi_session.specs.Causes.{unit_asks}
-use Rattle.osi_session.specs.Joining.{Hearing, Taker, respond_tsdu, respond_word}
-use Rattle.osi_session.specs.Listening.{Input, Listener, Move, after_input, called, came, came_as, react, taker_of, unread}
+use Rattle.osi_session.specs.Joining.{Hearing, Taker, respond_word}
+use Rattle.osi_session.specs.Listening.{Listener, after_input, called, came, came_as, react, taker_of, unread}
 use Rattle.osi_session.specs.Listening as listening
 use Rattle.osi_session.specs.Numbers.{restarted_at}
 use Rattle.osi_session.specs.Phases.{is_answering, is_over, is_restarting, is_wait_cn}
-use Rattle.osi_session.specs.Respond.{becomes, fine, is_acceptable, is_expected, respond_unit, stands}
+use Rattle.osi_session.specs.Respond.{becomes, fine, is_acceptable, is_expected, respond_unit}
 use Rattle.osi_session.specs.State.{without_tokens}
 use Rattle.osi_session.specs.Units.{functional_units, is_profile, units_within}
 use Rattle.osi_session.proofs.tables.units_that_are_alone.{StandsAlone, alone_in_octets, passes, stands_alone}
@@ -42,9 +42,7 @@ use Rattle.osi_judge.specs.Profiles.{in_first, offered_in}
 -- ---- units that may be selected together stay so when another side names them too
 
 half_named : (a b c : Bool) → ((not a || b) && c) ≡ true → a ≡ true → b ≡ true
-half_named true true c h e = refl
-half_named true false c h e = absurd (cc)
-half_named false b c h e = absurd (cc)
+half_named a b c h e = grind arith
 
 within_half : (a b : FunctionalUnits) → units_within a b ≡ true → a.half_duplex ≡ true → b.half_duplex ≡ true
 unfolding units_within
@@ -59,32 +57,16 @@ unfolding is_profile
 only_two offered n = let e = eqb-true (bit_and offered 2) 2 n in rw e refl
 
 or_right : (a b : Bool) → b ≡ true → (a || b) ≡ true
-or_right true b e = refl
-or_right false b e = e
+or_right a b e = grind arith
 
 both_half : (offered accepted : ℕ) → bit_and accepted 185 ≡ accepted → bit_and accepted 1 ≡ 1 → bit_and offered 1 ≡ 1 →
     is_profile (bit_and offered accepted) ≡ true
 unfolding is_profile
-both_half offered accepted h k n =
-    let within : bit_and (bit_and offered accepted) 185 ≡ bit_and offered accepted =
-    and_assoc 185 offered accepted ∙ ap (bit_and offered) h in
-    let half : bit_and (bit_and offered accepted) 1 ≡ 1 = and_assoc 1 offered accepted ∙ ap (bit_and offered) k ∙ n in
-    or_right (bit_and offered accepted == 2) ((bit_and (bit_and offered accepted) 185 == bit_and offered accepted) &&
-    names (bit_and offered accepted) 1)
-    (and_from (bit_and (bit_and offered accepted) 185 == bit_and offered accepted) (names (bit_and offered accepted) 1)
-    (eq-eqb (bit_and (bit_and offered accepted) 185) (bit_and offered accepted) within)
-    (eq-eqb (bit_and (bit_and offered accepted) 1) 1 half))
+both_half offered accepted h k n = grind (arith, and_assoc, or_right, and_from, eq-eqb)
 
 profile_cases : (bits : ℕ) → is_profile bits ≡ true → (bits ≡ 2) ⊎ ((bit_and bits 185 ≡ bits) × (bit_and bits 1 ≡ 1))
 unfolding is_profile
-profile_cases bits h = by (bits == 2) refl h
-  where
-    by : (b : Bool) → (bits == 2) ≡ b → (b || ((bit_and bits 185 == bits) && names bits 1)) ≡ true →
-        (bits ≡ 2) ⊎ ((bit_and bits 185 ≡ bits) × (bit_and bits 1 ≡ 1))
-    by true e k = inl (eqb-true bits 2 e)
-    by false e k =
-        let p = and_parts (bit_and bits 185 == bits) (names bits 1) k in
-        inr (eqb-true (bit_and bits 185) bits p.0, eqb-true (bit_and bits 1) 1 p.1)
+profile_cases bits h = grind (arith, eqb-true, and_parts)
 
 pub selected_inside : (offered accepted : ℕ) → is_profile accepted ≡ true →
     units_within (functional_units accepted) (functional_units offered) ≡ true → is_profile (bit_and offered accepted) ≡ true
@@ -120,56 +102,10 @@ abbrev restarted : State → ℕ → TokenSetting → State
 restarted s n wishes = record (without_tokens RestartDue s) { wishes = wishes; numbers = restarted_at n s.numbers }
 
 becomes_answers : (first : Option ℕ) (s : State) (u : Meaning) → unit_asks u ≡ false → Answers first s → Answers first (becomes s u)
-becomes_answers first s (CN version_2 requirements serial wishes from to sizes octets) n h = absurd (cc)
-becomes_answers first s (AC version_2 requirements serial sides sizes octets) n h = λ k. absurd (cc)
-becomes_answers first s (RF reason octets) n h = λ k. absurd (cc)
-becomes_answers first s (DT octets) n h = h
-becomes_answers first s (GT tokens) n h = h
-becomes_answers first s (PT tokens octets) n h = h
-becomes_answers first s (MIP confirm m octets) n h = h
-becomes_answers first s (MIA m octets) n h = h
-becomes_answers first s (MAP m octets) n h = λ k. absurd (cc)
-becomes_answers first s (MAA m octets) n h = λ k. absurd (cc)
-becomes_answers first s (RS kind m wishes octets) n h = by (stands s m) (restarted s m wishes) (λ k. absurd (cc))
-  where
-    by : (b : Bool) (x : State) → Answers first x → Answers first (if b then x else s)
-    by true x a = a
-    by false x a = h
-becomes_answers first s (RA m sides octets) n h = λ k. absurd (cc)
-becomes_answers first s (FN octets) n h = λ k. absurd (cc)
-becomes_answers first s (DN octets) n h = λ k. absurd (cc)
-becomes_answers first s (NF octets) n h = λ k. absurd (cc)
-becomes_answers first s (AB bits octets) n h = λ k. absurd (cc)
-becomes_answers first s AA n h = h
+becomes_answers first s u n h = grind arith
 
 becomes_waits : (W : Type 0) (s : State) (u : Meaning) → Waits W s → Waits W (becomes s u)
-becomes_waits W s (CN version_2 requirements serial wishes from to sizes octets) h =
-    by (is_acceptable version_2 requirements sizes) (requested s requirements serial wishes sizes) (without_tokens Ended s)
-    (λ k. absurd (cc)) (λ k. absurd (cc))
-  where
-    by : (b : Bool) (x y : State) → Waits W x → Waits W y → Waits W (if b then x else y)
-    by true x y a c = a
-    by false x y a c = c
-becomes_waits W s (AC version_2 requirements serial sides sizes octets) h = λ k. absurd (cc)
-becomes_waits W s (RF reason octets) h = λ k. absurd (cc)
-becomes_waits W s (MAP m octets) h = λ k. absurd (cc)
-becomes_waits W s (MAA m octets) h = λ k. absurd (cc)
-becomes_waits W s (RS kind m wishes octets) h = by (stands s m) (restarted s m wishes) (λ k. absurd (cc))
-  where
-    by : (b : Bool) (x : State) → Waits W x → Waits W (if b then x else s)
-    by true x a = a
-    by false x a = h
-becomes_waits W s (RA m sides octets) h = λ k. absurd (cc)
-becomes_waits W s (FN octets) h = λ k. absurd (cc)
-becomes_waits W s (DN octets) h = λ k. absurd (cc)
-becomes_waits W s (NF octets) h = λ k. absurd (cc)
-becomes_waits W s (AB bits octets) h = λ k. absurd (cc)
-becomes_waits W s (DT octets) h = h
-becomes_waits W s (GT tokens) h = h
-becomes_waits W s (PT tokens octets) h = h
-becomes_waits W s (MIP confirm m octets) h = h
-becomes_waits W s (MIA m octets) h = h
-becomes_waits W s AA h = h
+becomes_waits W s u h = search arith
 
 unit_waits : (W : Type 0) (s : State) (u : Meaning) → Waits W s → Waits W (respond_unit s u).next
 unit_waits W s u h =
@@ -190,8 +126,7 @@ unit_answers first s u n h =
     })
 
 same_test : (w : Word) (u : Meaning) → ActsAs w u → passes unit_asks w ≡ false → unit_asks u ≡ false
-same_test (says m) u a n = ap unit_asks a ∙ n
-same_test (part place octets) u a n = ap unit_asks a.1
+same_test w u a n = grind arith
 
 word_answers : (first : Option ℕ) (t : Taker) (w : Word) → passes unit_asks w ≡ false → Answers first t.state →
     Answers first (respond_word t w).next.state
@@ -201,13 +136,11 @@ word_answers first t w n h = word_keeps (Answers first) t w (λ u a. unit_answer
 -- ---- a CN, while one is awaited
 
 or_true : (b : Bool) → (b || true) ≡ true
-or_true true = refl
-or_true false = refl
+or_true b = grind arith
 
 either_left : (b : Bool) (x y : State) → is_wait_cn x.phase ≡ false → is_wait_cn y.phase ≡ false →
     is_wait_cn (if b then x else y).phase ≡ false
-either_left true x y h k = h
-either_left false x y h k = k
+either_left b x y h k = grind arith
 
 cn_leaves : (t : Taker) (u : Meaning) → unit_asks u ≡ true → is_wait_cn t.state.phase ≡ true →
     is_wait_cn (respond_word t (says u)).next.state.phase ≡ false
@@ -226,23 +159,14 @@ abbrev IsAsked : Option ℕ → Meaning → Type 0
 IsAsked first u = (first ≡ None) ⊎ (first ≡ offered_in u)
 
 asked_units : (first : Option ℕ) (offered : ℕ) → ((first ≡ None) ⊎ (first ≡ Some offered)) → IsUnits first (functional_units offered)
-asked_units None offered h = tt
-asked_units (Some n) offered (inl e) = absurd (cc)
-asked_units (Some n) offered (inr e) = let same : offered ≡ n = cc in ap functional_units same
+asked_units first offered h = grind arith
 
 cn_becomes : (first : Option ℕ) (s : State) (u : Meaning) → unit_asks u ≡ true → IsAsked first u → Answers first (becomes s u)
-cn_becomes first s (CN version_2 requirements serial wishes from to sizes octets) a i =
-    by (is_acceptable version_2 requirements sizes) (requested s requirements serial wishes sizes) (without_tokens Ended s)
-    (λ k. asked_units first requirements i) (λ k. absurd (cc))
-  where
-    by : (b : Bool) (x y : State) → Answers first x → Answers first y → Answers first (if b then x else y)
-    by true x y h k = h
-    by false x y h k = k
+cn_becomes first s (CN version_2 requirements serial wishes from to sizes octets) a i = grind (arith, asked_units)
 cn_becomes first s _ a i = absurd (cc)
 
 cn_expected : (u : Meaning) (p : Phase) → unit_asks u ≡ true → is_expected p u ≡ true → is_wait_cn p ≡ true
-cn_expected (CN version_2 requirements serial wishes from to sizes octets) p a x = x
-cn_expected _ p a x = absurd (cc)
+cn_expected u p a x = grind arith
 
 cn_unit : (first : Option ℕ) (s : State) (u : Meaning) → unit_asks u ≡ true → (is_wait_cn s.phase ≡ true → IsAsked first u) →
     Answers first s → Answers first (respond_unit s u).next
@@ -274,21 +198,16 @@ pub record AsAsked (us : List (List ℕ)) (taken : ℕ) (s : State) : Type 0 whe
 still_none : (us : List (List ℕ)) (taken : ℕ) (read : Result Words SpduFault) → read ≡ said_at (get_or us taken []) →
     in_first offered_in read ≡ None → (taken ≡ 0) ⊎ (first_asked us ≡ None)
     → (taken + 1 ≡ 0) ⊎ (first_asked us ≡ None)
-still_none us taken read e n (inl z) =
-    inr (ap (λ (i : ℕ). in_first offered_in (said_at (get_or us i []))) (sym z) ∙ ap (in_first offered_in) (sym e) ∙ n)
-still_none us taken read e n (inr f) = inr f
+still_none us taken read e n h = grind arith
 
 not_offered : (m : Meaning) → unit_asks m ≡ false → offered_in m ≡ None
-not_offered (CN version_2 requirements serial wishes from to sizes octets) n = absurd (cc)
-not_offered _ n = refl
+not_offered m n = grind arith
 
 left_false : (a b : Bool) → (a || b) ≡ false → (a ≡ false) × (b ≡ false)
-left_false true b e = absurd (cc)
-left_false false b e = (refl, e)
+left_false a b e = grind arith
 
 none_offered : (words : Words) → list_any (passes unit_asks) words ≡ false → in_first offered_in (Ok words) ≡ None
-none_offered [] n = refl
-none_offered (w ∷ words) n = not_offered (as_message w) (left_false (passes unit_asks w) (list_any (passes unit_asks) words) n).0
+none_offered words n = grind (arith, not_offered, left_false, passes)
 
 all_none : (words : Words) → list_any (passes unit_asks) words ≡ false → AllByRecursion (λ w. passes unit_asks w ≡ false) words
 all_none [] n = tt
@@ -310,14 +229,7 @@ abbrev IsCn : Words → Type 0
 IsCn words = (u : Meaning) × (words ≡ says u ∷ []) × (unit_asks u ≡ true)
 
 one_cn : (words : Words) → stands_alone unit_asks words ≡ true → list_any (passes unit_asks) words ≡ true → IsCn words
-one_cn [] s a = absurd (cc)
-one_cn (says u ∷ []) s a = (u, refl, first_true (unit_asks u) a)
-  where
-    first_true : (b : Bool) → (b || false) ≡ true → b ≡ true
-    first_true true e = refl
-    first_true false e = absurd (cc)
-one_cn (part place octets ∷ []) s a = absurd (cc)
-one_cn (w ∷ v ∷ words) s a = absurd (let k : not true ≡ true = ap not (sym a) ∙ s in cc)
+one_cn words s a = grind arith
 
 no_cn_step : (us : List (List ℕ)) (l : Listener) (taken : ℕ) (words : Words) → Ok words ≡ said_at (get_or us taken []) →
     list_any (passes unit_asks) words ≡ false → AsAsked us taken l.state
@@ -334,9 +246,7 @@ no_cn_step us l taken words e n h = record {
 
 this_asked : (us : List (List ℕ)) (taken : ℕ) (u : Meaning) → Ok (says u ∷ []) ≡ said_at (get_or us taken []) →
     (taken ≡ 0) ⊎ (first_asked us ≡ None) → IsAsked (first_asked us) u
-this_asked us taken u e (inl z) =
-    inr (ap (λ (i : ℕ). in_first offered_in (said_at (get_or us i []))) (sym z) ∙ ap (in_first offered_in) (sym e))
-this_asked us taken u e (inr f) = inl f
+this_asked us taken u e h = grind arith
 
 cn_word : (us : List (List ℕ)) (t : Taker) (taken : ℕ) (u : Meaning) → Ok (says u ∷ []) ≡ said_at (get_or us taken []) →
     unit_asks u ≡ true → AsAsked us taken t.state
@@ -352,12 +262,7 @@ cn_word us t taken u e a h = record {
 cn_step : (us : List (List ℕ)) (l : Listener) (taken : ℕ) (words : Words) → Ok words ≡ said_at (get_or us taken []) → IsCn words →
     AsAsked us taken l.state → AsAsked us (taken + 1) (after_input l (listening.taken words)).state
 unfolding react
-cn_step us l taken words e i h =
-    let one : words ≡ says i.0 ∷ [] = i.1 in
-    let alone : respond_tsdu (taker_of l) words ≡ respond_word (taker_of l) (says i.0) = ap (respond_tsdu (taker_of l)) one ∙
-    word_alone (taker_of l) (says i.0) in
-    subst (λ (x : Hearing). AsAsked us (taken + 1) x.next.state) (sym alone)
-    (cn_word us (taker_of l) taken i.0 (ap (λ (ws : Words). Ok ws) (sym one) ∙ e) i.2 h)
+cn_step us l taken words e i h = grind (arith, word_alone, cn_word)
 
 fault_step : (us : List (List ℕ)) (l : Listener) (taken : ℕ) (fault : SpduFault) → Err fault ≡ said_at (get_or us taken []) →
     AsAsked us taken l.state → AsAsked us (taken + 1) (after_input l (unread fault)).state
@@ -376,8 +281,7 @@ words_step us l taken words true n e h =
 
 read_step : (us : List (List ℕ)) (l : Listener) (taken : ℕ) (read : Result Words SpduFault) → read ≡ said_at (get_or us taken []) →
     AsAsked us taken l.state → AsAsked us (taken + 1) (after_input l (came_as read)).state
-read_step us l taken (Ok words) e h = words_step us l taken words (list_any (passes unit_asks) words) refl e h
-read_step us l taken (Err fault) e h = fault_step us l taken fault e h
+read_step us l taken read e h = grind (arith, words_step, passes, fault_step)
 
 pub takes_as_asked : (us : List (List ℕ)) (l : Listener) (taken : ℕ) → AsAsked us taken l.state →
     AsAsked us (taken + 1) (after_input l (came (get_or us taken []))).state
@@ -386,20 +290,10 @@ takes_as_asked us l taken h = read_step us l taken (said_at (get_or us taken [])
 -- ---- a call
 
 after_answers : (first : Option ℕ) (s : State) (c : Call) → Answers first s → Answers first (after s c)
-after_answers first s (Data octets) h = h
-after_answers first s (Give tokens) h = h
-after_answers first s (Please tokens octets) h = h
-after_answers first s (Minor confirm octets) h = h
-after_answers first s (MinorConfirm n octets) h = h
-after_answers first s _ h = λ k. absurd (cc)
+after_answers first s c h = grind arith
 
 after_waits : (W : Type 0) (s : State) (c : Call) → Waits W s → Waits W (after s c)
-after_waits W s (Data octets) h = h
-after_waits W s (Give tokens) h = h
-after_waits W s (Please tokens octets) h = h
-after_waits W s (Minor confirm octets) h = h
-after_waits W s (MinorConfirm n octets) h = h
-after_waits W s _ h = λ k. absurd (cc)
+after_waits W s c h = grind arith
 
 pub calls_as_asked : (us : List (List ℕ)) (l : Listener) (taken : ℕ) (c : Call) → AsAsked us taken l.state →
     AsAsked us taken (after_input l (called c)).state

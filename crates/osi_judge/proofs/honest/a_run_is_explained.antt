@@ -3,8 +3,8 @@
 use Rattle.std.proofs.Common.{◌≡◌, ◌∙◌, refl, sym, ap, subst, ℕ, ◌+◌, ◌≤◌, Bool, true, false, if◌then◌else◌, List, [], ◌∷◌, ◌++◌, length}
 use Rattle.std.proofs.Common.{map, get_or, Option, Some, None, Result, Ok, Err, option_map, arith}
 use Rattle.osi_spdu.specs.declared.faults.SpduFault.{SpduFault}
-use Rattle.osi_message.specs.Meanings.{Meaning, DT, GT}
-use Rattle.osi_message.specs.Parting.{is_parted, tsdus_of, tsdus_sent}
+use Rattle.osi_message.specs.Meanings.{Meaning, GT}
+use Rattle.osi_message.specs.Parting.{is_parted, tsdus_sent}
 use Rattle.osi_message.specs.Reading.{said_at}
 use Rattle.osi_message.specs.Sendable.{words_of}
 use Rattle.osi_message.specs.Tokens.{no_token}
@@ -12,30 +12,29 @@ use Rattle.osi_message.specs.Words.{Words, says}
 use Rattle.osi_message.specs.Written.{written}
 use Rattle.osi_session.specs.declared.faults.CallError.{CallError}
 use Rattle.osi_session.specs.declared.phases.Phase.{Phase}
-use Rattle.osi_session.specs.declared.state.State.{State}
 use Rattle.osi_session.specs.Allowed.{Answer, allowed}
 use Rattle.osi_session.specs.Calls.{Call, HasSerial}
-use Rattle.osi_session.specs.Joining.{Hearing, acting_words, drops_parts, respond_came}
-use Rattle.osi_session.specs.Listening.{Input, Listener, Move, called, came, opened, broken, in_state, moved, react, after_input, taker_of}
+use Rattle.osi_session.specs.Joining.{Hearing, acting_words, respond_came}
+use Rattle.osi_session.specs.Listening.{Input, Listener, Move, called, came, opened, moved, react, after_input, taker_of}
 use Rattle.osi_session.specs.Phases.{is_ended, is_over, is_wait_transport}
 use Rattle.osi_session.specs.Sizes.{limit_of}
 use Rattle.osi_session.specs.Sound.{IsSound}
-use Rattle.osi_session.specs.Standing.{Seen, Count, Takes, after_count, answers, counted, goes, listens}
+use Rattle.osi_session.specs.Standing.{Seen, Count, Takes, after_count, answers, counted, listens}
 use Rattle.osi_session.proofs.tsdu.the_answer_to_a_tsdu.{accepted_callable, callable_open}
-use Rattle.osi_session.proofs.moves.the_move_of_each_input.{call_is, call_sends, came_is, not_opened}
+use Rattle.osi_session.proofs.moves.the_move_of_each_input.{call_is, came_is, not_opened}
 use Rattle.osi_session.proofs.moves.what_closes_the_connection.{input_ends}
 use Rattle.osi_session.proofs.tables.what_is_true_of_each_phase.{implied}
 use Rattle.osi_session.proofs.runs.what_every_run_preserves.{input_begun, input_over, input_sound, lost_ended}
 use Rattle.osi_session.proofs.tsdu.what_the_words_of_a_tsdu_preserve.{octets_sound}
-use Rattle.osi_judge.specs.Explaining.{Explains, Remark, Told, read_as, remark, remarks, remarks_of}
+use Rattle.osi_judge.specs.Explaining.{Explains, Remark, Told, read_as, remark, remarks}
 use Rattle.osi_judge.specs.Explaining as explained
 use Rattle.osi_judge.specs.Members.{IsBehind}
 use Rattle.osi_judge.specs.Running.{Pass, Runs, sends}
 use Rattle.osi_judge.specs.Running as running
-use Rattle.osi_judge.proofs.honest.a_call_is_explained.{AsSent, call_said, side_with}
+use Rattle.osi_judge.proofs.honest.a_call_is_explained.{AsSent, call_said}
 use Rattle.osi_judge.proofs.told.a_tsdu_has_one_count.{as_it_does}
 use Rattle.osi_judge.proofs.honest.an_answer_says_itself.{IsAnswer, SaysItself, came_itself}
-use Rattle.osi_judge.proofs.honest.what_is_said_is_explained.{SaysTsdus, tsdus_explained}
+use Rattle.osi_judge.proofs.honest.what_is_said_is_explained.{tsdus_explained}
 
 -- a session as an observer sees it between two TSDUs
 abbrev pub seen_of : Bool → Listener → Seen
@@ -58,18 +57,11 @@ fewer_from : (taken more : ℕ) (told : List Told) → taken ≤ more → AllFro
 fewer_from taken more [] l a = tt
 fewer_from taken more (t ∷ told) l a = (let k : more ≤ t.before = a.0 in omega arith, fewer_from taken more told l a.1)
 
-pass_later : (taken : ℕ) (tsdus : List (List ℕ)) (now : List Told) → Pass (taken + 1) tsdus now → Pass taken tsdus now
-pass_later taken [] [] p = tt
-pass_later taken (o ∷ os) (t ∷ now) p = (p.0, let k : taken + 1 ≤ t.before = p.1 in omega arith, pass_later taken os now p.2)
-pass_later taken [] (t ∷ now) p = absurd p
-pass_later taken (o ∷ os) [] p = absurd p
-
 sent_from : (us : List (List ℕ)) (closed : Bool) (l : Listener) (taken : ℕ) (told : List Told) → Runs us closed l taken told →
     AllFrom taken told
 sent_from us closed l taken told (running.rests _ _ _) = tt
 sent_from us closed l taken told (running.takes _ _ now later w p e) =
-    passed_from taken _ now later (pass_later taken _ now p)
-    (fewer_from taken (taken + 1) later (omega arith) (sent_from us _ _ (taken + 1) later e))
+    grind (arith, passed_from, fewer_from, sent_from us _ _ (taken + 1) later e)
 sent_from us closed l taken told (running.calls _ _ _ c now later s p e) = passed_from taken _ now later p (sent_from us _ _ taken later e)
 sent_from us closed l taken told (running.connects _ _ now later p e) = passed_from taken _ now later p (sent_from us _ _ taken later e)
 sent_from us closed l taken told (running.misses _ _ reason _ w e) = sent_from us _ _ taken told e
@@ -82,8 +74,7 @@ words_behind taken t (w ∷ ws) later l b = l
 
 read_behind : (taken : ℕ) (t : Told) (read : Result Words SpduFault) (later : List Remark) → taken ≤ t.before → IsBehind taken later →
     IsBehind taken (read_as t read ++ later)
-read_behind taken t (Ok words) later l b = words_behind taken t (acting_words words) later l b
-read_behind taken t (Err fault) later l b = l
+read_behind taken t read later l b = grind (arith, words_behind)
 
 all_behind : (taken : ℕ) (told : List Told) → AllFrom taken told → IsBehind taken (remarks told)
 all_behind taken [] a = tt
@@ -92,9 +83,7 @@ all_behind taken (t ∷ told) a = read_behind taken t (said_at t.octets) (remark
 -- ---- a session that is over, and whose transport connection is gone, sends nothing
 
 pub nothing_passes : (taken : ℕ) (tsdus : List (List ℕ)) (now : List Told) → tsdus ≡ [] → Pass taken tsdus now → now ≡ []
-nothing_passes taken [] [] e p = refl
-nothing_passes taken [] (t ∷ now) e p = absurd p
-nothing_passes taken (o ∷ os) now e p = absurd (cc)
+nothing_passes taken tsdus now e p = grind arith
 
 pub err_sends : (l : Listener) (c : Call) (e : CallError) → allowed l.state c ≡ Err e → sends l (called c) ≡ []
 err_sends l c e h = ap (λ (m : Move). tsdus_sent (limit_of l.state) m.reply) (call_is l c (Err e) h)
@@ -106,16 +95,12 @@ over_sends : (l : Listener) (c : Call) (a : Answer) → allowed l.state c ≡ a 
 over_sends l c (Err e) h o = err_sends l c e h
 over_sends l c (Ok x) h o = let live = (callable_open l.state.phase (accepted_callable l.state c x h)).2 in absurd (cc)
 
-both_none : (now later : List Told) → now ≡ [] → later ≡ [] → now ++ later ≡ []
-both_none now later e f = ap (λ (x : List Told). x ++ later) e ∙ f
-
 pub sends_no_more : (us : List (List ℕ)) (closed : Bool) (l : Listener) (taken : ℕ) (told : List Told) → Runs us closed l taken told →
     closed ≡ true → is_over l.state.phase ≡ true → told ≡ []
 sends_no_more us closed l taken told (running.rests _ _ _) g o = refl
 sends_no_more us closed l taken told (running.takes _ _ now later w p e) g o = absurd (cc)
 sends_no_more us closed l taken told (running.calls _ _ _ c now later s p e) g o =
-    both_none now later (nothing_passes taken _ now (over_sends l c (allowed l.state c) refl o) p)
-    (sends_no_more us _ _ taken later e g (input_over l (called c) o))
+    grind (arith, over_sends, sends_no_more us _ _ taken later e g (input_over l (called c) o))
 sends_no_more us closed l taken told (running.connects _ _ now later p e) g o = absurd (cc)
 sends_no_more us closed l taken told (running.misses _ _ reason _ w e) g o = absurd (cc)
 sends_no_more us closed l taken told (running.loses _ _ _ e) g o = absurd (cc)
@@ -135,16 +120,10 @@ abbrev seen_behind : Move → Seen
 seen_behind m = seen_of m.closes m.next
 
 none_kept : (b : Bool) → (if b then None else None) ≡ (let x : Option ℕ = None in x)
-none_kept true = refl
-none_kept false = refl
+none_kept b = grind arith
 
 count_leads : (l : Listener) (tsdu : List ℕ) → after_count (seen_of false l) (counted (hearing l tsdu)) ≡ seen_behind (react l (came tsdu))
-count_leads l tsdu =
-    let h = hearing l tsdu in
-    let none = none_kept (drops_parts h.next.state.phase) in
-    let here : after_count (seen_of false l) (counted h) ≡ seen_behind (moved l h) =
-    λ i. record { state = h.next.state; joined = option_map length h.next.joined; sent = none i; closed = h.closes } in
-    here ∙ ap seen_behind (sym (came_moves l tsdu))
+count_leads l tsdu = grind (arith, none_kept, came_moves)
 
 -- nothing is sent
 takes_on : (us : List (List ℕ)) (ms : List Remark) (taken : ℕ) (s : Seen) (c : Count) → listens s ≡ true → Takes s (get_or us taken []) c →
@@ -167,24 +146,18 @@ answers_on known us told t taken s c m l k r o b a e =
 
 -- a message that is an answer is sent in one TSDU
 answer_alone : (m : Meaning) (limit : ℕ) → answers m m ≡ true → is_parted limit m ≡ false
-answer_alone (DT octets) limit e = absurd (cc)
-answer_alone _ limit e = refl
+answer_alone m limit e = grind arith
 
 one_passes : (taken : ℕ) (o : List ℕ) (now : List Told) → Pass taken (o ∷ []) now →
     (t : Told) × (now ≡ t ∷ []) × (t.octets ≡ o) × (taken ≤ t.before)
-one_passes taken o [] p = absurd p
-one_passes taken o (t ∷ []) p = (t, refl, p.0, p.1)
-one_passes taken o (t ∷ u ∷ now) p = absurd p.2
+one_passes taken o now p = grind arith
 
 taken_by : AsSent → (us : List (List ℕ)) (l : Listener) (taken : ℕ) (now later : List Told) (r : Option Meaning) →
     listens (seen_of false l) ≡ true → (hearing l (get_or us taken [])).reply ≡ r
     → SaysItself r → Pass (taken + 1) (tsdus_sent (limit_of l.state) r) now → IsBehind (taken + 1) (remarks later)
     → Explains us (remarks later) (taken + 1) (after_count (seen_of false l) (counted (hearing l (get_or us taken []))))
     → Explains us (remarks (now ++ later)) taken (seen_of false l)
-taken_by known us l taken now later None n e a p b h =
-    let tsdu = get_or us taken [] in
-    subst (λ (x : List Told). Explains us (remarks (x ++ later)) taken (seen_of false l)) (sym (nothing_passes (taken + 1) [] now refl p))
-    (takes_on us (remarks later) taken (seen_of false l) (counted (hearing l tsdu)) n (as_it_does l.state l.joined (said_at tsdu)) e b h)
+taken_by known us l taken now later None n e a p b h = search (arith, takes_on, as_it_does, nothing_passes (taken + 1) [] now refl p)
 taken_by known us l taken now later (Some m) n e a p b h =
     let tsdu = get_or us taken [] in
     let one = one_passes (taken + 1) (written m) now
@@ -196,37 +169,16 @@ taken_by known us l taken now later (Some m) n e a p b h =
 
 -- ---- a call
 
-kept_length : (b : Bool) (j : Option (List ℕ)) → (if b then None else option_map length j) ≡ option_map length (if b then None else j)
-kept_length true j = refl
-kept_length false j = refl
-
-call_leads : (l : Listener) (next : State) →
-    goes (side_with l.state (option_map length l.joined) None) next ≡ seen_of false (in_state l next)
-call_leads l next =
-    let k = kept_length (drops_parts next.phase) l.joined in
-    let none = none_kept (drops_parts next.phase) in
-    λ i. record { state = next; joined = k i; sent = none i; closed = false }
-
 called_by : AsSent → (us : List (List ℕ)) (closed : Bool) (l : Listener) (taken : ℕ) (c : Call) (now later : List Told) (a : Answer) →
     HasSerial c → Pass taken (sends l (called c)) now
     → IsSound l.state → (closed ≡ true → is_over l.state.phase ≡ true) → allowed l.state c ≡ a →
     Explains us (remarks later) taken (seen_of closed (after_input l (called c)))
     → Explains us (remarks (now ++ later)) taken (seen_of closed l)
 called_by known us closed l taken c now later (Err x) small p sound over e h =
-    subst (λ (y : List Told). Explains us (remarks (y ++ later)) taken (seen_of closed l))
-    (sym (nothing_passes taken (sends l (called c)) now (err_sends l c x e) p))
-    (subst (λ (y : Listener). Explains us (remarks later) taken (seen_of closed y)) (err_stays l c x e) h)
-called_by known us true l taken c now later (Ok x) small p sound over e h =
-    let live = (callable_open l.state.phase (accepted_callable l.state c x e)).2 in
-    let dead = over refl in
-    absurd (cc)
+    grind (arith, nothing_passes taken (sends l (called c)) now (err_sends l c x e) p, err_stays l c x e)
+called_by known us true l taken c now later (Ok x) small p sound over e h = search (arith, callable_open, accepted_callable)
 called_by known us false l taken c now later (Ok x) small p sound over e h =
-    let next = sym (ap (λ (m : Move). m.next) (call_is l c (Ok x) e)) in
-    tsdus_explained us (tsdus_of (limit_of l.state) x.sent) now later taken (seen_of false l) (seen_of false (in_state l x.next))
-    (subst (λ (os : List (List ℕ)). Pass taken os now) (sym (call_sends l c x e)) p)
-    (subst (SaysTsdus (seen_of false l) (tsdus_of (limit_of l.state) x.sent)) (call_leads l x.next)
-    (call_said known l.state (option_map length l.joined) c x sound small e))
-    (subst (λ (y : Listener). Explains us (remarks later) taken (seen_of false y)) (sym next) h)
+    grind (arith, tsdus_explained, call_is l c (Ok x) e, call_said known l.state (option_map length l.joined) c x sound small e)
 
 -- ---- any run
 
@@ -244,11 +196,7 @@ pub record IsLive (closed : Bool) (l : Listener) : Type 0 where
 
 pub still_open : (l : Listener) (input : Input) → is_wait_transport l.state.phase ≡ false →
     is_wait_transport (after_input l input).state.phase ≡ false
-still_open l input w = by (is_wait_transport (after_input l input).state.phase) refl
-  where
-    by : (b : Bool) → is_wait_transport (after_input l input).state.phase ≡ b → is_wait_transport (after_input l input).state.phase ≡ false
-    by false e = e
-    by true e = let k = input_begun l input e in absurd (cc)
+still_open l input w = grind (arith, input_begun)
 
 pub run_explained : AsSent → (us : List (List ℕ)) (closed : Bool) (l : Listener) (taken : ℕ) (told : List Told) →
     Runs us closed l taken told → IsLive closed l
@@ -276,13 +224,10 @@ run_explained known us closed l taken told (running.calls _ _ _ c now later smal
       over = λ g. input_over l (called c) (k.over g);
     }))
 run_explained known us closed l taken told (running.connects _ _ now later p e) k =
-    let rest = not_opened l k.open_now in
-    subst (λ (x : List Told). Explains us (remarks (x ++ later)) taken (seen_of false l))
-    (sym (nothing_passes taken (sends l opened) now (ap (λ (m : Move). tsdus_sent (limit_of l.state) m.reply) rest) p))
-    (subst (λ (y : Listener). Explains us (remarks later) taken (seen_of false y)) (ap (λ (m : Move). m.next) rest)
-    (run_explained known us _ _ taken later e
-    (record { sound = input_sound l opened tt k.sound; open_now = still_open l opened k.open_now; over = λ g. absurd (cc) })))
+    grind (
+      arith,
+      not_opened,
+      run_explained known us _ _ taken later e (record { sound = input_sound l opened tt k.sound; open_now = still_open l opened k.open_now; over = λ g. absurd (cc) }),
+    )
 run_explained known us closed l taken told (running.misses _ _ reason _ w e) k = let open_now = k.open_now in absurd (cc)
-run_explained known us closed l taken told (running.loses _ _ _ e) k =
-    none_explained us told taken (seen_of false l)
-    (sends_no_more us _ _ taken told e refl (ended_over (after_input l broken).state.phase (lost_ended l)))
+run_explained known us closed l taken told (running.loses _ _ _ e) k = grind (arith, none_explained, sends_no_more, ended_over, lost_ended)

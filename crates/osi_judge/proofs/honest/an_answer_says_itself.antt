@@ -1,7 +1,6 @@
 -- What a session answers a TSDU by at once can be sent, is alone in its TSDU, and is taken for that answer: an RF, AA,
 -- or an AB without the user's bit. For the law that an honest session is explained.
-use Rattle.std.proofs.Common.{◌≡◌, refl, ℕ, Bool, true, false, not, ◌&&◌, [], ◌∷◌, Option, Some, None, Result, Ok, Err, if◌then◌else◌}
-use Rattle.std.proofs.Common.{arith}
+use Rattle.std.proofs.Common.{◌≡◌, ℕ, Bool, true, false, not, ◌&&◌, [], ◌∷◌, Option, Some, None, Result, Ok, Err, if◌then◌else◌, arith}
 use Rattle.osi_spdu.specs.declared.faults.SpduFault.{SpduFault}
 use Rattle.osi_spdu.specs.Sizes.{are_sizes}
 use Rattle.osi_message.specs.Meanings.{Meaning, AA, AB, CN, RF}
@@ -10,10 +9,10 @@ use Rattle.osi_message.specs.Words.{Word, Words}
 use Rattle.osi_message.specs.Written.{is_second, user_data_of}
 use Rattle.osi_session.specs.declared.faults.UnitFault.{UnitFault}
 use Rattle.osi_session.specs.declared.state.State.{State}
-use Rattle.osi_session.specs.Joining.{Taker, Hearing, acting_words, heard_then, respond_came, respond_word, respond_words, word_verdict}
-use Rattle.osi_session.specs.Phases.{is_aborting, is_ended, is_over}
-use Rattle.osi_session.specs.Respond.{Outcome, conditions, drops, first_fault, first_reply, in_aborting, in_ended, is_expected, is_faulty}
-use Rattle.osi_session.specs.Respond.{judged, reply_for, respond_fault, respond_unit, si, take_expected}
+use Rattle.osi_session.specs.Joining.{Taker, Hearing, acting_words, respond_came, respond_word, respond_words}
+use Rattle.osi_session.specs.Phases.{is_over}
+use Rattle.osi_session.specs.Respond.{Outcome, conditions, first_fault, first_reply, in_aborting, in_ended, judged, reply_for}
+use Rattle.osi_session.specs.Respond.{respond_fault, respond_unit, si, take_expected}
 use Rattle.osi_session.specs.Standing.{answers}
 use Rattle.osi_session.specs.Units.{functional_units, has_data}
 use Rattle.osi_session.proofs.tables.a_word_acts_as_its_message.{outcome_in, word_does}
@@ -25,28 +24,15 @@ pub record IsAnswer (m : Meaning) : Type 0 where
 
 refuses : (reason : ℕ) → IsAnswer (RF reason [])
 unfolding user_data_of is_second
-refuses reason =
-    record {
-      itself = refl;
-      alone = refl;
-      sendable = record { version = refl; numbered = tt; sized = refl; addressed = tt; short = omega arith };
-    }
+refuses reason = grind arith
 
 aborts : IsAnswer (AB 5 [])
 unfolding user_data_of is_second
-aborts = record {
-  itself = refl;
-  alone = refl;
-  sendable = record { version = refl; numbered = tt; sized = refl; addressed = tt; short = omega arith };
-}
+aborts = grind arith
 
 accepts : IsAnswer AA
 unfolding user_data_of is_second
-accepts = record {
-  itself = refl;
-  alone = refl;
-  sendable = record { version = refl; numbered = tt; sized = refl; addressed = tt; short = omega arith };
-}
+accepts = grind arith
 
 abbrev pub SaysItself : Option Meaning → Type 0
 SaysItself None = Unit {0}
@@ -56,8 +42,7 @@ abbrev Answers : Outcome → Type 0
 Answers o = SaysItself o.reply
 
 either : (b : Bool) (x y : Option Meaning) → SaysItself x → SaysItself y → SaysItself (if b then x else y)
-either true x y h k = h
-either false x y h k = k
+either b x y h k = grind arith
 
 reply_itself : (u : Meaning) → SaysItself (reply_for u)
 reply_itself (CN version_2 requirements serial wishes from to sizes octets) =
@@ -67,8 +52,7 @@ reply_itself (AB bits octets) = accepts
 reply_itself _ = tt
 
 either_outcome : (b : Bool) (x y : Outcome) → Answers x → Answers y → Answers (if b then x else y)
-either_outcome true x y h k = h
-either_outcome false x y h k = k
+either_outcome b x y h k = grind arith
 
 judged_itself : (s : State) (u : Meaning) (f : Option UnitFault) → Answers (judged s u f)
 judged_itself s u None = reply_itself u
@@ -79,9 +63,7 @@ unfolding take_expected
 expected_itself s u = judged_itself s u (first_fault (si u) (conditions s u))
 
 aborting_itself : (s : State) (u : Meaning) → Answers (in_aborting s u)
-aborting_itself s (AB bits octets) = tt
-aborting_itself s AA = tt
-aborting_itself s _ = tt
+aborting_itself s u = grind arith
 
 ended_itself : (s : State) (u : Meaning) → Answers (in_ended s u)
 ended_itself s (AB bits octets) = accepts
@@ -89,30 +71,21 @@ ended_itself s _ = tt
 
 unit_itself : (s : State) (u : Meaning) → Answers (respond_unit s u)
 unfolding respond_unit
-unit_itself s u =
-    either_outcome (is_aborting s.phase) _ _ (aborting_itself s u)
-    (either_outcome (is_ended s.phase) _ _ (ended_itself s u)
-    (either_outcome (drops s u) _ _ tt (either_outcome (not (is_expected s.phase u)) _ _ aborts (expected_itself s u))))
+unit_itself s u = grind (arith, either_outcome, aborting_itself, ended_itself, aborts, expected_itself)
 
 first_itself : (a b : Option Meaning) → SaysItself a → SaysItself b → SaysItself (first_reply a b)
-first_itself None b h k = k
-first_itself (Some m) b h k = h
+first_itself a b h k = grind arith
 
 word_itself : (t : Taker) (w : Word) → Answers (outcome_in (respond_word t w))
 word_itself t w = word_does Answers t w (record { acts = λ u a. unit_itself t.state u; bad = λ fault o. aborts; rests = tt })
 
 either_hearing : (b : Bool) (x y : Hearing) → SaysItself x.reply → SaysItself y.reply → SaysItself (if b then x else y).reply
-either_hearing true x y h k = h
-either_hearing false x y h k = k
+either_hearing b x y h k = grind arith
 
 words_itself : (t : Taker) (ws : Words) → SaysItself (respond_words t ws).reply
 unfolding respond_words
 words_itself t [] = tt
-words_itself t (w ∷ ws) =
-    either_hearing (is_faulty (word_verdict t w)) (respond_word t w)
-    (heard_then (respond_word t w) (respond_words (respond_word t w).next ws)) (word_itself t w)
-    (first_itself (respond_word t w).reply (respond_words (respond_word t w).next ws).reply (word_itself t w)
-    (words_itself (respond_word t w).next ws))
+words_itself t (w ∷ ws) = grind (arith, either_hearing, word_itself, first_itself, words_itself (respond_word t w).next ws)
 
 fault_itself : (s : State) (fault : SpduFault) → Answers (respond_fault s fault)
 unfolding respond_fault

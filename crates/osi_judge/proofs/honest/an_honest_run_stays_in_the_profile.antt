@@ -32,7 +32,7 @@ use Rattle.osi_judge.specs.declared.directions.Direction.{Direction}
 use Rattle.osi_judge.specs.declared.directions.Direction.TheVariants.{Left, Right}
 use Rattle.osi_judge.specs.Explaining.{Told}
 use Rattle.osi_judge.specs.Profiles.{accepted_in, in_first, is_outside}
-use Rattle.osi_judge.specs.Running.{IsHonest, IsSentFrom, Pass, Runs, sends}
+use Rattle.osi_judge.specs.Running.{IsHonest, Pass, Runs, sends}
 use Rattle.osi_judge.specs.Running as running
 use Rattle.osi_judge.proofs.honest.a_call_is_explained.{AsSent, data_sent, one_sent}
 use Rattle.osi_judge.proofs.honest.a_caller_is_explained.{as_opened, connecting, missed_ended, opening_sound, over_by, refuses_all, fits}

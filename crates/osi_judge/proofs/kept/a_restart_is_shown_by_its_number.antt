@@ -1,5 +1,5 @@
 -- The units of a walk to a restart have these words: for the functions of `restarts` that make them.
-use Rattle.std.proofs.Common.{◌≡◌, ◌∙◌, refl, sym, ap, ℕ, ◌≤◌, List, [], ◌∷◌}
+use Rattle.std.proofs.Common.{◌≡◌, ◌∙◌, refl, ap, ℕ, ◌≤◌, List, []}
 use Rattle.std.specs.Borrow.{Bor}
 use Rattle.osi_spdu.specs.declared.fields.ResyncType.TheVariants.{Restart}
 use Rattle.osi_spdu.specs.declared.kinds.Kind.TheVariants.{Abort, Resynchronize}
@@ -8,10 +8,10 @@ use Rattle.osi_spdu.specs.declared.settings.TokenSetting.{TokenSetting}
 use Rattle.osi_spdu.specs.declared.settings.Wish.TheVariants.{Answerer}
 use Rattle.osi_spdu.specs.Known.{Contents, Known}
 use Rattle.osi_spdu.specs.Made.{made, abort_params, resynchronize_params}
-use Rattle.osi_message.specs.Meanings.{Meaning, AB, RS}
+use Rattle.osi_message.specs.Meanings.{AB, RS}
 use Rattle.osi_message.specs.Reading.{meaning, word}
-use Rattle.osi_message.specs.Words.{Word, says}
-use Rattle.osi_message.specs.Written.{unit_of, unit_with, with_data}
+use Rattle.osi_message.specs.Words.{says}
+use Rattle.osi_message.specs.Written.{unit_of, unit_with}
 use Rattle.osi_message.proofs.what_is_written_means_it.{HaveDigits, meaning_again}
 use Rattle.osi_message.proofs.a_unit_is_made_of_its_meaning.{abort_known, restart_known}
 use Rattle.osi_judge.specs.Kept.{restart_at, an_abort}

@@ -1,12 +1,12 @@
 -- What a session does by itself on a walk is a function of its state and of what passed: for the functions of `first_places`.
-use Rattle.std.proofs.Common.{◌≡◌, ◌∙◌, refl, sym, ap, ℕ, suc, zero, ◌+◌, ◌-◌, ◌<◌, ◌≤◌, Bool, true, false, is_none, List, [], ◌∷◌}
-use Rattle.std.proofs.Common.{get_or, Option, Some, None, option_map, if◌then◌else◌, arith}
+use Rattle.std.proofs.Common.{◌≡◌, ◌∙◌, sym, ap, ℕ, ◌+◌, ◌<◌, ◌≤◌, Bool, true, false, is_none, List, [], get_or, Option, Some, None}
+use Rattle.std.proofs.Common.{option_map, if◌then◌else◌, arith}
 use Rattle.osi_message.specs.Meanings.{Meaning}
 use Rattle.osi_message.specs.Words.{Word}
 use Rattle.osi_session.specs.Standing.{Seen, Count, Takes, listens, after_count}
 use Rattle.osi_judge.specs.declared.members.Member.{Member}
 use Rattle.osi_judge.specs.Kept.{member, sends, quiet_after, quietly, or_else, first_sender}
-use Rattle.osi_judge.specs.Nearest.{count_at, quiet_by, next_of, becomes, reached}
+use Rattle.osi_judge.specs.Nearest.{count_at, next_of, reached}
 use Rattle.osi_judge.proofs.told.the_nearest_of_all_sessions_is_told.{count_is, becomes_none, reached_some, reached_end}
 use Rattle.osi_judge.proofs.kept.a_session_takes_one_tsdu_at_a_time.{next_taken}
 
@@ -34,59 +34,30 @@ quiet_answers s u c a l k r =
 -- the same by the place of the TSDU
 pub next_is : (us : List (List ℕ)) (m : Member)
     → next_of us m ≡ option_map (member (m.taken + 1)) (quietly m.standing (get_or us m.taken []))
-next_is us m = by (listens m.standing) (count_at m.standing (get_or us m.taken []))
-  where
-    inner : (b : Bool) (c : Count)
-        → (if b then Some (member (m.taken + 1) (after_count m.standing c)) else None)
-        ≡ option_map (member (m.taken + 1)) (if b then Some (after_count m.standing c) else None)
-    inner true c = refl
-    inner false c = refl
-
-    by : (b : Bool) (c : Count) → (if b then quiet_by m c else None) ≡ option_map (member (m.taken + 1)) (if_quiet m.standing c b)
-    by true c = inner (is_none c.reply) c
-    by false c = refl
+next_is us m = grind arith
 
 pub moves_as : (us : List (List ℕ)) (m : Member) (u : List ℕ) (r : Option Seen) (n : Option Member) → u ≡ get_or us m.taken []
     → r ≡ quietly m.standing u → n ≡ option_map (member (m.taken + 1)) r → n ≡ next_of us m
-moves_as us m u r n e q k =
-    k ∙ ap (option_map (member (m.taken + 1))) q ∙ ap (λ (x : List ℕ). option_map (member (m.taken + 1)) (quietly m.standing x)) e
-    ∙ sym (next_is us m)
+moves_as us m u r n e q k = grind (arith, next_is)
 
 -- ---- the first place at which it may send a word
 
 none_after : (m : Option Member) → or_else m None ≡ m
-none_after None = refl
-none_after (Some m) = refl
+none_after m = grind arith
 
 pub sender_on : (us : List (List ℕ)) (w : Word) (octets before : ℕ) (at on : Member) (all : Option Member) → at.taken < before
     → sends w octets at ≡ None → next_of us at ≡ Some on → first_sender w octets (reached us before at) ≡ all
     → first_sender w octets (reached us before on) ≡ all
-sender_on us w octets before at on all l s n h =
-    let place = next_taken us at on n in
-    ap (λ (k : ℕ). first_sender w octets (becomes us (before - k) (Some on))) place
-    ∙ sym (ap (first_sender w octets) (reached_some us before at l)
-    ∙ ap (λ (o : Option Member). or_else o (first_sender w octets (becomes us (before - (at.taken + 1)) (next_of us at)))) s
-    ∙ ap (λ (o : Option Member). first_sender w octets (becomes us (before - (at.taken + 1)) o)) n)
-    ∙ h
+sender_on us w octets before at on all l s n h = search (arith, next_taken, reached_some)
 
 pub sender_here : (us : List (List ℕ)) (w : Word) (octets before : ℕ) (at said : Member) (all : Option Member)
     → sends w octets at ≡ Some said → first_sender w octets (reached us before at) ≡ all → Some said ≡ all
-sender_here us w octets before at said all s h = by (before - at.taken) ∙ h
-  where
-    by : (n : ℕ) → Some said ≡ first_sender w octets (becomes us n (Some at))
-    by zero = sym (ap (λ (o : Option Member). or_else o None) s)
-    by (suc n) = sym (ap (λ (o : Option Member). or_else o (first_sender w octets (becomes us n (next_of us at)))) s)
+sender_here us w octets before at said all s h = grind arith
 
 pub sender_stuck : (us : List (List ℕ)) (w : Word) (octets before : ℕ) (at : Member) (all : Option Member) → at.taken < before
     → sends w octets at ≡ None → next_of us at ≡ None → first_sender w octets (reached us before at) ≡ all → None ≡ all
-sender_stuck us w octets before at all l s n h =
-    sym (ap (first_sender w octets) (reached_some us before at l)
-    ∙ ap (λ (o : Option Member). or_else o (first_sender w octets (becomes us (before - (at.taken + 1)) (next_of us at)))) s
-    ∙ ap (λ (o : Option Member). first_sender w octets (becomes us (before - (at.taken + 1)) o)) n
-    ∙ ap (first_sender w octets) (becomes_none us (before - (at.taken + 1))))
-    ∙ h
+sender_stuck us w octets before at all l s n h = grind (arith, reached_some, becomes_none)
 
 pub sender_last : (us : List (List ℕ)) (w : Word) (octets before : ℕ) (at : Member) (said all : Option Member) → before ≤ at.taken
     → said ≡ sends w octets at → first_sender w octets (reached us before at) ≡ all → said ≡ all
-sender_last us w octets before at said all l s h =
-    s ∙ sym (none_after (sends w octets at)) ∙ sym (ap (first_sender w octets) (reached_end us before at l)) ∙ h
+sender_last us w octets before at said all l s h = grind (arith, none_after, reached_end)

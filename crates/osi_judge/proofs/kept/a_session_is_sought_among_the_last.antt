@@ -1,6 +1,6 @@
 -- A session is sought among the last of a list, from the end on: for `members::is_among` and `members::add`.
-use Rattle.std.proofs.Common.{◌≡◌, ◌∙◌, refl, sym, ap, subst, ℕ, suc, zero, ◌+◌, ◌-◌, ◌<◌, ◌≤◌, Bool, true, false, ◌||◌, List, [], ◌∷◌}
-use Rattle.std.proofs.Common.{◌++◌, length, drop, get_or, if◌then◌else◌, arith}
+use Rattle.std.proofs.Common.{◌≡◌, ◌∙◌, refl, sym, ap, ℕ, suc, zero, ◌+◌, ◌-◌, ◌<◌, ◌≤◌, Bool, true, false, ◌||◌, List, [], ◌∷◌, ◌++◌}
+use Rattle.std.proofs.Common.{length, drop, get_or, if◌then◌else◌, arith}
 use Rattle.osi_judge.specs.declared.members.Member.{Member}
 use Rattle.osi_judge.specs.Kept.{same_member, is_among, added}
 use Rattle.osi_judge.proofs.walked.sessions_after_a_unit.{drop_here}
@@ -8,9 +8,7 @@ use Rattle.osi_judge.proofs.walked.sessions_after_a_unit.{drop_here}
 -- it is not among the rest
 pub not_here : (m o : Member) (members : List Member) (i at : ℕ) → i < length members → o ≡ get_or members i o → at ≡ i + 1
     → false ≡ same_member o m → is_among m (drop at members) ≡ false → is_among m (drop i members) ≡ false
-not_here m o members i at l e a s h =
-    ap (is_among m) (drop_here members i o l e) ∙ ap (λ (b : Bool). b || is_among m (drop (i + 1) members)) (sym s)
-    ∙ ap (λ (j : ℕ). is_among m (drop j members)) (sym a) ∙ h
+not_here m o members i at l e a s h = grind (arith, drop_here)
 
 among_more : (m : Member) (members : List Member) (i n : ℕ) → i ≤ n → is_among m (drop n members) ≡ true
     → is_among m (drop i members) ≡ true
@@ -19,11 +17,7 @@ among_more m [] zero (suc n) l h = h
 among_more m [] (suc i) zero l h = h
 among_more m [] (suc i) (suc n) l h = h
 among_more m (x ∷ members) zero zero l h = h
-among_more m (x ∷ members) zero (suc n) l h = or_true (same_member x m) (is_among m members) (among_more m members zero n (omega arith) h)
-  where
-    or_true : (a b : Bool) → b ≡ true → (a || b) ≡ true
-    or_true true b e = refl
-    or_true false b e = e
+among_more m (x ∷ members) zero (suc n) l h = grind (arith, among_more m members zero n (omega arith) h)
 among_more m (x ∷ members) (suc i) zero l h = absurd (omega arith)
 among_more m (x ∷ members) (suc i) (suc n) l h = among_more m members i n (omega arith) h
 
@@ -35,8 +29,7 @@ here m o members first i l e f s =
 
 pub nowhere : (m : Member) (members : List Member) (first at : ℕ) → first ≤ at → at ≤ first
     → is_among m (drop at members) ≡ false → false ≡ is_among m (drop first members)
-nowhere m members first at f l h =
-    let e : at ≡ first = omega arith in sym h ∙ ap (λ (j : ℕ). is_among m (drop j members)) e
+nowhere m members first at f l h = grind arith
 
 -- after all of them there is none
 pub at_end : (m : Member) (members : List Member) (n : ℕ) → n ≡ length members → is_among m (drop n members) ≡ false

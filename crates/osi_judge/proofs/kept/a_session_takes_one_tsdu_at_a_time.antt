@@ -1,6 +1,5 @@
 -- A session that goes on has taken one TSDU more, and no more than had passed: for all walks.
-use Rattle.std.proofs.Common.{◌≡◌, refl, subst, ℕ, suc, ◌+◌, ◌<◌, ◌≤◌, Bool, true, false, if◌then◌else◌, List, []}
-use Rattle.std.proofs.Common.{get_or, Option, Some, None, is_none, arith}
+use Rattle.std.proofs.Common.{◌≡◌, ℕ, suc, ◌+◌, ◌<◌, ◌≤◌, Bool, if◌then◌else◌, List, [], get_or, Option, Some, None, arith}
 use Rattle.osi_session.specs.Standing.{Count, after_count, listens}
 use Rattle.osi_judge.specs.declared.members.Member.{Member}
 use Rattle.osi_judge.specs.Nearest.{count_at, quiet_by, next_of}
@@ -8,15 +7,10 @@ use Rattle.osi_judge.specs.Nearest.{count_at, quiet_by, next_of}
 quiet_taken : (b : Bool) (m t : Member) (c : Count)
     → (if b then Some (record { taken = m.taken + 1; standing = after_count m.standing c }) else None) ≡ Some t
     → t.taken ≡ m.taken + 1
-quiet_taken true m t c e = some_taken _ t (m.taken + 1) e refl
-  where
-    some_taken : (s t : Member) (n : ℕ) → Some s ≡ Some t → s.taken ≡ n → t.taken ≡ n
-    some_taken s t n e k = let f : s ≡ t = cc in subst (λ (y : Member). y.taken ≡ n) f k
-quiet_taken false m t c e = absurd (cc)
+quiet_taken b m t c e = grind arith
 
 next_by : (b : Bool) (m t : Member) (c : Count) → (if b then quiet_by m c else None) ≡ Some t → t.taken ≡ m.taken + 1
-next_by true m t c e = quiet_taken (is_none c.reply) m t c e
-next_by false m t c e = absurd (cc)
+next_by b m t c e = grind (arith, quiet_taken)
 
 pub next_taken : (us : List (List ℕ)) (m t : Member) → next_of us m ≡ Some t → t.taken ≡ m.taken + 1
 next_taken us m t e = next_by (listens m.standing) m t (count_at m.standing (get_or us m.taken [])) e
@@ -28,5 +22,4 @@ InBounds passed n (Some m) = 0 < n → m.taken + n ≤ passed
 
 pub within_by : (o : Option Member) (passed n taken : ℕ) → ((t : Member) → o ≡ Some t → t.taken ≡ taken + 1) → taken + suc n ≤ passed
     → InBounds passed n o
-within_by None passed n taken h l = tt
-within_by (Some t) passed n taken h l = λ p. let e = h t refl in omega arith
+within_by o passed n taken h l = grind arith

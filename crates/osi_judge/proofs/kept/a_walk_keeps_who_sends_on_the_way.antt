@@ -1,15 +1,13 @@
 -- A walk keeps the sessions that send a word on the way, or answer by it: for the functions of `walks`.
-use Rattle.std.proofs.Common.{◌≡◌, ◌∙◌, refl, sym, ap, subst, ℕ, suc, zero, ◌+◌, ◌-◌, ◌<◌, ◌≤◌, Bool, true, false, List, [], ◌∷◌, ◌++◌}
-use Rattle.std.proofs.Common.{nat_lt, get_or, Option, Some, None, option_map, if◌then◌else◌, arith}
-use Rattle.std.proofs.lemmas.Bool.{lt-ltb}
-use Rattle.std.proofs.lemmas.List.{append-nil}
+use Rattle.std.proofs.Common.{◌≡◌, ◌∙◌, refl, sym, ap, ℕ, suc, ◌+◌, ◌-◌, ◌<◌, ◌≤◌, Bool, true, false, List, [], get_or, Option, Some, None}
+use Rattle.std.proofs.Common.{option_map, if◌then◌else◌, arith}
 use Rattle.std.proofs.lemmas.List.Sums.{fold-append}
 use Rattle.std.specs.List.{fold}
 use Rattle.osi_message.specs.Meanings.{Meaning}
 use Rattle.osi_message.specs.Words.{Word}
 use Rattle.osi_session.specs.declared.reactions.Reply.{Reply}
 use Rattle.osi_session.specs.Joining.{is_restart_word}
-use Rattle.osi_session.specs.Standing.{Seen, Count, Takes, listens, after_count, answers_word, said}
+use Rattle.osi_session.specs.Standing.{Seen, Count, Takes, listens, after_count, said}
 use Rattle.osi_session.specs.Steady.{is_steady}
 use Rattle.osi_session.specs.Steps.{reply_of}
 use Rattle.osi_judge.specs.declared.members.Member.{Member}
@@ -33,31 +31,16 @@ sends_is w octets m o e = ap (option_map (member m.taken)) e
 
 pub said_not : (w : Word) (octets : ℕ) (old : List Member) (from : Walker) → said from.at.standing w octets ≡ None
     → SendsAs w octets old old from from
-said_not w octets old from h =
-    let k = sends_is w octets from.at None h in (
-      sym (ap (λ (o : Option Member). fold added old
-          (anew from.said_before o)) k),
-      λ i. record { at = from.at; said_before = latest from.said_before (sym k i) },
-    )
+said_not w octets old from h = grind (arith, sends_is)
 
 pub said_covered : (w : Word) (octets : ℕ) (old : List Member) (from : Walker) (s : Seen) → said from.at.standing w octets ≡ Some s
     → true ≡ is_covered from.said_before s → from.said_before ≡ Some s → SendsAs w octets old old from from
-said_covered w octets old from s h c e =
-    let k = sends_is w octets from.at (Some s) h in (
-      sym (ap (λ (o : Option Member). fold added old (anew from.said_before o)) k
-          ∙ ap (λ (b : Bool). fold added old (if b then [] else member from.at.taken s ∷ [])) (sym c)),
-      λ i. record { at = from.at; said_before = (e ∙ ap (latest from.said_before) (sym k)) i },
-    )
+said_covered w octets old from s h c e = grind (arith, sends_is)
 
 pub said_anew : (w : Word) (octets : ℕ) (old new : List Member) (from : Walker) (s : Seen) → said from.at.standing w octets ≡ Some s
     → false ≡ is_covered from.said_before s → new ≡ added old (member from.at.taken s)
     → SendsAs w octets old new from (record { at = from.at; said_before = Some s })
-said_anew w octets old new from s h c e =
-    let k = sends_is w octets from.at (Some s) h in (
-      e ∙ sym (ap (λ (o : Option Member). fold added old (anew from.said_before o)) k
-          ∙ ap (λ (b : Bool). fold added old (if b then [] else member from.at.taken s ∷ [])) (sym c)),
-      λ i. record { at = from.at; said_before = ap (latest from.said_before) (sym k) i },
-    )
+said_anew w octets old new from s h c e = grind (arith, sends_is)
 
 -- ---- an answer
 
@@ -68,26 +51,15 @@ step_split : (us : List (List ℕ)) (w : Word) (octets n : ℕ) (from to : Walke
     → fold added old (senders us w octets (suc n) from.said_before (Some from.at))
     ≡ fold added (fold added mid (answering us w from.at))
     (senders us w octets n (follows to.said_before (get_or us from.at.taken [])) (next_of us from.at))
-step_split us w octets n from to old mid h =
-    let here = anew from.said_before (sends w octets from.at) in
-    let on = answering us w from.at in
-    let rest = senders us w octets n (follows (latest from.said_before (sends w octets from.at)) (get_or us from.at.taken []))
-    (next_of us from.at) in
-    fold-append added old here (on ++ rest) ∙ fold-append added (fold added old here) on rest
-    ∙ ap (λ (ms : List Member). fold added (fold added ms on) rest) (sym h.0)
-    ∙ ap (λ (x : Walker). fold added (fold added mid on)
-    (senders us w octets n (follows x.said_before (get_or us from.at.taken [])) (next_of us from.at))) (sym h.1)
+step_split us w octets n from to old mid h = grind (arith, fold-append)
 
 senders_none : (us : List (List ℕ)) (w : Word) (octets n : ℕ) (earlier : Option Seen) → senders us w octets n earlier None ≡ []
-senders_none us w octets zero earlier = refl
-senders_none us w octets (suc n) earlier = refl
+senders_none us w octets n earlier = grind arith
 
 ends_here : (us : List (List ℕ)) (w : Word) (octets n : ℕ) (earlier : Option Seen) (next : Option Member) (mid on : List Member)
     → next ≡ None
     → fold added (fold added mid on) (senders us w octets n earlier next) ≡ fold added mid on
-ends_here us w octets n earlier next mid on e =
-    ap (λ (o : Option Member). fold added (fold added mid on) (senders us w octets n earlier o)) e
-    ∙ ap (fold added (fold added mid on)) (senders_none us w octets n earlier)
+ends_here us w octets n earlier next mid on e = grind (arith, senders_none)
 
 answering_deaf : (us : List (List ℕ)) (w : Word) (m : Member) → listens m.standing ≡ false → answering us w m ≡ []
 answering_deaf us w m l = ap (λ (b : Bool). if b then answer_by w m (count_at m.standing (get_or us m.taken [])) else []) l
@@ -95,19 +67,12 @@ answering_deaf us w m l = ap (λ (b : Bool). if b then answer_by w m (count_at m
 answering_as : (us : List (List ℕ)) (w : Word) (m : Member) (c : Count) (o : Option Meaning) → listens m.standing ≡ true
     → Takes m.standing (get_or us m.taken []) c → c.reply ≡ o
     → answering us w m ≡ if_answer w o (member (m.taken + 1) (after_count m.standing c))
-answering_as us w m c o l t r =
-    ap (λ (b : Bool). if b then answer_by w m (count_at m.standing (get_or us m.taken [])) else []) l
-    ∙ ap (answer_by w m) (count_is m.standing (get_or us m.taken []) c t)
-    ∙ ap (λ (x : Option Meaning). if_answer w x (member (m.taken + 1) (after_count m.standing c))) r
+answering_as us w m c o l t r = grind (arith, count_is m.standing (get_or us m.taken []) c t)
 
 pub turn_deaf : (us : List (List ℕ)) (w : Word) (octets n : ℕ) (from to : Walker) (old mid : List Member) → SendsAs w octets old mid from to
     → listens from.at.standing ≡ false
     → fold added mid (senders_from us w octets n None) ≡ fold added old (senders_from us w octets (suc n) (Some from))
-turn_deaf us w octets n from to old mid h l =
-    sym (step_split us w octets n from to old mid h
-    ∙ ends_here us w octets n (follows to.said_before (get_or us from.at.taken [])) (next_of us from.at) mid (answering us w from.at)
-    (next_stops us from.at None l)
-    ∙ ap (fold added mid) (answering_deaf us w from.at l))
+turn_deaf us w octets n from to old mid h l = grind (arith, step_split, ends_here, next_stops, answering_deaf)
 
 pub turn_answers : (us : List (List ℕ)) (w : Word) (octets n : ℕ) (from to : Walker) (old mid new : List Member) (next : Seen) (c : Count)
     (reply : Reply) → SendsAs w octets old mid from to → listens from.at.standing ≡ true
@@ -163,28 +128,17 @@ walk_on us w octets before old new all from to l p s h =
 
 pub walk_stops : (us : List (List ℕ)) (w : Word) (octets before : ℕ) (old new all : List Member) (from : Walker) → from.at.taken < before
     → Steps us w octets old new from None → rest_of us w octets before old from ≡ all → new ≡ all
-walk_stops us w octets before old new all from l s h =
-    let n : before - from.at.taken ≡ suc (before - (from.at.taken + 1)) = omega (arith, l) in
-    s (before - (from.at.taken + 1)) ∙ sym (ap (λ (k : ℕ). fold added old (senders us w octets k from.said_before (Some from.at))) n) ∙ h
+walk_stops us w octets before old new all from l s h = grind arith
 
 pub walk_ends : (us : List (List ℕ)) (w : Word) (octets before : ℕ) (old new all : List Member) (from to : Walker) → before ≤ from.at.taken
     → SendsAs w octets old new from to → rest_of us w octets before old from ≡ all → new ≡ all
-walk_ends us w octets before old new all from to l s h =
-    let n : before - from.at.taken ≡ 0 = omega (arith, l) in
-    s.0 ∙ sym (ap (λ (k : ℕ). fold added old (senders us w octets k from.said_before (Some from.at))) n) ∙ h
+walk_ends us w octets before old new all from to l s h = grind arith
 
 -- ---- which walk it is
 
 pub restarts_with : (us : List (List ℕ)) (w : Word) (octets before : ℕ) (m : Member) → m.standing.state.numbers.lowest ≤ 999999
     → askers us (way_to w octets m.standing) (before - m.taken) None (Some m) ≡ restarters us w octets before m
-restarts_with us w octets before m l =
-    let low : nat_lt 999999 m.standing.state.numbers.lowest ≡ false = not_lt (nat_lt 999999 m.standing.state.numbers.lowest) refl in
-    sym (ap (λ (b : Bool). if b then senders us w octets (before - m.taken) None (Some m)
-    else askers us (way_to w octets m.standing) (before - m.taken) None (Some m)) low)
-  where
-    not_lt : (b : Bool) → nat_lt 999999 m.standing.state.numbers.lowest ≡ b → nat_lt 999999 m.standing.state.numbers.lowest ≡ false
-    not_lt false e = e
-    not_lt true e = grind arith
+restarts_with us w octets before m l = grind arith
 
 abbrev place_by : Bool → Bool → List (List ℕ) → Word → ℕ → ℕ → Member → List Member
 place_by restart steady us w octets before m =
@@ -200,12 +154,9 @@ place_restart us w octets before m r = sym (ap (λ (b : Bool). place_by b (is_st
 pub place_other : (us : List (List ℕ)) (w : Word) (octets before : ℕ) (m : Member) → is_restart_word w ≡ false → is_steady w ≡ false
     → senders us w octets (before - m.taken) None (Some m) ≡ places_of us w octets before m
 unfolding places_of
-place_other us w octets before m r s =
-    sym (ap (λ (b : Bool). place_by b (is_steady w) us w octets before m) r ∙ ap (λ (b : Bool). place_by false b us w octets before m) s)
+place_other us w octets before m r s = grind arith
 
 pub place_steady : (us : List (List ℕ)) (w : Word) (octets before : ℕ) (m : Member) (r : Option Member) → is_restart_word w ≡ false
     → is_steady w ≡ true → r ≡ first_sender w octets (reached us before m) → listed r ≡ places_of us w octets before m
 unfolding places_of
-place_steady us w octets before m p r s e =
-    ap listed e
-    ∙ sym (ap (λ (b : Bool). place_by b (is_steady w) us w octets before m) r ∙ ap (λ (b : Bool). place_by false b us w octets before m) s)
+place_steady us w octets before m p r s e = grind arith

@@ -1,6 +1,6 @@
 -- Which sessions a walk to a restart keeps is a function of where it begins and of what passed: for the functions of `restarts`.
-use Rattle.std.proofs.Common.{◌≡◌, ◌∙◌, refl, sym, ap, subst, ℕ, suc, zero, ◌+◌, ◌-◌, ◌<◌, ◌≤◌, Bool, true, false, ◌&&◌, List, [], ◌∷◌}
-use Rattle.std.proofs.Common.{◌++◌, get_or, Option, Some, None, Result, Ok, Err, OnOk, if◌then◌else◌, arith}
+use Rattle.std.proofs.Common.{◌≡◌, ◌∙◌, sym, ap, subst, ℕ, suc, ◌+◌, ◌-◌, ◌<◌, ◌≤◌, Bool, true, false, ◌&&◌, List, [], get_or, Option, Some}
+use Rattle.std.proofs.Common.{None, Result, Ok, OnOk, if◌then◌else◌, arith}
 use Rattle.std.proofs.lemmas.List.Sums.{fold-append}
 use Rattle.std.specs.List.{fold}
 use Rattle.osi_message.specs.Words.{Word}
@@ -10,29 +10,25 @@ use Rattle.osi_judge.specs.declared.members.Member.{Member}
 use Rattle.osi_judge.specs.declared.restarts.Asked.{Asked}
 use Rattle.osi_judge.specs.declared.restarts.Asker.{Asker}
 use Rattle.osi_judge.specs.Kept.{added, member, sends, same_seen, quietly, is_still, remain, waits, Way, Halt, both_of, is_between, unless}
-use Rattle.osi_judge.specs.Kept.{joined, asked_by, asks, waited, passed, halted, stepped, askers, askers_from}
+use Rattle.osi_judge.specs.Kept.{joined, asks, waited, passed, askers, askers_from}
 use Rattle.osi_judge.specs.Nearest.{next_of}
 
 -- ---- in memory
 
 pub none_is : {A : Type 0} (o r : Option A) → ((x : A) → o ≡ Some x → ⊥) → o ≡ r → r ≡ None
-none_is None r n e = sym e
-none_is (Some x) r n e = absurd (n x refl)
+none_is o r n e = grind arith
 
 pub unsaid : {E : Type 0} (r : Result Seen E) (left : Option Seen) → ((s : Seen) → r ≡ Ok s → ⊥) → SaysAs r left → left ≡ None
-unsaid (Ok s) left n h = absurd (n s refl)
-unsaid (Err e) left n h = h
+unsaid r left n h = grind arith
 
 pub on_ok : {A E : Type 0} (r : Result A E) (old new xs ys : List Member) → xs ≡ ys → OnOk r (new ≡ fold added old xs)
     → OnOk r (new ≡ fold added old ys)
-on_ok (Ok a) old new xs ys e h = h ∙ ap (fold added old) e
-on_ok (Err f) old new xs ys e h = tt
+on_ok r old new xs ys e h = grind arith
 
 -- ---- one that waits
 
 and_false : (b : Bool) → (b && false) ≡ false
-and_false true = refl
-and_false false = refl
+and_false b = grind arith
 
 pub waits_not : (w : Word) (s : Seen) (u : List ℕ) → is_restarting s.state.phase ≡ false → false ≡ waits w s u
 unfolding waits
@@ -57,9 +53,7 @@ waits_moved_after w s a u e h =
 pub waits_so : (w : Word) (s a : Seen) (u : List ℕ) → is_restarting s.state.phase ≡ true → said s w 0 ≡ Some a
     → true ≡ is_still s (quietly s u) → true ≡ is_still a (quietly a u) → true ≡ waits w s u
 unfolding waits
-waits_so w s a u p e h k =
-    sym (ap (λ (b : Bool). b && remain s (said s w 0) u) p ∙ ap (λ (o : Option Seen). remain s o u) e
-    ∙ ap (λ (b : Bool). b && is_still a (quietly a u)) (sym h) ∙ sym k)
+waits_so w s a u p e h k = grind arith
 
 -- ---- one more sends it
 
@@ -73,8 +67,7 @@ joins_by taken asked b s shown old new r e h = subst (λ (o : Option Asked). Joi
 
 pub joined_first : (taken : ℕ) (asked : Option Asked) (s shown : Seen) (old : List Member) → ((a : Asked) → asked ≡ Some a → ⊥)
     → JoinsAs taken asked s shown old old (Some (record { first = s; last = s; shown = shown }))
-joined_first taken None s shown old n = (refl, refl)
-joined_first taken (Some a) s shown old n = absurd (n a refl)
+joined_first taken asked s shown old n = grind arith
 
 abbrev joined_if : Bool → ℕ → Asked → Seen → Seen → Halt
 joined_if same taken a s shown =
@@ -89,10 +82,7 @@ joined_if same taken a s shown =
 pub joined_apart : (taken : ℕ) (asked : Option Asked) (b : Asked) (s shown : Seen) (old new : List Member) → asked ≡ Some b
     → false ≡ same_seen b.shown shown → new ≡ fold added old (both_of taken (Some b))
     → JoinsAs taken asked s shown old new (Some (record { first = s; last = s; shown = shown }))
-joined_apart taken asked b s shown old new e d h =
-    let k : joined_if false taken b s shown ≡ joined taken (Some b) s shown = ap (λ (x : Bool). joined_if x taken b s shown) d in
-    joins_by taken asked b s shown old new _ e
-    (ap (λ (x : Halt). x.waiting) k, h ∙ ap (λ (x : Halt). fold added old x.kept) k)
+joined_apart taken asked b s shown old new e d h = grind (arith, joins_by)
 
 abbrev joined_with : Bool → ℕ → Asked → Seen → Halt
 joined_with between taken a s = record {
@@ -102,22 +92,17 @@ joined_with between taken a s = record {
 
 joined_is : (taken : ℕ) (b : Asked) (s shown : Seen) (between : Bool) → true ≡ same_seen b.shown shown → between ≡ is_between b s
     → joined_with between taken b s ≡ joined taken (Some b) s shown
-joined_is taken b s shown between d m =
-    ap (λ (x : Bool). joined_with x taken b s) m ∙ ap (λ (x : Bool). joined_if x taken b s shown) d
+joined_is taken b s shown between d m = grind arith
 
 pub joined_between : (taken : ℕ) (asked : Option Asked) (b : Asked) (s shown : Seen) (old : List Member) → asked ≡ Some b
     → true ≡ same_seen b.shown shown → true ≡ is_between b s
     → JoinsAs taken asked s shown old old (Some (record { first = b.first; last = s; shown = b.shown }))
-joined_between taken asked b s shown old e d m =
-    let k = joined_is taken b s shown true d m in
-    joins_by taken asked b s shown old old _ e (ap (λ (x : Halt). x.waiting) k, ap (λ (x : Halt). fold added old x.kept) k)
+joined_between taken asked b s shown old e d m = grind (arith, joined_is, joins_by)
 
 pub joined_after : (taken : ℕ) (asked : Option Asked) (b : Asked) (s shown : Seen) (old new : List Member) → asked ≡ Some b
     → true ≡ same_seen b.shown shown → false ≡ is_between b s → new ≡ added old (member taken b.last)
     → JoinsAs taken asked s shown old new (Some (record { first = b.first; last = s; shown = b.shown }))
-joined_after taken asked b s shown old new e d m h =
-    let k = joined_is taken b s shown false d m in
-    joins_by taken asked b s shown old new _ e (ap (λ (x : Halt). x.waiting) k, h ∙ ap (λ (x : Halt). fold added old x.kept) k)
+joined_after taken asked b s shown old new e d m h = grind (arith, joined_is, joins_by)
 
 -- ---- a session sends it here
 
@@ -129,23 +114,16 @@ HaltsAs old new r h = (r ≡ h.waiting) × (new ≡ fold added old h.kept)
 
 pub asks_not : (way : Way) (asked : Option Asked) (m : Member) (old : List Member) → sends way.restart way.octets m ≡ None
     → AsksAs way asked m old old asked
-asks_not way asked m old e =
-    subst (HaltsAs old old asked) (sym (ap (λ (o : Option Member). asked_by m.taken asked o (sends way.shown way.octets m)) e)) (refl, refl)
+asks_not way asked m old e = grind arith
 
 pub asks_alone : (way : Way) (asked : Option Asked) (m one : Member) (old new : List Member) → Some one ≡ sends way.restart way.octets m
     → sends way.shown way.octets m ≡ None → new ≡ added old one → AsksAs way asked m old new asked
-asks_alone way asked m one old new e n h =
-    subst (HaltsAs old new asked)
-    (ap (λ (o : Option Member). asked_by m.taken asked (Some one) o) (sym n)
-    ∙ ap (λ (o : Option Member). asked_by m.taken asked o (sends way.shown way.octets m)) e) (refl, h)
+asks_alone way asked m one old new e n h = grind arith
 
 pub asks_joined : (way : Way) (asked : Option Asked) (m one shown : Member) (old new : List Member) (r : Option Asked)
     → Some one ≡ sends way.restart way.octets m → Some shown ≡ sends way.shown way.octets m
     → JoinsAs m.taken asked one.standing shown.standing old new r → AsksAs way asked m old new r
-asks_joined way asked m one shown old new r e n h =
-    subst (HaltsAs old new r)
-    (ap (λ (o : Option Member). asked_by m.taken asked (Some one) o) n
-    ∙ ap (λ (o : Option Member). asked_by m.taken asked o (sends way.shown way.octets m)) e) h
+asks_joined way asked m one shown old new r e n h = grind arith
 
 -- ---- those that wait take a TSDU
 
@@ -160,31 +138,23 @@ waited_if b taken a =
 waited_by : (abort : Word) (taken : ℕ) (asked : Option Asked) (a : Asked) (u : List ℕ) (old new : List Member) (r : Option Asked) (b : Bool)
     → asked ≡ Some a → b ≡ (waits abort a.first u && waits abort a.last u) → HaltsAs old new r (waited_if b taken a)
     → WaitsAs abort taken asked u old new r
-waited_by abort taken asked a u old new r b e d h =
-    subst (HaltsAs old new r)
-    (ap (λ (x : Bool). waited_if x taken a) d ∙ sym (ap (λ (o : Option Asked). waited abort taken o u) e)) h
+waited_by abort taken asked a u old new r b e d h = grind arith
 
 pub waited_none : (abort : Word) (taken : ℕ) (asked : Option Asked) (u : List ℕ) (old : List Member) → ((a : Asked) → asked ≡ Some a → ⊥)
     → WaitsAs abort taken asked u old old None
-waited_none abort taken None u old n = (refl, refl)
-waited_none abort taken (Some a) u old n = absurd (n a refl)
+waited_none abort taken asked u old n = grind arith
 
 pub waited_first : (abort : Word) (taken : ℕ) (asked : Option Asked) (a : Asked) (u : List ℕ) (old new : List Member) → asked ≡ Some a
     → false ≡ waits abort a.first u → new ≡ fold added old (both_of taken (Some a)) → WaitsAs abort taken asked u old new None
-waited_first abort taken asked a u old new e d h =
-    waited_by abort taken asked a u old new None false e (ap (λ (x : Bool). x && waits abort a.last u) d) (refl, h)
+waited_first abort taken asked a u old new e d h = grind (arith, waited_by)
 
 pub waited_last : (abort : Word) (taken : ℕ) (asked : Option Asked) (a : Asked) (u : List ℕ) (old new : List Member) → asked ≡ Some a
     → false ≡ waits abort a.last u → new ≡ fold added old (both_of taken (Some a)) → WaitsAs abort taken asked u old new None
-waited_last abort taken asked a u old new e d h =
-    waited_by abort taken asked a u old new None false e
-    (sym (and_false (waits abort a.first u)) ∙ ap (λ (x : Bool). waits abort a.first u && x) d) (refl, h)
+waited_last abort taken asked a u old new e d h = grind (arith, waited_by, and_false)
 
 pub waited_both : (abort : Word) (taken : ℕ) (asked : Option Asked) (a : Asked) (u : List ℕ) (old : List Member) → asked ≡ Some a
     → true ≡ waits abort a.first u → true ≡ waits abort a.last u → WaitsAs abort taken asked u old old (Some a)
-waited_both abort taken asked a u old e d k =
-    waited_by abort taken asked a u old old (Some a) true e
-    (k ∙ ap (λ (x : Bool). x && waits abort a.last u) d) (refl, refl)
+waited_both abort taken asked a u old e d k = grind (arith, waited_by)
 
 -- ---- one step
 
@@ -195,40 +165,21 @@ rest_with us way n m next old asked =
 
 step_split : (us : List (List ℕ)) (way : Way) (n : ℕ) (asked r : Option Asked) (m : Member) (old mid : List Member)
     → AsksAs way asked m old mid r → fold added old (askers us way (suc n) asked (Some m)) ≡ rest_with us way n m (next_of us m) mid r
-step_split us way n asked r m old mid h =
-    let a = asks way asked m in
-    let next = next_of us m in
-    let p = passed us way.abort m.taken a.waiting next in
-    let rest = askers us way n p.waiting next in
-    fold-append added old (a.kept ++ p.kept) rest
-    ∙ ap (λ (ms : List Member). fold added ms rest) (fold-append added old a.kept p.kept)
-    ∙ ap (λ (ms : List Member). rest_with us way n m next ms a.waiting) (sym h.1)
-    ∙ ap (rest_with us way n m next mid) (sym h.0)
+step_split us way n asked r m old mid h = grind (arith, fold-append)
 
 askers_none : (us : List (List ℕ)) (way : Way) (n : ℕ) (asked : Option Asked) → askers us way n asked None ≡ []
-askers_none us way zero asked = refl
-askers_none us way (suc n) asked = refl
+askers_none us way n asked = grind arith
 
 pub step_stops : (us : List (List ℕ)) (way : Way) (n : ℕ) (from : Asker) (r : Option Asked) (old mid new : List Member)
     → AsksAs way from.asked from.at old mid r → next_of us from.at ≡ None → new ≡ fold added mid (both_of from.at.taken r)
     → fold added new (askers_from us way n None) ≡ fold added old (askers_from us way (suc n) (Some from))
-step_stops us way n from r old mid new h e k =
-    sym (step_split us way n from.asked r from.at old mid h
-    ∙ ap (λ (o : Option Member). rest_with us way n from.at o mid r) e
-    ∙ ap (fold added (fold added mid (both_of from.at.taken r))) (askers_none us way n None)
-    ∙ sym k)
+step_stops us way n from r old mid new h e k = grind (arith, step_split, askers_none)
 
 pub step_on : (us : List (List ℕ)) (way : Way) (n : ℕ) (from : Asker) (on : Member) (u : List ℕ) (r s : Option Asked)
     (old mid new : List Member) → AsksAs way from.asked from.at old mid r → next_of us from.at ≡ Some on → u ≡ get_or us from.at.taken []
     → WaitsAs way.abort from.at.taken r u mid new s
     → fold added new (askers_from us way n (Some (record { at = on; asked = s }))) ≡ fold added old (askers_from us way (suc n) (Some from))
-step_on us way n from on u r s old mid new h e t k =
-    let w = waited way.abort from.at.taken r in
-    sym (step_split us way n from.asked r from.at old mid h
-    ∙ ap (λ (o : Option Member). rest_with us way n from.at o mid r) e
-    ∙ ap (λ (x : List ℕ). fold added (fold added mid (w x).kept) (askers us way n (w x).waiting (Some on))) (sym t)
-    ∙ ap (λ (ms : List Member). fold added ms (askers us way n (w u).waiting (Some on))) (sym k.1)
-    ∙ ap (λ (x : Option Asked). fold added new (askers us way n x (Some on))) (sym k.0))
+step_on us way n from on u r s old mid new h e t k = grind (arith, step_split)
 
 -- ---- a walk
 
@@ -248,17 +199,9 @@ walk_on us way before old new all from to l p s h =
 
 pub walk_stops : (us : List (List ℕ)) (way : Way) (before : ℕ) (old new all : List Member) (from : Asker) → from.at.taken < before
     → StepsAs us way old new from None → rest_of us way before old from ≡ all → new ≡ all
-walk_stops us way before old new all from l s h =
-    let n : before - from.at.taken ≡ suc (before - (from.at.taken + 1)) = omega (arith, l) in
-    s (before - (from.at.taken + 1)) ∙ sym (ap (λ (k : ℕ). fold added old (askers us way k from.asked (Some from.at))) n) ∙ h
+walk_stops us way before old new all from l s h = grind arith
 
 pub walk_ends : (us : List (List ℕ)) (way : Way) (before : ℕ) (old mid new all : List Member) (from : Asker) (r : Option Asked)
     → before ≤ from.at.taken → AsksAs way from.asked from.at old mid r → new ≡ fold added mid (both_of from.at.taken r)
     → rest_of us way before old from ≡ all → new ≡ all
-walk_ends us way before old mid new all from r l s k h =
-    let n : before - from.at.taken ≡ 0 = omega (arith, l) in
-    let a = asks way from.asked from.at in
-    k ∙ ap (λ (ms : List Member). fold added ms (both_of from.at.taken r)) s.1
-    ∙ ap (λ (o : Option Asked). fold added (fold added old a.kept) (both_of from.at.taken o)) s.0
-    ∙ sym (fold-append added old a.kept (both_of from.at.taken a.waiting))
-    ∙ sym (ap (λ (j : ℕ). fold added old (askers us way j from.asked (Some from.at))) n) ∙ h
+walk_ends us way before old mid new all from r l s k h = grind (arith, fold-append)

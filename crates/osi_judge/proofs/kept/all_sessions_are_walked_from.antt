@@ -1,11 +1,11 @@
 -- The sessions after a unit, after the units of a TSDU, and after a TSDU, are those of all walks: for the functions of `telling`.
-use Rattle.std.proofs.Common.{◌≡◌, ◌∙◌, refl, sym, ap, ℕ, ◌+◌, ◌<◌, ◌≤◌, ◌||◌, Bool, true, false, List, [], ◌∷◌, length, drop, get_or}
-use Rattle.std.proofs.Common.{Result, Ok, Err, IfOk}
+use Rattle.std.proofs.Common.{◌≡◌, ◌∙◌, sym, ap, ℕ, ◌+◌, ◌<◌, ◌≤◌, ◌||◌, Bool, true, false, List, [], ◌∷◌, length, drop, get_or, Result, Ok}
+use Rattle.std.proofs.Common.{Err, IfOk, arith}
 use Rattle.std.proofs.lemmas.List.Sums.{fold-append}
 use Rattle.std.specs.List.{fold, flat_map}
 use Rattle.osi_message.specs.Words.{Word, Words}
 use Rattle.osi_session.specs.Joining.{acting_words, is_restart_word}
-use Rattle.osi_session.proofs.tsdu.words_one_after_the_other.{acting_behind, taken_next}
+use Rattle.osi_session.proofs.tsdu.words_one_after_the_other.{acting_behind}
 use Rattle.osi_judge.specs.declared.members.Member.{Member}
 use Rattle.osi_judge.specs.Kept.{added, places_of, after_word, after_words}
 use Rattle.osi_judge.proofs.walked.sessions_after_a_unit.{drop_here, drop_end}
@@ -22,11 +22,7 @@ walked_first us w octets before members next e = ap (λ (ms : List Member). rest
 pub walked_next : (us : List (List ℕ)) (w : Word) (octets before : ℕ) (old new all members : List Member) (i : ℕ) (x : Member)
     → i < length members → x ≡ get_or members i x → new ≡ fold added old (places_of us w octets before x)
     → rest_of us w octets before old (drop i members) ≡ all → rest_of us w octets before new (drop (i + 1) members) ≡ all
-walked_next us w octets before old new all members i x l e n h =
-    ap (λ (ms : List Member). rest_of us w octets before ms (drop (i + 1) members)) n
-    ∙ sym (ap (rest_of us w octets before old) (drop_here members i x l e)
-    ∙ fold-append added old (places_of us w octets before x) (flat_map (places_of us w octets before) (drop (i + 1) members)))
-    ∙ h
+walked_next us w octets before old new all members i x l e n h = grind (arith, fold-append, drop_here members i x l e)
 
 pub walked_last : (us : List (List ℕ)) (w : Word) (octets before : ℕ) (next all members : List Member) (i : ℕ) → length members ≤ i
     → rest_of us w octets before next (drop i members) ≡ all → next ≡ all
@@ -50,12 +46,7 @@ pub leads_next : (us : List (List ℕ)) (octets before : ℕ) (members : List Me
     (restarts now : Bool) (item u v : Word) (ws units : Words) → LeadsOn us octets before members words old restarts item ws
     → ws ≡ v ∷ units → u ≡ v → new ≡ after_word us octets before old u → now ≡ (restarts || is_restart_word u)
     → LeadsOn us octets before members words new now item units
-leads_next us octets before members words old new restarts now item u v ws units h e i g r =
-    let split : acting_behind restarts item ws ≡ u ∷ acting_behind (restarts || is_restart_word u) item units
-    = ap (acting_behind restarts item) (e ∙ ap (λ (y : Word). y ∷ units) (sym i)) ∙ taken_next restarts item u units in
-    ap (λ (ms : List Member). after_words us octets before ms (acting_behind now item units)) g
-    ∙ ap (λ (b : Bool). after_words us octets before (after_word us octets before old u) (acting_behind b item units)) r
-    ∙ sym (ap (after_words us octets before old) split) ∙ h
+leads_next us octets before members words old new restarts now item u v ws units h e i g r = search (arith, acting_behind restarts item ws)
 
 pub leads_restarted : (us : List (List ℕ)) (octets before : ℕ) (members : List Member) (words : Words) (now : List Member) (restarts : Bool)
     (item : Word) (ws : Words) → LeadsOn us octets before members words now restarts item ws → ws ≡ [] → restarts ≡ true

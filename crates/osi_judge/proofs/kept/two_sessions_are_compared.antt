@@ -1,10 +1,8 @@
 -- Two sessions are the same if the comparison says so, and only then: for the list of those that are kept, and for all that
 -- compares two of them.
-use Rattle.std.proofs.Common.{◌≡◌, ◌≢◌, ◌∙◌, ◌==◌, ◌&&◌, ℕ, refl, sym, ap, Bool, true, false, MatchBool, if◌then◌else◌, Option, Some}
-use Rattle.std.proofs.Common.{None, arith}
+use Rattle.std.proofs.Common.{◌≡◌, ◌≢◌, ◌∙◌, ◌==◌, ◌&&◌, ℕ, refl, sym, ap, Bool, true, false, MatchBool, if◌then◌else◌, Option, arith}
 use Rattle.std.proofs.lemmas.Bool.{and_from, and_parts, eq-eqb, eqb-true}
 use Rattle.osi_spdu.specs.declared.settings.Wish.{Wish}
-use Rattle.osi_spdu.specs.declared.settings.Wish.TheVariants.{Asker, Answerer, Choice}
 use Rattle.osi_spdu.specs.declared.settings.TokenSetting.{TokenSetting}
 use Rattle.osi_spdu.specs.declared.fields.TsduMaximumSize.{TsduMaximumSize}
 use Rattle.osi_message.specs.declared.tokens.Tokens.{Tokens}
@@ -32,8 +30,7 @@ bit_is : (a b : Bool) → same_bit a b ≡ true → a ≡ b
 bit_is a b h = grind arith
 
 bit_refl : (a : Bool) → same_bit a a ≡ true
-bit_refl true = refl
-bit_refl false = refl
+bit_refl a = grind arith
 
 wish_is : (a b : Wish) → same_wish a b ≡ true → a ≡ b
 wish_is a b h = grind arith
@@ -42,14 +39,10 @@ wish_refl : (a : Wish) → same_wish a a ≡ true
 wish_refl a = grind arith
 
 count_is : (a b : Option ℕ) → same_count a b ≡ true → a ≡ b
-count_is None None e = refl
-count_is None (Some n) e = absurd (cc)
-count_is (Some m) None e = absurd (cc)
-count_is (Some m) (Some n) e = ap Some (eqb-true m n e)
+count_is a b e = grind (arith, eqb-true)
 
 count_refl : (a : Option ℕ) → same_count a a ≡ true
-count_refl None = refl
-count_refl (Some n) = eq-eqb n n refl
+count_refl a = grind (arith, eq-eqb)
 
 phase_at : ℕ → Phase
 phase_at n =
@@ -60,8 +53,7 @@ phase_at n =
 
 there : (p : Phase) → phase_at (place_of p) ≡ p
 unfolding phase_at
-there WaitTransport = refl
-there _ = refl
+there p = grind arith
 
 phase_is : (a b : Phase) → (place_of a == place_of b) ≡ true → a ≡ b
 phase_is a b e = sym (there a) ∙ ap phase_at (eqb-true (place_of a) (place_of b) e) ∙ there b
@@ -70,108 +62,43 @@ phase_is a b e = sym (there a) ∙ ap phase_at (eqb-true (place_of a) (place_of 
 
 same_setting_is : (a b : TokenSetting) → same_setting a b ≡ true → a ≡ b
 unfolding same_setting
-same_setting_is a b e =
-    let p0 = both _ _ e in
-    let p1 = both _ _ p0.1 in
-    let p2 = both _ _ p1.1 in
-    λ i. record {
-      data_token = (wish_is a.data_token b.data_token p0.0) i;
-      minor = (wish_is a.minor b.minor p1.0) i;
-      major = (wish_is a.major b.major p2.0) i;
-      release = (wish_is a.release b.release p2.1) i;
-    }
+same_setting_is a b e = search (arith, both, wish_is)
 
 same_setting_refl : (a : TokenSetting) → same_setting a a ≡ true
 unfolding same_setting
-same_setting_refl a =
-    each (wish_refl a.data_token)
-    (each (wish_refl a.minor)
-    (each (wish_refl a.major)
-    (wish_refl a.release)))
+same_setting_refl a = grind (arith, each, wish_refl)
 
 same_tokens_is : (a b : Tokens) → same_tokens a b ≡ true → a ≡ b
 unfolding same_tokens
-same_tokens_is a b e =
-    let p0 = both _ _ e in
-    let p1 = both _ _ p0.1 in
-    let p2 = both _ _ p1.1 in
-    λ i. record {
-      data_token = (bit_is a.data_token b.data_token p0.0) i;
-      minor = (bit_is a.minor b.minor p1.0) i;
-      major = (bit_is a.major b.major p2.0) i;
-      release = (bit_is a.release b.release p2.1) i;
-    }
+same_tokens_is a b e = grind (arith, both, bit_is)
 
 same_tokens_refl : (a : Tokens) → same_tokens a a ≡ true
 unfolding same_tokens
-same_tokens_refl a =
-    each (bit_refl a.data_token)
-    (each (bit_refl a.minor)
-    (each (bit_refl a.major)
-    (bit_refl a.release)))
+same_tokens_refl a = grind (arith, each, bit_refl)
 
 same_units_is : (a b : FunctionalUnits) → same_units a b ≡ true → a ≡ b
 unfolding same_units
-same_units_is a b e =
-    let p0 = both _ _ e in
-    let p1 = both _ _ p0.1 in
-    let p2 = both _ _ p1.1 in
-    let p3 = both _ _ p2.1 in
-    let p4 = both _ _ p3.1 in
-    λ i. record {
-      half_duplex = (bit_is a.half_duplex b.half_duplex p0.0) i;
-      duplex = (bit_is a.duplex b.duplex p1.0) i;
-      minor = (bit_is a.minor b.minor p2.0) i;
-      major = (bit_is a.major b.major p3.0) i;
-      resynchronize = (bit_is a.resynchronize b.resynchronize p4.0) i;
-      negotiated_release = (bit_is a.negotiated_release b.negotiated_release p4.1) i;
-    }
+same_units_is a b e = search (arith, both, bit_is)
 
 same_units_refl : (a : FunctionalUnits) → same_units a a ≡ true
 unfolding same_units
-same_units_refl a =
-    each (bit_refl a.half_duplex)
-    (each (bit_refl a.duplex)
-    (each (bit_refl a.minor)
-    (each (bit_refl a.major)
-    (each (bit_refl a.resynchronize)
-    (bit_refl a.negotiated_release)))))
+same_units_refl a = grind (arith, each, bit_refl)
 
 same_numbers_is : (a b : Numbers) → same_numbers a b ≡ true → a ≡ b
 unfolding same_numbers
-same_numbers_is a b e =
-    let p0 = both _ _ e in
-    let p1 = both _ _ p0.1 in
-    let p2 = both _ _ p1.1 in
-    λ i. record {
-      next = (eqb-true a.next b.next p0.0) i;
-      confirmed = (eqb-true a.confirmed b.confirmed p1.0) i;
-      lowest = (eqb-true a.lowest b.lowest p2.0) i;
-      answers = (bit_is a.answers b.answers p2.1) i;
-    }
+same_numbers_is a b e = grind (arith, both, eqb-true, bit_is)
 
 same_numbers_refl : (a : Numbers) → same_numbers a a ≡ true
 unfolding same_numbers
-same_numbers_refl a =
-    each (eq-eqb a.next a.next refl)
-    (each (eq-eqb a.confirmed a.confirmed refl)
-    (each (eq-eqb a.lowest a.lowest refl)
-    (bit_refl a.answers)))
+same_numbers_refl a = grind (arith, each, eq-eqb, bit_refl)
 
 same_sizes_is : (a b : TsduMaximumSize) → same_sizes a b ≡ true → a ≡ b
 unfolding same_sizes
-same_sizes_is a b e =
-    let p0 = both _ _ e in
-    λ i. record {
-      from_asker = (eqb-true a.from_asker b.from_asker p0.0) i;
-      from_answerer = (eqb-true a.from_answerer b.from_answerer p0.1) i;
-    }
+same_sizes_is a b e = grind (arith, both, eqb-true)
 
 same_sizes_refl : (a : TsduMaximumSize) → same_sizes a a ≡ true
 unfolding same_sizes
-same_sizes_refl a =
-    each (eq-eqb a.from_asker a.from_asker refl)
-    (eq-eqb a.from_answerer a.from_answerer refl)
+same_sizes_refl a = grind (arith, each, eq-eqb)
 
 same_state_is : (a b : State) → same_state a b ≡ true → a ≡ b
 unfolding same_state
@@ -199,15 +126,7 @@ same_state_is a b e =
 same_state_refl : (a : State) → same_state a a ≡ true
 unfolding same_state
 same_state_refl a =
-    each (eq-eqb (place_of a.phase) (place_of a.phase) refl)
-    (each (bit_refl a.is_caller)
-    (each (same_units_refl a.units)
-    (each (same_setting_refl a.wishes)
-    (each (same_tokens_refl a.held)
-    (each (eq-eqb a.proposed a.proposed refl)
-    (each (eq-eqb a.base a.base refl)
-    (each (same_numbers_refl a.numbers)
-    (same_sizes_refl a.sizes))))))))
+    grind (arith, each, eq-eqb, bit_refl, same_units_refl, same_setting_refl, same_tokens_refl, same_numbers_refl, same_sizes_refl)
 
 same_seen_is : (a b : Seen) → same_seen a b ≡ true → a ≡ b
 unfolding same_seen
@@ -224,11 +143,7 @@ same_seen_is a b e =
 
 same_seen_refl : (a : Seen) → same_seen a a ≡ true
 unfolding same_seen
-same_seen_refl a =
-    each (same_state_refl a.state)
-    (each (count_refl a.joined)
-    (each (count_refl a.sent)
-    (bit_refl a.closed)))
+same_seen_refl a = grind (arith, each, same_state_refl, count_refl, bit_refl)
 
 -- ---- the comparison
 
@@ -257,5 +172,4 @@ apart m n h = by (same_seen m.standing n.standing) refl
 
 pub same_place : (b : Bool) (m n : Member) → m.taken ≡ n.taken
     → MatchBool b (m.standing ≡ n.standing) (m.standing ≢ n.standing) → b ≡ same_member m n
-same_place b m n e h =
-    seen_told b m.standing n.standing h ∙ sym (ap (λ (c : Bool). c && same_seen m.standing n.standing) (eq-eqb m.taken n.taken e))
+same_place b m n e h = grind (arith, seen_told, eq-eqb)

@@ -1,7 +1,5 @@
 -- The sessions that are kept of a side follow what it tells, and how many they are: for what is known of a side.
-use Rattle.std.proofs.Common.{◌≡◌, ◌∙◌, refl, sym, ap, subst, ℕ, suc, zero, ◌+◌, ◌<◌, ◌≤◌, Bool, true, false, nat_le, List, [], ◌∷◌, ◌++◌}
-use Rattle.std.proofs.Common.{length, take, arith}
-use Rattle.std.proofs.lemmas.Bool.{leb-true}
+use Rattle.std.proofs.Common.{◌≡◌, ◌∙◌, refl, sym, ap, subst, ℕ, suc, zero, ◌+◌, ◌<◌, ◌≤◌, List, [], ◌∷◌, ◌++◌, length, take, arith}
 use Rattle.std.proofs.lemmas.List.{length-append}
 use Rattle.std.proofs.lemmas.List.Sums.{fold-append}
 use Rattle.osi_session.specs.Standing.{Seen}
@@ -50,46 +48,21 @@ few_at begin us a b e l = subst (λ (z : List Told). length (kept begin us z) �
 
 pub few_begins : (begin : Seen) (us : List (List ℕ)) → IsFew begin us []
 unfolding kept
-few_begins begin us = λ n. by n
-  where
-    by : (n : ℕ) → length (kept begin us (take n [])) ≤ 4096
-    by zero = omega arith
-    by (suc n) = omega arith
-
-above : (n m : ℕ) → nat_le n m ≡ false → m < n
-above n m h = grind (arith, leb-true)
+few_begins begin us = grind arith
 
 pub few_more : (begin : Seen) (us : List (List ℕ)) (told : List Told) (x : Told) → IsFew begin us told
     → length (kept begin us (told ++ x ∷ [])) ≤ 4096 → IsFew begin us (told ++ x ∷ [])
-few_more begin us told x f l = λ n. by n (nat_le n (length told)) refl
-  where
-    by : (n : ℕ) (b : Bool) → nat_le n (length told) ≡ b → length (kept begin us (take n (told ++ x ∷ []))) ≤ 4096
-    by n true e = few_at begin us (take n (told ++ x ∷ [])) (take n told) (take_front told (x ∷ []) n (leb-true n (length told) e)) (f n)
-    by n false e =
-        let m = length-append told (x ∷ []) in
-        let o = above n (length told) e in
-        few_at begin us (take n (told ++ x ∷ [])) (told ++ x ∷ []) (take_whole (told ++ x ∷ []) n (omega (arith, m, o))) l
+few_more begin us told x f l = grind (arith, take_front, length-append, take_whole)
 
 pub crowd_more : (begin : Seen) (us : List (List ℕ)) (told : List Told) (x : Told) (i : ℕ) → i ≡ length told → IsFew begin us told
     → 4096 < length (kept begin us (told ++ x ∷ [])) → IsCrowd begin us (told ++ x ∷ []) i
-crowd_more begin us told x i e f l =
-    let m = length-append told (x ∷ []) in
-    let front = take_front told (x ∷ []) i (omega (arith, e)) ∙ take_whole told i (omega (arith, e)) in
-    let whole = take_whole (told ++ x ∷ []) (i + 1) (omega (arith, e, m)) in (
-      subst (λ (z : List Told). IsFew begin us z) (sym front) f,
-      subst (λ (z : List Told). 4096 < length (kept begin us z)) (sym whole) l,
-    )
+crowd_more begin us told x i e f l = grind (arith, length-append, take_front, take_whole)
 
 pub crowd_still : (begin : Seen) (us : List (List ℕ)) (a b : List Told) (i : ℕ) → take i a ≡ take i b → take (i + 1) a ≡ take (i + 1) b
     → IsCrowd begin us b i → IsCrowd begin us a i
-crowd_still begin us a b i e f k = (
-  subst (λ (z : List Told). IsFew begin us z) (sym e) k.0,
-  subst (λ (z : List Told). 4096 < length (kept begin us z)) (sym f) k.1,
-)
+crowd_still begin us a b i e f k = grind arith
 
 -- the kept list itself
 pub few_members : (begin : Seen) (us : List (List ℕ)) (told : List Told) (members : List Member) → members ≡ kept begin us told
     → IsFew begin us told → length members ≤ 4096
-few_members begin us told members e f =
-    subst (λ (ms : List Member). length ms ≤ 4096) (sym e)
-    (few_at begin us told (take (length told) told) (sym (take_whole told (length told) (omega arith))) (f (length told)))
+few_members begin us told members e f = grind (arith, few_at, take_whole told (length told) (omega arith))

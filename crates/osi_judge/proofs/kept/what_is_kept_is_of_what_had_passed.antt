@@ -1,25 +1,23 @@
 -- Which sessions are kept depends on the TSDUs that had passed alone, and on what they do to sessions: for a side that hears more,
 -- and for the judge, which keeps outlines.
-use Rattle.std.proofs.Common.{◌≡◌, ◌∙◌, refl, sym, ap, ap₂, ℕ, suc, zero, ◌+◌, ◌-◌, ◌<◌, ◌≤◌, Bool, true, false, ◌&&◌, List, [], ◌∷◌, ◌++◌}
-use Rattle.std.proofs.Common.{nat_lt, length, get_or, Option, Some, None, Result, Ok, Err, if◌then◌else◌, arith}
+use Rattle.std.proofs.Common.{◌≡◌, ◌∙◌, refl, ap, ap₂, ℕ, suc, zero, ◌+◌, ◌-◌, ◌<◌, ◌≤◌, Bool, ◌&&◌, List, [], ◌∷◌, ◌++◌, nat_lt, length}
+use Rattle.std.proofs.Common.{get_or, Option, Some, None, Result, if◌then◌else◌, arith}
 use Rattle.std.specs.List.{fold, flat_map}
 use Rattle.osi_spdu.specs.declared.faults.SpduFault.{SpduFault}
 use Rattle.osi_message.specs.Reading.{said_at}
 use Rattle.osi_message.specs.Words.{Word, Words}
-use Rattle.osi_session.specs.Joining.{acting_words, is_restart_word}
+use Rattle.osi_session.specs.Joining.{is_restart_word}
 use Rattle.osi_session.specs.Phases.{is_restarting}
 use Rattle.osi_session.specs.Standing.{Seen, Count, listens, said}
 use Rattle.osi_session.specs.Steady.{is_steady}
 use Rattle.osi_judge.specs.declared.members.Member.{Member}
 use Rattle.osi_judge.specs.declared.restarts.Asked.{Asked}
 use Rattle.osi_judge.specs.Explaining.{Told}
-use Rattle.osi_judge.specs.Kept.{added, member, sends, quiet_after, quietly, first_sender, listed, anew, latest, follows, answer_by}
-use Rattle.osi_judge.specs.Kept.{answering}
-use Rattle.osi_judge.specs.Kept.{senders, Way, way_to, Halt, both_of, asks, is_still, remain, waits, waited, passed, halted, stepped}
-use Rattle.osi_judge.specs.Kept.{askers}
-use Rattle.osi_judge.specs.Kept.{restarters, places_of, after_word, after_words, after_read, after_tsdu, kept}
+use Rattle.osi_judge.specs.Kept.{added, sends, quiet_after, quietly, first_sender, listed, anew, latest, follows, answer_by, answering}
+use Rattle.osi_judge.specs.Kept.{senders, Way, way_to, Halt, both_of, remain, waits, waited, passed, stepped, askers, restarters, places_of}
+use Rattle.osi_judge.specs.Kept.{after_word, after_words, after_read, after_tsdu, kept}
 use Rattle.osi_judge.specs.Members.{Extends}
-use Rattle.osi_judge.specs.Nearest.{count_at, quiet_by, next_of, becomes, reached}
+use Rattle.osi_judge.specs.Nearest.{count_at, quiet_by, next_of, becomes}
 use Rattle.osi_judge.proofs.kept.a_session_takes_one_tsdu_at_a_time.{InBounds, within_by, next_taken}
 
 -- the TSDUs before this place do the same to every session
@@ -40,16 +38,13 @@ module _ (us vs : List (List ℕ)) (before : ℕ) (h : ActAlike us vs before) wh
   quietly_alike i s l = ap (λ (c : Count). if listens s then quiet_after s c else None) (h i l s)
 
   follows_alike : (i : ℕ) (o : Option Seen) → i < before → follows o (get_or us i []) ≡ follows o (get_or vs i [])
-  follows_alike i None l = refl
-  follows_alike i (Some s) l = quietly_alike i s l
+  follows_alike i o l = grind (arith, quietly_alike)
 
   answering_alike : (w : Word) (m : Member) → m.taken < before → answering us w m ≡ answering vs w m
   answering_alike w m l = ap (λ (c : Count). if listens m.standing then answer_by w m c else []) (h m.taken l m.standing)
 
   remain_alike : (i : ℕ) (s : Seen) (o : Option Seen) → i < before → remain s o (get_or us i []) ≡ remain s o (get_or vs i [])
-  remain_alike i s None l = refl
-  remain_alike i s (Some a) l =
-      ap₂ (λ (x y : Option Seen). is_still s x && is_still a y) (quietly_alike i s l) (quietly_alike i a l)
+  remain_alike i s o l = grind (arith, quietly_alike)
 
   waits_alike : (w : Word) (i : ℕ) (s : Seen) → i < before → waits w s (get_or us i []) ≡ waits w s (get_or vs i [])
   unfolding waits
@@ -64,14 +59,10 @@ module _ (us vs : List (List ℕ)) (before : ℕ) (h : ActAlike us vs before) wh
 
   passed_alike : (w : Word) (taken : ℕ) (asked : Option Asked) (o : Option Member) → taken < before
       → passed us w taken asked o ≡ passed vs w taken asked o
-  passed_alike w taken asked None l = refl
-  passed_alike w taken asked (Some m) l = waited_alike w taken asked l
+  passed_alike w taken asked o l = grind (arith, waited_alike)
 
   stepped_alike : (way : Way) (asked : Option Asked) (m : Member) → m.taken < before → stepped us way asked m ≡ stepped vs way asked m
-  stepped_alike way asked m l =
-      let a = asks way asked m in
-      let p = ap (passed us way.abort m.taken a.waiting) (next_alike m l) ∙ passed_alike way.abort m.taken a.waiting (next_of vs m) l in
-      λ i. record { kept = a.kept ++ (p i).kept; waiting = (p i).waiting }
+  stepped_alike way asked m l = grind (arith, next_alike, passed_alike)
 
   -- ---- a walk
 
@@ -140,14 +131,11 @@ module _ (us vs : List (List ℕ)) (before : ℕ) (h : ActAlike us vs before) wh
   words_alike : (octets : ℕ) (members : List Member) (words : Words)
       → after_words us octets before members words ≡ after_words vs octets before members words
   words_alike octets members [] = refl
-  words_alike octets members (w ∷ words) =
-      ap (λ (ms : List Member). after_words us octets before ms words) (word_alike octets members w)
-      ∙ words_alike octets (after_word vs octets before members w) words
+  words_alike octets members (w ∷ words) = grind (arith, word_alike, words_alike octets (after_word vs octets before members w) words)
 
   pub read_alike : (octets : ℕ) (members : List Member) (came : Result Words SpduFault)
       → after_read us octets before members came ≡ after_read vs octets before members came
-  read_alike octets members (Ok words) = words_alike octets members (acting_words words)
-  read_alike octets members (Err fault) = refl
+  read_alike octets members came = grind (arith, words_alike)
 
 -- ---- a side
 
@@ -158,10 +146,4 @@ tsdu_alike us vs members t h = read_alike us vs t.before h (length t.octets) mem
 pub kept_alike : (us vs : List (List ℕ)) (begin : Seen) (told : List Told) → ((n : ℕ) → ActAlike us vs n)
     → kept begin us told ≡ kept begin vs told
 unfolding kept
-kept_alike us vs begin told h = from (member 0 begin ∷ []) told
-  where
-    from : (members : List Member) (told : List Told) → fold (after_tsdu us) members told ≡ fold (after_tsdu vs) members told
-    from members [] = refl
-    from members (t ∷ told) =
-        ap (λ (ms : List Member). fold (after_tsdu us) ms told) (tsdu_alike us vs members t (h t.before))
-        ∙ from (after_tsdu vs members t) told
+kept_alike us vs begin told h = grind (arith, tsdu_alike)

@@ -1,7 +1,7 @@
 -- Which sessions explain a side, and which of them came nearest to what it sent: the same where outlines were heard as where the
 -- TSDUs themselves were. For the judge, which keeps outlines, and tells the rule by which a side of a capture broke the protocol.
-use Rattle.std.proofs.Common.{◌≡◌, ◌∙◌, refl, sym, ap, ap₂, subst, ℕ, ◌+◌, ◌-◌, ◌<◌, ◌≤◌, ◌↔◌, ◌⊎◌, inl, inr, List, [], ◌∷◌, ◌++◌}
-use Rattle.std.proofs.Common.{replicate, length, take, Some, option_map, Result, Ok, Err, arith}
+use Rattle.std.proofs.Common.{◌≡◌, ◌∙◌, refl, ap, subst, ℕ, ◌+◌, ◌-◌, ◌≤◌, ◌↔◌, inl, inr, List, [], ◌∷◌, ◌++◌, replicate, length, take}
+use Rattle.std.proofs.Common.{Some, option_map, Result, Ok, Err, arith}
 use Rattle.std.specs.List.{fold, flat_map}
 use Rattle.osi_spdu.specs.declared.faults.SpduFault.{SpduFault}
 use Rattle.osi_spdu.specs.Known.{Contents, Units}
@@ -10,9 +10,8 @@ use Rattle.osi_message.specs.Reading.{word}
 use Rattle.osi_session.specs.Standing.{Seen}
 use Rattle.osi_judge.specs.declared.members.Member.{Member}
 use Rattle.osi_judge.specs.declared.rules.Break.{Break}
-use Rattle.osi_judge.specs.declared.rules.Near.{Near}
 use Rattle.osi_judge.specs.Breaking.{Leads, BreaksIn, here, last, later, BreaksAs, BreaksWith, in_effect}
-use Rattle.osi_judge.specs.Explaining.{Told, Remark, remarks, Explains, IsExplained}
+use Rattle.osi_judge.specs.Explaining.{Told, Remark, remarks, Explains}
 use Rattle.osi_judge.specs.declared.findings.Finding.{Finding}
 use Rattle.osi_judge.specs.declared.findings.Finding.TheVariants.{Kept, Broke, Left, TooMany}
 use Rattle.osi_judge.specs.Judging.{AreAll, IsFew, HasRoom}
@@ -21,7 +20,7 @@ use Rattle.osi_judge.specs.Members.{SomeExplains}
 use Rattle.osi_judge.specs.Nearest.{Unsaid, a_unit, unread, count_at, becomes, reached, last_in, far, tried, nearest, break_by, break_of}
 use Rattle.osi_judge.specs.declared.standings.Stands.{Stands}
 use Rattle.osi_judge.specs.Onward.{StandsBehind}
-use Rattle.osi_judge.specs.Outlines.{AreAlike, outlines}
+use Rattle.osi_judge.specs.Outlines.{outlines}
 use Rattle.osi_judge.proofs.outlined.alike_tsdus_explain_the_same.{Alike, back, explains_as, outlines_alike, extends_as, length_outlines}
 use Rattle.osi_judge.proofs.outlined.alike_tsdus_explain_the_same.{stands_of_tsdus}
 use Rattle.osi_judge.proofs.outlined.alike_tsdus_explain_the_same.{kept_of_tsdus as protocol_of_tsdus}
@@ -39,8 +38,7 @@ becomes_as us vs h n m = becomes_alike us vs (m.taken + n) (all_alike us vs h (m
 reached_as : (us vs : List (List ℕ)) → Alike us vs → (before : ℕ) (members : List Member)
     → flat_map (reached us before) members ≡ flat_map (reached vs before) members
 reached_as us vs h before [] = refl
-reached_as us vs h before (m ∷ members) =
-    ap₂ (λ (a b : List Member). a ++ b) (becomes_as us vs h (before - m.taken) m) (reached_as us vs h before members)
+reached_as us vs h before (m ∷ members) = grind (arith, becomes_as, reached_as us vs h before members)
 
 -- ---- the session that came nearest
 
@@ -69,19 +67,11 @@ some_as us vs h (m ∷ members) ms (inr k) = inr (some_as us vs h members ms k)
 
 of_outlines : (us : List (List ℕ)) (members : List Member) (ms : List Remark) →
     SomeExplains (outlines us) members ms ↔ SomeExplains us members ms
-of_outlines us members ms = (
-  some_as (outlines us) us (outlines_alike us) members ms,
-  some_as us (outlines us) (back (outlines us) us (outlines_alike us)) members
-      ms,
-)
+of_outlines us members ms = grind (arith, some_as, outlines_alike, back)
 
 pub explained_of_outlines : (us : List (List ℕ)) (ms : List Remark) (taken : ℕ) (s : Seen)
     → Explains (outlines us) ms taken s ↔ Explains us ms taken s
-explained_of_outlines us ms taken s = (
-  explains_as (outlines us) us (outlines_alike us) ms taken s,
-  explains_as us (outlines us) (back (outlines us) us (outlines_alike us))
-      ms taken s,
-)
+explained_of_outlines us ms taken s = grind (arith, explains_as, outlines_alike, back)
 
 pub all_of_tsdus : (begin : Seen) (heard : List (List ℕ)) (before : ℕ) (members : List Member) (told : List Told)
     → AreAll begin (outlines heard) before members told → AreAll begin heard before members told
@@ -110,15 +100,13 @@ pub room_of_tsdus : (heard : List (List ℕ)) (begin : Seen) (told : List Told) 
 room_of_tsdus heard begin told Kept h = few_of_tsdus heard begin told h
 room_of_tsdus heard begin told (Broke i) h = few_of_tsdus heard begin (take i told) h
 room_of_tsdus heard begin told (Left i) h = few_of_tsdus heard begin (take i told) h
-room_of_tsdus heard begin told TooMany (i, l, k, c) = (
-  i,
-  l,
-  protocol_of_tsdus begin heard (take (i + 1) told) k,
-  (
-    few_of_tsdus heard begin (take i told) c.0,
-    subst (λ (ms : List Member). 4096 < length ms) (kept_of_tsdus heard begin (take (i + 1) told)) c.1,
-  ),
-)
+room_of_tsdus heard begin told TooMany (i, l, k, c) =
+    grind (
+      arith,
+      protocol_of_tsdus begin heard (take (i + 1) told) k,
+      few_of_tsdus heard begin (take i told) c.0,
+      kept_of_tsdus heard begin (take (i + 1) told),
+    )
 
 -- ---- the rule
 

@@ -1,14 +1,12 @@
 -- What is explained, found and taken where outlines were heard is so where the TSDUs themselves were.
 -- For the judge, which keeps outlines, and says what holds of the TSDUs of a capture.
-use Rattle.std.proofs.Common.{◌≡◌, ◌∙◌, refl, sym, ap, subst, ℕ, zero, suc, ◌+◌, inl, inr, Bool, true, false, ◌&&◌, nat_le}
-use Rattle.std.proofs.Common.{nat_lt, List, [], ◌∷◌, ◌++◌, length, take, map, get_or}
-use Rattle.std.proofs.Common.{Option, Some, None, Result, Ok, IfSome, if◌then◌else◌, arith}
+use Rattle.std.proofs.Common.{◌≡◌, ◌∙◌, refl, sym, ap, subst, ℕ, zero, suc, ◌+◌, Bool, true, false, ◌&&◌, nat_lt, List, [], ◌∷◌, ◌++◌}
+use Rattle.std.proofs.Common.{length, take, get_or, Option, None, Result, Ok, IfSome, if◌then◌else◌, arith}
 use Rattle.osi_spdu.specs.declared.faults.SpduFault.{SpduFault}
 use Rattle.osi_spdu.specs.Reading.{tsdu_at, unit_at}
-use Rattle.osi_message.specs.Meanings.{Meaning, CN, AC, GT, PT}
-use Rattle.osi_message.specs.Reading.{alone, behind, said_at}
-use Rattle.osi_message.specs.Tokens.{no_token}
-use Rattle.osi_message.specs.Words.{Word, Words, part, part_octets, says}
+use Rattle.osi_message.specs.Meanings.{Meaning}
+use Rattle.osi_message.specs.Reading.{said_at}
+use Rattle.osi_message.specs.Words.{Word, Words, says}
 use Rattle.osi_message.specs.Written.{is_second, written}
 use Rattle.osi_session.specs.declared.reactions.Reply.{Reply}
 use Rattle.osi_session.specs.Respond.{has_no_effect}
@@ -21,9 +19,9 @@ use Rattle.osi_judge.specs.declared.standings.Stands.{Stands}
 use Rattle.osi_judge.specs.Explaining.{Explains, Remark, Told, IsExplained, done, takes, answers, says as sends}
 use Rattle.osi_judge.specs.Judging.{IsAstray, IsFound, IsKept}
 use Rattle.osi_judge.specs.Members.{Extends}
-use Rattle.osi_judge.specs.Onward.{Comes, IsAtEnd, OwesTo, Quietly, StandsBehind, StopsBy, goes, standing_of, stays}
+use Rattle.osi_judge.specs.Onward.{Comes, IsAtEnd, StandsBehind, StopsBy, goes, standing_of, stays}
 use Rattle.osi_judge.specs.Nearest.{goes_to}
-use Rattle.osi_judge.specs.Outlines.{AreAlike, bare, no_data, outline, outline_as, outline_behind, outline_by, outlines}
+use Rattle.osi_judge.specs.Outlines.{AreAlike, bare, outline, outline_as, outline_behind, outline_by, outlines}
 use Rattle.osi_judge.specs.Profiles.{in_first, is_outside, accepted_in, offered_in, selects_outside}
 use Rattle.osi_judge.specs.Walking.{Ever}
 use Rattle.osi_judge.proofs.outlined.an_outline_is_taken_alike.{Bared, bared, numbered_at, part_again, read_again, taken_alike}
@@ -71,69 +69,49 @@ outlines_alike us = λ i. subst (λ (x : List ℕ). AreAlike x (get_or us i []))
 -- ---- what is offered
 
 bare_offer : (m : Meaning) → IfSome (bare m) (λ n. offered_in n ≡ offered_in m)
-bare_offer (CN version_2 requirements serial wishes from to sizes octets) = tt
-bare_offer (AC version_2 requirements serial sides sizes octets) = tt
-bare_offer _ = refl
+bare_offer m = grind arith
 
 idle_offer : (m : Meaning) → has_no_effect m ≡ true → None ≡ offered_in m
-idle_offer (GT tokens) e = refl
-idle_offer (PT tokens octets) e = refl
-idle_offer _ e = absurd (cc)
+idle_offer m e = grind arith
 
 abbrev Offer : List ℕ → Option ℕ
 Offer tsdu = in_first offered_in (said_at tsdu)
 
 either_offer : (b : Bool) (short tsdu : List ℕ) (o : Option ℕ) → Offer short ≡ o → Offer tsdu ≡ o → Offer (if b then short else tsdu) ≡ o
-either_offer true short tsdu o h k = h
-either_offer false short tsdu o h k = k
+either_offer b short tsdu o h k = grind arith
 
 outline_offer : (tsdu : List ℕ) (m : Option Meaning) (o : Option ℕ) → Offer tsdu ≡ o → IfSome m (λ n. Offer (written n) ≡ o)
     → Offer (outline_as tsdu m) ≡ o
-outline_offer tsdu None o h k = h
-outline_offer tsdu (Some n) o h k = either_offer (nat_le (length (written n)) (length tsdu)) (written n) tsdu o k h
+outline_offer tsdu m o h k = grind (arith, either_offer)
 
 alone_offer : (m : Meaning) (o : Option Meaning) → Bared m o → IfSome o (λ n. offered_in n ≡ offered_in m) → is_second m ≡ false
     → IfSome o (λ n. Offer (written n) ≡ offered_in m)
-alone_offer m None b h e = tt
-alone_offer m (Some n) b h e =
-    ap (λ (r : Result Words SpduFault). in_first offered_in r)
-    (read_again n b.4 ∙ ap (λ (x : Bool). Ok (map says (if x then behind (GT no_token) n else alone n))) (b.3 ∙ e)) ∙ h
+alone_offer m o b h e = grind (arith, read_again)
 
 pair_offer : (item m : Meaning) (o : Option Meaning) → Bared m o → has_no_effect item ≡ true → is_second m ≡ true
     → IfSome o (λ n. Offer (written n) ≡ offered_in item)
-pair_offer item m None b i e = tt
-pair_offer item m (Some n) b i e =
-    ap (λ (r : Result Words SpduFault). in_first offered_in r)
-    (read_again n b.4 ∙ ap (λ (x : Bool). Ok (map says (if x then behind (GT no_token) n else alone n))) (b.3 ∙ e)) ∙ idle_offer item i
+pair_offer item m o b i e = grind (arith, read_again, idle_offer)
 
 one_offer : (b : Bool) (tsdu : List ℕ) (m : Meaning) → is_second m ≡ b → said_at tsdu ≡ Ok (says m ∷ [])
     → Offer (if b then tsdu else outline_as tsdu (bare m)) ≡ offered_in m
 one_offer true tsdu m e h = ap (λ (r : Result Words SpduFault). in_first offered_in r) h
 one_offer false tsdu m e h =
-    outline_offer tsdu (bare m) (offered_in m) (ap (λ (r : Result Words SpduFault). in_first offered_in r) h)
-    (alone_offer m (bare m) (bared m (numbered_at tsdu (says m ∷ []) h).0) (bare_offer m) e)
+    grind (arith, outline_offer, alone_offer m (bare m) (bared m (numbered_at tsdu (says m ∷ []) h).0) (bare_offer m) e)
 
 second_offer : (b : Bool) (tsdu : List ℕ) (item m : Meaning) → has_no_effect item ≡ true → is_second m ≡ b
     → said_at tsdu ≡ Ok (says item ∷ says m ∷ [])
     → Offer (if b then outline_as tsdu (bare m) else tsdu) ≡ offered_in item
 second_offer false tsdu item m i e h = ap (λ (r : Result Words SpduFault). in_first offered_in r) h
 second_offer true tsdu item m i e h =
-    outline_offer tsdu (bare m) (offered_in item) (ap (λ (r : Result Words SpduFault). in_first offered_in r) h)
-    (pair_offer item m (bare m) (bared m (numbered_at tsdu (says item ∷ says m ∷ []) h).1.0) i e)
+    grind (arith, outline_offer, pair_offer item m (bare m) (bared m (numbered_at tsdu (says item ∷ says m ∷ []) h).1.0) i e)
 
 behind_offer : (tsdu : List ℕ) (item : Meaning) (w : Word) → has_no_effect item ≡ true → said_at tsdu ≡ Ok (says item ∷ w ∷ [])
     → Offer (outline_behind tsdu w) ≡ offered_in item
-behind_offer tsdu item (says m) i h = second_offer (is_second m) tsdu item m i refl h
-behind_offer tsdu item (part place octets) i h =
-    either_offer (nat_le (length (part_octets place (no_data octets))) (length tsdu)) (part_octets place (no_data octets)) tsdu
-    (offered_in item)
-    (ap (λ (r : Result Words SpduFault). in_first offered_in r) (part_again place (no_data octets)) ∙ idle_offer item i)
-    (ap (λ (r : Result Words SpduFault). in_first offered_in r) h)
+behind_offer tsdu item w i h = grind (arith, second_offer, either_offer, part_again, idle_offer)
 
 two_offer : (b : Bool) (tsdu : List ℕ) (item : Meaning) (w : Word) → has_no_effect item ≡ b → said_at tsdu ≡ Ok (says item ∷ w ∷ [])
     → Offer (if b then outline_behind tsdu w else tsdu) ≡ offered_in item
-two_offer false tsdu item w i h = ap (λ (r : Result Words SpduFault). in_first offered_in r) h
-two_offer true tsdu item w i h = behind_offer tsdu item w i h
+two_offer b tsdu item w i h = grind (arith, behind_offer)
 
 offer_by : (tsdu : List ℕ) (read : Result Words SpduFault) → said_at tsdu ≡ read → Offer (outline_by tsdu read) ≡ in_first offered_in read
 offer_by tsdu (Ok (says m ∷ [])) h = one_offer (is_second m) tsdu m refl h
@@ -160,28 +138,19 @@ not_explained : (begin : Seen) (us : List (List ℕ)) (told : List Told) → (Is
 not_explained begin us told h k = h (explains_as us (outlines us) (back (outlines us) us (outlines_alike us)) _ _ _ k)
 
 astray : (begin : Seen) (us : List (List ℕ)) (told : List Told) → IsAstray begin (outlines us) told → IsAstray begin us told
-astray begin us told (inl h) = inl (not_explained begin us told h)
-astray begin us told (inr h) = inr (sym (same_selection us told) ∙ h)
+astray begin us told h = grind (arith, not_explained, same_selection)
 
 pub found_of_tsdus : (begin : Seen) (us : List (List ℕ)) (told : List Told) (f : Finding) → IsFound begin (outlines us) told f
     → IsFound begin us told f
 found_of_tsdus begin us told Kept h = kept_of_tsdus begin us told h
-found_of_tsdus begin us told (Broke i) h = (
-  record {
-    there = h.0.there;
-    so_far = explains_as (outlines us) us (outlines_alike us) _ _ _ h.0.so_far;
-    broke = not_explained begin us (take (i + 1) told) h.0.broke;
-  },
-  sym (same_selection us (take i told)) ∙ h.1,
-)
+found_of_tsdus begin us told (Broke i) h = grind (arith, explains_as, outlines_alike, not_explained, same_selection)
 found_of_tsdus begin us told (Left i) h = (h.0, kept_of_tsdus begin us (take i told) h.1, astray begin us (take (i + 1) told) h.2)
 found_of_tsdus begin us told TooMany (i, l, h) = (i, l, kept_of_tsdus begin us (take (i + 1) told) h)
 
 -- ---- how a session stands
 
 pub extends_as : (us heard : List (List ℕ)) → Extends us heard → Extends (outlines us) (outlines heard)
-extends_as us heard h = λ i l.
-    let n = length_outlines heard in outlines_at us i ∙ ap outline (h i (omega (arith, n, l))) ∙ sym (outlines_at heard i)
+extends_as us heard h = grind (arith, length_outlines, outlines_at)
 
 -- whatever is sent later is explained from one state if it is from another
 abbrev Leads : (taken : ℕ) (s : Seen) (said : List Remark) (begin : Seen) → List (List ℕ) → List Remark → Type 0
@@ -195,8 +164,7 @@ said_of_tsdus heard before taken s said begin h = λ us later x b k.
     (h (outlines us) later (extends_as us heard x) b (explains_as us (outlines us) (back (outlines us) us (outlines_alike us)) _ _ _ k))
 
 hears_as : (s t : Seen) (a b : List ℕ) → AreAlike a b → Hears s a t → Hears s b t
-hears_as s t a b h k =
-    record { count = k.count; listening = k.listening; taken = takes_as s a b k.count h k.taken; quiet = k.quiet; next = k.next }
+hears_as s t a b h k = grind (arith, takes_as)
 
 comes_as : (us vs : List (List ℕ)) → Alike us vs → (m n : Member) → Comes us m n → Comes vs m n
 comes_as us vs h m n (stays x) = stays x
@@ -209,24 +177,11 @@ comes_as us vs h m n (goes x y t q k) =
     (comes_as us vs h y t k)
 
 stops_as : (s : Seen) (a b : List ℕ) (owes : Option Reply) → AreAlike a b → StopsBy s a owes → StopsBy s b owes
-stops_as s a b None h k = k
-stops_as s a b (Some reply) h k =
-    record { count = k.count; listening = k.listening; taken = takes_as s a b k.count h k.taken; sent = k.sent }
+stops_as s a b owes h k = grind (arith, takes_as)
 
 ends_as : (us : List (List ℕ)) (m : Member) (owes : Option Reply) → IsAtEnd (outlines us) m owes → IsAtEnd us m owes
-ends_as us m owes (inl k) = let n = length_outlines us in inl (omega (arith, n, k.0), k.1)
-ends_as us m owes (inr k) =
-    let n = length_outlines us in
-    inr (
-      omega (arith, n, k.0),
-      stops_as m.standing (get_or (outlines us) m.taken []) (get_or us m.taken []) owes
-          (outlines_alike us m.taken) k.1,
-    )
+ends_as us m owes h = grind (arith, length_outlines, stops_as, outlines_alike)
 
 pub stands_of_tsdus : (us : List (List ℕ)) (m : Member) (s : Stands) → StandsBehind (outlines us) m s → standing_of s ≡ goes_to us m
     → StandsBehind us m s
-stands_of_tsdus us m s h g = record {
-  comes = comes_as (outlines us) us (outlines_alike us) m (standing_of s) h.comes;
-  goes = g;
-  ends = ends_as us (standing_of s) s.owes h.ends;
-}
+stands_of_tsdus us m s h g = search (arith, comes_as, outlines_alike, ends_as)

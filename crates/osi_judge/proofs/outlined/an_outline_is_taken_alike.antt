@@ -1,26 +1,23 @@
 -- A TSDU and its outline have the same effect on every session, but for what its user is shown.
 -- For the judge, which keeps outlines, and says what holds of the TSDUs.
-use Rattle.std.proofs.Common.{◌≡◌, ◌∙◌, refl, sym, ap, subst, ℕ, ◌+◌, ◌<◌, ◌≤◌, Bool, true, false, not, ◌&&◌, ◌||◌, nat_le, List, [], ◌∷◌}
-use Rattle.std.proofs.Common.{◌++◌, length, map, IfOk, IfSome}
-use Rattle.std.proofs.Common.{Option, Some, None, Result, Ok, Err, if◌then◌else◌, arith}
+use Rattle.std.proofs.Common.{◌≡◌, ◌∙◌, refl, sym, ap, ℕ, ◌+◌, ◌≤◌, Bool, true, false, nat_le, List, [], ◌∷◌, ◌++◌, length, map, IfOk}
+use Rattle.std.proofs.Common.{IfSome, Option, Some, None, Result, Ok, if◌then◌else◌, arith}
 use Rattle.std.proofs.lemmas.Bool.{le-leb, leb-false, leb-true}
 use Rattle.std.proofs.lemmas.List.{append-nil, length-append, length-replicate}
 use Rattle.osi_spdu.specs.declared.faults.SpduFault.{SpduFault}
 use Rattle.osi_spdu.specs.Known.{Contents, Units}
 use Rattle.osi_spdu.specs.Reading.{tsdu_at}
-use Rattle.osi_spdu.specs.Writing.{tsdu_octets}
 use Rattle.osi_spdu.proofs.basics.digits_of_numbers.{numeral_digits}
 use Rattle.osi_spdu.proofs.form.few_octets_fit.{few_fit}
 use Rattle.osi_spdu.proofs.tsdu.units_and_tsdus_are_read.{tsdu_read}
 use Rattle.osi_spdu.proofs.form.the_form_spells_its_unit.{units_written}
-use Rattle.osi_message.specs.Meanings.{Meaning, CN, AC, DT, GT, PT}
+use Rattle.osi_message.specs.Meanings.{Meaning, DT, GT}
 use Rattle.osi_message.specs.Plain.{data_octets}
 use Rattle.osi_message.specs.Numbered.{IsNumbered, AreNumberedWords}
-use Rattle.osi_message.specs.Reading.{alone, behind, said_at, said_if_read, said_by_units, word}
+use Rattle.osi_message.specs.Reading.{alone, behind, said_at, said_if_read, said_by_units}
 use Rattle.osi_message.specs.Sendable.{IsSendable, words_of}
 use Rattle.osi_message.specs.Tokens.{is_empty, no_token}
 use Rattle.osi_message.specs.declared.places.Place.{Place}
-use Rattle.osi_message.specs.declared.places.Place.TheVariants.{First, Middle, Last}
 use Rattle.osi_message.specs.Words.{Word, Words, part, part_octets, says}
 use Rattle.osi_message.specs.Written.{is_second, spelled, user_data_of, written}
 use Rattle.osi_message.proofs.what_can_be_sent_has_a_written_form.{spelled_fits, spelled_formed}
@@ -28,17 +25,13 @@ use Rattle.osi_message.proofs.numbers_are_those_of_points.{units_numbered}
 use Rattle.osi_message.proofs.parts_are_written_and_read.{part_said}
 use Rattle.osi_message.proofs.units_of_the_fast_path.{data_written}
 use Rattle.osi_message.proofs.what_is_written_means_it.{said_again}
-use Rattle.osi_session.specs.declared.faults.UnitFault.TheVariants.{BadEnclosure, DataTooLong, Unexpected}
-use Rattle.osi_session.specs.Allowed.{most_data}
-use Rattle.osi_session.specs.Joining.{Taker, Hearing, acting_words, enacted_word, is_in_place, is_restart_word}
-use Rattle.osi_session.specs.Joining.{joined_octets, respond_came, respond_word, respond_words, word_conditions}
-use Rattle.osi_session.specs.Joining.{word_verdict}
-use Rattle.osi_session.specs.Phases.{is_over, is_restarting}
-use Rattle.osi_session.specs.Respond.{Verdict, by_fault, conditions, dropped, drops, faulty, fine, first_fault, has_no_effect}
-use Rattle.osi_session.specs.Respond.{is_expected, is_faulty, nothing, over, passes_restarting, si}
+use Rattle.osi_session.specs.Joining.{Taker, Hearing, acting_words, enacted_word, is_restart_word, respond_came, respond_word}
+use Rattle.osi_session.specs.Joining.{respond_words, word_verdict}
+use Rattle.osi_session.specs.Phases.{is_over}
+use Rattle.osi_session.specs.Respond.{Verdict, dropped, fine, has_no_effect, is_faulty, over}
 use Rattle.osi_session.specs.Standing.{Count, counted}
 use Rattle.osi_session.proofs.tsdu.octets_are_counted.{count_then}
-use Rattle.osi_judge.specs.Outlines.{AreAlike, at_most, bare, no_data, outline, outline_as, outline_behind, outline_by}
+use Rattle.osi_judge.specs.Outlines.{AreAlike, bare, no_data, outline, outline_as, outline_behind, outline_by}
 use Rattle.osi_judge.proofs.told.a_tsdu_has_one_count.{behind_by, heard_alike, takers_alike, words_alike}
 
 -- ---- words with the same effect
@@ -47,9 +40,6 @@ pub record SameWord (w v : Word) : Type 0 where
   pub verdict : (t : Taker) → is_faulty (word_verdict t w) ≡ is_faulty (word_verdict t v)
   pub effect : (t : Taker) → counted (respond_word t w) ≡ counted (respond_word t v)
   pub restart : is_restart_word w ≡ is_restart_word v
-
-itself : (w : Word) → SameWord w w
-itself w = record { verdict = λ t. refl; effect = λ t. refl; restart = refl }
 
 abbrev SameWords : Words → Words → Type 0
 SameWords [] [] = Unit {0}
@@ -89,138 +79,82 @@ chosen false t w v x y s r = words_same t (x ∷ w ∷ []) (y ∷ v ∷ []) (r, 
 pair_same : (t : Taker) (w v x y : Word) → SameWord w v → SameWord x y
     → counted (respond_came t (Ok (w ∷ x ∷ []))) ≡ counted (respond_came t (Ok (v ∷ y ∷ [])))
 unfolding acting_words
-pair_same t w v x y s r =
-    chosen (is_restart_word x || false) t w v x y s r
-    ∙ ap (λ (b : Bool). counted (respond_words t (if b || false then y ∷ [] else y ∷ v ∷ []))) r.restart
+pair_same t w v x y s r = grind (arith, chosen)
 
 -- ---- a message and the same without its user data
 
 bare_verdict : (m : Meaning) (t : Taker) → IfSome (bare m) (λ n. word_verdict t (says m) ≡ word_verdict t (says n))
-bare_verdict (CN version_2 requirements serial wishes from to sizes octets) t = tt
-bare_verdict (AC version_2 requirements serial sides sizes octets) t = tt
-bare_verdict _ t = refl
+bare_verdict m t = grind arith
 
 bare_effect : (m : Meaning) (t : Taker) (v : Verdict)
     → IfSome (bare m) (λ n. counted (enacted_word t (says m) v) ≡ counted (enacted_word t (says n) v))
-bare_effect (CN version_2 requirements serial wishes from to sizes octets) t v = tt
-bare_effect (AC version_2 requirements serial sides sizes octets) t v = tt
-bare_effect _ t over = refl
-bare_effect _ t dropped = refl
-bare_effect _ t (faulty fault) = refl
-bare_effect _ t fine = refl
+bare_effect m t v = grind arith
 
 bare_restart : (m : Meaning) → IfSome (bare m) (λ n. is_restart_word (says m) ≡ is_restart_word (says n))
-bare_restart (CN version_2 requirements serial wishes from to sizes octets) = tt
-bare_restart (AC version_2 requirements serial sides sizes octets) = tt
-bare_restart _ = refl
+bare_restart m = grind arith
 
 bare_second : (m : Meaning) → IfSome (bare m) (λ n. is_second n ≡ is_second m)
 unfolding is_second
-bare_second (CN version_2 requirements serial wishes from to sizes octets) = tt
-bare_second (AC version_2 requirements serial sides sizes octets) = tt
-bare_second _ = refl
+bare_second m = grind arith
 
 bare_sendable : (m : Meaning) → IsNumbered m → IfSome (bare m) IsSendable
 unfolding user_data_of
-bare_sendable (CN version_2 requirements serial wishes from to sizes octets) h = tt
-bare_sendable (AC version_2 requirements serial sides sizes octets) h = tt
-bare_sendable _ h = record { version = refl; numbered = h; sized = refl; addressed = tt; short = omega arith }
+bare_sendable m h = grind arith
 
 same_by : (m n : Meaning) → ((t : Taker) → word_verdict t (says m) ≡ word_verdict t (says n))
     → ((t : Taker) (v : Verdict) → counted (enacted_word t (says m) v) ≡ counted (enacted_word t (says n) v))
     → is_restart_word (says m) ≡ is_restart_word (says n)
     → SameWord (says m) (says n)
 unfolding respond_word
-same_by m n a b r = record {
-  verdict = λ t. ap is_faulty (a t);
-  effect = λ t. b t (word_verdict t (says m)) ∙ ap (λ (v : Verdict). counted (enacted_word t (says n) v)) (a t);
-  restart = r;
-}
+same_by m n a b r = grind arith
 
 -- ---- a part and as many other octets
 
 part_verdict : (t : Taker) (place : Place) (o p : List ℕ) → length o ≡ length p
     → word_verdict t (part place o) ≡ word_verdict t (part place p)
-part_verdict t place o p e =
-    let total : length (joined_octets t.joined ++ o) ≡ length (joined_octets t.joined ++ p)
-    = length-append (joined_octets t.joined) o ∙ ap (λ (n : ℕ). length (joined_octets t.joined) + n) e ∙ sym
-    (length-append (joined_octets t.joined) p) in
-    λ i. if is_over t.state.phase then over else if drops t.state (DT o) then dropped else if not
-    (is_expected t.state.phase (DT o)) then faulty (Unexpected (si (DT o)))
-    else by_fault (first_fault (si (DT o))
-    (conditions t.state (DT o) ++ (is_in_place t.joined place, BadEnclosure) ∷ (nat_le (total i) most_data, DataTooLong) ∷ []))
+part_verdict t place o p e = grind (arith, length-append)
 
 part_fine : (t : Taker) (place : Place) (o p : List ℕ) → length o ≡ length p
     → counted (enacted_word t (part place o) fine) ≡ counted (enacted_word t (part place p) fine)
-part_fine t First o p e = heard_alike (Some o) (Some p) (nothing t.state) (ap Some e)
-part_fine t Middle o p e =
-    heard_alike (Some (joined_octets t.joined ++ o)) (Some (joined_octets t.joined ++ p)) (nothing t.state)
-    (ap Some (length-append (joined_octets t.joined) o ∙ ap (λ (n : ℕ). length (joined_octets t.joined) + n) e ∙ sym
-    (length-append (joined_octets t.joined) p)))
-part_fine t Last o p e = refl
+part_fine t place o p e = grind (arith, heard_alike, length-append)
 
 part_effect : (t : Taker) (place : Place) (o p : List ℕ) (v : Verdict) → length o ≡ length p
     → counted (enacted_word t (part place o) v) ≡ counted (enacted_word t (part place p) v)
-part_effect t place o p over e = refl
-part_effect t place o p dropped e = refl
-part_effect t place o p (faulty fault) e = refl
-part_effect t place o p fine e = part_fine t place o p e
+part_effect t place o p v e = grind (arith, part_fine)
 
 part_same : (place : Place) (o : List ℕ) → SameWord (part place o) (part place (no_data o))
 unfolding respond_word
-part_same place o =
-    let e = sym (length-replicate (length o) 0) in record {
-      verdict = λ t. ap is_faulty (part_verdict t place o (no_data o) e);
-      effect = λ t. part_effect t place o (no_data o) (word_verdict t (part place o)) e
-          ∙ ap (λ (v : Verdict). counted (enacted_word t (part place (no_data o)) v)) (part_verdict t place o (no_data o) e);
-      restart = refl;
-    }
+part_same place o = grind (arith, length-replicate, part_verdict, part_effect)
 
 pub part_again : (place : Place) (octets : List ℕ) → said_at (part_octets place octets) ≡ Ok (says (GT no_token) ∷ part place octets ∷ [])
-part_again place octets =
-    part_said few_fit (λ units is fits. tsdu_read units (tsdu_octets units) is.together (units_written units is.formed fits)) place octets
+part_again place octets = grind (arith, part_said, few_fit, tsdu_read, units_written)
 
 -- ---- a token item that names no token
 
 idle_verdict : (m : Meaning) (t : Taker) → has_no_effect m ≡ true
     → word_verdict t (says m) ≡ (if is_over t.state.phase then over else dropped)
-idle_verdict m t e =
-    ap (λ (b : Bool). if is_over t.state.phase then over else if b || (is_restarting t.state.phase && not
-    (passes_restarting m)) then dropped
-    else if not (is_expected t.state.phase m) then faulty (Unexpected (si m)) else by_fault
-    (first_fault (si m) (word_conditions t (says m)))) e
+idle_verdict m t e = grind arith
 
 idle_over : (m : Meaning) (t : Taker) → has_no_effect m ≡ true
     → counted (enacted_word t (says m) over) ≡ counted (enacted_word t (says (GT no_token)) over)
-idle_over (GT tokens) t e = refl
-idle_over (PT tokens octets) t e = refl
-idle_over _ t e = absurd (cc)
+idle_over m t e = grind arith
 
 idle_effect : (b : Bool) (m : Meaning) (t : Taker) → has_no_effect m ≡ true
     → counted (enacted_word t (says m) (if b then over else dropped))
     ≡ counted (enacted_word t (says (GT no_token)) (if b then over else dropped))
-idle_effect true m t e = idle_over m t e
-idle_effect false m t e = refl
+idle_effect b m t e = grind (arith, idle_over)
 
 idle_restart : (m : Meaning) → has_no_effect m ≡ true → is_restart_word (says m) ≡ is_restart_word (says (GT no_token))
-idle_restart (GT tokens) e = refl
-idle_restart (PT tokens octets) e = refl
-idle_restart _ e = absurd (cc)
+idle_restart m e = grind arith
 
 idle_same : (m : Meaning) → has_no_effect m ≡ true → SameWord (says m) (says (GT no_token))
 unfolding respond_word is_empty
-idle_same m e = record {
-  verdict = λ t. ap is_faulty (idle_verdict m t e ∙ sym (idle_verdict (GT no_token) t refl));
-  effect = λ t. ap (λ (v : Verdict). counted (enacted_word t (says m) v)) (idle_verdict m t e) ∙ idle_effect (is_over t.state.phase) m t e
-      ∙ ap (λ (v : Verdict). counted (enacted_word t (says (GT no_token)) v)) (sym (idle_verdict (GT no_token) t refl));
-  restart = idle_restart m e;
-}
+idle_same m e = grind (arith, idle_verdict, idle_effect, idle_restart)
 
 -- ---- what is read of the outline
 
 numbered_read : (r : Result Units SpduFault) (ws : Words) → said_if_read r ≡ Ok ws → AreNumberedWords ws
-numbered_read (Ok units) ws e = subst AreNumberedWords (cc) (units_numbered units)
-numbered_read (Err fault) ws e = absurd (cc)
+numbered_read r ws e = grind (arith, units_numbered)
 
 pub numbered_at : (tsdu : List ℕ) (ws : Words) → said_at tsdu ≡ Ok ws → AreNumberedWords ws
 unfolding said_at
@@ -245,13 +179,11 @@ DoesAt t octets = counted (respond_came t (said_at octets))
 
 either_does : (b : Bool) (t : Taker) (short tsdu : List ℕ) (c : Count) → DoesAt t short ≡ c → DoesAt t tsdu ≡ c
     → DoesAt t (if b then short else tsdu) ≡ c
-either_does true t short tsdu c h k = h
-either_does false t short tsdu c h k = k
+either_does b t short tsdu c h k = grind arith
 
 outline_does : (t : Taker) (tsdu : List ℕ) (o : Option Meaning) (c : Count) → DoesAt t tsdu ≡ c → IfSome o (λ n. DoesAt t (written n) ≡ c)
     → DoesAt t (outline_as tsdu o) ≡ c
-outline_does t tsdu None c h k = h
-outline_does t tsdu (Some n) c h k = either_does (nat_le (length (written n)) (length tsdu)) t (written n) tsdu c k h
+outline_does t tsdu o c h k = grind (arith, either_does)
 
 -- all that is known of a message and the same without its user data
 abbrev pub Bared : Meaning → Option Meaning → Type 0
@@ -281,17 +213,14 @@ pair_does t item m (Some n) b i e =
 one_by : (b : Bool) (t : Taker) (tsdu : List ℕ) (m : Meaning) → is_second m ≡ b → said_at tsdu ≡ Ok (says m ∷ [])
     → DoesAt t (if b then tsdu else outline_as tsdu (bare m)) ≡ Does t (says m ∷ [])
 one_by true t tsdu m e h = ap (λ (r : Result Words SpduFault). counted (respond_came t r)) h
-one_by false t tsdu m e h =
-    outline_does t tsdu (bare m) (Does t (says m ∷ [])) (ap (λ (r : Result Words SpduFault). counted (respond_came t r)) h)
-    (alone_does t m (bare m) (bared m (numbered_at tsdu (says m ∷ []) h).0) e)
+one_by false t tsdu m e h = grind (arith, outline_does, alone_does t m (bare m) (bared m (numbered_at tsdu (says m ∷ []) h).0) e)
 
 second_by : (b : Bool) (t : Taker) (tsdu : List ℕ) (item m : Meaning) → has_no_effect item ≡ true → is_second m ≡ b
     → said_at tsdu ≡ Ok (says item ∷ says m ∷ [])
     → DoesAt t (if b then outline_as tsdu (bare m) else tsdu) ≡ Does t (says item ∷ says m ∷ [])
 second_by false t tsdu item m i e h = ap (λ (r : Result Words SpduFault). counted (respond_came t r)) h
 second_by true t tsdu item m i e h =
-    outline_does t tsdu (bare m) (Does t (says item ∷ says m ∷ [])) (ap (λ (r : Result Words SpduFault). counted (respond_came t r)) h)
-    (pair_does t item m (bare m) (bared m (numbered_at tsdu (says item ∷ says m ∷ []) h).1.0) i e)
+    grind (arith, outline_does, pair_does t item m (bare m) (bared m (numbered_at tsdu (says item ∷ says m ∷ []) h).1.0) i e)
 
 behind_does : (t : Taker) (tsdu : List ℕ) (item : Meaning) (w : Word) → has_no_effect item ≡ true → said_at tsdu ≡ Ok (says item ∷ w ∷ [])
     → DoesAt t (outline_behind tsdu w) ≡ Does t (says item ∷ w ∷ [])
@@ -307,14 +236,11 @@ behind_does t tsdu item (part place octets) i h =
 two_by : (b : Bool) (t : Taker) (tsdu : List ℕ) (item : Meaning) (w : Word) → has_no_effect item ≡ b
     → said_at tsdu ≡ Ok (says item ∷ w ∷ [])
     → DoesAt t (if b then outline_behind tsdu w else tsdu) ≡ Does t (says item ∷ w ∷ [])
-two_by false t tsdu item w i h = ap (λ (r : Result Words SpduFault). counted (respond_came t r)) h
-two_by true t tsdu item w i h = behind_does t tsdu item w i h
+two_by b t tsdu item w i h = grind (arith, behind_does)
 
 taken_by : (t : Taker) (tsdu : List ℕ) (read : Result Words SpduFault) → said_at tsdu ≡ read
     → DoesAt t (outline_by tsdu read) ≡ counted (respond_came t read)
-taken_by t tsdu (Ok (says m ∷ [])) h = one_by (is_second m) t tsdu m refl h
-taken_by t tsdu (Ok (says item ∷ w ∷ [])) h = two_by (has_no_effect item) t tsdu item w refl h
-taken_by t tsdu _ h = ap (λ (r : Result Words SpduFault). counted (respond_came t r)) h
+taken_by t tsdu read h = grind (arith, one_by, two_by)
 
 pub taken_alike : (tsdu : List ℕ) → AreAlike (outline tsdu) tsdu
 unfolding outline
@@ -323,27 +249,19 @@ taken_alike tsdu t = taken_by t tsdu (said_at tsdu) refl
 -- ---- how long an outline is
 
 most_of : (b : Bool) (short tsdu : List ℕ) → nat_le (length short) (length tsdu) ≡ b → length (if b then short else tsdu) ≤ length tsdu
-most_of true short tsdu e = leb-true (length short) (length tsdu) e
-most_of false short tsdu e = omega arith
+most_of b short tsdu e = grind (arith, leb-true)
 
 as_short : (tsdu : List ℕ) (o : Option Meaning) → length (outline_as tsdu o) ≤ length tsdu
-as_short tsdu None = omega arith
-as_short tsdu (Some n) = most_of (nat_le (length (written n)) (length tsdu)) (written n) tsdu refl
+as_short tsdu o = grind (arith, most_of)
 
 either_short : (b : Bool) (x y tsdu : List ℕ) → length x ≤ length tsdu → length y ≤ length tsdu → length (if b then x else y) ≤ length tsdu
-either_short true x y tsdu h k = h
-either_short false x y tsdu h k = k
+either_short b x y tsdu h k = grind arith
 
 behind_short : (tsdu : List ℕ) (w : Word) → length (outline_behind tsdu w) ≤ length tsdu
-behind_short tsdu (says m) = either_short (is_second m) (outline_as tsdu (bare m)) tsdu tsdu (as_short tsdu (bare m)) (omega arith)
-behind_short tsdu (part place octets) =
-    most_of (nat_le (length (part_octets place (no_data octets))) (length tsdu)) (part_octets place (no_data octets)) tsdu refl
+behind_short tsdu w = grind (arith, either_short, as_short, most_of)
 
 short_by : (tsdu : List ℕ) (read : Result Words SpduFault) → length (outline_by tsdu read) ≤ length tsdu
-short_by tsdu (Ok (says m ∷ [])) = either_short (is_second m) tsdu (outline_as tsdu (bare m)) tsdu (omega arith) (as_short tsdu (bare m))
-short_by tsdu (Ok (says item ∷ w ∷ [])) =
-    either_short (has_no_effect item) (outline_behind tsdu w) tsdu tsdu (behind_short tsdu w) (omega arith)
-short_by tsdu _ = omega arith
+short_by tsdu read = grind (arith, either_short, as_short, behind_short)
 
 pub outline_no_longer : (tsdu : List ℕ) → length (outline tsdu) ≤ length tsdu
 unfolding outline
@@ -352,25 +270,20 @@ outline_no_longer tsdu = short_by tsdu (said_at tsdu)
 -- ---- what is left out of it
 
 either_way : (b : Bool) (short tsdu : List ℕ) → nat_le (length short) (length tsdu) ≡ b → length (if b then short else tsdu) ≤ length short
-either_way true short tsdu e = omega arith
-either_way false short tsdu e = let l = leb-false (length short) (length tsdu) e in omega (arith, l)
+either_way b short tsdu e = grind (arith, leb-false)
 
 as_written : (tsdu : List ℕ) (o : Option Meaning) (n : Meaning) → o ≡ Some n → length (outline_as tsdu o) ≤ length (written n)
-as_written tsdu o n e =
-    subst (λ (x : Option Meaning). length (outline_as tsdu x) ≤ length (written n)) (sym e)
-    (either_way (nat_le (length (written n)) (length tsdu)) (written n) tsdu refl)
+as_written tsdu o n e = grind (arith, either_way)
 
 outline_alone : (tsdu : List ℕ) (m : Meaning) → said_at tsdu ≡ Ok (says m ∷ []) → is_second m ≡ false
     → outline tsdu ≡ outline_as tsdu (bare m)
 unfolding outline
-outline_alone tsdu m h e =
-    ap (outline_by tsdu) h ∙ ap (λ (b : Bool). if b then tsdu else outline_as tsdu (bare m)) e
+outline_alone tsdu m h e = grind arith
 
 after_item : (tsdu : List ℕ) (item : Meaning) (w : Word) → said_at tsdu ≡ Ok (says item ∷ w ∷ []) → has_no_effect item ≡ true
     → outline tsdu ≡ outline_behind tsdu w
 unfolding outline
-after_item tsdu item w h e =
-    ap (outline_by tsdu) h ∙ ap (λ (b : Bool). if b then outline_behind tsdu w else tsdu) e
+after_item tsdu item w h e = grind arith
 
 outline_second : (tsdu : List ℕ) (item m : Meaning) → said_at tsdu ≡ Ok (says item ∷ says m ∷ []) → has_no_effect item ≡ true
     → is_second m ≡ true
@@ -386,9 +299,7 @@ alone_outline tsdu m n h e b =
 
 pub behind_outline : (tsdu : List ℕ) (item m n : Meaning) → said_at tsdu ≡ Ok (says item ∷ says m ∷ []) → has_no_effect item ≡ true
     → is_second m ≡ true → bare m ≡ Some n → length (outline tsdu) ≤ length (written n)
-behind_outline tsdu item m n h i e b =
-    let k = as_written tsdu (bare m) n b in
-    let l = ap (λ (x : List ℕ). length x) (outline_second tsdu item m h i e) in omega (arith, k, l)
+behind_outline tsdu item m n h i e b = grind (arith, as_written, outline_second)
 
 whole_data : (octets : List ℕ) → is_second (DT octets) ≡ true
 unfolding is_second
@@ -396,10 +307,7 @@ whole_data octets = refl
 
 pub data_has_one_outline : (tsdu octets : List ℕ) (item : Meaning) → said_at tsdu ≡ Ok (says item ∷ says (DT octets) ∷ [])
     → has_no_effect item ≡ true → 4 ≤ length tsdu → outline tsdu ≡ 1 ∷ 0 ∷ 1 ∷ 0 ∷ []
-data_has_one_outline tsdu octets item h i l =
-    outline_second tsdu item (DT octets) h i (whole_data octets)
-    ∙ ap (λ (x : List ℕ). at_most x tsdu) (data_written [])
-    ∙ ap (λ (b : Bool). if b then 1 ∷ 0 ∷ 1 ∷ 0 ∷ [] else tsdu) (le-leb 4 (length tsdu) l)
+data_has_one_outline tsdu octets item h i l = grind (arith, outline_second tsdu item (DT octets) h i (whole_data octets), data_written [])
 
 pub part_has_one_outline : (tsdu octets : List ℕ) (place : Place) (item : Meaning) → said_at tsdu ≡ Ok (says item ∷ part place octets ∷ [])
     → has_no_effect item ≡ true → 7 + length octets ≤ length tsdu → outline tsdu ≡ part_octets place (no_data octets)
@@ -413,20 +321,16 @@ part_has_one_outline tsdu octets place item h i l =
 -- ---- for the code
 
 more_whole : (tsdu : List ℕ) (w v u : Word) (ws : Words) → outline_by tsdu (Ok (w ∷ v ∷ u ∷ ws)) ≡ tsdu
-more_whole tsdu (says m) v u ws = refl
-more_whole tsdu (part place octets) v u ws = refl
+more_whole tsdu w v u ws = grind arith
 
 -- a TSDU with more than two units stays whole
 pub more_stay : (tsdu : List ℕ) (first second third : Contents) (all behind others : Units) → all ≡ second ∷ behind
     → behind ≡ third ∷ others
     → tsdu ≡ outline_by tsdu (Ok (said_by_units (first ∷ all)))
-more_stay tsdu first second third all behind others e f =
-    sym (ap (λ (us : Units). outline_by tsdu (Ok (said_by_units (first ∷ us)))) (e ∙ ap (λ (us : Units). second ∷ us) f)
-    ∙ more_whole tsdu (word first) (word second) (word third) (said_by_units others))
+more_stay tsdu first second third all behind others e f = grind (arith, more_whole)
 
 pub as_well : {E : Type 0} (r : Result (List ℕ) E) (a b : List ℕ) → a ≡ b → IfOk r (λ o. o ≡ a) → IfOk r (λ o. o ≡ b)
-as_well (Ok o) a b e h = h ∙ e
-as_well (Err x) a b e h = tt
+as_well r a b e h = grind arith
 
 -- data in its written form
 pub plain_outline : (tsdu user head : List ℕ) → said_at tsdu ≡ Ok (says (GT no_token) ∷ says (DT user) ∷ []) → tsdu ≡ data_octets user

@@ -17,11 +17,7 @@ use Rattle.osi_judge.specs.Runs.{AreApart, AreFrom, HasPlace, IsOther, begin_at,
 
 spread_length : (at : ℕ) (runs : List Run) (count : ℕ) → AreFrom at runs count → at + length (spread runs count) ≡ count
 spread_length at [] count h = omega (arith, h)
-spread_length at (r ∷ runs) count h =
-    let more = spread_length (begin_in runs count) runs count h.2 in
-    let both = length-append (replicate (begin_in runs count - r.from) r.tsdu) (spread runs count) in
-    let here = length-replicate (begin_in runs count - r.from) r.tsdu in
-    omega (arith, more, both, here, h.0, h.1)
+spread_length at (r ∷ runs) count h = grind (arith, length-append, length-replicate, spread_length (begin_in runs count) runs count h.2)
 
 pub all_counted : (runs : List Run) (count : ℕ) → AreFrom 0 runs count → count ≡ length (spread runs count)
 all_counted runs count h = let n = spread_length 0 runs count h in omega (arith, n)
@@ -37,8 +33,7 @@ some_runs (r ∷ runs) count h l = omega arith
 -- ---- which one has a place
 
 begin_first : (runs : List Run) (count : ℕ) → begin_at runs count zero ≡ begin_in runs count
-begin_first [] count = refl
-begin_first (r ∷ runs) count = refl
+begin_first runs count = grind arith
 
 begin_later : (at : ℕ) (runs : List Run) (count i : ℕ) → AreFrom at runs count → at ≤ begin_at runs count i
 begin_later at [] count i h = omega (arith, h)
@@ -62,13 +57,7 @@ tsdu_read (x ∷ runs) (suc i) r l e = tsdu_read runs i r (omega (arith, l)) e
 found_from : (at place : ℕ) (runs : List Run) (count i : ℕ) → AreFrom at runs count → i < length runs → begin_at runs count i ≤ at + place
     → at + place < begin_at runs count (suc i) → get_or (spread runs count) place [] ≡ tsdu_at runs i
 found_from at place [] count i h l b e = absurd (omega (arith, l))
-found_from at place (r ∷ runs) count zero h l b e =
-    let n = begin_in runs count - r.from in
-    let first = begin_first runs count in
-    let within : place < n = omega (arith, first, e, h.0, h.1) in
-    let many = length-replicate n r.tsdu in
-    get_or_append_left (replicate n r.tsdu) (spread runs count) [] place
-    (omega (arith, within, many)) ∙ get_or-replicate n place r.tsdu [] within
+found_from at place (r ∷ runs) count zero h l b e = grind (arith, begin_first, length-replicate, get_or_append_left, get_or-replicate)
 found_from at place (r ∷ runs) count (suc i) h l b e =
     let n = begin_in runs count - r.from in
     let many = length-replicate n r.tsdu in
@@ -80,24 +69,15 @@ found_from at place (r ∷ runs) count (suc i) h l b e =
 
 pub found : (runs : List Run) (count place i : ℕ) → AreFrom 0 runs count → HasPlace runs count place i
     → get_or (spread runs count) place [] ≡ tsdu_at runs i
-found runs count place i h p =
-    let b = p.begun in let e = p.ends in
-    found_from 0 place runs count i h p.there (omega (arith, b)) (omega (arith, e))
+found runs count place i h p = grind (arith, found_from)
 
 -- ---- one more
 
 pub more_of_last : (at : ℕ) (runs : List Run) (count : ℕ) → AreFrom at runs count → 0 < length runs
     → spread runs (count + 1) ≡ spread runs count ++ last_in runs ∷ []
 more_of_last at [] count h l = absurd (omega (arith, l))
-more_of_last at (r ∷ []) count h l =
-    let n : count + 1 - r.from ≡ (count - r.from) + 1 = omega (arith, h.0, h.1) in
-    append-nil (replicate (count + 1 - r.from) r.tsdu)
-    ∙ ap (λ (x : ℕ). replicate x r.tsdu) n
-    ∙ sym (replicate_more (count - r.from) r.tsdu)
-    ∙ ap (λ (x : List (List ℕ)). x ++ r.tsdu ∷ []) (sym (append-nil (replicate (count - r.from) r.tsdu)))
-more_of_last at (r ∷ s ∷ runs) count h l =
-    ap (λ (x : List (List ℕ)). replicate (s.from - r.from) r.tsdu ++ x) (more_of_last s.from (s ∷ runs) count h.2 (omega arith))
-    ∙ sym (append_assoc (replicate (s.from - r.from) r.tsdu) (spread (s ∷ runs) count) (last_in (s ∷ runs) ∷ []))
+more_of_last at (r ∷ []) count h l = grind (arith, append-nil, replicate_more)
+more_of_last at (r ∷ s ∷ runs) count h l = grind (arith, append_assoc, more_of_last s.from (s ∷ runs) count h.2 (omega arith))
 
 pub last_goes_on : (at : ℕ) (runs : List Run) (count : ℕ) → AreFrom at runs count → 0 < length runs → AreFrom at runs (count + 1)
 last_goes_on at [] count h l = absurd (omega (arith, l))
@@ -105,28 +85,17 @@ last_goes_on at (r ∷ []) count h l = (h.0, omega (arith, h.1), refl)
 last_goes_on at (r ∷ s ∷ runs) count h l = (h.0, h.1, last_goes_on s.from (s ∷ runs) count h.2 (omega arith))
 
 begin_kept : (runs : List Run) (x : Run) (count : ℕ) → x.from ≡ count → begin_in (runs ++ x ∷ []) (count + 1) ≡ begin_in runs count
-begin_kept [] x count e = e
-begin_kept (r ∷ runs) x count e = refl
+begin_kept runs x count e = grind arith
 
 pub one_added : (runs : List Run) (x : Run) (count : ℕ) → x.from ≡ count
     → spread (runs ++ x ∷ []) (count + 1) ≡ spread runs count ++ x.tsdu ∷ []
-one_added [] x count e =
-    let n : count + 1 - x.from ≡ 1 = omega (arith, e) in ap (λ (y : ℕ). replicate y x.tsdu ++ []) n
-one_added (r ∷ runs) x count e =
-    ap (λ (y : ℕ). replicate (y - r.from) r.tsdu ++ spread (runs ++ x ∷ []) (count + 1)) (begin_kept runs x count e)
-    ∙ ap (λ (y : List (List ℕ)). replicate (begin_in runs count - r.from) r.tsdu ++ y) (one_added runs x count e)
-    ∙ sym (append_assoc (replicate (begin_in runs count - r.from) r.tsdu) (spread runs count) (x.tsdu ∷ []))
+one_added [] x count e = grind arith
+one_added (r ∷ runs) x count e = grind (arith, begin_kept, append_assoc, one_added runs x count e)
 
 pub a_run_begins : (at : ℕ) (runs : List Run) (x : Run) (count : ℕ) → AreFrom at runs count → x.from ≡ count
     → AreFrom at (runs ++ x ∷ []) (count + 1)
 a_run_begins at [] x count h e = (e ∙ sym h, omega (arith, h), refl)
-a_run_begins at (r ∷ runs) x count h e =
-    let same = begin_kept runs x count e in (
-      h.0,
-      omega (arith, same, h.1),
-      subst (λ (y : ℕ). AreFrom y (runs ++ x ∷ []) (count + 1)) (sym same)
-          (a_run_begins (begin_in runs count) runs x count h.2 e),
-    )
+a_run_begins at (r ∷ runs) x count h e = grind (arith, begin_kept, a_run_begins (begin_in runs count) runs x count h.2 e)
 
 -- ---- one fewer
 
@@ -190,25 +159,16 @@ apart_fewer (r ∷ s ∷ runs) x h = (h.0, apart_fewer (s ∷ runs) x h.1)
 
 skipped : (n : ℕ) (t : List ℕ) (rest : List (List ℕ)) → once_behind t (replicate n t ++ rest) ≡ once_behind t rest
 skipped zero t rest = refl
-skipped (suc n) t rest =
-    ap (λ (b : Bool). if b then once_behind t (replicate n t ++ rest) else t ∷ once_behind t (replicate n t ++ rest)) (same_as_itself t)
-    ∙ skipped n t rest
+skipped (suc n) t rest = grind (arith, same_as_itself, skipped n t rest)
 
 one_then : (n : ℕ) (t : List ℕ) → 0 < n → replicate n t ≡ t ∷ replicate (n - 1) t
-one_then zero t l = absurd (omega (arith, l))
-one_then (suc n) t l = let e : n ≡ suc n - 1 = omega arith in ap (λ (k : ℕ). t ∷ replicate k t) e
+one_then n t l = grind arith
 
 kept_behind : (at : ℕ) (before : List ℕ) (runs : List Run) (count : ℕ) → AreFrom at runs count → IsOther before runs → AreApart runs
     → length (once_behind before (spread runs count)) ≡ length runs
 kept_behind at before [] count h o a = refl
 kept_behind at before (r ∷ runs) count h o a =
-    let n = begin_in runs count - r.from in
-    ap (λ (x : List (List ℕ)). length (once_behind before (x ++ spread runs count))) (one_then n r.tsdu (omega (arith, h.0, h.1)))
-    ∙ ap (λ (b : Bool). length
-    (if b then once_behind r.tsdu (replicate (n - 1) r.tsdu ++ spread runs count) else r.tsdu
-    ∷ once_behind r.tsdu (replicate (n - 1) r.tsdu ++ spread runs count))) o
-    ∙ ap (λ (x : List (List ℕ)). suc (length x)) (skipped (n - 1) r.tsdu (spread runs count))
-    ∙ ap (λ (k : ℕ). suc k) (kept_behind (begin_in runs count) r.tsdu runs count h.2 a.0 a.1)
+    grind (arith, one_then, skipped, kept_behind (begin_in runs count) r.tsdu runs count h.2 a.0 a.1)
 
 pub kept_once : (runs : List Run) (count : ℕ) → AreFrom 0 runs count → AreApart runs → length runs ≡ length (once (spread runs count))
 kept_once [] count h a = refl
@@ -254,22 +214,16 @@ a_run_more runs new x count h a f n e =
 pub added_in : (runs new : List Run) (x : Run) (count : ℕ) (value : List (List ℕ)) → x.from ≡ count → new ≡ runs ++ x ∷ []
     → spread runs count ≡ value
     → spread new (count + 1) ≡ value ++ x.tsdu ∷ []
-added_in runs new x count value f e v =
-    ap (λ (y : List Run). spread y (count + 1)) e ∙ one_added runs x count f ∙ ap (λ (y : List (List ℕ)). y ++ x.tsdu ∷ []) v
+added_in runs new x count value f e v = grind (arith, one_added)
 
 pub stays_shorter : (runs : List Run) (count : ℕ) → AreFrom 0 runs count → 0 < count → last_from runs ≢ count - 1
     → AreFrom 0 runs (count - 1)
-stays_shorter runs count h l n =
-    let e : count ≡ (count - 1) + 1 = omega (arith, l) in
-    last_stays 0 runs (count - 1) (subst (λ (x : ℕ). AreFrom 0 runs x) e h) (some_runs runs count h l) n
+stays_shorter runs count h l n = grind (arith, last_stays, some_runs)
 
 pub one_fewer : (runs : List Run) (count : ℕ) (value : List (List ℕ)) → AreFrom 0 runs count → 0 < count → last_from runs ≢ count - 1
     → spread runs count ≡ value
     → spread runs (count - 1) ≡ take (length value - 1) value
-one_fewer runs count value h l n v =
-    let e : count ≡ (count - 1) + 1 = omega (arith, l) in
-    all_but_last value (spread runs (count - 1)) (last_in runs)
-    (sym v ∙ ap (λ (x : ℕ). spread runs x) e ∙ more_of_last 0 runs (count - 1) (stays_shorter runs count h l n) (some_runs runs count h l))
+one_fewer runs count value h l n v = grind (arith, all_but_last, more_of_last, stays_shorter, some_runs)
 
 split_last : (runs : List Run) → 0 < length runs → (x : Run) × (runs ≡ take (length runs - 1) runs ++ x ∷ [])
 split_last [] l = absurd (omega (arith, l))
@@ -288,28 +242,12 @@ pub record Popped (new : List Run) (count : ℕ) (value : List (List ℕ)) : Typ
 pub popped : (runs new : List Run) (count : ℕ) (value : List (List ℕ)) → AreFrom 0 runs count → AreApart runs → 0 < count
     → last_from runs ≡ count - 1
     → new ≡ take (length runs - 1) runs → spread runs count ≡ value → Popped new count value
-popped runs new count value h a l f n v =
-    let p = split_last runs (some_runs runs count h l) in
-    let x = p.0 in
-    let e : runs ≡ new ++ x ∷ [] = p.1 ∙ ap (λ (y : List Run). y ++ x ∷ []) (sym n) in
-    let g : x.from ≡ count - 1 = sym (last_of new x) ∙ ap last_from (sym e) ∙ f in
-    let c : count ≡ (count - 1) + 1 = omega (arith, l) in record {
-      from = subst (λ (k : ℕ). AreFrom 0 new k) g (a_run_ends 0 new x count (subst (λ (y : List Run). AreFrom 0 y count) e h));
-      apart = apart_fewer new x (subst AreApart e a);
-      rest = all_but_last value (spread new (count - 1)) x.tsdu
-          (sym v ∙ ap (λ (y : List Run). spread y count) e ∙ ap (λ (k : ℕ). spread (new ++ x ∷ []) k) c ∙ one_added new x (count - 1) g);
-    }
+popped runs new count value h a l f n v = grind (arith, split_last, some_runs, last_of, a_run_ends, apart_fewer, all_but_last, one_added)
 
 pub place_in : (runs same : List Run) (count place i : ℕ) (r : Run) (value : List (List ℕ)) → AreFrom 0 runs count → same ≡ runs
     → HasPlace same count place i
     → r ≡ get_or same i r → spread runs count ≡ value → r.tsdu ≡ get_or value place []
-place_in runs same count place i r value h e p g v =
-    let q = subst (λ (y : List Run). HasPlace y count place i) e p in
-    tsdu_read runs i r q.there (subst (λ (y : List Run). r ≡ get_or y i r) e g)
-    ∙ sym (found runs count place i h q) ∙ ap (λ (x : List (List ℕ)). get_or x place []) v
+place_in runs same count place i r value h e p g v = grind (arith, tsdu_read, found)
 
 pub is_or_not : (a b n : ℕ) → a ≡ b → MatchBool (nat_eq a n) (b ≡ n) (b ≢ n)
-is_or_not a b n e = subst (λ (x : ℕ). MatchBool (nat_eq a n) (x ≡ n) (x ≢ n)) e (tests a n)
-  where
-    tests : (a n : ℕ) → MatchBool (nat_eq a n) (a ≡ n) (a ≢ n)
-    tests a n = search rules
+is_or_not a b n e = grind (arith, nat_eq, rules)

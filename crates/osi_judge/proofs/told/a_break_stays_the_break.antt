@@ -1,19 +1,17 @@
 -- What passes later changes nothing in a break that was found: it speaks of the TSDUs that had passed. For what is known of a
 -- side.
-use Rattle.std.proofs.Common.{◌≡◌, ◌∙◌, refl, sym, ap, ℕ, zero, suc, ◌-◌, ◌<◌, ◌≤◌, List}
-use Rattle.std.proofs.Common.{[], ◌∷◌, ◌++◌}
-use Rattle.std.proofs.Common.{length, get_or, Some, Result, Ok, Err, arith}
+use Rattle.std.proofs.Common.{◌≡◌, ◌∙◌, refl, sym, ap, ℕ, zero, suc, ◌-◌, ◌<◌, ◌≤◌, List, [], ◌∷◌, ◌++◌, length, get_or, Some, Result}
+use Rattle.std.proofs.Common.{arith}
 use Rattle.std.proofs.lemmas.List.{length-append}
 use Rattle.std.specs.List.{fold, flat_map}
 use Rattle.osi_spdu.specs.declared.faults.SpduFault.{SpduFault}
 use Rattle.osi_spdu.specs.Known.{Contents, Units}
 use Rattle.osi_spdu.specs.Reading.{tsdu_at}
-use Rattle.osi_message.specs.Reading.{word}
 use Rattle.osi_judge.specs.declared.members.Member.{Member}
 use Rattle.osi_judge.specs.declared.rules.Break.{Break}
-use Rattle.osi_judge.specs.Breaking.{Leads, BreaksIn, here, last, later, BreaksAs, BreaksAt, in_effect}
+use Rattle.osi_judge.specs.Breaking.{Leads, BreaksIn, here, last, later, BreaksAs, BreaksAt}
 use Rattle.osi_judge.specs.Members.{Extends}
-use Rattle.osi_judge.specs.Nearest.{Unsaid, a_unit, unread, tried, count_at, reached, far, nearest, break_by, break_of}
+use Rattle.osi_judge.specs.Nearest.{Unsaid, a_unit, tried, count_at, reached, far, nearest, break_by, break_of}
 use Rattle.osi_judge.proofs.kept.what_is_kept_is_of_what_had_passed.{ActAlike, becomes_alike, word_alike}
 
 -- ---- the TSDUs of the other side become more
@@ -52,8 +50,7 @@ same_break u heard x before members l = ap (break_by u before) (same_nearest u h
 
 leads_heard : (heard : List (List ℕ)) (x : List ℕ) (octets before : ℕ) (members next : List Member) (unit : Contents)
     → before ≤ length heard → Leads heard octets before members unit next → Leads (heard ++ x ∷ []) octets before members unit next
-leads_heard heard x octets before members next unit l h =
-    h ∙ word_alike heard (heard ++ x ∷ []) before (front_alike heard x before l) octets members (word unit)
+leads_heard heard x octets before members next unit l h = grind (arith, word_alike, front_alike)
 
 in_heard : (heard : List (List ℕ)) (x : List ℕ) (octets before : ℕ) (members : List Member) (units : Units) (at : List Member) (by : Break)
     → before ≤ length heard → BreaksIn heard octets before members units at by
@@ -68,8 +65,7 @@ read_heard : (heard : List (List ℕ)) (x : List ℕ) (octets before : ℕ) (mem
     (at : List Member)
     (by : Break) → before ≤ length heard → BreaksAs heard octets before members read at by → BreaksAs (heard ++ x ∷ []) octets before
     members read at by
-read_heard heard x octets before members (Ok units) at by l h = in_heard heard x octets before members (in_effect units) at by l h
-read_heard heard x octets before members (Err fault) at by l h = (h.0, h.1 ∙ same_break (unread fault) heard x before members l)
+read_heard heard x octets before members read at by l h = grind (arith, in_heard, same_break)
 
 pub breaks_heard : (heard : List (List ℕ)) (x tsdu : List ℕ) (before : ℕ) (members : List Member) (by : Break) → before ≤ length heard
     → BreaksAt heard tsdu before members by → BreaksAt (heard ++ x ∷ []) tsdu before members by

@@ -28,21 +28,16 @@ front_explained begin us said n e =
     front_told us (take n said) (drop n said) begin (subst (λ (x : List Told). IsExplained begin us x) (sym (take-append-drop n said)) e)
 
 front_selects : (us : List (List ℕ)) (said : List Told) (n : ℕ) → selects_outside us said ≡ false → selects_outside us (take n said) ≡ false
-front_selects us [] zero h = refl
-front_selects us [] (suc n) h = refl
-front_selects us (t ∷ said) zero h = refl
-front_selects us (t ∷ said) (suc n) h = h
+front_selects us said n h = search arith
 
 front_kept : (begin : Seen) (us : List (List ℕ)) (said : List Told) (n : ℕ) → IsKept begin us said → IsKept begin us (take n said)
 front_kept begin us said n k = (front_explained begin us said n k.0, front_selects us said n k.1)
 
 not_both : (b : Bool) → b ≡ true → b ≡ false → ⊥
-not_both true h k = cc
-not_both false h k = cc
+not_both b h k = grind arith
 
 kept_or_astray : (begin : Seen) (us : List (List ℕ)) (said : List Told) → IsKept begin us said → IsAstray begin us said → ⊥
-kept_or_astray begin us said k (inl n) = n k.0
-kept_or_astray begin us said k (inr o) = not_both (selects_outside us said) o k.1
+kept_or_astray begin us said k h = grind (arith, not_both)
 
 -- ---- where it strays
 
@@ -60,24 +55,16 @@ take_less (x ∷ xs) (suc n) (suc m) l = ap (λ (z : List Told). x ∷ z) (take_
 
 not_later : (begin : Seen) (us : List (List ℕ)) (said : List Told) (i j : ℕ) → Strays begin us said i → Strays begin us said j → i < j → ⊥
 not_later begin us said i j b c l =
-    let shorter = take_less said (i + 1) j (omega arith) in
-    let kept = subst (λ (z : List Told). IsKept begin us z) shorter (front_kept begin us (take j said) (i + 1) c.so_far) in
-    kept_or_astray begin us (take (i + 1) said) kept b.astray
+    grind (arith, take_less said (i + 1) j (omega arith), front_kept begin us (take j said) (i + 1) c.so_far)
 
 compare : (i j : ℕ) → (i < j) ⊎ ((j < i) ⊎ (i ≡ j))
 compare zero zero = inr (inr refl)
 compare zero (suc j) = inl (omega arith)
 compare (suc i) zero = inr (inl (omega arith))
-compare (suc i) (suc j) = elim (compare i j) [
-  | inl l ↦ inl (omega (arith, l))
-  | inr k ↦ elim k [ inl l ↦ inr (inl (omega (arith, l))) | inr e ↦ inr (inr (ap suc e)) ]
-]
+compare (suc i) (suc j) = grind (arith, compare i j)
 
 one_place : (begin : Seen) (us : List (List ℕ)) (said : List Told) (i j : ℕ) → Strays begin us said i → Strays begin us said j → i ≡ j
-one_place begin us said i j b c = elim (compare i j) [
-  | inl l ↦ absurd (not_later begin us said i j b c l)
-  | inr k ↦ elim k [ inl l ↦ absurd (not_later begin us said j i c b l) | inr e ↦ e ]
-]
+one_place begin us said i j b c = grind (arith, compare, not_later)
 
 -- ---- what is found
 
@@ -90,10 +77,7 @@ Says begin us said TooMany = ⊥
 
 says : (begin : Seen) (us : List (List ℕ)) (said : List Told) (f : Finding) → is_judged f ≡ true → IsFound begin us said f
     → Says begin us said f
-says begin us said Kept j k = k
-says begin us said (Broke i) j k = record { so_far = (k.0.so_far, k.1); astray = inl k.0.broke }
-says begin us said (Left i) j k = record { so_far = k.1; astray = k.2 }
-says begin us said TooMany j k = absurd (cc)
+says begin us said f j k = grind arith
 
 pub never_strays : (begin : Seen) (us : List (List ℕ)) (said : List Told) (i : ℕ) → IsKept begin us said → Strays begin us said i → ⊥
 never_strays begin us said i k s = kept_or_astray begin us (take (i + 1) said) (front_kept begin us said (i + 1) k) s.astray
@@ -145,23 +129,11 @@ no_crowd begin us said j s r (i, l, h, c) = elim (compare i j) [
 
 not_crowded : (begin : Seen) (us : List (List ℕ)) (said : List Told) (f : Finding) → is_judged f ≡ true → IsFound begin us said f
     → HasRoom begin us said f → HasRoom begin us said TooMany → ⊥
-not_crowded begin us said Kept j k r (i, l, h, c) = too_many (length (kept begin us (take (i + 1) said))) c.1 (r (i + 1))
-not_crowded begin us said (Broke i) j k r h = no_crowd begin us said i (says begin us said (Broke i) j k) r h
-not_crowded begin us said (Left i) j k r h = no_crowd begin us said i (says begin us said (Left i) j k) r h
-not_crowded begin us said TooMany j k r h = absurd (cc)
+not_crowded begin us said f j k r h = grind (arith, too_many, no_crowd, says)
 
 one_room : (begin : Seen) (us : List (List ℕ)) (said : List Told) (f g : Finding) (a b : Bool) → is_judged f ≡ a → is_judged g ≡ b
     → IsFound begin us said f → IsFound begin us said g → HasRoom begin us said f → HasRoom begin us said g → a ≡ b
-one_room begin us said f g true true a b k h r s = refl
-one_room begin us said f g false false a b k h r s = refl
-one_room begin us said f TooMany true false a b k h r s = absurd (not_crowded begin us said f a k r s)
-one_room begin us said TooMany g false true a b k h r s = absurd (not_crowded begin us said g b h s r)
-one_room begin us said f Kept true false a b k h r s = absurd (cc)
-one_room begin us said f (Broke i) true false a b k h r s = absurd (cc)
-one_room begin us said f (Left i) true false a b k h r s = absurd (cc)
-one_room begin us said Kept g false true a b k h r s = absurd (cc)
-one_room begin us said (Broke i) g false true a b k h r s = absurd (cc)
-one_room begin us said (Left i) g false true a b k h r s = absurd (cc)
+one_room begin us said f g a b a2 b2 k h r s = grind (arith, not_crowded)
 
 -- what is said of the lists of TSDUs of both sides is said of any others
 pub same_lists : OneReading → (d : Direction) (capture : Capture) (mine others yours theirs : List Sent)

@@ -1,12 +1,12 @@
 -- By the sessions that are kept of those that explain what was sent before it, a TSDU has one break, and it is found by the same
 -- sessions: for the law that a text has one judgement.
-use Rattle.std.proofs.Common.{◌≡◌, ◌∙◌, refl, sym, ap, subst, ℕ, ◌⊎◌, inl, inr, true, false, Bool, List, [], ◌∷◌, length, Result, Ok, Err}
+use Rattle.std.proofs.Common.{arith, ◌≡◌, ◌∙◌, refl, sym, ap, subst, ℕ, ◌⊎◌, inl, inr, true, false, Bool, List, [], ◌∷◌, length, Result}
 use Rattle.osi_spdu.specs.declared.faults.SpduFault.{SpduFault}
 use Rattle.osi_spdu.specs.Known.{Contents, Units}
 use Rattle.osi_spdu.specs.Reading.{tsdu_at}
 use Rattle.osi_judge.specs.declared.members.Member.{Member}
 use Rattle.osi_judge.specs.declared.rules.Break.{Break}
-use Rattle.osi_judge.specs.Breaking.{Leads, BreaksIn, here, last, later, BreaksAs, BreaksWith, in_effect}
+use Rattle.osi_judge.specs.Breaking.{Leads, BreaksIn, here, last, later, BreaksAs, BreaksWith}
 use Rattle.osi_judge.specs.Members.{is_empty}
 use Rattle.osi_judge.specs.Nearest.{a_unit, break_of}
 
@@ -75,10 +75,7 @@ one_in heard octets before m n (u ∷ us) at others b e a (inr (next, h, s, x)) 
 one_read : (heard : List (List ℕ)) (octets before : ℕ) (members : List Member) (read : Result Units SpduFault) (at others : List Member)
     (b e : Break)
     → BreaksAs heard octets before members read at b → BreaksAs heard octets before members read others e → AreOne at others b e
-one_read heard octets before members (Ok units) at others b e h k =
-    one_in heard octets before members members (in_effect units) at others b e refl
-    (broken heard octets before members (in_effect units) at b h) (broken heard octets before members (in_effect units) others e k)
-one_read heard octets before members (Err fault) at others b e h k = (h.0 ∙ sym k.0, h.1 ∙ sym k.1)
+one_read heard octets before members read at others b e h k = grind (arith, one_in, broken)
 
 pub one_break : (heard : List (List ℕ)) (tsdu : List ℕ) (before : ℕ) (members at others : List Member) (b e : Break)
     → BreaksWith heard tsdu before members at b → BreaksWith heard tsdu before members others e → AreOne at others b e

@@ -10,10 +10,9 @@ use Rattle.osi_message.specs.Words.{Word, Words, says, part}
 use Rattle.osi_session.specs.declared.state.State.{State}
 use Rattle.osi_session.specs.Allowed.{most_data}
 use Rattle.osi_session.specs.Counting.{no_octets, count_by, taker_with, Counts, CountsCame}
-use Rattle.osi_session.specs.Joining.{Taker, Hearing, heard_then, is_last, respond_came, word_verdict}
+use Rattle.osi_session.specs.Joining.{Taker, Hearing, heard_then, is_last, word_verdict}
 unfoldable use Rattle.osi_session.specs.Joining.{acting_words, respond_word, respond_words}
-use Rattle.osi_session.specs.Respond.{Verdict, over, dropped, faulty, fine, is_faulty, replies_abort, enacted, nothing, bad, respond_fault}
-use Rattle.osi_session.specs.Respond.{si}
+use Rattle.osi_session.specs.Respond.{Verdict, over, dropped, faulty, fine, replies_abort, enacted, nothing, bad, respond_fault, si}
 use Rattle.osi_session.specs.Standing.{Seen, Count, Takes, counted}
 use Rattle.osi_session.specs.Steps.{told_of}
 use Rattle.osi_session.specs.declared.faults.UnitFault.TheVariants.{DataTooLong}
@@ -79,8 +78,7 @@ then_words ws h = if replies_abort h.reply then h else heard_then h (respond_wor
 
 pub by_reply : (t : Taker) (w : Word) (ws : Words) → respond_words t (w ∷ ws) ≡ then_words ws (respond_word t w)
 unfolding respond_words
-by_reply t w ws = ap (λ (b : Bool). if b then respond_word t w else heard_then (respond_word t w) (respond_words (respond_word t w).next
-    ws)) (sym (word_told t w (respond_word t w) (replies_abort (respond_word t w).reply) refl refl))
+by_reply t w ws = grind (arith, word_told)
 
 pub record CountedAll (s : State) (n : Option ℕ) (ws : Words) : Type 0 where
   pub count : Count
@@ -91,13 +89,7 @@ count_words c d = if replies_abort c.reply then c else count_then c d
 
 then_counted : (h : Hearing) (ws : Words) (c d : Count) → counted h ≡ c → counted (respond_words h.next ws) ≡ d
     → counted (then_words ws h) ≡ count_words c d
-then_counted h ws c d e f = by (replies_abort h.reply) (replies_abort c.reply) (ap (λ (x : Count). replies_abort x.reply) e)
-  where
-    by : (a b : Bool) → a ≡ b → counted (if a then h else heard_then h (respond_words h.next ws)) ≡ (if b then c else count_then c d)
-    by true true k = e
-    by true false k = absurd (cc)
-    by false true k = absurd (cc)
-    by false false k = ap (λ (x : Count). count_then (counted h) x) f ∙ ap (λ (x : Count). count_then x d) e
+then_counted h ws c d e f = grind (arith, count_then)
 
 pub words_counted : (s : State) (n : Option ℕ) (ws : Words) → CountedAll s n ws
 unfolding respond_words

@@ -1,6 +1,6 @@
 -- How a session comes on, one TSDU after the other: for `take_next` and `stands_behind`.
-use Rattle.std.proofs.Common.{◌≡◌, refl, sym, ◌+◌, ◌<◌, ◌⊎◌, Result, Ok, Err, IfOk, ap, subst, true, false, zero, suc, inl, inr, List, []}
-use Rattle.std.proofs.Common.{◌∷◌, ℕ, length, get_or, arith, Option, Some, None, option_map, is_some}
+use Rattle.std.proofs.Common.{◌≡◌, refl, sym, ◌+◌, ◌<◌, ◌⊎◌, Result, IfOk, ap, subst, true, false, zero, suc, inl, inr, List, [], ◌∷◌, ℕ}
+use Rattle.std.proofs.Common.{length, get_or, arith, Option, Some, None, option_map, is_some}
 use Rattle.std.specs.List.{slice_get}
 use Rattle.osi_session.specs.declared.reactions.Reply.{Reply}
 use Rattle.osi_session.specs.declared.standing.Taking.{Taking}
@@ -36,8 +36,7 @@ pub stops : (s : Seen) (tsdu other : List ℕ) (t : Taking) → tsdu ≡ other �
 stops s tsdu other t e some k = subst (λ (u : List ℕ). StopsBy s u t.reply) e (owes_by s tsdu t t.reply refl some k)
 
 none_of : (reply : Option Reply) → is_some reply ≡ false → option_map reply_of reply ≡ None
-none_of None e = refl
-none_of (Some reply) e = absurd (cc)
+none_of reply e = grind arith
 
 pub goes_quietly : (us : List (List ℕ)) (m : Member) (tsdu : List ℕ) (t : Taking) → tsdu ≡ get_or us m.taken [] → is_some t.reply ≡ false →
     Takings m.standing tsdu t
@@ -85,38 +84,27 @@ some_explains us later (n ∷ members) m (inr a) h = inr (some_explains us later
 
 pub stands_for : (w : Watched) (told : List Told) (s : Stands) → (is_empty w.members ≡ false → IsAmong (foremost w.members) w.members)
     → StandsBehind w.heard (foremost w.members) s → Keeps w told → StandsFor w told s
-stands_for w told s a b k = record {
-  all = k.all;
-  has_said = λ us later e h p. (k.all us later e h).1 (some_explains us later w.members (foremost w.members) (a k.some) p);
-  behind = b;
-}
+stands_for w told s a b k = search (arith, some_explains)
 
 pub stands_ok : {E : Type 0} (r : Result Stands E) (w : Watched) (heard : List (List ℕ)) (m : Member) → heard ≡ w.heard
     → m ≡ foremost w.members
     → (is_empty w.members ≡ false → IsAmong m w.members)
     → IfOk r (λ s. StandsBehind heard m s) → IfOk r (λ s. (told : List Told) → Keeps w told → StandsFor w told s)
-stands_ok (Ok s) w heard m e v a b = λ told k.
-    stands_for w told s (λ some. subst (λ (y : Member). IsAmong y w.members) v (a some))
-    (subst (λ (y : Member). StandsBehind w.heard y s) v (subst (λ (x : List (List ℕ)). StandsBehind x m s) e b)) k
-stands_ok (Err x) w heard m e v a b = tt
+stands_ok r w heard m e v a b = grind (arith, stands_for)
 
 pub first_among : (members : List Member) (m : Member) → Some m ≡ slice_get members 0 → is_empty members ≡ false → IsAmong m members
-first_among [] m e s = absurd (cc)
-first_among (n ∷ members) m e s = inl (cc)
+first_among members m e s = grind arith
 
 pub first_is : (members : List Member) (m : Member) → Some m ≡ slice_get members 0 → m ≡ first_of members
-first_is [] m e = absurd (cc)
-first_is (n ∷ members) m e = cc
+first_is members m e = grind arith
 
 abbrev pub fresh : Seen → Member
 fresh s = record { taken = 0; standing = s }
 
 pub first_none : (members : List Member) (s : Seen) → s ≡ seen_called → None ≡ slice_get members 0 → fresh s ≡ first_of members
-first_none [] s e n = ap fresh e
-first_none (m ∷ members) s e n = absurd (cc)
+first_none members s e n = grind arith
 
 pub among_next : (members : List Member) (best next : Member) (i : ℕ) (x : Member) → i < length members → x ≡ get_or members i x →
     (next ≡ best) ⊎ (next ≡ x)
     → (is_empty members ≡ false → IsAmong best members) → is_empty members ≡ false → IsAmong next members
-among_next members best next i x l e (inl n) a s = subst (λ (y : Member). IsAmong y members) (sym n) (a s)
-among_next members best next i x l e (inr n) a s = subst (λ (y : Member). IsAmong y members) (sym n) (among_at members i x l e)
+among_next members best next i x l e h a s = grind (arith, among_at)

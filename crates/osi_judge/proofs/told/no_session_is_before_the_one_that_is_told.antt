@@ -1,7 +1,6 @@
 -- No session of a list comes before the foremost, and none is nearer than the nearest: for the law that one session is told.
-use Rattle.std.proofs.Common.{◌≡◌, ◌∙◌, refl, sym, ap, subst, ℕ, ◌==◌, ◌&&◌, ◌||◌, ◌⊎◌, inl, inr, Bool, true, false, not, if◌then◌else◌}
-use Rattle.std.proofs.Common.{nat_lt, List, [], ◌∷◌, ◌++◌}
-use Rattle.std.proofs.Common.{Option, Some, None, arith}
+use Rattle.std.proofs.Common.{◌≡◌, ◌∙◌, refl, sym, subst, ℕ, ◌==◌, ◌&&◌, ◌||◌, ◌⊎◌, inl, inr, Bool, true, false, not, if◌then◌else◌, nat_lt}
+use Rattle.std.proofs.Common.{List, [], ◌∷◌, ◌++◌, Option, Some, None, arith}
 use Rattle.std.proofs.lemmas.Bool.Decides.{nat_tests}
 use Rattle.std.proofs.lemmas.List.{append-nil, append_assoc}
 use Rattle.std.specs.List.{fold, flat_map}
@@ -10,7 +9,7 @@ use Rattle.osi_judge.specs.declared.rules.Near.{Near}
 use Rattle.osi_judge.specs.declared.rules.Rule.{Rule}
 use Rattle.osi_judge.specs.Foremost.{is_before, before_of, foremost, PrecedesAll, FollowsNone, IsForemost}
 use Rattle.osi_judge.specs.Members.{is_empty}
-use Rattle.osi_judge.specs.Nearest.{place, is_nearer, Unsaid, rule_for, tried_by, tried, reached, far, nearest}
+use Rattle.osi_judge.specs.Nearest.{is_nearer, Unsaid, rule_for, tried_by, tried, reached, far, nearest}
 use Rattle.osi_judge.specs.Onward.{IsAmong, IsNearest}
 
 -- ---- the order of sessions
@@ -27,14 +26,10 @@ carries_past : (t c : ℕ) (p : Bool) (u d : ℕ) (q : Bool) (v e : ℕ) (r : Bo
 carries_past t c p u d q v e r h k = grind (arith, nat_tests)
 
 before_trans : (m n o : Member) → is_before m n ≡ true → is_before n o ≡ true → is_before m o ≡ true
-before_trans m n o h k =
-    carries m.taken m.standing.state.numbers.confirmed m.standing.state.numbers.answers n.taken n.standing.state.numbers.confirmed
-    n.standing.state.numbers.answers o.taken o.standing.state.numbers.confirmed o.standing.state.numbers.answers h k
+before_trans m n o h k = grind (arith, carries)
 
 before_past : (m n o : Member) → is_before m n ≡ true → is_before o n ≡ false → is_before m o ≡ true
-before_past m n o h k =
-    carries_past m.taken m.standing.state.numbers.confirmed m.standing.state.numbers.answers n.taken n.standing.state.numbers.confirmed
-    n.standing.state.numbers.answers o.taken o.standing.state.numbers.confirmed o.standing.state.numbers.answers h k
+before_past m n o h k = grind (arith, carries_past)
 
 -- ---- the foremost
 
@@ -59,59 +54,41 @@ Looks xs = (best : Member) (front back seen : List Member) → seen ≡ front ++
 by_test : (b : Bool) (x best : Member) (front back seen xs : List Member) → is_before x best ≡ b → seen ≡ front ++ best ∷ back
     → PrecedesAll best front → FollowsNone best back → Looks xs
     → IsForemost (fold before_of (if b then x else best) xs) ((seen ++ x ∷ []) ++ xs)
-by_test true x best front back seen xs h e p f look =
-    look x seen [] (seen ++ x ∷ []) refl (subst (λ (z : List Member). PrecedesAll x z) (sym e) (precedes_all x best front back h p f)) tt
-by_test false x best front back seen xs h e p f look =
-    look best front (back ++ x ∷ []) (seen ++ x ∷ []) (ap (λ (z : List Member). z ++ x ∷ []) e ∙ append_assoc front (best ∷ back)
-    (x ∷ [])) p
-    (follows_more x best back h f)
+by_test true x best front back seen xs h e p f look = grind (arith, precedes_all)
+by_test false x best front back seen xs h e p f look = grind (arith, append_assoc, follows_more)
 
 looks : (xs : List Member) → Looks xs
 looks [] best front back seen e p f = record { front = front; back = back; parts = append-nil seen ∙ e; precedes = p; follows = f }
-looks (x ∷ xs) best front back seen e p f =
-    subst (λ (z : List Member). IsForemost (fold before_of (before_of best x) xs) z) (append_assoc seen (x ∷ []) xs)
-    (by_test (is_before x best) x best front back seen xs refl e p f (looks xs))
+looks (x ∷ xs) best front back seen e p f = grind (arith, by_test, append_assoc seen (x ∷ []) xs, looks xs)
 
 either_way : (b : Bool) (m : Member) → (if b then m else m) ≡ m
-either_way true m = refl
-either_way false m = refl
+either_way b m = grind arith
 
 pub foremost_is : (members : List Member) → is_empty members ≡ false → IsForemost (foremost members) members
 unfolding foremost
 foremost_is [] h = absurd (cc)
-foremost_is (m ∷ members) h =
-    subst (λ (z : Member). IsForemost (fold before_of z members) (m ∷ members)) (sym (either_way (is_before m m) m))
-    (looks members m [] [] (m ∷ []) refl tt tt)
+foremost_is (m ∷ members) h = grind (arith, either_way (is_before m m) m, looks members m [] [] (m ∷ []) refl tt tt)
 
 -- ---- the order of those that came near
 
 nearer_by : (a b c : ℕ) (x y z : Bool) → (x ≡ true → y ≡ true → z ≡ true) → (nat_lt b a || ((a == b) && x)) ≡ true
     → (nat_lt c b || ((b == c) && y)) ≡ true → (nat_lt c a || ((a == c) && z)) ≡ true
-nearer_by a b c x y true f h k = grind (arith, nat_tests)
-nearer_by a b c true true false f h k = let e = f refl refl in absurd (cc)
-nearer_by a b c true false false f h k = grind (arith, nat_tests)
-nearer_by a b c false y false f h k = grind (arith, nat_tests)
+nearer_by a b c x y z f h k = grind (arith, nat_tests)
 
 nearer_trans : (m n o : Near) → is_nearer m n ≡ true → is_nearer n o ≡ true → is_nearer m o ≡ true
-nearer_trans m n o h k =
-    nearer_by (place m.rule) (place n.rule) (place o.rule) (is_before m.at n.at) (is_before n.at o.at) (is_before m.at o.at)
-    (before_trans m.at n.at o.at) h k
+nearer_trans m n o h k = search (arith, nearer_by, before_trans)
 
 not_higher : (t c : ℕ) (p : Bool) → higher t c p t c p ≡ false
-not_higher t c true = grind (arith, nat_tests)
-not_higher t c false = grind (arith, nat_tests)
+not_higher t c p = grind (arith, nat_tests)
 
 not_nearer : (a : ℕ) (x : Bool) → x ≡ false → (nat_lt a a || ((a == a) && x)) ≡ false
 not_nearer a x e = grind (arith, nat_tests)
 
 nearer_itself : (n : Near) → is_nearer n n ≡ false
-nearer_itself n =
-    not_nearer (place n.rule) (is_before n.at n.at)
-    (not_higher n.at.taken n.at.standing.state.numbers.confirmed n.at.standing.state.numbers.answers)
+nearer_itself n = grind (arith, not_nearer, not_higher)
 
 not_so : (b : Bool) → (b ≡ true → ⊥) → b ≡ false
-not_so true h = absurd (h refl)
-not_so false h = refl
+not_so b h = grind arith
 
 not_both : (b : Bool) → b ≡ true → b ≡ false → ⊥
 not_both b h k = cc
@@ -159,17 +136,12 @@ same_near x m rule q o e h k = let r = some_rule q rule (sym h ∙ k) in λ i. n
 
 one_more : (u : Unsaid) (x : Member) (seen : List Member) (first best : Near) → IsOne u seen first best
     → IsOne u (seen ++ x ∷ []) first best
-one_more u x seen first best (inl e) = inl e
-one_more u x seen first best (inr (h, k)) = inr (among_front best.at x seen h, k)
+one_more u x seen first best h = grind (arith, among_front)
 
 -- the new one is not nearer, or it is
 stays_nearest : (u : Unsaid) (x : Member) (q : Rule) (seen : List Member) (best : Near) → rule_for u x.standing ≡ Some q
     → is_nearer (near x q) best ≡ false → NoneNearer u seen best → NoneNearer u (seen ++ x ∷ []) best
-stays_nearest u x q seen best r h n = λ m rule a k. elim (among_more m x seen a) [
-  | inl b ↦ n m rule b k
-  | inr e ↦ subst (λ (z : Near). is_nearer z best ≡ false)
-      (sym (same_near x m rule q (rule_for u x.standing) e r (subst (λ (z : Member). rule_for u z.standing ≡ Some rule) e k))) h
-]
+stays_nearest u x q seen best r h n = grind (arith, among_more, same_near)
 
 becomes_nearest : (u : Unsaid) (x : Member) (q : Rule) (seen : List Member) (best : Near) → rule_for u x.standing ≡ Some q
     → is_nearer (near x q) best ≡ true → NoneNearer u seen best → NoneNearer u (seen ++ x ∷ []) (near x q)
@@ -192,10 +164,7 @@ by_nearer false u x q first best seen xs r h n o go =
 -- it sends what is asked
 no_rule : (u : Unsaid) (x : Member) (seen : List Member) (best : Near) → rule_for u x.standing ≡ None → NoneNearer u seen best
     → NoneNearer u (seen ++ x ∷ []) best
-no_rule u x seen best r n = λ m rule a k. elim (among_more m x seen a) [
-  | inl b ↦ n m rule b k
-  | inr e ↦ let z = sym r ∙ subst (λ (z : Member). rule_for u z.standing ≡ Some rule) e k in absurd (cc)
-]
+no_rule u x seen best r n = grind (arith, among_more)
 
 by_rule : (o : Option Rule) (u : Unsaid) (x : Member) (first best : Near) (seen xs : List Member) → rule_for u x.standing ≡ o
     → NoneNearer u seen best → IsOne u seen first best → Tries u first xs
@@ -205,8 +174,7 @@ by_rule None u x first best seen xs r n o go = go best (seen ++ x ∷ []) (no_ru
 by_rule (Some q) u x first best seen xs r n o go = by_nearer (is_nearer (near x q) best) u x q first best seen xs r refl n o go
 
 tries : (u : Unsaid) (first : Near) (xs : List Member) → Tries u first xs
-tries u first [] best seen n o =
-    subst (λ (z : List Member). NoneNearer u z best × IsOne u z first best) (sym (append-nil seen)) (n, o)
+tries u first [] best seen n o = grind (arith, append-nil)
 tries u first (x ∷ xs) best seen n o =
     subst (λ (z : List Member). NoneNearer u z (fold (tried u) (tried u best x) xs) × IsOne u z first (fold (tried u) (tried u best x) xs))
     (append_assoc seen (x ∷ []) xs) (by_rule (rule_for u x.standing) u x first best seen xs refl n o (tries u first xs))

@@ -24,8 +24,7 @@ use Rattle.osi_judge.specs.Onward.{Quietly, OwesTo, StopsBy, GoesOn}
 -- ---- the next TSDU
 
 so_many : (n : Option ℕ) → option_map (length {A = ℕ}) (option_map (λ (k : ℕ). replicate {A = ℕ} k 0) n) ≡ n
-so_many None = refl
-so_many (Some n) = ap Some (length-replicate {A = ℕ} n 0)
+so_many n = grind (arith, length-replicate)
 
 pub count_is : (s : Seen) (u : List ℕ) (c : Count) → Takes s u c → count_at s u ≡ c
 unfolding count_at
@@ -53,54 +52,42 @@ next_owes us m reply o =
 
 pub next_stops : (us : List (List ℕ)) (m : Member) (owes : Option Reply) → StopsBy m.standing (get_or us m.taken []) owes
     → next_of us m ≡ None
-next_stops us m None h = ap (λ (b : Bool). if b then quiet_by m (count_at m.standing (get_or us m.taken [])) else None) h
-next_stops us m (Some reply) h = next_owes us m reply h
+next_stops us m owes h = grind (arith, next_owes)
 
 -- ---- the sessions that one becomes
 
 pub becomes_none : (us : List (List ℕ)) (n : ℕ) → becomes us n None ≡ []
-becomes_none us zero = refl
-becomes_none us (suc n) = refl
+becomes_none us n = grind arith
 
 pub reached_end : (us : List (List ℕ)) (before : ℕ) (m : Member) → before ≤ m.taken → reached us before m ≡ m ∷ []
 reached_end us before m l = let e : before - m.taken ≡ 0 = omega arith in ap (λ (n : ℕ). becomes us n (Some m)) e
 
 pub reached_some : (us : List (List ℕ)) (before : ℕ) (m : Member) → m.taken < before
     → reached us before m ≡ m ∷ becomes us (before - (m.taken + 1)) (next_of us m)
-reached_some us before m l =
-    let e : before - m.taken ≡ suc (before - (m.taken + 1)) = omega arith in ap (λ (n : ℕ). becomes us n (Some m)) e
+reached_some us before m l = grind arith
 
 reached_next : (us : List (List ℕ)) (before : ℕ) (m t : Member) → m.taken < before → Quietly us m t
     → reached us before m ≡ m ∷ reached us before t
-reached_next us before m t l q =
-    let e = q.taken in
-    reached_some us before m l ∙ ap (λ (o : Option Member). m ∷ becomes us (before - (m.taken + 1)) o) (next_goes us m t q)
-    ∙ ap (λ (n : ℕ). m ∷ becomes us (before - n) (Some t)) (sym e)
+reached_next us before m t l q = grind (arith, reached_some us before m l, next_goes us m t q)
 
 reached_stops : (us : List (List ℕ)) (before : ℕ) (m : Member) (owes : Option Reply) → m.taken < before
     → StopsBy m.standing (get_or us m.taken []) owes
     → reached us before m ≡ m ∷ []
-reached_stops us before m owes l h =
-    reached_some us before m l ∙ ap (λ (o : Option Member). m ∷ becomes us (before - (m.taken + 1)) o) (next_stops us m owes h)
-    ∙ ap (λ (ms : List Member). m ∷ ms) (becomes_none us (before - (m.taken + 1)))
+reached_stops us before m owes l h = grind (arith, reached_some, next_stops, becomes_none)
 
 -- ---- what a session is after all that passed
 
 last_any : (us : List (List ℕ)) (n : ℕ) (a t : Member) → last_in a (becomes us n (Some t)) ≡ last_in t (becomes us n (Some t))
-last_any us zero a t = refl
-last_any us (suc n) a t = refl
+last_any us n a t = grind arith
 
 pub goes_next : (us : List (List ℕ)) (m t first : Member) (turn : Turn) → m.taken < length us → turn ≡ Goes t → GoesOn us m turn
     → goes_to us m ≡ goes_to us first → goes_to us t ≡ goes_to us first
-goes_next us m t first turn l e g h =
-    sym (ap (λ (ms : List Member). last_in m ms) (reached_next us (length us) m t l (subst (λ (x : Turn). GoesOn us m x) e g))
-    ∙ last_any us (length us - t.taken) m t) ∙ h
+goes_next us m t first turn l e g h = grind (arith, reached_next, last_any)
 
 pub goes_stop : (us : List (List ℕ)) (m first : Member) (turn : Turn) (owes : Option Reply) → m.taken < length us → turn ≡ Stops owes
     → GoesOn us m turn
     → goes_to us m ≡ goes_to us first → m ≡ goes_to us first
-goes_stop us m first turn owes l e g h =
-    sym (ap (λ (ms : List Member). last_in m ms) (reached_stops us (length us) m owes l (subst (λ (x : Turn). GoesOn us m x) e g))) ∙ h
+goes_stop us m first turn owes l e g h = grind (arith, reached_stops)
 
 -- ---- a walk of one member
 
@@ -110,16 +97,12 @@ tries u us before best m = fold (tried u) best (reached us before m)
 pub tries_next : (u : Unsaid) (us : List (List ℕ)) (before : ℕ) (old new all : Near) (m t : Member) (turn : Turn) → m.taken < before
     → turn ≡ Goes t
     → GoesOn us m turn → new ≡ tried u old m → tries u us before old m ≡ all → tries u us before new t ≡ all
-tries_next u us before old new all m t turn l e g n h =
-    ap (λ (x : Near). tries u us before x t) n
-    ∙ sym (ap (λ (ms : List Member). fold (tried u) old ms) (reached_next us before m t l (subst (λ (x : Turn). GoesOn us m x) e g))) ∙ h
+tries_next u us before old new all m t turn l e g n h = grind (arith, reached_next)
 
 pub tries_stop : (u : Unsaid) (us : List (List ℕ)) (before : ℕ) (old new all : Near) (m : Member) (turn : Turn) (owes : Option Reply)
     → m.taken < before
     → turn ≡ Stops owes → GoesOn us m turn → new ≡ tried u old m → tries u us before old m ≡ all → new ≡ all
-tries_stop u us before old new all m turn owes l e g n h =
-    n ∙ sym (ap (λ (ms : List Member). fold (tried u) old ms)
-    (reached_stops us before m owes l (subst (λ (x : Turn). GoesOn us m x) e g))) ∙ h
+tries_stop u us before old new all m turn owes l e g n h = grind (arith, reached_stops)
 
 -- ---- one element of a list after the other
 
@@ -128,9 +111,7 @@ pub one_more : {S : Type 0} (f : S → Member → S) (s : S) (members : List Mem
     → fold f s (drop i members) ≡ fold f (f s x) (drop (i + 1) members)
 one_more f s [] i x l e = absurd (omega arith)
 one_more f s (m ∷ members) zero x l e = ap (λ (z : Member). fold f (f s z) members) (sym e)
-one_more f s (m ∷ members) (suc i) x l e =
-    let n : suc (i + 1) ≡ suc i + 1 = omega arith in
-    one_more f s members i x (omega arith) e ∙ ap (λ (k : ℕ). fold f (f s x) (drop k (m ∷ members))) n
+one_more f s (m ∷ members) (suc i) x l e = grind (arith, one_more f s members i x (omega arith) e)
 
 pub no_more : (members : List Member) (i : ℕ) → length members ≤ i → drop i members ≡ []
 no_more [] zero l = refl
@@ -141,9 +122,7 @@ no_more (m ∷ members) (suc i) l = no_more members i (omega arith)
 fold_flat : (u : Unsaid) (us : List (List ℕ)) (before : ℕ) (best : Near) (members : List Member)
     → fold (tried u) best (flat_map (reached us before) members) ≡ fold (tries u us before) best members
 fold_flat u us before best [] = refl
-fold_flat u us before best (m ∷ members) =
-    fold-append (tried u) best (reached us before m) (flat_map (reached us before) members) ∙ fold_flat u us before
-    (tries u us before best m) members
+fold_flat u us before best (m ∷ members) = grind (arith, fold-append, fold_flat u us before (tries u us before best m) members)
 
 -- ---- all members
 
@@ -151,9 +130,7 @@ pub all_tried : (u : Unsaid) (us : List (List ℕ)) (before : ℕ) (first best :
     → first ≡ far members
     → fold (tries u us before) best (drop i members) ≡ fold (tries u us before) first members → best ≡ nearest u us before members
 unfolding nearest
-all_tried u us before first best members i l f h =
-    sym (ap (λ (ms : List Member). fold (tries u us before) best ms) (no_more members i l)) ∙ h
-    ∙ ap (λ (n : Near). fold (tries u us before) n members) f ∙ sym (fold_flat u us before (far members) members)
+all_tried u us before first best members i l f h = grind (arith, no_more, fold_flat)
 
 -- ---- the units of a TSDU
 
@@ -203,9 +180,7 @@ pub breaks_as : {E : Type 0} (r : Result Break E) (heard : List (List ℕ)) (oct
     (read : Result Units SpduFault)
     (units : Units) → read ≡ Ok units → IfOk r (λ by. (at : List Member) × BreaksIn heard octets before members (in_effect units) at by)
     → IfOk r (λ by. (at : List Member) × BreaksAs heard octets before members read at by)
-breaks_as (Ok by) heard octets before members read units e h =
-    (h.0, subst (λ (r : Result Units SpduFault). BreaksAs heard octets before members r h.0 by) (sym e) h.1)
-breaks_as (Err x) heard octets before members read units e h = tt
+breaks_as r heard octets before members read units e h = grind arith
 
 pub breaks_unread : {E : Type 0} (r : Result Break E) (heard : List (List ℕ)) (octets before : ℕ) (members : List Member)
     (read : Result Units SpduFault)

@@ -5,7 +5,6 @@ use Rattle.std.proofs.lemmas.List.{append-nil, append_assoc, length-append}
 use Rattle.osi_spdu.specs.declared.faults.SpduFault.{SpduFault}
 use Rattle.osi_message.specs.Reading.{said_at}
 use Rattle.osi_message.specs.Words.{Words}
-use Rattle.osi_session.specs.Joining.{acting_words}
 use Rattle.osi_session.specs.Standing.{Seen}
 use Rattle.osi_judge.specs.declared.members.Member.{Member}
 use Rattle.osi_judge.specs.declared.findings.Finding.{Finding}
@@ -18,9 +17,8 @@ use Rattle.osi_judge.specs.Breaking.{BreaksAt, selection_of}
 use Rattle.osi_judge.specs.Sides.{ended_at, EndsAt}
 use Rattle.osi_judge.specs.Profiles.{offered_in, accepted_in, in_first, is_outside, selects_outside, leaves}
 use Rattle.osi_judge.specs.Judging.{Watched, is_empty, StandsBefore, BrokeBy, LeftBy, IsKept, IsAstray, BrokeFor, LeftFor, CrowdedFor}
-use Rattle.osi_judge.specs.Judging.{AreAll, AreKept, AreFew, Keeps, WatchesBy, Watches, IsFound, HasRoom, up_to}
+use Rattle.osi_judge.specs.Judging.{AreAll, Keeps, WatchesBy, Watches, IsFound, HasRoom}
 use Rattle.osi_judge.specs.Kept.{after_tsdu, kept}
-use Rattle.osi_judge.specs.Stops.{is_judged, place_of}
 use Rattle.osi_judge.proofs.told.a_break_stays_the_break.{extends_front, breaks_heard}
 use Rattle.osi_judge.proofs.kept.what_is_kept_follows_what_is_told.{take_front, take_whole, kept_more, kept_begins, few_begins, few_more}
 use Rattle.osi_judge.proofs.kept.what_is_kept_follows_what_is_told.{crowd_more, crowd_still, few_members}
@@ -42,8 +40,7 @@ stands_heard w x told i t k =
 
 broke_heard : (w : Watched) (x : List ℕ) (told : List Told) (i : ℕ) → BrokeBy w told i
     → BrokeBy (record w { heard = w.heard ++ x ∷ [] }) told i
-broke_heard w x told i k =
-    (k.0, stands_heard w x told i k.0 k.1, breaks_heard w.heard x k.0.octets k.0.before w.members w.by k.1.passed k.2, k.3)
+broke_heard w x told i k = search (arith, stands_heard, breaks_heard)
 
 left_heard : (w : Watched) (x : List ℕ) (told : List Told) (i : ℕ) → LeftBy w told i
     → LeftBy (record w { heard = w.heard ++ x ∷ [] }) told i
@@ -91,47 +88,15 @@ astray_still begin us a b e k = subst (λ (z : List Told). IsAstray begin us z) 
 
 broke_stays : (begin : Seen) (heard : List (List ℕ)) (told : List Told) (x : Told) (i : ℕ) → BrokeFor begin heard told i
     → BrokeFor begin heard (told ++ x ∷ []) i
-broke_stays begin heard told x i k =
-    let n = length-append told (x ∷ []) in
-    let there = k.0 in
-    let a = take_front told (x ∷ []) i (omega arith) in
-    let b = take_front told (x ∷ []) (i + 1) (omega arith) in (
-      omega arith,
-      λ us e. let y =
-          k.1 us e in (
-            kept_still begin us (take i (told ++ x ∷ [])) (take i told) a y.0,
-            λ h. y.1 (subst (λ (z : List Told). IsExplained begin us z) b h),
-          ),
-    )
+broke_stays begin heard told x i k = grind (arith, length-append, take_front, kept_still)
 
 left_stays : (begin : Seen) (heard : List (List ℕ)) (told : List Told) (x : Told) (i : ℕ) → LeftFor begin heard told i →
     LeftFor begin heard (told ++ x ∷ []) i
-left_stays begin heard told x i k =
-    let n = length-append told (x ∷ []) in
-    let there = k.0 in
-    let a = take_front told (x ∷ []) i (omega arith) in
-    let b = take_front told (x ∷ []) (i + 1) (omega arith) in (
-      omega arith,
-      λ us e. let y = k.1 us e in (
-        kept_still begin us (take i (told ++ x ∷ [])) (take i told) a y.0,
-        astray_still begin us (take (i + 1) (told ++ x ∷ [])) (take (i + 1) told) b y.1,
-      ),
-    )
+left_stays begin heard told x i k = grind (arith, length-append, take_front, kept_still, astray_still)
 
 crowded_stays : (begin : Seen) (heard : List (List ℕ)) (told : List Told) (x : Told) (i : ℕ) → CrowdedFor begin heard told i
     → CrowdedFor begin heard (told ++ x ∷ []) i
-crowded_stays begin heard told x i k =
-    let n = length-append told (x ∷ []) in
-    let there = k.0 in
-    let a = take_front told (x ∷ []) i (omega arith) in
-    let b = take_front told (x ∷ []) (i + 1) (omega arith) in (
-      omega arith,
-      λ us e. let y = k.1 us e in (
-        kept_still begin us (take (i + 1) (told ++ x ∷ [])) (take (i + 1) told) b y.0,
-        crowd_still begin us
-            (told ++ x ∷ []) told i a b y.1,
-      ),
-    )
+crowded_stays begin heard told x i k = grind (arith, length-append, take_front, kept_still, crowd_still)
 
 told_front : (xs ys : List Told) (i : ℕ) (t : Told) → i < length xs → get_or (xs ++ ys) i t ≡ get_or xs i t
 told_front [] ys i t l = absurd (omega arith)
@@ -141,24 +106,14 @@ told_front (x ∷ xs) ys (suc i) t l = told_front xs ys i t (omega arith)
 -- what is known of the sessions that explain what was said before stays
 stood_stays : (w : Watched) (told : List Told) (x : Told) (i : ℕ) (t : Told) → i < length told → StandsBefore w told i t
     → StandsBefore w (told ++ x ∷ []) i t
-stood_stays w told x i t l k =
-    let front = sym (take_front told (x ∷ []) i (omega arith)) in record {
-      is = k.is ∙ sym (told_front told (x ∷ []) i t l);
-      passed = k.passed;
-      all = subst (λ (z : List Told). AreAll w.begin w.heard w.before w.members z) front k.all;
-      kept = subst (λ (z : List Told). AreKept w.begin w.heard z w.members) front k.kept;
-      some = k.some;
-      few = subst (λ (z : List Told). AreFew w.begin w.heard z) front k.few;
-    }
+stood_stays w told x i t l k = grind (arith, take_front, told_front)
 
 broke_by_stays : (w : Watched) (told : List Told) (x : Told) (i : ℕ) → i < length told → BrokeBy w told i → BrokeBy w (told ++ x ∷ []) i
 broke_by_stays w told x i l k = (k.0, stood_stays w told x i k.0 l k.1, k.2, k.3)
 
 left_by_stays : (w : Watched) (told : List Told) (x : Told) (i : ℕ) → i < length told → LeftBy w told i → LeftBy w (told ++ x ∷ []) i
 left_by_stays w told x i l (t, s, inl (b, e, k)) = (t, stood_stays w told x i t l s, inl (b, e, broke_stays w.begin w.heard told x i k))
-left_by_stays w told x i l (t, s, inr (e, k)) =
-    let same = take_front told (x ∷ []) (i + 1) (omega arith) in
-    (t, stood_stays w told x i t l s, inr (e, λ us h. subst (λ (z : List Told). IsExplained w.begin us z) (sym same) (k us h)))
+left_by_stays w told x i l (t, s, inr (e, k)) = grind (arith, take_front told (x ∷ []) (i + 1) (omega arith), stood_stays w told x i t l s)
 
 stays_by : (f : Finding) (w : Watched) (told : List Told) (x : Told) → (f ≡ Kept → ⊥) → WatchesBy f w told → WatchesBy f w (told ++ x ∷ [])
 stays_by Kept w told x n k = absurd (n refl)
@@ -169,10 +124,7 @@ stays_by TooMany w told x n k = crowded_stays w.begin w.heard told x w.told k
 -- what was found of a side that is judged no further stays
 stays : (w n : Watched) (told : List Told) (x : Told) (f : Finding) → w.finding ≡ f → (f ≡ Kept → ⊥) → n ≡ w → Watches w told
     → Watches n (told ++ x ∷ [])
-stays w n told x f z o e k =
-    subst (λ (y : Watched). Watches y (told ++ x ∷ [])) (sym e)
-    (subst (λ (g : Finding). WatchesBy g w (told ++ x ∷ [])) (sym z)
-    (stays_by f w told x o (subst (λ (g : Finding). WatchesBy g w told) z k)))
+stays w n told x f z o e k = grind (arith, stays_by)
 
 pub broke_as : (w n : Watched) (told : List Told) (x : Told) (i : ℕ) → w.finding ≡ Broke i → n ≡ w → Watches w told
     → Watches n (told ++ x ∷ [])
@@ -189,13 +141,10 @@ too_many_as w n told x f e k = stays w n told x TooMany f (λ z. cc) e k
 remarks_more : (told : List Told) (x : Told) (later : List Remark) →
     remarks (told ++ x ∷ []) ++ later ≡ remarks told ++ (remarks_of x ++ later)
 remarks_more [] x later = ap (λ (z : List Remark). z ++ later) (append-nil (remarks_of x))
-remarks_more (t ∷ told) x later =
-    append_assoc (remarks_of t) (remarks (told ++ x ∷ [])) later ∙ ap (λ (z : List Remark). remarks_of t ++ z) (remarks_more told x later) ∙
-    sym (append_assoc (remarks_of t) (remarks told) (remarks_of x ++ later))
+remarks_more (t ∷ told) x later = grind (arith, append_assoc, remarks_more told x later)
 
 behind_less : (a b : ℕ) (later : List Remark) → a ≤ b → IsBehind b later → IsBehind a later
-behind_less a b [] l h = tt
-behind_less a b (m ∷ ms) l h = omega arith
+behind_less a b later l h = grind arith
 
 behind_words : (a : ℕ) (t : Told) (ws : Words) (later : List Remark) → a ≤ t.before → IsBehind t.before later →
     IsBehind a (map (remark t) ws ++ later)
@@ -204,8 +153,7 @@ behind_words a t (w ∷ ws) later l h = l
 
 behind_read : (a : ℕ) (t : Told) (came : Result Words SpduFault) (later : List Remark) → a ≤ t.before → IsBehind t.before later →
     IsBehind a (read_as t came ++ later)
-behind_read a t (Ok words) later l h = behind_words a t (acting_words words) later l h
-behind_read a t (Err fault) later l h = l
+behind_read a t came later l h = grind (arith, behind_words)
 
 -- what the members after a TSDU explain
 abbrev pub Gives : Watched → Told → List Member → Type 0
@@ -216,13 +164,7 @@ Gives w x new =
 all_more : (w : Watched) (told : List Told) (x : Told) (new : List Member) → w.before ≤ x.before →
     AreAll w.begin w.heard w.before w.members told → Gives w x new
     → AreAll w.begin w.heard x.before new (told ++ x ∷ [])
-all_more w told x new l a g = λ us later e h.
-    let k = a us (remarks_of x ++ later) e (behind_read w.before x (said_at x.octets) later l h) in
-    let i = g us later e h in
-    let same = remarks_more told x later in (
-      λ p. i.0 (k.0 (subst (λ (z : List Remark). Explains us z 0 w.begin) same p)),
-      λ p. subst (λ (z : List Remark). Explains us z 0 w.begin) (sym same) (k.1 (i.1 p)),
-    )
+all_more w told x new l a g = grind (arith, behind_read, remarks_more)
 
 -- ---- what the first TSDU selects
 
@@ -257,8 +199,7 @@ explained_more : (w : Watched) (told : List Told) (x : Told) (new : List Member)
     → Gives w x new → is_empty new ≡ false → Keeps w told → Extends us w.heard
     → IsExplained w.begin us (told ++ x ∷ [])
 explained_more w told x new us l g s k e =
-    subst (λ (z : List Remark). Explains us z 0 w.begin) (append-nil (remarks (told ++ x ∷ [])))
-    ((all_more w told x new l k.all g us [] e tt).1 (some_done us new s))
+    grind (arith, append-nil (remarks (told ++ x ∷ [])), all_more w told x new l k.all g us [] e tt, some_done us new s)
 
 pub kept_as : (w n : Watched) (told : List Told) (x : Told) (new : List Member) (b : Bool)
     → n ≡ record w { members = new; told = w.told + 1; before = x.before } → w.finding ≡ Kept → w.before ≤ x.before
@@ -331,16 +272,7 @@ last_told (t ∷ told) x (suc i) e = last_told told x i (omega arith)
 -- the sessions that explain what was said before the new TSDU
 stands_here : (w : Watched) (f : Finding) (by : Break) (told : List Told) (x : Told) → x.before ≤ length w.heard → Keeps w told
     → StandsBefore (record w { finding = f; by = by }) (told ++ x ∷ []) w.told x
-stands_here w f by told x p k =
-    let m = length-append told (x ∷ []) in let c = k.count in
-    let front = take_front told (x ∷ []) w.told (omega arith) ∙ take_whole told w.told (omega arith) in record {
-      is = last_told told x w.told c;
-      passed = p;
-      all = subst (λ (z : List Told). AreAll w.begin w.heard w.before w.members z) (sym front) k.all;
-      kept = subst (λ (z : List Told). AreKept w.begin w.heard z w.members) (sym front) k.kept;
-      some = k.some;
-      few = subst (λ (z : List Told). AreFew w.begin w.heard z) (sym front) k.few;
-    }
+stands_here w f by told x p k = grind (arith, length-append, take_front, take_whole, last_told)
 
 -- ---- a side that leaves the profile
 
@@ -376,25 +308,18 @@ leaves_as w n told x new b l g s e p o z k =
       ),
     )
 
--- by something that no session sends
-left_broken : (begin : Seen) (heard : List (List ℕ)) (told : List Told) (i : ℕ) → BrokeFor begin heard told i → LeftFor begin heard told i
-left_broken begin heard told i k = (k.0, λ us e. let y = k.1 us e in (y.0, inl y.1))
-
 -- it is outside of the profile, or breaks the protocol
 ends_by : (b : Bool) (w : Watched) (by : Break) (told : List Told) (x : Told) (new : List Member) → leaves x.octets by ≡ b
     → BreaksAt w.heard x.octets x.before w.members by → x.before ≤ length w.heard → w.before ≤ x.before → Gives w x new → new ≡ []
     → Keeps w told
     → WatchesBy (ended_at b w.told) (record w { finding = ended_at b w.told; by = by }) (told ++ x ∷ [])
-ends_by true w by told x new e h p l g z k =
-    let broke = broke_here w told x new l g z k in
-    (left_broken w.begin w.heard (told ++ x ∷ []) w.told broke, (x, stands_here w (Left w.told) by told x p k, inl (h, e, broke)))
+ends_by true w by told x new e h p l g z k = grind (arith, broke_here w told x new l g z k, stands_here w (Left w.told) by told x p k)
 ends_by false w by told x new e h p l g z k = (broke_here w told x new l g z k, (x, stands_here w (Broke w.told) by told x p k, h, e))
 
 pub ends_as : (w n : Watched) (told : List Told) (x : Told) (new : List Member) → EndsAt x.octets x.before w n → x.before ≤ length w.heard
     → w.before ≤ x.before → Gives w x new → new ≡ [] → Keeps w told
     → Watches n (told ++ x ∷ [])
-ends_as w n told x new e p l g z k =
-    subst (λ (y : Watched). Watches y (told ++ x ∷ [])) (sym e.is) (ends_by (leaves x.octets n.by) w n.by told x new refl e.by p l g z k)
+ends_as w n told x new e p l g z k = grind (arith, ends_by)
 
 pub ends_ok : {A E : Type 0} (r : Result A E) (w n : Watched) (x : Told) (new : List Member) → x.before ≤ length w.heard
     → w.before ≤ x.before
@@ -444,14 +369,6 @@ room_by TooMany w told k = let y = k.1 w.heard (λ i l. refl) in (w.told, k.0, y
 pub room_as : (w : Watched) (told : List Told) → Watches w told → HasRoom w.begin w.heard told w.finding
 room_as w told k = room_by w.finding w told k
 
--- the sessions that are kept of what it said before its break
-kept_by : (f : Finding) (w : Watched) (told : List Told) → is_judged f ≡ true → WatchesBy f w told
-    → w.members ≡ kept w.begin w.heard (up_to (place_of f) told)
-kept_by Kept w told j k = k.kept w.heard (λ i l. refl)
-kept_by (Broke i) w told j k = k.1.1.kept w.heard (λ i l. refl)
-kept_by (Left i) w told j (k, (x, s, h)) = s.kept w.heard (λ i l. refl)
-kept_by TooMany w told j k = absurd (cc)
-
 pub few_by : (w : Watched) (told : List Told) → w.finding ≡ Kept → Watches w told → length w.members ≤ 4096
 few_by w told f k =
     let h : Keeps w told = subst (λ (g : Finding). WatchesBy g w told) f k in
@@ -470,12 +387,10 @@ found_as w told k = found_by w.finding w told k
 -- ---- in memory
 
 pub empty_is : (members : List Member) → (length members == 0) ≡ is_empty members
-empty_is [] = refl
-empty_is (m ∷ members) = grind arith
+empty_is members = grind arith
 
 pub nil_of : (members : List Member) → is_empty members ≡ true → members ≡ []
-nil_of [] e = refl
-nil_of (m ∷ members) e = absurd (cc)
+nil_of members e = grind arith
 
 pub after_as : (w : Watched) (x : Told) (new members : List Member) → members ≡ w.members → new ≡ after_tsdu w.heard members x
     → new ≡ after_tsdu w.heard w.members x
@@ -486,8 +401,4 @@ pub gives_as : (w : Watched) (x : Told) (new : List Member) (heard : List (List 
     → Ever heard x.before
     (λ (us : List (List ℕ)) (later : List Remark). SomeExplains us members (remarks_of x ++ later) ↔ SomeExplains us new later) →
     Gives w x new
-gives_as w x new heard members h m g =
-    subst (λ (y : List Member). Ever w.heard x.before
-    (λ (us : List (List ℕ)) (later : List Remark). SomeExplains us y (remarks_of x ++ later) ↔ SomeExplains us new later)) m
-    (subst (λ (y : List (List ℕ)). Ever y x.before
-    (λ (us : List (List ℕ)) (later : List Remark). SomeExplains us members (remarks_of x ++ later) ↔ SomeExplains us new later)) h g)
+gives_as w x new heard members h m g = grind arith

@@ -1,6 +1,6 @@
 -- A session that waits for the answer to its restart explains the same before and after a TSDU that it discards. For `wait`.
-use Rattle.std.proofs.Common.{◌≡◌, ◌∙◌, refl, sym, ap, subst, ℕ, ◌+◌, ◌<◌, ◌≤◌, ◌⊎◌, ◌↔◌, inl, inr, Bool, true, false, not, ◌&&◌, ◌||◌}
-use Rattle.std.proofs.Common.{◌==◌, is_none, unwrap_or, if◌then◌else◌, List, [], ◌∷◌, length, get_or, Option, Some, None, option_map}
+use Rattle.std.proofs.Common.{◌≡◌, ◌∙◌, refl, sym, ap, subst, ℕ, ◌+◌, ◌<◌, ◌⊎◌, ◌↔◌, inl, inr, Bool, true, false, not, ◌&&◌, ◌||◌, ◌==◌}
+use Rattle.std.proofs.Common.{is_none, unwrap_or, if◌then◌else◌, List, [], ◌∷◌, length, get_or, Some, None, option_map}
 use Rattle.std.proofs.lemmas.Bool.{and_parts}
 use Rattle.osi_message.specs.Meanings.{Meaning, CN, AC, RF, DT, GT, PT, MIP, MIA, MAP, MAA, RS, RA, FN, DN, NF, AB, AA}
 use Rattle.osi_message.specs.Reading.{names}

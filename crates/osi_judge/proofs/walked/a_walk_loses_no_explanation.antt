@@ -42,8 +42,7 @@ split us m later j s w k (answers _ _ _ _ c reply v b l t r d a e) =
       taken = t;
       on = inr (reply, r, subst (λ (x : Word). answers_word reply x ≡ true) (same_word w v (k ∙ d)) a, e);
     })
-split us m later j s w k (says _ _ _ _ next v d a e) =
-    inl (next, subst (λ (x : Word). CanSay s x m.octets next) (same_word w v (k ∙ d)) a, e)
+split us m later j s w k (says _ _ _ _ next v d a e) = grind (arith, same_word)
 
 abbrev pub Ways : List (List ℕ) → List Remark → Word → ℕ → ℕ → Member → Type 0
 Ways us later w octets before at = SaidHere us later w octets at ⊎ TakenOn us later (the_remark w octets before) w at.taken at.standing
@@ -62,30 +61,24 @@ said_on us later w octets before at h = says (the_remark w octets before) later 
 known : (us : List (List ℕ)) (later : List Remark) (w : Word) (octets before : ℕ) (old : List Member) (at : Member) →
     (SomeExplains us old later ⊎ SaidHere us later w octets at)
     → (SomeExplains us old later ⊎ Explains us (the_remark w octets before ∷ later) at.taken at.standing)
-known us later w octets before old at (inl k) = inl k
-known us later w octets before old at (inr s) = inr (said_on us later w octets before at s)
+known us later w octets before old at h = grind (arith, said_on)
 
 -- if no TSDU can be taken, the remark is sent here or not at all
 stuck_there : (us : List (List ℕ)) (later : List Remark) (w : Word) (octets before : ℕ) (old new : List Member) (at : Member)
     → ((SomeExplains us old later ⊎ SaidHere us later w octets at) → SomeExplains us new later) →
     (TakenOn us later (the_remark w octets before) w at.taken at.standing → ⊥)
     → (SomeExplains us old later ⊎ Explains us (the_remark w octets before ∷ later) at.taken at.standing) → SomeExplains us new later
-stuck_there us later w octets before old new at g none (inl k) = g (inl k)
-stuck_there us later w octets before old new at g none (inr e) =
-    elim (ways us later w octets before at e) [ inl s ↦ g (inr s) | inr t ↦ absurd (none t) ]
+stuck_there us later w octets before old new at g none h = grind (arith, ways)
 
 pub stuck : (us : List (List ℕ)) (later : List Remark) (w : Word) (octets before : ℕ) (old new : List Member) (from to : Walker) →
     SaysIt us later w octets old new from to → WalkerCovers us later old from
     → (TakenOn us later (the_remark w octets before) w from.at.taken from.at.standing → ⊥) →
     Open us later (the_remark w octets before) old (Some from) ↔ SomeExplains us new later
-stuck us later w octets before old new from to h c none = (
-  stuck_there us later w octets before old new from.at (h.gives c).0 none,
-  λ k. known us later w octets before old from.at ((h.gives c).1 k),
-)
+stuck us later w octets before old new from to h c none =
+    grind (arith, known, stuck_there us later w octets before old new from.at (h.gives c).0 none)
 
 not_both : (b : Bool) → b ≡ true → b ≡ false → ⊥
-not_both true h k = cc
-not_both false h k = cc
+not_both b h k = grind arith
 
 -- a session that takes nothing
 pub deaf : (us : List (List ℕ)) (later : List Remark) (w : Word) (octets before : ℕ) (old new : List Member) (from to : Walker) →
@@ -108,21 +101,15 @@ pub record Took (us : List (List ℕ)) (at next : Member) (count : Count) : Type
 -- the state after it, by its count
 from_next : (us : List (List ℕ)) (ms : List Remark) (at next : Member) (c : Count) → Took us at next c →
     Explains us ms next.taken next.standing → Explains us ms (at.taken + 1) (after_count at.standing c)
-from_next us ms at next c k e =
-    subst (λ (x : ℕ). Explains us ms x (after_count at.standing c)) k.place (subst (λ (x : Seen). Explains us ms next.taken x) k.standing e)
+from_next us ms at next c k e = grind arith
 
 to_next : (us : List (List ℕ)) (ms : List Remark) (at next : Member) (c d : Count) → Took us at next c →
     Takes at.standing (get_or us at.taken []) d
     → Explains us ms (at.taken + 1) (after_count at.standing d) → Explains us ms next.taken next.standing
-to_next us ms at next c d k t e =
-    let same = takes_one at.standing (get_or us at.taken []) d c t k.taken in
-    subst (λ (x : Seen). Explains us ms next.taken x) (sym k.standing)
-    (subst (λ (x : ℕ). Explains us ms x (after_count at.standing c)) (sym k.place)
-    (subst (λ (x : Count). Explains us ms (at.taken + 1) (after_count at.standing x)) same e))
+to_next us ms at next c d k t e = grind (arith, takes_one at.standing (get_or us at.taken []) d c t k.taken)
 
 pub none_or_some : (o : Option Meaning) (a : Meaning) → o ≡ None → o ≡ Some a → ⊥
-none_or_some None a h k = cc
-none_or_some (Some b) a h k = cc
+none_or_some o a h k = grind arith
 
 -- it is answered
 answered_there : (us : List (List ℕ)) (later : List Remark) (w : Word) (octets before : ℕ) (old mid new : List Member) (at next : Member)
@@ -200,9 +187,7 @@ before_it us (m ∷ ms) before j s t b h f e =
 still : (us : List (List ℕ)) (later : List Remark) (before : ℕ) (mid : List Member) (j : ℕ) (x y : Option Seen) → j < before →
     IsBehind before later → MayFollow x (get_or us j []) y
     → Covers us later mid j x → Covers us later mid (j + 1) y
-still us later before mid j x None b h f c = tt
-still us later before mid j None (Some t) b h f c = absurd f
-still us later before mid j (Some s) (Some t) b h f c = λ e. c (before_it us later before j s t b h f e)
+still us later before mid j x y b h f c = grind (arith, before_it)
 
 pub goes_on : (us : List (List ℕ)) (later : List Remark) (w : Word) (octets before : ℕ) (old mid : List Member) (from to now : Walker)
     (c : Count)
@@ -224,10 +209,7 @@ goes_on us later w octets before old mid from to now c h k r b i f = record {
 pub walked_turn : (us : List (List ℕ)) (later : List Remark) (m : Remark) (first old new : List Member) (from at now : Walker) →
     Walked us later m first old from at → Turns us later m old new at (Some now)
     → Walked us later m first new from now
-walked_turn us later m first old new from at now w t = record {
-  gives = (λ h. (t.gives w.covers).0 (w.gives.0 h), λ h. w.gives.1 ((t.gives w.covers).1 h));
-  covers = t.covers w.covers;
-}
+walked_turn us later m first old new from at now w t = search arith
 
 pub walked_stop : (us : List (List ℕ)) (later : List Remark) (m : Remark) (first old new : List Member) (from at : Walker) →
     Walked us later m first old from at → Turns us later m old new at None
@@ -243,14 +225,11 @@ walked_last us later w octets before first old new from at to x h b =
     (λ k. s.0 (x.gives.0 k), λ k. x.gives.1 (s.1 k))
 
 pub none_of : {A B : Type 0} (f : A → B) (o : Option A) → ((a : A) → o ≡ Some a → ⊥) → option_map f o ≡ None
-none_of f None h = refl
-none_of f (Some a) h = absurd (h a refl)
+none_of f o h = grind arith
 
 -- what an option that is known gives
 pub at_some : {A : Type 0} (P : A → Type 0) (o : Option A) (a : A) → o ≡ Some a → IfSome o P → P a
-at_some P None a e h = absurd (cc)
-at_some P (Some b) a e h = let same : b ≡ a = cc in subst P same h
+at_some P o a e h = grind arith
 
 pub at_none : {A : Type 0} (P : Type 0) (o : Option A) → ((a : A) → o ≡ Some a → ⊥) → IfNone o P → P
-at_none P None n h = h
-at_none P (Some a) n h = absurd (n a refl)
+at_none P o n h = grind arith

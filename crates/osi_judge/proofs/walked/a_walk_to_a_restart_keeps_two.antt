@@ -1,11 +1,11 @@
 -- A walk to a restart loses no explanation, though it keeps only the first and the last session of those that differ in V(A)
 -- alone. For the functions of `restarts`.
-use Rattle.std.proofs.Common.{◌≡◌, ◌∙◌, refl, sym, ap, subst, ℕ, ◌+◌, ◌<◌, ◌≤◌, ◌⊎◌, ◌↔◌, inl, inr, Bool, true, false, List, [], ◌∷◌}
-use Rattle.std.proofs.Common.{get_or, IfSome, Option, Some, None, arith}
-use Rattle.osi_message.specs.Meanings.{Meaning, RF, AB, AA, RS}
-use Rattle.osi_message.specs.Words.{Word, says, part}
+use Rattle.std.proofs.Common.{◌≡◌, ◌∙◌, refl, sym, ap, subst, ℕ, ◌+◌, ◌<◌, ◌≤◌, ◌⊎◌, ◌↔◌, inl, inr, true, List, [], ◌∷◌, get_or, Option}
+use Rattle.std.proofs.Common.{Some, None, arith}
+use Rattle.osi_message.specs.Meanings.{Meaning}
+use Rattle.osi_message.specs.Words.{Word}
 use Rattle.osi_session.specs.Joining.{is_restart_word}
-use Rattle.osi_session.specs.Standing.{Seen, Count, CanSay, Takes, listens, after_count, answers_word}
+use Rattle.osi_session.specs.Standing.{Seen, CanSay, after_count, answers_word}
 use Rattle.osi_session.specs.Steady.{Hears}
 use Rattle.osi_judge.specs.declared.members.Member.{Member}
 use Rattle.osi_judge.specs.declared.restarts.Asked.{Asked}
@@ -14,7 +14,7 @@ use Rattle.osi_judge.specs.Between.{seen_to}
 use Rattle.osi_judge.specs.Explaining.{Remark, Explains}
 use Rattle.osi_judge.specs.Members.{SomeExplains, IsBehind}
 use Rattle.osi_judge.specs.Waiting.{Waits, Restarted, AreAsked, MayBeAsked, Known, StillOpen}
-use Rattle.osi_judge.specs.Walking.{the_remark, SaidHere, SaysTo, MovesTo, HearsTo}
+use Rattle.osi_judge.specs.Walking.{the_remark, SaidHere, SaysTo, MovesTo}
 use Rattle.osi_judge.proofs.walked.a_walk_loses_no_explanation.{takes_one, TakenOn, ways, said_on, before_it}
 use Rattle.osi_judge.proofs.walked.a_restart_waits.{waits_both}
 use Rattle.osi_judge.proofs.walked.restarts_are_alike.{IsRestart, a_restart, alike}
@@ -32,38 +32,14 @@ Joins us later taken old new asked said r = (Known us later taken old asked ⊎ 
 pub begins_with : (us : List (List ℕ)) (later : List Remark) (taken : ℕ) (old : List Member) (asked : Option Asked) (one : Asked) (said :
     Seen) → asked ≡ None → one.first ≡ said → one.last ≡ said
     → Joins us later taken old old asked said (Some one)
-begins_with us later taken old asked one said e f l = (
-  λ h. elim h [
-    | inl k ↦ inl (subst (λ (x : Option Asked). Known us later taken old x) e k)
-    | inr k ↦ inr (inl (subst (λ (x : Seen).
-        Explains us later taken x) (sym f) k))
-  ],
-  λ h. elim h [
-    | inl k ↦ inl (subst (λ (x : Option Asked). Known us later taken old x) (sym e) k)
-    | inr k ↦ elim k [
-      | inl x ↦ inr (subst (λ (y : Seen). Explains us later taken y) f x)
-      | inr x ↦ inr (subst (λ (y : Seen). Explains us
-          later taken y) l x)
-    ]
-  ],
-)
+begins_with us later taken old asked one said e f l = grind arith
 
 -- those that wait are kept, and it is the first of others
 pub begins_anew_with : (us : List (List ℕ)) (later : List Remark) (taken : ℕ) (old new : List Member) (asked : Option Asked) (one : Asked)
     (said : Seen)
     → (Known us later taken old asked ↔ SomeExplains us new later) → one.first ≡ said → one.last ≡ said
     → Joins us later taken old new asked said (Some one)
-begins_anew_with us later taken old new asked one said g f l = (
-  λ h. elim h [ inl k ↦ inl (g.0 k) | inr k ↦ inr (inl (subst (λ (x : Seen). Explains us later taken x) (sym f) k)) ],
-  λ h. elim h [
-    | inl k ↦ inl (g.1 k)
-    | inr k ↦ elim k [
-      | inl x ↦ inr (subst (λ (y : Seen). Explains us later taken y) f x)
-      | inr x ↦ inr (subst (λ (y : Seen). Explains us
-          later taken y) l x)
-    ]
-  ],
-)
+begins_anew_with us later taken old new asked one said g f l = grind arith
 
 -- the last before it lies between
 pub replaces : (us : List (List ℕ)) (later : List Remark) (taken : ℕ) (old : List Member) (r q : Word) (o : ℕ) (a : Asked) (said shown :
@@ -101,23 +77,7 @@ pub follows : (us : List (List ℕ)) (later : List Remark) (taken : ℕ) (old ne
     → b.first ≡ a.first → b.last ≡ said
     → (SomeExplains us old later ⊎ Explains us later taken a.last) ↔ SomeExplains us new later
     → Joins us later taken old new (Some a) said (Some b)
-follows us later taken old new a b said f l g = (there, back)
-  where
-    there : (Known us later taken old (Some a) ⊎ Explains us later taken said) → Known us later taken new (Some b)
-    there (inl (inl m)) = inl (g.0 (inl m))
-    there (inl (inr (inl m))) = inr (inl (subst (λ (x : Seen). Explains us later taken x) (sym f) m))
-    there (inl (inr (inr m))) = inl (g.0 (inr m))
-    there (inr m) = inr (inr (subst (λ (x : Seen). Explains us later taken x) (sym l) m))
-
-    old_one : (SomeExplains us old later ⊎ Explains us later taken a.last)
-        → (Known us later taken old (Some a) ⊎ Explains us later taken said)
-    old_one (inl m) = inl (inl m)
-    old_one (inr m) = inl (inr (inr m))
-
-    back : Known us later taken new (Some b) → (Known us later taken old (Some a) ⊎ Explains us later taken said)
-    back (inl m) = old_one (g.1 m)
-    back (inr (inl m)) = inl (inr (inl (subst (λ (x : Seen). Explains us later taken x) f m)))
-    back (inr (inr m)) = inr (subst (λ (x : Seen). Explains us later taken x) l m)
+follows us later taken old new a b said f l g = grind arith
 
 pub same_asked : (r q : Word) (o : ℕ) (a : Asked) (said shown : Seen) → AreAsked r q o a → Restarted r q o said shown → a.shown ≡ shown
     → AreAsked r q o (record { first = a.first; last = said; shown = a.shown })
@@ -130,38 +90,18 @@ one_said s x y w o h k = let e : Some x ≡ Some y = sym h ∙ k in cc
 
 pub said_is : (us : List (List ℕ)) (later : List Remark) (w : Word) (o : ℕ) (at said : Member) → SaysTo at w o (Some said)
     → SaidHere us later w o at ↔ Explains us later at.taken said.standing
-said_is us later w o at said h = (
-  λ k. subst (λ (x : Seen). Explains us later at.taken x) (one_said at.standing k.0 said.standing w o k.1 h.1) k.2,
-  λ k. (said.standing, h.1, k),
-)
+said_is us later w o at said h = grind (arith, one_said)
 
 pub with_said : (us : List (List ℕ)) (later : List Remark) (w : Word) (o : ℕ) (at said : Member) (K L : Type 0)
     → SaysTo at w o (Some said) → ((K ⊎ Explains us later at.taken said.standing) ↔ L)
     → (K ⊎ SaidHere us later w o at) ↔ L
-with_said us later w o at said K L h g = (
-  λ k. elim k [ inl x ↦ g.0 (inl x) | inr x ↦ g.0 (inr ((said_is us later w o at said h).0 x)) ],
-  λ l. elim (g.1 l) [ inl x ↦ inl x | inr x ↦ inr ((said_is us later w o at said h).1 x) ],
-)
+with_said us later w o at said K L h g = grind (arith, said_is)
 
 -- it is kept by itself
 pub kept_alone : (us : List (List ℕ)) (later : List Remark) (taken : ℕ) (old new : List Member) (asked : Option Asked) (E : Type 0)
     → ((SomeExplains us old later ⊎ E) ↔ SomeExplains us new later)
     → (Known us later taken old asked ⊎ E) ↔ Known us later taken new asked
-kept_alone us later taken old new None E g = g
-kept_alone us later taken old new (Some a) E g = (there, back)
-  where
-    there : (Known us later taken old (Some a) ⊎ E) → Known us later taken new (Some a)
-    there (inl (inl m)) = inl (g.0 (inl m))
-    there (inl (inr m)) = inr m
-    there (inr m) = inl (g.0 (inr m))
-
-    on : (SomeExplains us old later ⊎ E) → (Known us later taken old (Some a) ⊎ E)
-    on (inl m) = inl (inl m)
-    on (inr m) = inr m
-
-    back : Known us later taken new (Some a) → (Known us later taken old (Some a) ⊎ E)
-    back (inl m) = on (g.1 m)
-    back (inr m) = inl (inr m)
+kept_alone us later taken old new asked E g = grind arith
 
 -- ---- those that wait
 
@@ -169,35 +109,17 @@ pub still_wait : (us : List (List ℕ)) (later : List Remark) (before taken : �
     → IsBehind before later
     → Waits a.first (get_or us taken []) → Waits a.last (get_or us taken [])
     → Known us later taken old (Some a) ↔ Known us later (taken + 1) old (Some a)
-still_wait us later before taken old a b h v w =
-    let f = waits_both us later before taken a.first b h v in
-    let l = waits_both us later before taken a.last b h w in (
-      λ k. elim k [ inl m ↦ inl m | inr m ↦ inr (elim m [ inl x ↦ inl (f.0 x) | inr x ↦ inr (l.0 x) ]) ],
-      λ k. elim k [ inl m ↦ inl m | inr m ↦ inr (elim m [ inl x ↦ inl (f.1 x) | inr x ↦ inr (l.1 x) ]) ],
-    )
+still_wait us later before taken old a b h v w = grind (arith, waits_both)
 
 -- ---- a TSDU that the session takes on its way
 
 no_answer : (reply : Meaning) (w : Word) → IsRestart w → answers_word reply w ≡ true → ⊥
-no_answer reply w r h = by reply (subst (λ (x : Word). answers_word reply x ≡ true) r.is h)
-  where
-    by : (m : Meaning) → answers_word m (says (RS r.kind r.number r.wishes r.octets)) ≡ true → ⊥
-    by (RF reason o) k = cc
-    by (AB b o) k = cc
-    by AA k = cc
-    by _ k = cc
+no_answer reply w r h = grind arith
 
 quiet_only : (us : List (List ℕ)) (later : List Remark) (m : Remark) (w : Word) (j : ℕ) (s : Seen) → is_restart_word w ≡ true
     → (t : TakenOn us later m w j s)
     → (t.count.reply ≡ None) × (Explains us (m ∷ later) (j + 1) (after_count s t.count))
-quiet_only us later m w j s r t = by t.on
-  where
-    by : (((t.count.reply ≡ None) × (Explains us (m ∷ later) (j + 1) (after_count s t.count)))
-        ⊎ ((reply : Meaning) × (t.count.reply ≡ Some reply) × (answers_word reply w ≡ true) × (Explains us later (j + 1) (after_count s
-        t.count))))
-        → (t.count.reply ≡ None) × (Explains us (m ∷ later) (j + 1) (after_count s t.count))
-    by (inl k) = k
-    by (inr k) = absurd (no_answer k.0 w (a_restart w r) k.2)
+quiet_only us later m w j s r t = grind (arith, no_answer, a_restart)
 
 pub goes_on : (us heard : List (List ℕ)) (later : List Remark) (w : Word) (o before : ℕ) (at on : Member) → is_restart_word w ≡ true
     → at.taken < before → get_or us at.taken [] ≡ get_or heard at.taken []
@@ -244,24 +166,15 @@ stops_here us heard later w o before at r e h = (there, λ x. said_on us later w
 
 pub ends_here : (us : List (List ℕ)) (later : List Remark) (w : Word) (o before : ℕ) (at : Member) → before ≤ at.taken
     → Explains us (the_remark w o before ∷ later) at.taken at.standing ↔ SaidHere us later w o at
-ends_here us later w o before at b = (there, λ x. said_on us later w o before at x)
-  where
-    there : Explains us (the_remark w o before ∷ later) at.taken at.standing → SaidHere us later w o at
-    there k = elim (ways us later w o before at k) [ inl x ↦ x | inr t ↦ (let l = t.before in absurd (omega arith)) ]
+ends_here us later w o before at b = search (arith, said_on, ways)
 
 -- ---- a step, by what it is made of
 
 pub stepped : {K L M E S F : Type 0} → ((K ⊎ S) ↔ L) → (E ↔ (S ⊎ F)) → (L ↔ M) → ((K ⊎ E) ↔ (M ⊎ F))
-stepped a e c = (
-  λ h. elim h [ inl k ↦ inl (c.0 (a.0 (inl k))) | inr x ↦ elim (e.0 x) [ inl s ↦ inl (c.0 (a.0 (inr s))) | inr f ↦ inr f ] ],
-  λ h. elim h [ inl m ↦ elim (a.1 (c.1 m)) [ inl k ↦ inl k | inr s ↦ inr (e.1 (inl s)) ] | inr f ↦ inr (e.1 (inr f)) ],
-)
+stepped a e c = grind arith
 
 pub stopped : {K L M E S : Type 0} → ((K ⊎ S) ↔ L) → (E ↔ S) → (L ↔ M) → ((K ⊎ E) ↔ M)
-stopped a e c = (
-  λ h. elim h [ inl k ↦ c.0 (a.0 (inl k)) | inr x ↦ c.0 (a.0 (inr (e.0 x))) ],
-  λ m. elim (a.1 (c.1 m)) [ inl k ↦ inl k | inr s ↦ inr (e.1 s) ],
-)
+stopped a e c = grind arith
 
 -- ---- what `join` ensures, at each of its ends
 
@@ -277,13 +190,7 @@ asked_once said shown = record { first = said; last = said; shown = shown }
 pub joins_apart : (taken : ℕ) (old new : List Member) (asked : Option Asked) (said shown : Seen) (b : Asked) → asked ≡ Some b
     → ((us : List (List ℕ)) (later : List Remark) → Known us later taken old (Some b) ↔ SomeExplains us new later)
     → JoinsBy taken old new asked said shown (Some (asked_once said shown))
-joins_apart taken old new asked said shown b e g =
-    subst (λ (a : Option Asked). JoinsBy taken old new a said shown (Some (asked_once said shown))) (sym e)
-    (λ r q o p k m x. (
-      record { first = x; last = x },
-      λ us later. begins_anew_with us later taken old new (Some b) (asked_once said shown)
-          said (g us later) refl refl,
-    ))
+joins_apart taken old new asked said shown b e g = grind (arith, begins_anew_with)
 
 pub joins_between : (taken : ℕ) (old : List Member) (asked : Option Asked) (said shown : Seen) (b : Asked) → asked ≡ Some b
     → b.shown ≡ shown
@@ -299,18 +206,7 @@ pub joins_after : (taken : ℕ) (old new : List Member) (asked : Option Asked) (
     → ((us : List (List ℕ)) (later : List Remark) → (SomeExplains us old later ⊎ Explains us later taken b.last) ↔ SomeExplains us new
     later)
     → JoinsBy taken old new asked said shown (Some (record { first = b.first; last = said; shown = b.shown }))
-joins_after taken old new asked said shown b e s g =
-    subst (λ (a : Option Asked). JoinsBy taken old new a said shown (Some (record { first = b.first; last = said; shown = b.shown }))) (sym
-    e)
-    (λ r q o p k m x. (
-      same_asked r q o b said shown m x s,
-      λ us later. follows us later taken old new b (record {
-        first = b.first;
-        last =
-            said;
-        shown = b.shown;
-      }) said refl refl (g us later),
-    ))
+joins_after taken old new asked said shown b e s g = grind (arith, same_asked, follows)
 
 -- ---- what `ask` ensures, by what `join` ensures
 
@@ -318,18 +214,14 @@ pub asks : (us : List (List ℕ)) (later : List Remark) (w : Word) (o : ℕ) (at
     Asked) → SaysTo at w o (Some said)
     → Joins us later at.taken old new asked said.standing r → (Known us later at.taken old asked ⊎ SaidHere us later w o at) ↔ Known us
     later at.taken new r
-asks us later w o at said old new asked r h g = with_said us later w o at said (Known us later at.taken old asked) (Known us later at.taken
-    new r) h g
+asks us later w o at said old new asked r h g = grind (arith, with_said)
 
 -- it is kept by itself
 pub asks_alone : (us : List (List ℕ)) (later : List Remark) (w : Word) (o : ℕ) (at said : Member) (old new : List Member) (asked : Option
     Asked) → SaysTo at w o (Some said)
     → (SomeExplains us old later ⊎ Explains us later said.taken said.standing) ↔ SomeExplains us new later
     → (Known us later at.taken old asked ⊎ SaidHere us later w o at) ↔ Known us later at.taken new asked
-asks_alone us later w o at said old new asked h g =
-    let k = kept_alone us later at.taken old new asked (Explains us later at.taken said.standing)
-    (subst (λ (x : ℕ). (SomeExplains us old later ⊎ Explains us later x said.standing) ↔ SomeExplains us new later) h.0 g) in
-    with_said us later w o at said (Known us later at.taken old asked) (Known us later at.taken new asked) h k
+asks_alone us later w o at said old new asked h g = grind (arith, kept_alone, with_said)
 
 pub restarted_by : (r q : Word) (o : ℕ) (at said shown : Member) → SaysTo at r o (Some said) → SaysTo at q o (Some shown)
     → Restarted r q o said.standing shown.standing
@@ -344,8 +236,7 @@ pub steps_on : (us heard : List (List ℕ)) (later : List Remark) (w : Word) (o 
     → Known us later from.at.taken mid asked ↔ Known us later (from.at.taken + 1) new to.asked
     → StillOpen us later (the_remark w o before) old (Some from) ↔ StillOpen us later (the_remark w o before) new (Some to)
 steps_on us heard later w o before from to old mid new asked r b e h a g =
-    stepped a (goes_on us heard later w o before from.at to.at r b e h)
-    (subst (λ (x : ℕ). Known us later from.at.taken mid asked ↔ Known us later x new to.asked) (sym h.0) g)
+    grind (arith, goes_on us heard later w o before from.at to.at r b e h)
 
 pub steps_out : (us heard : List (List ℕ)) (later : List Remark) (w : Word) (o before : ℕ) (from : Asker) (old mid new : List Member)
     (asked : Option Asked) → is_restart_word w ≡ true

@@ -1,6 +1,5 @@
 -- Lists of sessions that explain: one more, and one that is among them.
-use Rattle.std.proofs.Common.{◌≡◌, ◌∙◌, sym, ap, subst, ℕ, suc, zero, ◌<◌, ◌⊎◌, ◌↔◌, inl, inr, List, [], ◌∷◌, ◌++◌, length, get_or, arith}
-use Rattle.osi_session.specs.Standing.{Seen}
+use Rattle.std.proofs.Common.{◌≡◌, ℕ, suc, zero, ◌<◌, ◌⊎◌, ◌↔◌, inl, inr, List, [], ◌∷◌, ◌++◌, length, get_or, arith}
 use Rattle.osi_judge.specs.declared.members.Member.{Member}
 use Rattle.osi_judge.specs.Explaining.{Remark, Explains}
 use Rattle.osi_judge.specs.Members.{SomeExplains}
@@ -26,15 +25,9 @@ pub some_at : (us : List (List ℕ)) (members : List Member) (i : ℕ) (o m : Me
     o ≡ get_or members i o
     → o.taken ≡ m.taken → o.standing ≡ m.standing → Explains us later m.taken m.standing → SomeExplains us members later
 some_at us [] i o m later l e t s h = absurd (omega arith)
-some_at us (n ∷ members) zero o m later l e t s h =
-    let taken : m.taken ≡ n.taken = sym t ∙ ap (λ (x : Member). x.taken) e in
-    let standing : m.standing ≡ n.standing = sym s ∙ ap (λ (x : Member). x.standing) e in
-    inl (subst (λ (x : ℕ). Explains us later x n.standing) taken (subst (λ (x : Seen). Explains us later m.taken x) standing h))
+some_at us (n ∷ members) zero o m later l e t s h = grind arith
 some_at us (n ∷ members) (suc i) o m later l e t s h = inr (some_at us members i o m later (omega arith) e t s h)
 
 pub added : (us : List (List ℕ)) (old new : List Member) (m : Member) (later : List Remark) → new ≡ old ++ m ∷ []
     → (SomeExplains us old later ⊎ Explains us later m.taken m.standing) ↔ SomeExplains us new later
-added us old new m later e = (
-  λ h. subst (λ (x : List Member). SomeExplains us x later) (sym e) (some_more us old m later h),
-  λ h. some_fewer us old m later (subst (λ (x : List Member). SomeExplains us x later) e h),
-)
+added us old new m later e = grind (arith, some_more, some_fewer)

@@ -1,14 +1,11 @@
 -- Two sessions that restarted at one number, and would be equal if they had restarted at V(R), differ in V(A) alone. For `join`.
-use Rattle.std.proofs.Common.{◌≡◌, ◌∙◌, refl, sym, ap, subst, ℕ, ◌<◌, ◌≤◌, ◌&&◌, ◌||◌, Bool, true, false, is_none, nat_le, nat_lt}
-use Rattle.std.proofs.Common.{if◌then◌else◌, List, Option, Some, None, option_map, arith}
+use Rattle.std.proofs.Common.{◌≡◌, ◌∙◌, sym, ap, subst, ℕ, ◌≤◌, ◌||◌, true, is_none, nat_le, if◌then◌else◌, List, None, arith}
 use Rattle.std.proofs.lemmas.Bool.{and_parts, leb-true, ltb-true}
 use Rattle.osi_spdu.specs.declared.fields.ResyncType.{ResyncType}
 use Rattle.osi_spdu.specs.declared.settings.TokenSetting.{TokenSetting}
-use Rattle.osi_message.specs.Meanings.{Meaning, RS}
-use Rattle.osi_message.specs.Tokens.{no_token}
-use Rattle.osi_message.specs.Words.{Word, says, part}
+use Rattle.osi_message.specs.Meanings.{RS}
+use Rattle.osi_message.specs.Words.{Word, says}
 use Rattle.osi_session.specs.declared.phases.Phase.TheVariants.{Restarting}
-use Rattle.osi_session.specs.declared.state.State.{State}
 use Rattle.osi_session.specs.Calls.{Restart}
 use Rattle.osi_session.specs.Joining.{is_restart_word}
 use Rattle.osi_session.specs.Numbers.{lower}
@@ -30,9 +27,7 @@ pub record IsRestart (w : Word) : Type 0 where
   pub is : w ≡ says (RS kind number wishes octets)
 
 pub a_restart : (w : Word) → is_restart_word w ≡ true → IsRestart w
-a_restart (says (RS k n w o)) h = record { kind = k; number = n; wishes = w; octets = o; is = refl }
-a_restart (says _) h = absurd (cc)
-a_restart (part place o) h = absurd (cc)
+a_restart w h = grind arith
 
 -- the session after it
 abbrev restarted : Seen → ℕ → TokenSetting → Seen
@@ -56,43 +51,13 @@ left_by_it s x k n w d o h =
     (m.2 ∙ ap (goes s) l.next, leb-true s.state.numbers.lowest n (and_parts (nat_le s.state.numbers.lowest n) _ l.needed.1.0).0)
 
 lower_same : (n m : ℕ) → m ≤ n → lower n m ≡ m
-lower_same n m h = by (nat_lt n m) refl
-  where
-    by : (b : Bool) → nat_lt n m ≡ b → (if b then n else m) ≡ m
-    by true e = let l = ltb-true n m e in absurd (omega (arith, l, h))
-    by false e = refl
+lower_same n m h = grind (arith, ltb-true)
 
 alike_at : (s t : Seen) (n k : ℕ) (w v : TokenSetting) → s.state.numbers.lowest ≤ k → t.state.numbers.lowest ≤ k
     → restarted s k v ≡ restarted t k v
     → restarted t n w ≡ seen_to (lower n t.state.numbers.confirmed) (restarted s n w)
 unfolding restarted_at
-alike_at s t n k w v p q e =
-    let lo : s.state.numbers.lowest ≡ t.state.numbers.lowest
-    = sym (lower_same k s.state.numbers.lowest p) ∙ ap (λ (z : Seen). z.state.numbers.lowest) e ∙ lower_same k t.state.numbers.lowest q in
-    let an : s.state.numbers.answers ≡ t.state.numbers.answers = ap (λ (z : Seen). z.state.numbers.answers) e in
-    let ic : s.state.is_caller ≡ t.state.is_caller = ap (λ (z : Seen). z.state.is_caller) e in
-    let un : s.state.units ≡ t.state.units = ap (λ (z : Seen). z.state.units) e in
-    let pr : s.state.proposed ≡ t.state.proposed = ap (λ (z : Seen). z.state.proposed) e in
-    let ba : s.state.base ≡ t.state.base = ap (λ (z : Seen). z.state.base) e in
-    let si : s.state.sizes ≡ t.state.sizes = ap (λ (z : Seen). z.state.sizes) e in
-    let cl : s.closed ≡ t.closed = ap (λ (z : Seen). z.closed) e in
-    let same : seen_to (lower n t.state.numbers.confirmed) (restarted s n w) ≡ restarted t n w = (λ i. record {
-      state = record {
-        phase = Restarting;
-        is_caller = ic i;
-        units = un i;
-        wishes = offered (un i) w;
-        held = no_token;
-        proposed = pr i;
-        base = ba i;
-        numbers = record { next = n; confirmed = lower n t.state.numbers.confirmed; lowest = lower n (lo i); answers = an i };
-        sizes = si i;
-      };
-      joined = None;
-      sent = None;
-      closed = cl i;
-    }) in
-    sym same
+alike_at s t n k w v p q e = grind (arith, lower_same)
 
 alike_by : (r q : Word) (o : ℕ) (x y p : Seen) (a : IsRestart r) (b : IsRestart q) → Restarted r q o x p → Restarted r q o y p
     → y ≡ seen_to y.state.numbers.confirmed x

@@ -1,11 +1,11 @@
 -- Members after a unit, after the units of a TSDU, and after a TSDU that is not session units.
-use Rattle.std.proofs.Common.{◌≡◌, ◌∙◌, refl, sym, ap, subst, ℕ, suc, zero, ◌+◌, ◌<◌, ◌≤◌, ◌⊎◌, ◌↔◌, ◌||◌, Bool, true, false, inl, inr}
-use Rattle.std.proofs.Common.{List, [], ◌∷◌, ◌++◌, length, map, drop, get_or, Option, Some, None, Result, Err, arith}
+use Rattle.std.proofs.Common.{◌≡◌, refl, sym, ap, ℕ, suc, zero, ◌+◌, ◌<◌, ◌≤◌, ◌⊎◌, ◌↔◌, ◌||◌, Bool, true, false, inl, inr, List, [], ◌∷◌}
+use Rattle.std.proofs.Common.{◌++◌, length, map, drop, get_or, Option, Some, None, Result, Err, arith}
 use Rattle.osi_spdu.specs.declared.faults.SpduFault.{SpduFault}
 use Rattle.osi_message.specs.Words.{Word, Words}
 use Rattle.osi_session.specs.Joining.{acting_words, is_restart_word}
 use Rattle.osi_session.specs.Standing.{Seen}
-use Rattle.osi_session.proofs.tsdu.words_one_after_the_other.{acting_behind, taken_next}
+use Rattle.osi_session.proofs.tsdu.words_one_after_the_other.{acting_behind}
 use Rattle.osi_judge.specs.declared.members.Member.{Member}
 use Rattle.osi_judge.specs.Explaining.{Remark, Told, read_as, Explains, takes, answers, says}
 use Rattle.osi_judge.specs.Members.{SomeExplains, IsBehind}
@@ -20,11 +20,7 @@ SoFar us later m members next i =
 
 pub first_so_far : (us : List (List ℕ)) (later : List Remark) (m : Remark) (members next : List Member) → next ≡ [] →
     SoFar us later m members next 0
-first_so_far us later m members next e = (λ h. inr h, back)
-  where
-    back : (SomeExplains us next later ⊎ SomeExplains us members (m ∷ later)) → SomeExplains us members (m ∷ later)
-    back (inl h) = let none : ⊥ = subst (λ (x : List Member). SomeExplains us x later) e h in absurd none
-    back (inr h) = h
+first_so_far us later m members next e = grind arith
 
 pub drop_here : (members : List Member) (i : ℕ) (x : Member) → i < length members → x ≡ get_or members i x
     → drop i members ≡ x ∷ drop (i + 1) members
@@ -43,40 +39,12 @@ pub next_so_far : (us : List (List ℕ)) (later : List Remark) (m : Remark) (mem
     → SoFar us later m members old i →
     (SomeExplains us old later ⊎ Explains us (m ∷ later) x.taken x.standing) ↔ SomeExplains us new later →
     SoFar us later m members new (i + 1)
-next_so_far us later m members old new i x l e s w = (
-  λ h. there (subst (λ (y : List Member). SomeExplains us old later ⊎ SomeExplains us y (m ∷ later)) (drop_here members i x l e)
-      (s.0 h)),
-  λ h. s.1
-      (subst (λ (y : List Member). SomeExplains us old later ⊎ SomeExplains us y (m ∷ later)) (sym (drop_here members i x l e)) (back h)),
-)
-  where
-    there : (SomeExplains us old later ⊎ SomeExplains us (x ∷ drop (i + 1) members) (m ∷ later)) →
-        (SomeExplains us new later ⊎ SomeExplains us (drop (i + 1) members) (m ∷ later))
-    there (inl h) = inl (w.0 (inl h))
-    there (inr (inl h)) = inl (w.0 (inr h))
-    there (inr (inr h)) = inr h
-
-    on : (SomeExplains us old later ⊎ Explains us (m ∷ later) x.taken x.standing) →
-        (SomeExplains us old later ⊎ SomeExplains us (x ∷ drop (i + 1) members) (m ∷ later))
-    on (inl h) = inl h
-    on (inr h) = inr (inl h)
-
-    back : (SomeExplains us new later ⊎ SomeExplains us (drop (i + 1) members) (m ∷ later)) →
-        (SomeExplains us old later ⊎ SomeExplains us (x ∷ drop (i + 1) members) (m ∷ later))
-    back (inl h) = on (w.1 h)
-    back (inr h) = inr (inr h)
+next_so_far us later m members old new i x l e s w = grind (arith, drop_here)
 
 pub last_so_far : (us : List (List ℕ)) (later : List Remark) (m : Remark) (members next : List Member) (i : ℕ) → length members ≤ i →
     SoFar us later m members next i
     → SomeExplains us members (m ∷ later) ↔ SomeExplains us next later
-last_so_far us later m members next i l s = (
-  λ h. there (subst (λ (y : List Member). SomeExplains us next later ⊎ SomeExplains us y (m ∷ later)) (drop_end members i l) (s.0 h)),
-  λ h. s.1 (inl h),
-)
-  where
-    there : (SomeExplains us next later ⊎ SomeExplains us [] (m ∷ later)) → SomeExplains us next later
-    there (inl h) = h
-    there (inr h) = absurd h
+last_so_far us later m members next i l s = grind (arith, drop_end)
 
 -- ---- units
 
@@ -107,31 +75,14 @@ pub units_begin : (heard : List (List ℕ)) (octets before : ℕ) (members now :
     now ≡ members → item ≡ first → ws ≡ units
     → UnitsSoFar heard octets before members (first ∷ units) now false item ws
 unfolding acting_words
-units_begin heard octets before members now item first ws units e i b = λ us later x h.
-    subst (λ (y : Word). SomeExplains us members (further octets before (acting_words (first ∷ units)) later) ↔ SomeExplains us now
-    (further octets before (acting_behind false y ws) later)) (sym i)
-    (subst (λ (y : Words). SomeExplains us members (further octets before (acting_words (first ∷ units)) later) ↔ SomeExplains us now
-    (further octets before (acting_behind false first y) later)) (sym b)
-    (subst (λ (y : List Member). SomeExplains us members (further octets before (acting_words (first ∷ units)) later) ↔ SomeExplains us y
-    (further octets before (acting_words (first ∷ units)) later)) (sym e)
-    (λ k. k, λ k. k)))
+units_begin heard octets before members now item first ws units e i b = grind (arith, acting_behind)
 
 pub units_turn : (heard : List (List ℕ)) (octets before : ℕ) (members : List Member) (words : Words) (old new : List Member)
     (restarts now : Bool) (item u v : Word) (ws units : Words)
     → UnitsSoFar heard octets before members words old restarts item ws → ws ≡ v ∷ units → u ≡ v → UnitGives heard octets before old u new →
     now ≡ (restarts || is_restart_word u)
     → UnitsSoFar heard octets before members words new now item units
-units_turn heard octets before members words old new restarts now item u v ws units s e i g r = λ us later x h.
-    let split : acting_behind restarts item ws ≡ u ∷ acting_behind (restarts || is_restart_word u) item units
-    = ap (acting_behind restarts item) (e ∙ ap (λ (y : Word). y ∷ units) (sym i)) ∙ taken_next restarts item u units in
-    let rest = acting_behind (restarts || is_restart_word u) item units in
-    let so_far = subst
-    (λ (y : Words). SomeExplains us members (further octets before (acting_words words) later) ↔ SomeExplains us old
-    (further octets before y later)) split (s us later x h) in
-    let gives = g us (further octets before rest later) x (further_behind octets before rest later h) in
-    subst (λ (y : Bool). SomeExplains us members (further octets before (acting_words words) later) ↔ SomeExplains us new
-    (further octets before (acting_behind y item units) later)) (sym r)
-    (both so_far gives)
+units_turn heard octets before members words old new restarts now item u v ws units s e i g r = grind (arith, further_behind)
 
 pub units_restarted : (heard : List (List ℕ)) (octets before : ℕ) (members : List Member) (words : Words) (now : List Member)
     (restarts : Bool) (item : Word) (ws : Words)
@@ -139,11 +90,7 @@ pub units_restarted : (heard : List (List ℕ)) (octets before : ℕ) (members :
     → Ever heard before
     (λ (us : List (List ℕ)) (later : List Remark). SomeExplains us members (further octets before (acting_words words) later) ↔
     SomeExplains us now later)
-units_restarted heard octets before members words now restarts item ws s e r = λ us later x h.
-    subst (λ (y : Bool). SomeExplains us members (further octets before (acting_words words) later) ↔ SomeExplains us now
-    (further octets before (acting_behind y item []) later)) r
-    (subst (λ (y : Words). SomeExplains us members (further octets before (acting_words words) later) ↔ SomeExplains us now
-    (further octets before (acting_behind restarts item y) later)) e (s us later x h))
+units_restarted heard octets before members words now restarts item ws s e r = grind (arith, acting_behind)
 
 pub units_item : (heard : List (List ℕ)) (octets before : ℕ) (members : List Member) (words : Words) (now new : List Member)
     (restarts : Bool) (item first : Word) (ws : Words)
@@ -152,20 +99,12 @@ pub units_item : (heard : List (List ℕ)) (octets before : ℕ) (members : List
     → Ever heard before
     (λ (us : List (List ℕ)) (later : List Remark). SomeExplains us members (further octets before (acting_words words) later) ↔
     SomeExplains us new later)
-units_item heard octets before members words now new restarts item first ws s e r i g = λ us later x h.
-    let so_far = subst
-    (λ (y : Bool). SomeExplains us members (further octets before (acting_words words) later) ↔ SomeExplains us now
-    (further octets before (acting_behind y item []) later)) r
-    (subst (λ (y : Words). SomeExplains us members (further octets before (acting_words words) later) ↔ SomeExplains us now
-    (further octets before (acting_behind restarts item y) later)) e (s us later x h)) in
-    both so_far (subst (λ (y : Word). SomeExplains us now (the_remark y octets before ∷ later) ↔ SomeExplains us new later) (sym i)
-    (g us later x h))
+units_item heard octets before members words now new restarts item first ws s e r i g = grind (arith, acting_behind, both)
 
 -- ---- a TSDU that is not session units
 
 none_or_word : (o : Option Word) (w : Word) → o ≡ None → o ≡ Some w → ⊥
-none_or_word None w h k = cc
-none_or_word (Some v) w h k = cc
+none_or_word o w h k = grind arith
 
 pub unread_explains : (us : List (List ℕ)) (m : Remark) (ms : List Remark) (j : ℕ) (s : Seen) → m.word ≡ None → Explains us (m ∷ ms) j s → ⊥
 unread_explains us m ms j s n (takes _ _ _ _ c b l t r e) = unread_explains us m ms (j + 1) _ n e
@@ -180,14 +119,9 @@ unread_some us (x ∷ members) m ms n (inr h) = unread_some us members m ms n h
 
 pub unread_gives : (us : List (List ℕ)) (members next : List Member) (t : Told) (fault : SpduFault) (later : List Remark) → next ≡ []
     → SomeExplains us members (read_as t (Err fault) ++ later) ↔ SomeExplains us next later
-unread_gives us members next t fault later e = (
-  λ h. absurd (unread_some us members (record { word = None; octets = length t.octets; before = t.before }) later refl h),
-  λ h. let none : ⊥ = subst (λ (x : List Member). SomeExplains us x later) e h in absurd none,
-)
+unread_gives us members next t fault later e = grind (arith, unread_some)
 
 pub unread_came : (us : List (List ℕ)) (members next : List Member) (t : Told) (came : Result Words SpduFault) (fault : SpduFault)
     (later : List Remark) → came ≡ Err fault → next ≡ []
     → SomeExplains us members (read_as t came ++ later) ↔ SomeExplains us next later
-unread_came us members next t came fault later k e =
-    subst (λ (x : Result Words SpduFault). SomeExplains us members (read_as t x ++ later) ↔ SomeExplains us next later) (sym k)
-    (unread_gives us members next t fault later e)
+unread_came us members next t came fault later k e = grind (arith, unread_gives us members next t fault later e)

@@ -3,7 +3,7 @@ use Rattle.std.proofs.Common.{◌≡◌, ◌∙◌, refl, sym, ap, subst, ℕ, �
 use Rattle.std.proofs.Common.{Some, None, arith}
 use Rattle.osi_message.specs.Meanings.{Meaning}
 use Rattle.osi_message.specs.Words.{Word}
-use Rattle.osi_session.specs.Standing.{Seen, Count, CanSay, Takes, listens, after_count, answers_word}
+use Rattle.osi_session.specs.Standing.{Seen, Count, Takes, listens, after_count}
 use Rattle.osi_session.specs.Steady.{is_steady, Hears}
 use Rattle.osi_session.proofs.ahead.beside_one_that_has_not_sent_it.{IsAhead, is_gone, said_ahead, said_alike, both_hear, gone_stays}
 use Rattle.osi_session.proofs.ahead.beside_one_that_has_not_sent_it.{gone_said}
@@ -44,10 +44,8 @@ never : (us : List (List ℕ)) (m : Remark) (later : List Remark) (j : ℕ) (s :
 never us m later j s w k d g (takes _ _ _ _ c l i t n e) =
     never us m later (j + 1) _ w k d
     (gone_stays s (after_count s c) w (get_or us j []) g (record { count = c; listening = i; taken = t; quiet = n; next = refl })) e
-never us m later j s w k d g (answers _ _ _ _ c reply v l i t r f a e) =
-    no_answer reply w d (subst (λ (x : Word). answers_word reply x ≡ true) (same_word w v (k ∙ f)) a)
-never us m later j s w k d g (says _ _ _ _ next v f a e) =
-    gone_said s next w m.octets g (subst (λ (x : Word). CanSay s x m.octets next) (same_word w v (k ∙ f)) a)
+never us m later j s w k d g (answers _ _ _ _ c reply v l i t r f a e) = grind (arith, no_answer, same_word)
+never us m later j s w k d g (says _ _ _ _ next v f a e) = grind (arith, gone_said, same_word)
 
 -- a session that has sent it explains all that one that has not sent it explains with it
 ahead_explains : (us : List (List ℕ)) (m : Remark) (later : List Remark) (j : ℕ) (s y : Seen) (w : Word) → Some w ≡ m.word →
@@ -58,22 +56,15 @@ ahead_explains us m later j s y w k d b h (takes _ _ _ _ c l i t n e) =
       | inl g ↦ absurd (never us m later (j + 1) (after_count s c) w k d g e)
       | inr x ↦ before_it us later m.before j y x.0 l b x.1 (ahead_explains us m later (j + 1) (after_count s c) x.0 w k d b x.2 e)
     ]
-ahead_explains us m later j s y w k d b h (answers _ _ _ _ c reply v l i t r f a e) =
-    absurd (no_answer reply w d (subst (λ (x : Word). answers_word reply x ≡ true) (same_word w v (k ∙ f)) a))
-ahead_explains us m later j s y w k d b h (says _ _ _ _ next v f a e) =
-    subst (λ (x : Seen). Explains us later j x)
-    (said_alike s y next w m.octets d h (subst (λ (x : Word). CanSay s x m.octets next) (same_word w v (k ∙ f)) a)) e
+ahead_explains us m later j s y w k d b h (answers _ _ _ _ c reply v l i t r f a e) = grind (arith, no_answer, same_word)
+ahead_explains us m later j s y w k d b h (says _ _ _ _ next v f a e) = search (arith, said_alike, same_word)
 
 -- a session that sends it here explains what is sent later
 pub said_first : (us : List (List ℕ)) (later : List Remark) (w : Word) (octets before : ℕ) (at said : Member) → is_steady w ≡ true →
     IsBehind before later → SaysTo at w octets (Some said)
     → Explains us (the_remark w octets before ∷ later) at.taken at.standing ↔ Explains us later said.taken said.standing
-said_first us later w octets before at said d b h = (
-  λ e. subst (λ (j : ℕ). Explains us later j said.standing) (sym h.0)
-      (ahead_explains us (the_remark w octets before) later at.taken at.standing said.standing w refl d b
-      (said_ahead at.standing said.standing w octets d h.1) e),
-  λ e. said_on us later w octets before at (said.standing, h.1, subst (λ (j : ℕ). Explains us later j said.standing) h.0 e),
-)
+said_first us later w octets before at said d b h =
+    search (arith, ahead_explains, said_on, said_ahead at.standing said.standing w octets d h.1)
 
 -- it is not sent here
 later_place : (us : List (List ℕ)) (later : List Remark) (w : Word) (octets before : ℕ) (at : Member) → is_steady w ≡ true →
@@ -126,11 +117,7 @@ nowhere us heard later w octets before at d x h m e =
 pub at_last : (us : List (List ℕ)) (later : List Remark) (w : Word) (octets before : ℕ) (at : Member) (said : Option Member) →
     is_steady w ≡ true → IsBehind before later → before ≤ at.taken
     → SaysTo at w octets said → Explains us (the_remark w octets before ∷ later) at.taken at.standing ↔ OneExplains us later said
-at_last us later w octets before at (Some said) d b l h = said_first us later w octets before at said d b h
-at_last us later w octets before at None d b l h = (
-  λ e. let p = later_place us later w octets before at d h e in let k = p.2 in absurd (omega arith),
-  λ e. absurd e,
-)
+at_last us later w octets before at said d b l h = grind (arith, said_first, later_place)
 
 -- one after the other
 pub chain : {A B C : Type 0} → (A ↔ B) → (B ↔ C) → (A ↔ C)

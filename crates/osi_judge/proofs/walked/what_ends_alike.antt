@@ -1,27 +1,24 @@
 -- Two sessions whose connection is over, in the same phase, take and send the same. For the law of what lies between.
-use Rattle.std.proofs.Common.{◌≡◌, ◌∙◌, refl, sym, ap, subst, ℕ, ◌+◌, ◌≤◌, Bool, true, false, not, ◌&&◌, ◌||◌, ◌==◌, is_none, unwrap_or}
+use Rattle.std.proofs.Common.{◌≡◌, ◌∙◌, refl, sym, ap, subst, ℕ, ◌+◌, Bool, true, false, not, ◌&&◌, ◌||◌, ◌==◌, is_none, unwrap_or}
 use Rattle.std.proofs.Common.{if◌then◌else◌, nat_le, List, [], ◌∷◌, length, Option, Some, None, option_map, Result, Ok, Err}
 use Rattle.std.proofs.lemmas.Bool.{and_parts}
 use Rattle.osi_spdu.specs.declared.faults.SpduFault.{SpduFault}
-use Rattle.osi_spdu.specs.declared.fields.TsduMaximumSize.{TsduMaximumSize}
 use Rattle.osi_message.specs.Meanings.{Meaning, CN, AC, RF, DT, GT, PT, MIP, MIA, MAP, MAA, RS, RA, FN, DN, NF, AB, AA}
 use Rattle.osi_message.specs.Reading.{names, said_at}
 use Rattle.osi_message.specs.Words.{Word, Words, says, part, as_message}
-use Rattle.osi_session.specs.declared.phases.Phase.{Phase}
 use Rattle.osi_session.specs.declared.state.State.{State}
 use Rattle.osi_session.specs.Calls.{refusal_with, Call, Refuse, Data, Give, Please, Minor, MinorConfirm, Major, MajorConfirm, Restart}
 use Rattle.osi_session.specs.Calls.{RestartConfirm, ReleaseAccept, ReleaseRefuse, Abort}
 use Rattle.osi_session.specs.Counting.{taker_with}
-use Rattle.osi_session.specs.Joining.{Hearing, begins_anew, enacted_word, heard_then, respond_came, word_verdict}
+use Rattle.osi_session.specs.Joining.{Hearing, begins_anew, enacted_word, heard_then, respond_came}
 unfoldable use Rattle.osi_session.specs.Joining.{acting_words, respond_word, respond_words}
 use Rattle.osi_session.specs.Phases.{is_over, is_aborting, is_answering, is_ready, is_settled, is_wait_transport}
-use Rattle.osi_session.specs.Respond.{Outcome, over, bad, first_reply, has_no_effect, in_aborting, in_ended, is_restart, nothing}
-use Rattle.osi_session.specs.Respond.{replies_abort}
+use Rattle.osi_session.specs.Respond.{Outcome, over, first_reply, has_no_effect, in_aborting, in_ended, is_restart, replies_abort}
 unfoldable use Rattle.osi_session.specs.Respond.{respond_fault}
 use Rattle.osi_session.specs.Sides.{answers_wishes, stated}
 use Rattle.osi_session.specs.Sizes.{limit_of}
-use Rattle.osi_session.specs.Standing.{Seen, Count, Takes, CanSay, calling, connecting, counted, goes, is_in_size, may_send, said_message}
-use Rattle.osi_session.specs.Standing.{said_within, stands_in_place, where_is}
+use Rattle.osi_session.specs.Standing.{Seen, Count, Takes, CanSay, calling, counted, goes, is_in_size, may_send, said_message, said_within}
+use Rattle.osi_session.specs.Standing.{stands_in_place, where_is}
 use Rattle.osi_session.specs.Allowed.{may_call}
 use Rattle.osi_session.proofs.tables.what_is_true_of_each_phase.{excluded}
 use Rattle.osi_session.proofs.sent.what_a_side_may_send.{so_many, so_many_are, over_refuses}

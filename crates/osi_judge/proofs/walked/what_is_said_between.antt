@@ -1,37 +1,34 @@
 -- Of three sessions that differ in V(A) alone, in the order of V(A), the first may send what the second may, and either is then in
 -- the same state or all three are as they were. For the law of what lies between.
-use Rattle.std.proofs.Common.{◌≡◌, ◌∙◌, refl, sym, ap, subst, ℕ, ◌+◌, ◌<◌, ◌≤◌, ◌⊎◌, inl, inr, Bool, true, false, not, ◌&&◌, ◌||◌, ◌==◌}
-use Rattle.std.proofs.Common.{is_none, unwrap_or, if◌then◌else◌, nat_le, nat_lt, List, [], ◌∷◌, length, Option, Some, None, option_map, Ok}
-use Rattle.std.proofs.Common.{arith}
+use Rattle.std.proofs.Common.{◌≡◌, ◌∙◌, refl, sym, ap, ℕ, ◌+◌, ◌≤◌, ◌⊎◌, inr, Bool, true, false, not, ◌&&◌, ◌||◌, ◌==◌, is_none, unwrap_or}
+use Rattle.std.proofs.Common.{if◌then◌else◌, nat_le, List, [], ◌∷◌, length, Option, Some, None, option_map, Ok, arith}
 use Rattle.std.proofs.lemmas.Bool.{and_parts, leb-true, le-leb}
 use Rattle.osi_spdu.specs.Sizes.{are_sizes}
-use Rattle.osi_spdu.specs.declared.fields.TsduMaximumSize.{TsduMaximumSize}
-use Rattle.osi_spdu.specs.declared.settings.TokenSetting.{TokenSetting}
 use Rattle.osi_message.specs.Meanings.{Meaning, CN, AC, RF, DT, GT, PT, MIP, MIA, MAP, MAA, RS, RA, FN, DN, NF, AB, AA}
 use Rattle.osi_message.specs.Reading.{names}
 use Rattle.osi_message.specs.Tokens.{each}
 use Rattle.osi_message.specs.Words.{Word, says, part}
 use Rattle.osi_session.specs.declared.phases.Phase.TheVariants.{Connecting, Releasing}
 use Rattle.osi_session.specs.declared.state.State.{State}
-use Rattle.osi_session.specs.Allowed.{AllHold, Answer, Step, Test, after, base_for, first_error, has_right, may_call, most_of, needs}
-use Rattle.osi_session.specs.Allowed.{octets_of, opened_with, sends}
+use Rattle.osi_session.specs.Allowed.{AllHold, Answer, Test, after, base_for, first_error, has_right, may_call, most_of, needs, octets_of}
+use Rattle.osi_session.specs.Allowed.{opened_with, sends}
 unfoldable use Rattle.osi_session.specs.Allowed.{met}
 use Rattle.osi_session.specs.Calls.{refusal_with, Call, Accept, Refuse, Data, Give, Please, Minor, MinorConfirm, Major, MajorConfirm}
-use Rattle.osi_session.specs.Calls.{Restart, RestartConfirm, Release, ReleaseAccept, ReleaseRefuse, Abort}
+use Rattle.osi_session.specs.Calls.{Restart, RestartConfirm, ReleaseAccept, ReleaseRefuse, Abort}
 use Rattle.osi_session.specs.Joining.{begins_anew, is_last}
 use Rattle.osi_session.specs.Numbers.{lower}
 unfoldable use Rattle.osi_session.specs.Numbers.{point_sent, minor_confirmed, major_confirmed, restarted_at}
-use Rattle.osi_session.specs.Phases.{is_answering, is_over, is_ready, is_settled, is_wait_transport}
+use Rattle.osi_session.specs.Phases.{is_answering, is_ready, is_wait_transport}
 use Rattle.osi_session.specs.Respond.{agreed_base, has_no_effect, is_restart}
 use Rattle.osi_session.specs.Sides.{answers_wishes, of_answerer, stated}
 use Rattle.osi_session.specs.Sizes.{limit_of}
 unfoldable use Rattle.osi_session.specs.Sizes.{smaller_sizes}
-use Rattle.osi_session.specs.Standing.{Seen, CanSay, calling, connecting, accepting_in, finishing, fits_user_data, goes, is_in_size}
-use Rattle.osi_session.specs.Standing.{left_by, may_send, said_message, said_within, stands_in_place, where_is}
+use Rattle.osi_session.specs.Standing.{Seen, CanSay, calling, fits_user_data, goes, is_in_size, left_by, may_send, said_message}
+use Rattle.osi_session.specs.Standing.{said_within, stands_in_place, where_is}
 unfoldable use Rattle.osi_session.specs.Standing.{said}
 use Rattle.osi_session.specs.Units.{functional_units}
 unfoldable use Rattle.osi_session.specs.Units.{both_units, has_data}
-use Rattle.osi_session.proofs.ahead.the_state_after_a_word.{within, CallLeaves, call_leaves, if_state, mapped}
+use Rattle.osi_session.proofs.ahead.the_state_after_a_word.{within, call_leaves, mapped}
 use Rattle.osi_judge.specs.Between.{confirmed_to, seen_to}
 use Rattle.osi_judge.proofs.walked.what_is_taken_between.{confirms, lower_rises}
 
@@ -52,17 +49,7 @@ is_confirming _ = false
 
 needs_at : (s : State) (c : Call) (n m : ℕ) → is_confirming c ≡ false → AllHold (needs (confirmed_to n s) c)
     → AllHold (needs (confirmed_to m s) c)
-needs_at s (MinorConfirm k o) n m e h = absurd (cc)
-needs_at s (Accept r i w z o) n m e h = h
-needs_at s (Data o) n m e h = h
-needs_at s (Give t) n m e h = h
-needs_at s (Please t o) n m e h = h
-needs_at s (Minor c o) n m e h = h
-needs_at s (Major o) n m e h = h
-needs_at s (Restart k w o) n m e h = h
-needs_at s (Release o) n m e h = h
-needs_at s (ReleaseRefuse o) n m e h = h
-needs_at s _ n m e h = h
+needs_at s c n m e h = grind arith
 
 -- V(A) after a call
 abbrev raise : State → Call → ℕ → ℕ
@@ -75,25 +62,13 @@ raise s _ n = n
 
 after_at : (s : State) (c : Call) (n : ℕ) → is_confirming c ≡ false → after (confirmed_to n s) c ≡ confirmed_to (raise s c n) (after s c)
 unfolding point_sent major_confirmed restarted_at
-after_at s (MinorConfirm k o) n e = absurd (cc)
-after_at s (Accept r i w z o) n e = refl
-after_at s (Minor c o) n e = refl
-after_at s (Major o) n e = refl
-after_at s (MajorConfirm o) n e = refl
-after_at s (Restart k w o) n e = refl
-after_at s _ n e = refl
+after_at s c n e = grind arith
 
 if_rises : (c : Bool) (k a b : ℕ) → a ≤ b → (if c then k else a) ≤ (if c then k else b)
-if_rises true k a b h = omega arith
-if_rises false k a b h = h
+if_rises c k a b h = grind arith
 
 raise_rises : (s : State) (c : Call) (a b : ℕ) → a ≤ b → raise s c a ≤ raise s c b
-raise_rises s (Accept r i w z o) a b h = omega arith
-raise_rises s (Minor c o) a b h = if_rises s.numbers.answers s.numbers.next a b h
-raise_rises s (Major o) a b h = if_rises s.numbers.answers s.numbers.next a b h
-raise_rises s (MajorConfirm o) a b h = omega arith
-raise_rises s (Restart k w o) a b h = lower_rises k a b h
-raise_rises s _ a b h = h
+raise_rises s c a b h = grind (arith, if_rises, lower_rises)
 
 -- ---- messages
 
@@ -128,11 +103,7 @@ where_gives false s c v x e h = absurd (cc)
 plain_gives : (b : Bool) (from : State) (to : ℕ → ℕ) (s : State) (v : ℕ) (x : State) → ((n m : ℕ) → n ≤ m → to n ≤ to m)
     → (if b then Some (confirmed_to (to v) from) else None) ≡ Some x
     → AnyGives (λ y. if b then Some (confirmed_to (to y.numbers.confirmed) from) else None) s v x
-plain_gives true from to s v x r h = record { from = from; to = to; rises = r; is = some_is _ _ h; any = λ n. refl }
-  where
-    some_is : (y z : State) → Some y ≡ Some z → z ≡ y
-    some_is y z h = cc
-plain_gives false from to s v x r h = absurd (cc)
+plain_gives b from to s v x r h = grind arith
 
 same_rises : (k n m : ℕ) → n ≤ m → k ≤ k
 same_rises k n m h = omega arith
@@ -158,28 +129,9 @@ message_gives s (RF reason o) v x e h = call_gives s (Refuse (refusal_with o)) v
 message_gives s (DT o) v x e h = call_gives s (Data o) v x refl h
 message_gives s (GT t) v x e h = call_gives s (Give t) v x refl h
 message_gives s (PT t o) v x e h = call_gives s (Please t o) v x refl h
-message_gives s (MIP c k o) v x e h = let g = where_gives (k == s.numbers.next) s (Minor c o) v x refl h in record {
-  from = g.from;
-  to =
-      g.to;
-  rises = g.rises;
-  is = g.is;
-  any = g.any;
-}
-message_gives s (MAP k o) v x e h = let g = where_gives (k == s.numbers.next) s (Major o) v x refl h in record {
-  from = g.from;
-  to = g.to;
-  rises = g.rises;
-  is = g.is;
-  any = g.any;
-}
-message_gives s (MAA k o) v x e h = let g = where_gives (k + 1 == s.numbers.next) s (MajorConfirm o) v x refl h in record {
-  from = g.from;
-  to = g.to;
-  rises = g.rises;
-  is = g.is;
-  any = g.any;
-}
+message_gives s (MIP c k o) v x e h = grind (arith, where_gives (k == s.numbers.next) s (Minor c o) v x refl h)
+message_gives s (MAP k o) v x e h = grind (arith, where_gives (k == s.numbers.next) s (Major o) v x refl h)
+message_gives s (MAA k o) v x e h = grind (arith, where_gives (k + 1 == s.numbers.next) s (MajorConfirm o) v x refl h)
 message_gives s (RS t k w o) v x e h = where_gives (is_restart t) s (Restart k w o) v x refl h
 message_gives s (RA k w o) v x e h =
     let g = where_gives ((k == s.numbers.next) && answers_wishes s.units s.wishes w) s (RestartConfirm (stated s.units w) o) v x refl h in
@@ -244,10 +196,7 @@ within_says true b s m v next c p q h = record {
   where
     at : (n : ℕ) → said_within (seen_to n s) (says m) ≡ Some (seen_to n s)
     at n = rw p refl
-within_says false false s m v next c p q h = let e = sym (none v) ∙ h in absurd (cc)
-  where
-    none : (n : ℕ) → said_within (seen_to n s) (says m) ≡ None
-    none n = rw (p, q) refl
+within_says false false s m v next c p q h = grind arith
 within_says false true s m v next c p q h =
     let k = mapped (goes (seen_to v s)) (said_message (confirmed_to v s.state) m) next (sym (at v) ∙ h) in
     let g = message_gives s.state m v k.0 c k.1 in
@@ -273,12 +222,7 @@ any_says s (part place octets) v next c h =
 
 mia_needs : (s : State) (k : ℕ) (o : List ℕ) (a v : ℕ) → a ≤ v → AllHold (needs (confirmed_to v s) (MinorConfirm k o))
     → AllHold (needs (confirmed_to a s) (MinorConfirm k o))
-mia_needs s k o a v l h =
-    let p = and_parts s.numbers.answers (nat_le v k && nat_lt k s.numbers.next) h.1.0 in
-    let q = and_parts (nat_le v k) (nat_lt k s.numbers.next) p.1 in
-    let r = leb-true v k q.0 in
-    let t = le-leb a k (omega arith) in
-    (h.0, (rw (p.0, t, q.1) refl, tt))
+mia_needs s k o a v l h = grind (arith, and_parts, leb-true, le-leb)
 
 mia_says : (s : Seen) (k : ℕ) (o : List ℕ) (a v : ℕ) (next : Seen) → a ≤ v → said_within (seen_to v s) (says (MIA k o)) ≡ Some next
     → said_within (seen_to a s) (says (MIA k o)) ≡ Some next
@@ -317,9 +261,6 @@ pub says_between : (s : Seen) (w : Word) (o a v c : ℕ) (next : Seen) → a ≤
 says_between s (says (MIA k d)) o a v c next l m h =
     let p = within (seen_to v s) next (says (MIA k d)) o h in
     inr (can_say (seen_to a s) (says (MIA k d)) o next p.0 (mia_says s k d a v next l p.1))
-says_between s (says u) o a v c next l m h =
-    let p = within (seen_to v s) next (says u) o h in
-    inl (three_say s (says u) o a v c next l m p.0 (any_says s (says u) v next refl p.1))
+says_between s (says u) o a v c next l m h = search (arith, three_say, any_says, within (seen_to v s) next (says u) o h)
 says_between s (part place octets) o a v c next l m h =
-    let p = within (seen_to v s) next (part place octets) o h in
-    inl (three_say s (part place octets) o a v c next l m p.0 (any_says s (part place octets) v next refl p.1))
+    grind (arith, three_say, any_says, within (seen_to v s) next (part place octets) o h)

@@ -1,30 +1,26 @@
 -- Of three sessions that differ in V(A) alone, in the order of V(A), what the second does with a TSDU the first does, or the
 -- third. For the law of what lies between.
-use Rattle.std.proofs.Common.{◌≡◌, ◌∙◌, refl, sym, ap, subst, ℕ, ◌+◌, ◌<◌, ◌≤◌, ◌⊎◌, inl, inr, Bool, true, false, not, ◌&&◌, ◌||◌}
-use Rattle.std.proofs.Common.{if◌then◌else◌, nat_le, nat_lt, List, [], ◌∷◌, ◌++◌, length, Option, Some, None, is_none, option_map, Result}
-use Rattle.std.proofs.Common.{Ok, Err, arith}
+use Rattle.std.proofs.Common.{◌≡◌, ◌∙◌, refl, sym, ap, subst, ℕ, ◌+◌, ◌≤◌, ◌⊎◌, inl, inr, Bool, true, false, not, ◌&&◌, ◌||◌, if◌then◌else◌}
+use Rattle.std.proofs.Common.{nat_le, nat_lt, List, [], ◌∷◌, Option, is_none, Result, Ok, Err, arith}
 use Rattle.std.proofs.lemmas.Bool.{leb-true, le-leb, ltb-true, lt-ltb}
 use Rattle.osi_spdu.specs.declared.faults.SpduFault.{SpduFault}
 use Rattle.osi_message.specs.declared.places.Place.TheVariants.{First, Middle, Last}
-use Rattle.osi_message.specs.Meanings.{Meaning, CN, AC, RF, DT, GT, PT, MIP, MIA, MAP, MAA, RS, RA, FN, DN, NF, AB, AA}
+use Rattle.osi_message.specs.Meanings.{Meaning, AC, MIP, MIA, MAP, MAA, RS}
 use Rattle.osi_message.specs.Reading.{said_at}
 use Rattle.osi_message.specs.Words.{Word, Words, says, part, as_message}
 use Rattle.osi_session.specs.declared.faults.UnitFault.{UnitFault}
-use Rattle.osi_session.specs.declared.faults.UnitFault.TheVariants.{Unexpected, NotSelected, BadNumber, BadEnclosure, Spelling}
-use Rattle.osi_session.specs.declared.phases.Phase.TheVariants.{Ended}
+use Rattle.osi_session.specs.declared.faults.UnitFault.TheVariants.{Unexpected, NotSelected, BadNumber, BadEnclosure}
 use Rattle.osi_session.specs.declared.state.State.{State}
 use Rattle.osi_session.specs.Counting.{taker_with}
 use Rattle.osi_session.specs.Joining.{Taker, Hearing, begins_anew, enacted_word, heard, heard_then, idle, respond_came, word_verdict}
 unfoldable use Rattle.osi_session.specs.Joining.{acting_words, respond_word, respond_words}
 use Rattle.osi_session.specs.Numbers.{lower}
 unfoldable use Rattle.osi_session.specs.Numbers.{point_taken, minor_confirmed, major_confirmed, restarted_at}
-use Rattle.osi_session.specs.Phases.{is_over, is_aborting, is_major_asked, takes_minor_ack}
-use Rattle.osi_session.specs.Respond.{Outcome, Verdict, over, dropped, faulty, fine, agreed_base, becomes, bad, by_fault, drops}
-use Rattle.osi_session.specs.Respond.{first_fault, in_aborting, in_ended, is_acceptable, nothing, replies_abort, reply_for, closes_for}
-use Rattle.osi_session.specs.Respond.{shown_for, si}
+use Rattle.osi_session.specs.Phases.{is_over, is_major_asked, takes_minor_ack}
+use Rattle.osi_session.specs.Respond.{Outcome, Verdict, over, dropped, faulty, fine, agreed_base, becomes, by_fault, drops, first_fault}
+use Rattle.osi_session.specs.Respond.{in_aborting, in_ended, replies_abort, reply_for, closes_for, shown_for, si}
 unfoldable use Rattle.osi_session.specs.Respond.{stands, respond_fault}
 use Rattle.osi_session.specs.Standing.{Seen, Count, Takes, counted}
-use Rattle.osi_session.specs.State.{without_tokens}
 use Rattle.osi_session.specs.Units.{both_units, functional_units}
 use Rattle.osi_session.proofs.sent.what_a_side_may_send.{so_many, so_many_are}
 use Rattle.osi_session.proofs.tables.messages_act_as_the_table_says.{word_at}
@@ -46,20 +42,7 @@ confirms _ = false
 
 verdict_alike : (s : State) (j : Option (List ℕ)) (w : Word) (n m : ℕ) → confirms w ≡ false
     → word_verdict (taker_with (confirmed_to n s) j) w ≡ word_verdict (taker_with (confirmed_to m s) j) w
-verdict_alike s j (says (MIA k o)) n m e = absurd (cc)
-verdict_alike s j (says (AC v r i w z o)) n m e = refl
-verdict_alike s j (says (DT o)) n m e = refl
-verdict_alike s j (says (GT t)) n m e = refl
-verdict_alike s j (says (PT t o)) n m e = refl
-verdict_alike s j (says (MIP c k o)) n m e = refl
-verdict_alike s j (says (MAP k o)) n m e = refl
-verdict_alike s j (says (MAA k o)) n m e = refl
-verdict_alike s j (says (RS t k w o)) n m e = refl
-verdict_alike s j (says (RA k w o)) n m e = refl
-verdict_alike s j (says (FN o)) n m e = refl
-verdict_alike s j (says (NF o)) n m e = refl
-verdict_alike s j (says _) n m e = refl
-verdict_alike s j (part place o) n m e = refl
+verdict_alike s j w n m e = grind arith
 
 -- V(A) after a good message
 abbrev pub rise_by : State → Meaning → ℕ → ℕ
@@ -75,31 +58,20 @@ rise s w fine n = rise_by s (as_message w) n
 rise s w _ n = n
 
 if_to : (b : Bool) (n : ℕ) (x y : State) → (if b then confirmed_to n x else confirmed_to n y) ≡ confirmed_to n (if b then x else y)
-if_to true n x y = refl
-if_to false n x y = refl
+if_to b n x y = grind arith
 
 if_low : (b : Bool) (n m : ℕ) (x y : State) → (if b then confirmed_to n x else confirmed_to m y) ≡ confirmed_to (if b then n else m) (if b
     then x else y)
-if_low true n m x y = refl
-if_low false n m x y = refl
+if_low b n m x y = grind arith
 
 becomes_at : (s : State) (u : Meaning) (n : ℕ) → confirms (says u) ≡ false
     → becomes (confirmed_to n s) u ≡ confirmed_to (rise_by s u n) (becomes s u)
 unfolding point_taken major_confirmed restarted_at stands
-becomes_at s (CN v r i w f t z o) n e = if_to (is_acceptable v r z) n _ _
-becomes_at s (RS t k w o) n e = if_low (stands s k) (lower k n) n _ _
-becomes_at s (MIA k o) n e = absurd (cc)
-becomes_at s (AC v r i w z o) n e = refl
-becomes_at s (MIP c k o) n e = refl
-becomes_at s (MAP k o) n e = refl
-becomes_at s (MAA k o) n e = refl
-becomes_at s _ n e = refl
+becomes_at s u n e = grind (arith, if_to, if_low)
 
 shown_at : (s : State) (u : Meaning) (n : ℕ) → shown_for (confirmed_to n s) u ≡ shown_for s u
 unfolding stands
-shown_at s (RS t k w o) n = refl
-shown_at s (AC v r i w z o) n = refl
-shown_at s _ n = refl
+shown_at s u n = grind arith
 
 fine_at : (s : State) (j : Option (List ℕ)) (w : Word) (n : ℕ) → confirms w ≡ false
     → enacted_word (taker_with (confirmed_to n s) j) w fine ≡ moved_to (rise_by s (as_message w) n) (enacted_word (taker_with s j) w fine)
@@ -113,11 +85,7 @@ fine_at s j (part Last o) n e = refl
 
 over_at : (s : State) (n : ℕ) (b : Bool) (u : Meaning) → (if b then in_aborting (confirmed_to n s) u else in_ended (confirmed_to n s) u) ≡
     outcome_to n (if b then in_aborting s u else in_ended s u)
-over_at s n true (AB b o) = refl
-over_at s n true AA = refl
-over_at s n true _ = refl
-over_at s n false (AB b o) = refl
-over_at s n false _ = refl
+over_at s n b u = grind arith
 
 -- a word that is not good
 abbrev is_fine : Verdict → Bool
@@ -126,48 +94,26 @@ is_fine _ = false
 
 rest_at : (s : State) (j : Option (List ℕ)) (w : Word) (v : Verdict) (n : ℕ) → is_fine v ≡ false
     → enacted_word (taker_with (confirmed_to n s) j) w v ≡ moved_to n (enacted_word (taker_with s j) w v)
-rest_at s j w over n e = ap (heard j) (over_at s n (is_aborting s.phase) (as_message w))
-rest_at s j w dropped n e = refl
-rest_at s j w (faulty fault) n e = refl
-rest_at s j w fine n e = absurd (cc)
+rest_at s j w v n e = grind (arith, over_at)
 
 by_verdict : (s : State) (j : Option (List ℕ)) (w : Word) (v : Verdict) (n : ℕ) → confirms w ≡ false
     → enacted_word (taker_with (confirmed_to n s) j) w v ≡ moved_to (rise s w v n) (enacted_word (taker_with s j) w v)
-by_verdict s j w over n e = rest_at s j w over n refl
-by_verdict s j w dropped n e = rest_at s j w dropped n refl
-by_verdict s j w (faulty fault) n e = rest_at s j w (faulty fault) n refl
-by_verdict s j w fine n e = fine_at s j w n e
+by_verdict s j w v n e = grind (arith, rest_at, fine_at)
 
 if_rises : (c : Bool) (k a b : ℕ) → a ≤ b → (if c then a else k) ≤ (if c then b else k)
-if_rises true k a b h = h
-if_rises false k a b h = omega arith
+if_rises c k a b h = grind arith
 
 pub lower_rises : (k a b : ℕ) → a ≤ b → lower k a ≤ lower k b
-lower_rises k a b h = by (nat_lt k a) (nat_lt k b) refl refl
-  where
-    by : (x y : Bool) → nat_lt k a ≡ x → nat_lt k b ≡ y → (if x then k else a) ≤ (if y then k else b)
-    by true true p q = omega arith
-    by true false p q = let l = ltb-true k a p in let m = lt-ltb k b (omega arith) in absurd (cc)
-    by false true p q = grind (arith, lt-ltb)
-    by false false p q = h
+lower_rises k a b h = grind (arith, ltb-true, lt-ltb)
 
 either_rises : (c : Bool) (k a b : ℕ) → a ≤ b → (if c then lower k a else a) ≤ (if c then lower k b else b)
-either_rises true k a b h = lower_rises k a b h
-either_rises false k a b h = h
+either_rises c k a b h = grind (arith, lower_rises)
 
 by_rises : (s : State) (u : Meaning) (a b : ℕ) → a ≤ b → rise_by s u a ≤ rise_by s u b
-by_rises s (AC v r i w z o) a b h = omega arith
-by_rises s (MIP c k o) a b h = if_rises s.numbers.answers s.numbers.next a b h
-by_rises s (MAP k o) a b h = if_rises s.numbers.answers s.numbers.next a b h
-by_rises s (MAA k o) a b h = omega arith
-by_rises s (RS t k w o) a b h = either_rises (stands s k) k a b h
-by_rises s _ a b h = h
+by_rises s u a b h = grind (arith, if_rises, either_rises)
 
 rises : (s : State) (w : Word) (v : Verdict) (a b : ℕ) → a ≤ b → rise s w v a ≤ rise s w v b
-rises s w over a b h = h
-rises s w dropped a b h = h
-rises s w (faulty fault) a b h = h
-rises s w fine a b h = by_rises s (as_message w) a b h
+rises s w v a b h = grind (arith, by_rises)
 
 -- ---- what each of three does
 
@@ -220,20 +166,12 @@ mia_verdict s j k o b = if is_over s.phase then over else if drops s (MIA k o) t
 over_any : (o d x : Bool) (u : UnitFault) (f g : Option UnitFault) → (if o then over else if d then dropped else if not x then faulty u
     else by_fault f) ≡ over
     → (if o then over else if d then dropped else if not x then faulty u else by_fault g) ≡ over
-over_any true d x u f g h = refl
-over_any false true x u f g h = absurd (cc)
-over_any false false false u f g h = absurd (cc)
-over_any false false true u None g h = absurd (cc)
-over_any false false true u (Some e) g h = absurd (cc)
+over_any o d x u f g h = grind arith
 
 dropped_any : (o d x : Bool) (u : UnitFault) (f g : Option UnitFault) → (if o then over else if d then dropped else if not x then faulty u
     else by_fault f) ≡ dropped
     → (if o then over else if d then dropped else if not x then faulty u else by_fault g) ≡ dropped
-dropped_any true d x u f g h = absurd (cc)
-dropped_any false true x u f g h = refl
-dropped_any false false false u f g h = absurd (cc)
-dropped_any false false true u None g h = absurd (cc)
-dropped_any false false true u (Some e) g h = absurd (cc)
+dropped_any o d x u f g h = grind arith
 
 module _ (s : State) (j : Option (List ℕ)) (k : ℕ) (o : List ℕ) where
   abbrev mia : Word
@@ -277,22 +215,11 @@ module _ (s : State) (j : Option (List ℕ)) (k : ℕ) (o : List ℕ) where
   mia_three : (a v c : ℕ) (d : Verdict) → a ≤ v → v ≤ c → is_fine d ≡ false → word_verdict (at a) mia ≡ d → word_verdict (at v) mia ≡ d
       → word_verdict (at c) mia ≡ d
       → Three (respond_word (at a) mia) (respond_word (at v) mia) (respond_word (at c) mia)
-  mia_three a v c d l m e p q r = record {
-    from = enacted_word (taker_with s j) mia d;
-    low = a;
-    mid = v;
-    high = c;
-    to_mid = l;
-    to_high = m;
-    one = mia_rests d a e p;
-    two = mia_rests d v e q;
-    three = mia_rests d c e r;
-  }
+  mia_three a v c d l m e p q r = grind (arith, mia_rests)
 
   mia_rest : (a v c : ℕ) (d : Verdict) → a ≤ v → v ≤ c → word_verdict (at v) mia ≡ d → ((d ≡ over) ⊎ (d ≡ dropped))
       → Three (respond_word (at a) mia) (respond_word (at v) mia) (respond_word (at c) mia)
-  mia_rest a v c d l m q (inl e) = let h = q ∙ e in mia_three a v c over l m refl (mia_over v a h) h (mia_over v c h)
-  mia_rest a v c d l m q (inr e) = let h = q ∙ e in mia_three a v c dropped l m refl (mia_dropped v a h) h (mia_dropped v c h)
+  mia_rest a v c d l m q h = search (arith, mia_three, mia_over, mia_dropped)
 
   mia_between : (a v c : ℕ) → a ≤ v → v ≤ c → WordDoes (respond_word (at a) mia) (respond_word (at v) mia) (respond_word (at c) mia)
   mia_between a v c l m = by (nat_le v k) refl
@@ -343,9 +270,7 @@ word_between s j (part place o) a v c l m = inl (word_three s j (part place o) a
 -- ---- words one after the other
 
 among_at : (x y z p q r : Hearing) → x ≡ p → y ≡ q → z ≡ r → AmongThree p q r → AmongThree x y z
-among_at x y z p q r d e f h =
-    subst (λ (k : Hearing). AmongThree k y z) (sym d) (subst (λ (k : Hearing). AmongThree p k z) (sym e) (subst (λ (k : Hearing).
-    AmongThree p q k) (sym f) h))
+among_at x y z p q r d e f h = grind arith
 
 one_lifts : (from : Hearing) (l m : ℕ) (x y : Hearing) → OneDoes x y → OneDoes (heard_then (moved_to l from) x) (heard_then (moved_to m
     from) y)
@@ -384,15 +309,7 @@ stopped : (ws : Words) (h : Hearing) → replies_abort h.reply ≡ true → then
 stopped ws h e = ap (λ (b : Bool). if b then h else heard_then h (respond_words h.next ws)) e
 
 one_then : (ws : Words) (x y : Hearing) → Stops x y → OneDoes (then_words ws x) (then_words ws y)
-one_then ws x y (inl e) = inl (ap (then_words ws) e)
-one_then ws x y (inr b) = inr (record {
-  from = b.0.from;
-  first = b.0.first;
-  second = b.0.second;
-  one = ap (then_words ws) b.0.one ∙ stopped ws (moved_to b.0.first b.0.from) b.1;
-  other = ap (then_words ws) b.0.other ∙ stopped ws (moved_to b.0.second b.0.from) b.1;
-  over = b.0.over;
-})
+one_then ws x y h = grind (arith, then_words, stopped)
 
 then_three : (ws : Words) (x y z : Hearing) → WordsDo ws → Three x y z → AmongThree (then_words ws x) (then_words ws y) (then_words ws z)
 then_three ws x y z k t =
@@ -442,22 +359,14 @@ words_between [] = λ s j a v c l m. inl (record {
   two = refl;
   three = refl;
 })
-words_between (w ∷ ws) = λ s j a v c l m.
-    among_at _ _ _ _ _ _ (by_reply (taker_with (confirmed_to a s) j) w ws) (by_reply (taker_with (confirmed_to v s) j) w ws) (by_reply
-    (taker_with (confirmed_to c s) j) w ws)
-    (then_among ws _ _ _ (words_between ws) (word_between s j w a v c l m))
+words_between (w ∷ ws) = search (arith, among_at, by_reply, then_among, word_between, words_between ws)
 
 -- ---- a TSDU
 
 fault_at : (s : State) (j : Option (List ℕ)) (fault : SpduFault) (n : ℕ)
     → heard j (respond_fault (confirmed_to n s) fault) ≡ moved_to n (heard j (respond_fault s fault))
 unfolding respond_fault
-fault_at s j fault n = by (is_over s.phase)
-  where
-    by : (b : Bool) → heard j (if b then nothing (confirmed_to n s) else bad (confirmed_to n s) (Spelling fault)) ≡ moved_to n (heard j (if
-        b then nothing s else bad s (Spelling fault)))
-    by true = refl
-    by false = refl
+fault_at s j fault n = grind arith
 
 came_between : (s : State) (j : Option (List ℕ)) (came : Result Words SpduFault) (a v c : ℕ) → a ≤ v → v ≤ c
     → AmongThree (respond_came (taker_with (confirmed_to a s) j) came) (respond_came (taker_with (confirmed_to v s) j) came) (respond_came
@@ -510,9 +419,7 @@ abbrev came_to : Seen → List ℕ → ℕ → Hearing
 came_to s tsdu n = respond_came (taker_with (confirmed_to n s.state) (so_many s.joined)) (said_at tsdu)
 
 takes_as : (s : Seen) (tsdu : List ℕ) (n : ℕ) (h : Hearing) → came_to s tsdu n ≡ h → Takes (seen_to n s) tsdu (counted h)
-takes_as s tsdu n h e =
-    let o = one_count (seen_to n s) tsdu in
-    subst (λ (x : Count). Takes (seen_to n s) tsdu x) (sym (o.taken (so_many s.joined) (so_many_are s.joined)) ∙ ap counted e) o.taken
+takes_as s tsdu n h e = grind (arith, one_count (seen_to n s) tsdu, so_many s.joined, so_many_are s.joined)
 
 one_takes : (s : Seen) (tsdu : List ℕ) (x v : ℕ) (d : Count) → d ≡ counted (came_to s tsdu v)
     → OneDoes (came_to s tsdu x) (came_to s tsdu v) → TakesOne s tsdu x d

@@ -1,17 +1,16 @@
 -- Of three sessions that differ in V(A) alone, what the one explains whose V(A) lies between those of the others, one of these
 -- explains. For the law.
-use Rattle.std.proofs.Common.{◌≡◌, ◌∙◌, refl, sym, ap, subst, ℕ, ◌+◌, ◌<◌, ◌≤◌, ◌⊎◌, inl, inr, Bool, true, not, ◌||◌, List, [], ◌∷◌, get_or}
+use Rattle.std.proofs.Common.{◌≡◌, ◌∙◌, refl, sym, ap, subst, ℕ, ◌+◌, ◌<◌, ◌≤◌, ◌⊎◌, inl, inr, true, not, ◌||◌, List, [], ◌∷◌, get_or}
 use Rattle.std.proofs.Common.{Option, Some, None}
 use Rattle.osi_message.specs.Meanings.{Meaning}
 use Rattle.osi_message.specs.Words.{Word}
-use Rattle.osi_session.specs.Phases.{is_over, is_wait_transport}
+use Rattle.osi_session.specs.Phases.{is_wait_transport}
 use Rattle.osi_session.specs.Standing.{Seen, Count, CanSay, Takes, listens, after_count, answers_word}
-use Rattle.osi_session.proofs.tables.what_is_true_of_each_phase.{excluded}
 use Rattle.osi_judge.specs.Between.{confirmed_to, seen_to}
 use Rattle.osi_judge.specs.Explaining.{Remark, Explains, done, takes, answers, says}
-use Rattle.osi_judge.proofs.walked.what_ends_alike.{SameEnd, TakesAlike, takes_alike, says_alike}
-use Rattle.osi_judge.proofs.walked.what_is_said_between.{SaysThree, SaysBetween, says_between}
-use Rattle.osi_judge.proofs.walked.what_is_taken_between.{count_to, TakesThree, TakesOver, TakesOne, TakesBetween, takes_between}
+use Rattle.osi_judge.proofs.walked.what_ends_alike.{SameEnd, takes_alike, says_alike}
+use Rattle.osi_judge.proofs.walked.what_is_said_between.{says_between}
+use Rattle.osi_judge.proofs.walked.what_is_taken_between.{count_to, TakesThree, TakesOne, takes_between}
 
 -- ---- the connection is over
 

@@ -1,13 +1,13 @@
 -- A call is answered as the machine answers it.
 -- For calls.
-use Rattle.osi_machine.specs.Worlds.{gone, not_yet}
+use Rattle.osi_machine.specs.Worlds.{gone}
 use Rattle.osi_session.specs.declared.faults.CallError.TheVariants as error
 use Rattle.osi_pair.proofs.Vocabulary.{◌≡◌, refl, sym, ◌∙◌, ap, ℕ, zero, suc, ◌<◌, ◌≤◌, ◌&&◌, Bool, true, false, not, nat_le, if◌then◌else◌}
-use Rattle.osi_pair.proofs.Vocabulary.{length, Option, Some, None, is_some, arith, lt-ltb, le-leb, leb-true, leb-false, was_given, place_at}
+use Rattle.osi_pair.proofs.Vocabulary.{length, Option, Some, None, arith, lt-ltb, le-leb, leb-true, leb-false, was_given, place_at}
 use Rattle.osi_pair.proofs.Vocabulary.{value_at, Connection, State as Carrier, Between, connection_at, is_given, Seat, Line, Tables}
-use Rattle.osi_pair.proofs.Vocabulary.{seen_from, side_of, allowed, Call, HasSerial, Listener, Standing, called, react, is_ended, CallError}
-use Rattle.osi_pair.proofs.Vocabulary.{has_given, session_error, call_error, table_error, AllCameAbout, Soundness, End, Holding, session_in}
-use Rattle.osi_pair.proofs.Vocabulary.{session_at, TwoEnds, end_at, side_in, transport_in, is_parting, IsSeated, Stands, Side}
+use Rattle.osi_pair.proofs.Vocabulary.{side_of, allowed, Call, HasSerial, Listener, Standing, called, react, is_ended, CallError, has_given}
+use Rattle.osi_pair.proofs.Vocabulary.{session_error, call_error, table_error, AllCameAbout, Soundness, End, Holding, session_at, TwoEnds}
+use Rattle.osi_pair.proofs.Vocabulary.{end_at, side_in, transport_in, is_parting, IsSeated, Stands, Side}
 use Rattle.osi_pair.proofs.turn.what_an_acting_end_leaves_in_flight.{of_end, there, NoneBeyond, place_given, place_ahead}
 use Rattle.osi_pair.proofs.session.an_end_moves_as_the_tables_do.{calls_so}
 use Rattle.osi_pair.proofs.turn.a_turn_keeps_the_match.{seen}
@@ -33,15 +33,13 @@ was_there r c some h = ap (λ (b : Bool). b && nat_le r c.given) (lt-ltb 0 r som
 
 by_given : (r : ℕ) (call : Call) (e : End) (b : Bool) → has_given r e.carrier ≡ b →
     table_error r call e ≡ (if not b then Some error.NoSuchConnection else session_error (session_at r e) call)
-by_given r call e b h = ap
-    (λ (x : Bool). if◌then◌else◌ {A = Option CallError} (not x) (Some error.NoSuchConnection) (session_error (session_at r e) call)) h
+by_given r call e b h = grind arith
 
 pub no_such : (r : ℕ) (call : Call) (e : End) → e.carrier.given < r → table_error r call e ≡ Some error.NoSuchConnection
 no_such r call e h = grind arith
 
 pub session_gone : (r : ℕ) (e : End) → value_at r e.carrier.live ≡ None → session_at r e ≡ None
-session_gone r e h = ap (λ (o : Option Connection). if◌then◌else◌ {A = Option Listener} (is_some o) (session_in (value_at r e.lines)) None)
-    h
+session_gone r e h = grind arith
 
 live_given : (x : Connection) → is_given (transport_in (was_given (Some x))) ≡ true
 live_given x = grind arith
@@ -59,24 +57,12 @@ seat_by r h seat call None some within at s =
   where
     over_gone : IsSeated r h seat → seat.transport ≡ gone → is_ended seat.session.state.phase ≡ true
     over_gone x e = x.over_now (ap is_parting e)
-seat_by r h seat call (Some x) some within at s =
-    let given : is_given seat.transport ≡ true =
-    ap is_given (s.transport ∙ ap transport_in (place_given r h.end.carrier within ∙ ap was_given at)) ∙ live_given x in
-    by_given r call h.end true (was_there r h.end.carrier some within)
-    ∙ ap (λ (o : Option Listener). session_error o call) (s.live (ap is_some at))
-    ∙ (calls_so s.joined seat.session call).2
-    ∙ sym (ap (λ (b : Bool). if◌then◌else◌ {A = Option CallError} b (react seat.session (called call)).error (Some error.NoSuchConnection))
-    given)
+seat_by r h seat call (Some x) some within at s = grind (arith, place_given, live_given, by_given, was_there, calls_so)
 
 seat_at : (r : ℕ) (h : Holding) (seat : Seat) (call : Call) (given : Bool) → 0 < r → nat_le r h.end.carrier.given ≡ given →
     IsSeated r h seat → table_error r call h.end ≡ seat_error seat call
 seat_at r h seat call true some e s = seat_by r h seat call (value_at r h.end.carrier.live) some (leb-true r h.end.carrier.given e) refl s
-seat_at r h seat call false some e s =
-    let above = leb-false r h.end.carrier.given e in
-    let transport : seat.transport ≡ not_yet = s.transport ∙ ap transport_in (place_ahead r h.end.carrier above) in
-    no_such r call h.end above
-    ∙ sym (ap (λ (t : _). if◌then◌else◌ {A = Option CallError} (is_given t) (react seat.session (called call)).error
-    (Some error.NoSuchConnection)) transport)
+seat_at r h seat call false some e s = grind (arith, leb-false, place_ahead, no_such)
 
 -- ---- at two ends that match the tables
 
@@ -94,10 +80,7 @@ none_there (suc k) side p b t call s at = by_fit (nat_le (suc k) (length t.lines
 table_at : NoneBeyond → (r : ℕ) (side : Side) (p : TwoEnds) (b : Between) (t : Tables) (call : Call) (o : Option Line) → Stands p b t →
     connection_at r t.lines ≡ o → table_error r call (end_at side p).end ≡ line_error (side_of (side_in side) o) call
 table_at none r side p b t call None s at = none_there r side p b t call s at
-table_at none r side p b t call (Some l) s at =
-    let h = there none r p b t l s at in
-    seat_at r (end_at side p) (seen_from (side_in side) l).own call (nat_le r (end_at side p).end.carrier.given) h.some refl
-    (seen side r p b l h.is).here
+table_at none r side p b t call (Some l) s at = grind (arith, seat_at, seen, there none r p b t l s at)
 
 -- an error of the carrier makes no difference
 abbrev pub Answered : Type 0
@@ -107,5 +90,4 @@ Answered = (r : ℕ) (call : Call) (e : End) → HasSerial call → e.carrier.en
 pub answer_same : NoneBeyond → Answered → (r : ℕ) (side : Side) (p : TwoEnds) (b : Between) (t : Tables) (call : Call) → HasSerial call →
     Stands p b t → call_error r call (end_at side p).end ≡ line_error (side_of (side_in side) (connection_at r t.lines)) call
 answer_same none answers r side p b t call serial s =
-    grind (arith, of_end side p b t s)
-    ∙ table_at none r side p b t call (connection_at r t.lines) s refl
+    search (arith, of_end side p b t s, table_at none r side p b t call (connection_at r t.lines) s refl)

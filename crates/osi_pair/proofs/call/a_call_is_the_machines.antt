@@ -11,19 +11,19 @@ use Rattle.osi_stack.specs.Messages.{puts}
 use Rattle.osi_stack.specs.State as stack
 use Rattle.osi_pair.specs.Entries.{calls}
 use Rattle.osi_pair.proofs.Vocabulary.{◌≡◌, ◌≢◌, refl, sym, ◌∙◌, ap, subst, ℕ, zero, suc, ◌≤◌, Bool, true, false, nat_lt, if◌then◌else◌}
-use Rattle.osi_pair.proofs.Vocabulary.{List, [], ◌∷◌, ◌++◌, length, map, Option, Some, None, is_some, IsSome, IfSome, Ok, Err, arith}
-use Rattle.osi_pair.proofs.Vocabulary.{append-nil, AllByRecursion, slice_get, IsOctets, IsShortTsdu, open_link, sent, sent_all, was_given}
-use Rattle.osi_pair.proofs.Vocabulary.{place_at, RiseFrom, Rows, value_at, Connection, linked, State as Carrier, EndReason, put_here}
-use Rattle.osi_pair.proofs.Vocabulary.{put_other, Both, Between, AreBetween, Acted, Carries, becomes, last_of, progress_of, Progress}
-use Rattle.osi_pair.proofs.Vocabulary.{in_use, leaves_use, Terms, terms_of, IsTableRun, AreSoundLines, connection_at, with_connection}
-use Rattle.osi_pair.proofs.Vocabulary.{call_answered, is_given, replaced, Seat, Line, Tables, seen_from, side_of, stays, made, call_in}
-use Rattle.osi_pair.proofs.Vocabulary.{step, Message, unit, replied, IsInOctets, Meaning, IsSendable, words_sent, tsdus_of, Answer, allowed}
-use Rattle.osi_pair.proofs.Vocabulary.{octets_of, Passed, Call, HasSerial, Listener, called, answered, react, Shown, limit_of, CallError}
-use Rattle.osi_pair.proofs.Vocabulary.{call_error, AllCameAbout, IsSound, put_by, Says, kept_at, line_by as line_then, to_session, End}
-use Rattle.osi_pair.proofs.Vocabulary.{Holding, session_in, session_at, IsAttended, puts_words, TwoEnds, end_at, with_end, noted}
-use Rattle.osi_pair.proofs.Vocabulary.{called_by_error, side_in, is_caller, carriers_of, transport_in, is_parting, IsSeated, IsInOrder}
-use Rattle.osi_pair.proofs.Vocabulary.{Stands, HasJoined, joining, word_in, waiting_in, Word, Side, Left, Right, IsJoinedAs, called_calm}
-use Rattle.osi_pair.proofs.Vocabulary.{Link, put_row as put, SessionStep as Step, IsSoundState, SessionState as State}
+use Rattle.osi_pair.proofs.Vocabulary.{List, [], ◌∷◌, ◌++◌, length, map, Option, Some, None, is_some, IsSome, IfSome, Ok, arith, append-nil}
+use Rattle.osi_pair.proofs.Vocabulary.{AllByRecursion, slice_get, IsOctets, IsShortTsdu, open_link, sent, sent_all, was_given, place_at}
+use Rattle.osi_pair.proofs.Vocabulary.{RiseFrom, Rows, value_at, Connection, linked, State as Carrier, EndReason, put_here, put_other, Both}
+use Rattle.osi_pair.proofs.Vocabulary.{Between, AreBetween, Acted, Carries, becomes, last_of, progress_of, Progress, in_use, leaves_use}
+use Rattle.osi_pair.proofs.Vocabulary.{Terms, terms_of, IsTableRun, AreSoundLines, connection_at, with_connection, call_answered, is_given}
+use Rattle.osi_pair.proofs.Vocabulary.{replaced, Seat, Line, Tables, seen_from, side_of, stays, made, call_in, step, Message, unit, replied}
+use Rattle.osi_pair.proofs.Vocabulary.{IsInOctets, Meaning, IsSendable, words_sent, tsdus_of, Answer, allowed, octets_of, Passed, Call}
+use Rattle.osi_pair.proofs.Vocabulary.{HasSerial, Listener, called, answered, react, Shown, limit_of, CallError, call_error, AllCameAbout}
+use Rattle.osi_pair.proofs.Vocabulary.{IsSound, put_by, Says, kept_at, line_by as line_then, to_session, End, Holding, session_in}
+use Rattle.osi_pair.proofs.Vocabulary.{session_at, IsAttended, puts_words, TwoEnds, end_at, with_end, noted, called_by_error, side_in}
+use Rattle.osi_pair.proofs.Vocabulary.{is_caller, carriers_of, transport_in, is_parting, IsSeated, IsInOrder, Stands, HasJoined, joining}
+use Rattle.osi_pair.proofs.Vocabulary.{word_in, waiting_in, Word, Side, Left, Right, IsJoinedAs, called_calm, Link, put_row as put}
+use Rattle.osi_pair.proofs.Vocabulary.{SessionStep as Step, IsSoundState, SessionState as State}
 use Rattle.osi_pair.proofs.turn.what_an_acting_end_leaves_in_flight.{out_way, back_way, place_given, OfEnd, of_end, NoneBeyond, more_said}
 use Rattle.osi_pair.proofs.turn.what_an_acting_end_leaves_in_flight.{StandsOn}
 use Rattle.osi_pair.proofs.call.a_call_is_answered_as_by_the_machine.{line_error, Answered}
@@ -64,14 +64,11 @@ pub record CallLaws : Type 0 where
 -- ---- a refused call
 
 pub put_nothing : (broken : Bool) (channel : List Message) → worlds.put broken [] channel ≡ channel
-put_nothing true channel = refl
-put_nothing false channel = append-nil channel
+put_nothing broken channel = grind (arith, append-nil)
 
 made_rest : (broken : Bool) (l : Line) (a : Answer) (e : CallError) → (answered l.own.session a).error ≡ Some e →
     made broken (answered l.own.session a) l ≡ l
-made_rest broken l (Ok x) e h = absurd cc
-made_rest broken l (Err x) e h =
-    ap (λ (ms : List Message). record l { own = record l.own { channel = ms } }) (put_nothing broken l.own.channel)
+made_rest broken l a e h = grind (arith, put_nothing)
 
 refused_line : (broken : Bool) (call : Call) (l : Line) (e : CallError) → (react l.own.session (called call)).error ≡ Some e →
     after_call broken call l ≡ l
@@ -86,10 +83,7 @@ same_place (suc r) l (x ∷ ls) e = ap (λ (ys : List Line). x ∷ ys) (same_pla
 
 stays_same : (t : Tables) (side : Side) (r : ℕ) (l : Line) → connection_at r t.lines ≡ Some l →
     stays t (side_in side) r (seen_from (side_in side) l) ≡ t
-stays_same t side zero l at = absurd cc
-stays_same t side (suc k) l at =
-    ap (λ (ls : List Line). record t { lines = ls })
-    (ap (λ (x : Line). with_connection (suc k) x t.lines) (seen_twice (side_in side) l) ∙ same_place k l t.lines at)
+stays_same t side r l at = grind (arith, seen_twice, same_place)
 
 refused_by : (b : Bool) (t moved : Tables) (side : Side) (r : ℕ) (call : Call) (other_error : Option CallError) (first : Option CallError)
     (e : CallError) → (b ≡ true → first ≡ Some e → moved ≡ t) → (if b then first else other_error) ≡ Some e →
@@ -118,14 +112,12 @@ pub refused_stands : (p : TwoEnds) (b : Between) (t : Tables) (side : Side) (r :
     line_error (side_of (side_in side) (connection_at r t.lines)) call ≡ Some e →
     StandsOn (after_by (Some e) side r call p) (step t (entries.calls (side_in side) r call))
 refused_stands p b t side r call e s h =
-    let new : Stands (noted (calls side r call (Some e) ∷ []) p) b (tables.noted (call_answered (side_in side) r call (Some e) ∷ []) t) =
-    more_said p b t (calls side r call (Some e)) (call_answered (side_in side) r call (Some e)) refl s in
-    record {
-      now = b;
-      stands = subst (Stands (after_by (Some e) side r call p) b) (sym (refused_step t side r call (connection_at r t.lines) e refl h))
-          (subst (λ (x : TwoEnds). Stands (noted (calls side r call (Some e) ∷ []) x) b
-          (tables.noted (call_answered (side_in side) r call (Some e) ∷ []) t)) (sym (with_same side p)) new);
-    }
+    search (
+      arith,
+      more_said p b t (calls side r call (Some e)) (call_answered (side_in side) r call (Some e)) refl s,
+      refused_step t side r call (connection_at r t.lines) e refl h,
+      with_same side p,
+    )
 
 -- ---- the carrier of an accepted call
 
@@ -173,18 +165,7 @@ pub record StaysOpen (r : ℕ) (c new : Carrier) : Type 0 where
 
 all_sent : (r : ℕ) (tsdus : List (List ℕ)) (c : Carrier) (peer : ℕ) (link : Link) → c.ended ≡ None →
     value_at r c.live ≡ Some (linked peer link) → StaysOpen r c (sent_all r tsdus c)
-all_sent r [] c peer link lasts at =
-    record {
-      is_caller = refl;
-      local = refl;
-      class = refl;
-      given = refl;
-      ended = refl;
-      peer = peer;
-      link = link;
-      at = at;
-      others = λ q apart. refl;
-    }
+all_sent r [] c peer link lasts at = grind arith
 all_sent r (tsdu ∷ tsdus) c peer link lasts at =
     let k = sent_is r tsdu c peer link (open_is r c peer link lasts at) in
     let more = all_sent r tsdus (sent r tsdu c) k.peer k.link (k.ended ∙ lasts)
@@ -261,23 +242,17 @@ session_now_is r e x l live at = grind arith
 -- the session of the seat is the one that was called
 pub seat_session : (r : ℕ) (call : Call) (h : Holding) (seat : Seat) (c : Called r call h) → (s : IsSeated r h seat) →
     joining s.joined seat.session ≡ c.session
-seat_session r call h seat c s = let e : Some (joining s.joined seat.session) ≡ Some c.session =
-    sym (s.live (ap is_some c.opened.at)) ∙ c.was in cc
+seat_session r call h seat c s = grind arith
 
 -- and it makes the move that the seat's makes
 next_so : (r : ℕ) (call : Call) (h : Holding) (seat : Seat) (c : Called r call h) → IsSeated r h seat →
     (words.react c.session (words.called call)).next ≡ joining (words.react c.session (words.called call)).next.joined
     (react seat.session (called call)).next
-next_so r call h seat c s =
-    subst (λ (y : Listener). (words.react y (words.called call)).next ≡ joining (words.react y (words.called call)).next.joined
-    (react seat.session (called call)).next) (seat_session r call h seat c s)
-    (calls_so s.joined seat.session call).0
+next_so r call h seat c s = grind (arith, seat_session, calls_so)
 
 reply_so : (r : ℕ) (call : Call) (h : Holding) (seat : Seat) (c : Called r call h) → IsSeated r h seat →
     (react seat.session (called call)).reply ≡ Some c.granted.sent
-reply_so r call h seat c s =
-    sym (calls_so s.joined seat.session call).1
-    ∙ ap (λ (y : Listener). (words.react y (words.called call)).reply) (seat_session r call h seat c s) ∙ c.reply
+reply_so r call h seat c s = grind (arith, calls_so, seat_session)
 
 seat_now : (r : ℕ) (call : Call) (h : Holding) (broken : Bool) (x : Line) (c : Called r call h) → r ≤ h.end.carrier.given →
     IsSeated r h x.own → IsSeated r (now_of r call h) (after_call broken call x).own
@@ -313,9 +288,7 @@ terms_now p = terms_of p.left.end.carrier.local p.right.end.carrier.local
 
 progress_then : (side : Side) (r : ℕ) (call : Call) (p : TwoEnds) (b : Between) (t : Tables) (c : Called r call (end_at side p)) →
     OfEnd side p b t → r ≤ (end_at side p).end.carrier.given → progress_of (place_at r (last_of (is_caller side) b)) ≡ in_use
-progress_then side r call p b t c o within =
-    ap (λ (s : Carrier). progress_of (place_at r s)) (sym (o.lives c.opened.lasts))
-    ∙ ap progress_of (place_then r call (end_at side p) c within)
+progress_then side r call p b t c o within = grind (arith, place_then)
 
 -- the words in which it leaves
 abbrev pub sent_words : (r : ℕ) (call : Call) (h : Holding) → Called r call h → List Word
@@ -368,9 +341,7 @@ progress_now : (side : Side) (r : ℕ) (call : Call) (p : TwoEnds) (b : Between)
     (a : MayAct side r call p b (sent_words r call (end_at side p) c) c.granted.sent) → r ≤ (end_at side p).end.carrier.given →
     progress_of (place_at r (last_of (is_caller side) a.now)) ≡ in_use
 progress_now side r call p b c a within =
-    ap (λ (s : Carrier). progress_of (place_at r s))
-    (sym (lives_now side r call p b (sent_words r call (end_at side p) c) c.granted.sent a (lasts_now r call (end_at side p) c)))
-    ∙ ap progress_of (place_now r call (end_at side p) c within)
+    search (arith, lives_now, lasts_now r call (end_at side p) c, place_now r call (end_at side p) c within)
 
 none_gone : (g h : Progress) (gone : List carrier.Message) → g ≡ in_use → h ≡ in_use → (leaves_use g h ≡ false → gone ≡ []) → gone ≡ []
 none_gone g h gone a b keeps = keeps (ap (λ (x : Progress). leaves_use x h) a ∙ ap (λ (x : Progress). leaves_use in_use x) b)

@@ -42,10 +42,7 @@ transports_are k (l ∷ lines) live h =
 skip : (k m q : ℕ) (x : Connection) (live : Rows Connection) → q ≤ k → transports k m ((q, x) ∷ live) ≡ transports k m live
 unfolding transports
 skip k zero q x live le = refl
-skip k (suc m) q x live le =
-    let none : (q == k + 1) ≡ false = grind (arith, nat_tests) in
-    ap (λ (o : Option Connection). transport_in (was_given o) ∷ transports (k + 1) m ((q, x) ∷ live)) (at_row (k + 1) q x live false none)
-    ∙ ap (λ (ts : List Transport). transport_in (was_given (value_at (k + 1) live)) ∷ ts) (skip (k + 1) m q x live (omega arith))
+skip k (suc m) q x live le = grind (arith, nat_tests, transports, at_row, skip (k + 1) m q x live (omega arith))
 
 live_is : (x : Connection) → is_live (transport_in (was_given (Some x))) ≡ true
 live_is x = grind arith
@@ -59,8 +56,7 @@ count_by : (k m q : ℕ) (x : Connection) (live : Rows Connection) (b : Bool) �
     ((rows : Rows Connection) → RiseFrom (k + 1) rows → AreUpTo (k + 1 + m) rows → live_count (transports (k + 1) m rows) ≡ length rows) →
     live_count (transports k (suc m) ((q, x) ∷ live)) ≡ length ((q, x) ∷ live)
 unfolding transports
-count_by k m q x live true e rise up more = grind (arith, at_row, eqb-true, length, more_live, transports, live_is, skip)
-count_by k m q x live false e rise up more = grind (arith, nat_tests, absent, more_live, transports)
+count_by k m q x live b e rise up more = grind (arith, at_row, eqb-true, more_live, transports, live_is, skip, nat_tests, absent)
 
 count_live : (k m : ℕ) (live : Rows Connection) → RiseFrom k live → AreUpTo (k + m) live → live_count (transports k m live) ≡ length live
 unfolding transports

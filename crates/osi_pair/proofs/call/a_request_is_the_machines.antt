@@ -6,19 +6,18 @@ use Rattle.osi_machine.specs.Tables as tables
 use Rattle.osi_stack.specs.Calls.{connects}
 use Rattle.osi_stack.specs.State as stack
 use Rattle.osi_pair.proofs.Vocabulary.{◌≡◌, ◌≢◌, refl, sym, ◌∙◌, ap, subst, ℕ, suc, ◌+◌, ◌<◌, ◌≤◌, ◌==◌, Bool, true, false, not}
-use Rattle.osi_pair.proofs.Vocabulary.{if◌then◌else◌, List, [], ◌∷◌, ◌++◌, length, length-append, map, Option, Some, None, option_map}
-use Rattle.osi_pair.proofs.Vocabulary.{is_some, IsSome, Ok, Err, arith, inl, nat_le, eqb-true, eq-eqb, leb-true, leb-false, nat_tests}
-use Rattle.osi_pair.proofs.Vocabulary.{tsap_octets, may_connect, was_given, place_at, RiseFrom, Rows, value_at, Connection, asked}
-use Rattle.osi_pair.proofs.Vocabulary.{State as Carrier, EndReason, OpenError, push_here, absent, beyond, push_other, free_of, Both}
-use Rattle.osi_pair.proofs.Vocabulary.{Between, AreBetween, Acted, becomes, under_way, is_cut, progress_of, IsTsap, Progress, not_yet}
-use Rattle.osi_pair.proofs.Vocabulary.{awaiting, leaves_use, Terms, terms_of, Offer, Step, connects as connecting, connection_at}
-use Rattle.osi_pair.proofs.Vocabulary.{connect_answered, Refusal, Line, Tables, asked_with, refusal, asked_in, step, run, ask, Listener}
-use Rattle.osi_pair.proofs.Vocabulary.{Shown, is_profile, unit_bits, named_by, after_open, connect_error, calls_with, AllCameAbout}
-use Rattle.osi_pair.proofs.Vocabulary.{Soundness, IsSound, kept_at, End, Holding, session_in, is_used, used_lines, IsAttended, fresh_line}
-use Rattle.osi_pair.proofs.Vocabulary.{ConnectError, NotSelected, TooLong, used_by, used_live, rise_push, asked_of, CanBeAsked, TwoEnds}
-use Rattle.osi_pair.proofs.Vocabulary.{noted, connected_by, answer_with, after_connect, asks as asked_entry, carriers_of, transport_in}
-use Rattle.osi_pair.proofs.Vocabulary.{offer_in, answer_in, IsSeated, IsLine, HasLine, IsInOrder, Stands, StandsAt, HasJoined, whole}
-use Rattle.osi_pair.proofs.Vocabulary.{waiting_in, Left, none_of, ConnectCall as Connect}
+use Rattle.osi_pair.proofs.Vocabulary.{if◌then◌else◌, List, [], ◌∷◌, ◌++◌, length, length-append, map, Option, Some, None, option_map, Ok}
+use Rattle.osi_pair.proofs.Vocabulary.{Err, arith, inl, nat_le, eqb-true, eq-eqb, leb-true, leb-false, nat_tests, tsap_octets, may_connect}
+use Rattle.osi_pair.proofs.Vocabulary.{was_given, place_at, RiseFrom, Rows, value_at, Connection, asked, State as Carrier, EndReason}
+use Rattle.osi_pair.proofs.Vocabulary.{OpenError, push_here, absent, beyond, push_other, free_of, Both, Between, AreBetween, Acted, becomes}
+use Rattle.osi_pair.proofs.Vocabulary.{under_way, is_cut, progress_of, IsTsap, Progress, not_yet, awaiting, leaves_use, Terms, terms_of}
+use Rattle.osi_pair.proofs.Vocabulary.{Offer, Step, connects as connecting, connection_at, connect_answered, Refusal, Line, Tables}
+use Rattle.osi_pair.proofs.Vocabulary.{asked_with, refusal, asked_in, step, run, ask, Listener, Shown, is_profile, unit_bits, named_by}
+use Rattle.osi_pair.proofs.Vocabulary.{after_open, connect_error, calls_with, AllCameAbout, Soundness, IsSound, kept_at, End, Holding}
+use Rattle.osi_pair.proofs.Vocabulary.{session_in, is_used, used_lines, IsAttended, fresh_line, ConnectError, NotSelected, TooLong, used_by}
+use Rattle.osi_pair.proofs.Vocabulary.{used_live, rise_push, asked_of, CanBeAsked, TwoEnds, noted, connected_by, answer_with, after_connect}
+use Rattle.osi_pair.proofs.Vocabulary.{asks as asked_entry, carriers_of, offer_in, answer_in, IsSeated, IsLine, HasLine, IsInOrder, Stands}
+use Rattle.osi_pair.proofs.Vocabulary.{StandsAt, HasJoined, whole, waiting_in, Left, none_of, ConnectCall as Connect}
 use Rattle.osi_pair.proofs.words.added_and_cut_words_are_messages.{wholes}
 use Rattle.osi_pair.proofs.turn.what_an_acting_end_leaves_in_flight.{out_way, place_given, place_ahead, more_said, StandsOn, begun_with}
 use Rattle.osi_pair.proofs.turn.what_an_acting_end_leaves_in_flight.{one_step}
@@ -77,15 +76,7 @@ at_row q p y rows b e = ap (λ (c : Bool). if◌then◌else◌ {A = Option stack
 used_kept_by : (q p : ℕ) (y l : stack.Line) (live : Rows Connection) (lines : Rows stack.Line) (u b : Bool) → is_used live (p, y) ≡ u →
     (p == q) ≡ b → RiseFrom p lines → (value_at q (used_lines live lines) ≡ Some l → value_at q lines ≡ Some l) →
     value_at q (used_lines live ((p, y) ∷ lines)) ≡ Some l → value_at q ((p, y) ∷ lines) ≡ Some l
-used_kept_by q p y l live lines true true used same rise more at =
-    at_row q p y lines true same ∙ sym (at_row q p y (used_lines live lines) true same)
-    ∙ sym (ap (value_at q) (used_by live (p, y) lines true used)) ∙ at
-used_kept_by q p y l live lines true false used same rise more at =
-    at_row q p y lines false same
-    ∙ more (sym (at_row q p y (used_lines live lines) false same) ∙ sym (ap (value_at q) (used_by live (p, y) lines true used)) ∙ at)
-used_kept_by q p y l live lines false true used same rise more at = grind (arith, used_by, eqb-true, absent)
-used_kept_by q p y l live lines false false used same rise more at =
-    at_row q p y lines false same ∙ more (sym (ap (value_at q) (used_by live (p, y) lines false used)) ∙ at)
+used_kept_by q p y l live lines u b used same rise more at = grind (arith, at_row, used_by, eqb-true, absent)
 
 used_kept : (k q : ℕ) (l : stack.Line) (live : Rows Connection) (lines : Rows stack.Line) → RiseFrom k lines →
     value_at q (used_lines live lines) ≡ Some l → value_at q lines ≡ Some l
@@ -95,21 +86,14 @@ used_kept k q l live ((p, y) ∷ lines) rise at =
 
 kept_used : (k q : ℕ) (live : Rows Connection) (lines : Rows stack.Line) (s : Listener) (o : Option stack.Line) → RiseFrom k lines →
     value_at q (used_lines live lines) ≡ o → session_in o ≡ Some s → kept_at q lines ≡ Some s
-kept_used k q live lines s None rise at h = cc
-kept_used k q live lines s (Some l) rise at h = ap session_in (used_kept k q l live lines rise at) ∙ h
+kept_used k q live lines s o rise at h = grind (arith, used_kept)
 
 quiet_used_by : (p : ℕ) (y : stack.Line) (live : Rows Connection) (lines : Rows stack.Line) (u : Bool) → is_used live (p, y) ≡ u →
     (w : List Shown) → y.waiting ≡ w → waiting_in ((p, y) ∷ lines) ≡ [] →
     (waiting_in lines ≡ [] → waiting_in (used_lines live lines) ≡ []) → waiting_in (used_lines live ((p, y) ∷ lines)) ≡ []
-quiet_used_by p y live lines true used [] is h more =
-    let rest : waiting_in lines ≡ [] = sym (ap (λ (v : List Shown). map (λ shown. (p, shown)) v ++ waiting_in lines) is) ∙ h in
-    ap waiting_in (used_by live (p, y) lines true used)
-    ∙ ap (λ (v : List Shown). map (λ shown. (p, shown)) v ++ waiting_in (used_lines live lines)) is ∙ more rest
-quiet_used_by p y live lines false used [] is h more =
-    ap waiting_in (used_by live (p, y) lines false used)
-    ∙ more (sym (ap (λ (v : List Shown). map (λ shown. (p, shown)) v ++ waiting_in lines) is) ∙ h)
-quiet_used_by p y live lines u used (x ∷ w) is h more =
-    let no = sym (ap (λ (v : List Shown). map (λ shown. (p, shown)) v ++ waiting_in lines) is) ∙ h in absurd cc
+quiet_used_by p y live lines true used [] is h more = grind (arith, used_by)
+quiet_used_by p y live lines false used [] is h more = grind (arith, used_by)
+quiet_used_by p y live lines u used (x ∷ w) is h more = grind arith
 
 quiet_used : (live : Rows Connection) (lines : Rows stack.Line) → waiting_in lines ≡ [] → waiting_in (used_lines live lines) ≡ []
 quiet_used live [] h = refl
@@ -125,26 +109,18 @@ abbrev line_of : Connect → stack.Line
 line_of c = fresh_line (calls_with c)
 
 value_new : (c : Connect) (h : Holding) → Soundness h.end → value_at (next_of h) (asked_end c h).end.carrier.live ≡ Some asked
-value_new c h o = push_here (next_of h) asked h.end.carrier.live
-    (beyond (next_of h) h.end.carrier.given h.end.carrier.live o.orderly.up_to (omega arith))
+value_new c h o = grind (arith, push_here, beyond)
 
 place_new : (c : Connect) (h : Holding) → Soundness h.end → place_at (next_of h) (asked_end c h).end.carrier ≡ was_given (Some asked)
 place_new c h o = place_given (next_of h) (asked_end c h).end.carrier (omega arith) ∙ ap was_given (value_new c h o)
 
 line_new : (c : Connect) (h : Holding) → Soundness h.end → value_at (next_of h) (asked_end c h).end.lines ≡ Some (line_of c)
-line_new c h o =
-    used_live (next_of h) (asked_end c h).end.carrier.live (h.end.lines ++ (next_of h, line_of c) ∷ []) (ap is_some (value_new c h o))
-    ∙ push_here (next_of h) (line_of c) h.end.lines (beyond (next_of h) h.end.carrier.given h.end.lines o.known (omega arith))
+line_new c h o = grind (arith, used_live, value_new, push_here, beyond)
 
 place_apart : (q : ℕ) (c : Connect) (h : Holding) (given : Bool) → nat_le q h.end.carrier.given ≡ given → q ≢ next_of h →
     value_at q (asked_end c h).end.carrier.live ≡ value_at q h.end.carrier.live →
     place_at q (asked_end c h).end.carrier ≡ place_at q h.end.carrier
-place_apart q c h true e apart live =
-    let within = leb-true q h.end.carrier.given e in place_given q (asked_end c h).end.carrier (omega arith) ∙ ap was_given live
-    ∙ sym (place_given q h.end.carrier within)
-place_apart q c h false e apart live =
-    let above = leb-false q h.end.carrier.given e in place_ahead q (asked_end c h).end.carrier (omega arith)
-    ∙ sym (place_ahead q h.end.carrier above)
+place_apart q c h given e apart live = grind (arith, leb-true, place_given, leb-false, place_ahead)
 
 left_alone : (c : Connect) (p : TwoEnds) (b : Between)
     (a : Acted (terms_of p.left.end.carrier.local p.right.end.carrier.local) true (next_of p.left) (carriers_of p)
@@ -171,23 +147,17 @@ left_alone c p b a o =
 
 own_new : (broken : Bool) (c : Connect) (h : Holding) → Soundness h.end → MayAsk c h → CanBeAsked c →
     IsSeated (next_of h) (asked_end c h) (asked_with broken (offer_in (asked_of c))).own
-own_new broken c h o may can = record {
-  joined = None;
-  transport = ap transport_in (sym (place_new c h o));
-  live = λ e. session_now_is (next_of h) (asked_end c h).end asked (line_of c) (value_new c h o) (line_new c h o);
-  kept = λ s e. let is : Some s ≡ Some (calls_with c) = sym e ∙ ap session_in (line_new c h o) in cc;
-  over_now = λ e. cc;
-  awaiting = λ e. cc;
-  octets = (
-    profile_small (unit_bits c.requirements) may.profile,
-    can.calling_selector,
-    can.called_selector,
-    asker_small
-        (named_by c.sizes) can.sizes,
-    answerer_small (named_by c.sizes) can.sizes,
-    can.octets,
-  );
-}
+own_new broken c h o may can =
+    grind (
+      arith,
+      session_now_is,
+      place_new c h o,
+      value_new c h o,
+      line_new c h o,
+      profile_small (unit_bits c.requirements) may.profile,
+      asker_small (named_by c.sizes) can.sizes,
+      answerer_small (named_by c.sizes) can.sizes,
+    )
 
 -- ---- the end that is asked
 
@@ -197,16 +167,7 @@ record IsUnaware (n : ℕ) (h : Holding) : Type 0 where
 
 unaware : (n : ℕ) (p : TwoEnds) (b : Between) (t : Tables) (o : Option EndReason) → p.right.end.carrier.ended ≡ o → Stands p b t →
     p.right.end.carrier.given < n → IsUnaware n p.right
-unaware n p b t None is s above =
-    let o = (s.order_right is).sound in
-    assumption (
-      beyond n p.right.end.carrier.given p.right.end.carrier.live o.orderly.up_to above,
-      ap session_in
-          (beyond n p.right.end.carrier.given p.right.end.lines o.known above),
-    )
-unaware n p b t (Some reason) is s above =
-    let over : IsSome p.right.end.carrier.ended = subst (λ (x : Option EndReason). IsSome x) (sym is) refl in
-    record { live = ap (value_at n) (s.over_right over); kept = s.lost_right over n }
+unaware n p b t o is s above = grind (arith, beyond)
 
 peer_new : (n : ℕ) (broken : Bool) (c : Connect) (p : TwoEnds) → p.right.end.carrier.given < n → IsUnaware n p.right →
     IsSeated n p.right (asked_with broken (offer_in (asked_of c))).peer

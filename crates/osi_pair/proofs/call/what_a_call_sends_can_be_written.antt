@@ -1,10 +1,10 @@
 -- What a call and an offer send can be written.
 -- For calls and the laws of `standing`.
 use Rattle.osi_session.specs.Calls.{Refusal}
-use Rattle.osi_pair.proofs.Vocabulary.{◌≡◌, refl, sym, ◌∙◌, subst, ℕ, ◌<◌, ◌==◌, ◌&&◌, ◌||◌, Bool, true, false, arith, and_le_r, bit_and}
-use Rattle.osi_pair.proofs.Vocabulary.{TsduMaximumSize, Unspecified, Congestion, WithData, refusal_reason, eqb-true, are_sizes, is_size}
-use Rattle.osi_pair.proofs.Vocabulary.{IsOctets, IsInOctets, IsSendable, names, AllHold, needs, sends, octets_of, Passed, Call, Accept}
-use Rattle.osi_pair.proofs.Vocabulary.{Refuse, Abort, answered_sizes, is_profile, SessionStep as Step, SessionState as State}
+use Rattle.osi_pair.proofs.Vocabulary.{◌≡◌, refl, ℕ, ◌<◌, ◌==◌, ◌&&◌, ◌||◌, Bool, true, arith, and_le_r, bit_and, TsduMaximumSize}
+use Rattle.osi_pair.proofs.Vocabulary.{refusal_reason, eqb-true, are_sizes, is_size, IsOctets, IsInOctets, IsSendable, names, AllHold}
+use Rattle.osi_pair.proofs.Vocabulary.{needs, sends, octets_of, Passed, Call, Accept, Refuse, Abort, answered_sizes, is_profile}
+use Rattle.osi_pair.proofs.Vocabulary.{SessionStep as Step, SessionState as State}
 
 both_right : (a b : Bool) → (a && b) ≡ true → b ≡ true
 both_right a b h = grind arith
@@ -13,11 +13,7 @@ both_left : (a b : Bool) → (a && b) ≡ true → a ≡ true
 both_left a b h = grind arith
 
 small_by : (n : ℕ) (two some one : Bool) → (n == 2) ≡ two → (bit_and n 185 == n) ≡ some → (two || (some && one)) ≡ true → n < 65536
-small_by n true some one a b h = let e = eqb-true n 2 a in omega arith
-small_by n false some one a b h =
-    let e : bit_and n 185 ≡ n = eqb-true (bit_and n 185) n (b ∙ both_left some one h) in
-    let few = and_le_r n 185 in
-    omega arith
+small_by n two some one a b h = grind (arith, eqb-true, both_left, and_le_r)
 
 -- the requirements that can be selected go into two octets
 pub profile_small : (n : ℕ) → is_profile n ≡ true → n < 65536
@@ -34,9 +30,7 @@ pub answerer_small : (s : TsduMaximumSize) → are_sizes s ≡ true → s.from_a
 answerer_small s h = size_small s.from_answerer (both_right (is_size s.from_asker) (is_size s.from_answerer) h)
 
 reason_small : (r : Refusal) → refusal_reason r < 256
-reason_small Unspecified = omega arith
-reason_small Congestion = omega arith
-reason_small (WithData octets) = omega arith
+reason_small r = grind arith
 
 says_in : (s : State) (c : Call) → AllHold (needs s c) → IsSendable (sends s c) → IsOctets (octets_of c) → IsInOctets (sends s c)
 says_in s (Accept requirements serial sides sizes octets) needed sendable h = (
@@ -52,6 +46,4 @@ says_in s c needed sendable h = search
 
 -- what an accepted call sends
 pub call_in_octets : (s : State) (c : Call) (x : Step) → Passed s c x → IsSendable x.sent → IsOctets (octets_of c) → IsInOctets x.sent
-call_in_octets s c x passed sendable h =
-    subst (λ (y : Step). IsInOctets y.sent) (sym passed.gives)
-    (says_in s c passed.needed (subst (λ (y : Step). IsSendable y.sent) passed.gives sendable) h)
+call_in_octets s c x passed sendable h = grind (arith, says_in)

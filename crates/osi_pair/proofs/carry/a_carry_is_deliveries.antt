@@ -5,7 +5,7 @@ use Rattle.osi_pair.proofs.Vocabulary.{◌≡◌, ℕ, ◌+◌, ◌-◌, ◌≤�
 use Rattle.osi_pair.proofs.Vocabulary.{ap, subst, ◌∙◌, arith, length-drop, sum_by-cons, IsFaultOf, TpktFault, EndReason, Both, Between}
 use Rattle.osi_pair.proofs.Vocabulary.{AreBetween, side, Terms, Step, carried, Holding, Crossing, CarriesPiece, CarriesPieces, CarriesFrom}
 use Rattle.osi_pair.proofs.Vocabulary.{crossing, TwoEnds, end_at, reachable, within, reach_after, other, StandsAt, StandsAtArrivals, Reach}
-use Rattle.osi_pair.proofs.Vocabulary.{Side, Left, Right}
+use Rattle.osi_pair.proofs.Vocabulary.{Side}
 use Rattle.osi_pair.proofs.carry.few_indications_are_pending.{FewLaws, few_wait}
 use Rattle.osi_pair.proofs.carry.handed_octets_are_no_step.{CarriedLaw}
 use Rattle.osi_pair.proofs.carry.packets_are_taken_in_turn.{PacketStands, taken_laws, none_less, alive_deliveries, join_arrivals, no_more}
@@ -16,14 +16,7 @@ use Rattle.osi_pair.proofs.carry.pieces_are_fed_in_turn.{reach_twice, piece_aliv
 left_over : (f : Side) (c : Crossing) (o : Option Reach) (from : Holding) (used : ℕ) →
     c.from ≡ record from { end = carried used from.end } →
     reachable f (crossed f c (reach_after f used o)) ≡ within o f (length from.end.carrier.outgoing) - used
-left_over Left c o from used is =
-    ap (λ (h : Holding). within (reach_after Left used o) Left (length h.end.carrier.outgoing)) is
-    ∙ ap (λ (n : ℕ). within (reach_after Left used o) Left n) (length-drop used from.end.carrier.outgoing)
-    ∙ within_less Left o used (length from.end.carrier.outgoing)
-left_over Right c o from used is =
-    ap (λ (h : Holding). within (reach_after Right used o) Right (length h.end.carrier.outgoing)) is
-    ∙ ap (λ (n : ℕ). within (reach_after Right used o) Right n) (length-drop used from.end.carrier.outgoing)
-    ∙ within_less Right o used (length from.end.carrier.outgoing)
+left_over f c o from used is = grind (arith, length-drop, within_less)
 
 -- two ends after pieces of this many octets
 pub record SoFar (f : Side) (p : TwoEnds) (steps : List Step) (most octets : ℕ) (new : Crossing) : Type 0 where
@@ -38,11 +31,8 @@ piece_then laws f q steps most used new None e x le c =
     join_arrivals (other f) (crossed f new (reach_after f used q.reach)) steps x.more
     (alive_deliveries (other f) q steps x.more x.stands e x.are)
     (piece_alive laws f q (steps ++ x.more) most used new x.stands e le c)
-piece_then laws f q steps most used new (Some why) e x le c = record {
-  more = x.more;
-  are = x.are;
-  stands = piece_over laws f q (steps ++ x.more) most used new why x.stands e le c;
-}
+piece_then laws f q steps most used new (Some why) e x le c =
+    grind (arith, piece_over laws f q (steps ++ x.more) most used new why x.stands e le c)
 
 pub pieces_stand : PieceLaws → (f : Side) (p : TwoEnds) (steps : List Step) (most : ℕ) (pieces : List ℕ) (new : Crossing) →
     StandsAt p steps → most ≤ reachable f p → CarriesPieces (other f) most pieces (crossing f p) new → SoFar f p steps most (sum pieces) new

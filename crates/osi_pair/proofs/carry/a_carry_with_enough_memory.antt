@@ -9,8 +9,8 @@ use Rattle.osi_pair.proofs.Vocabulary.{found_how, feeding, telling, CallsInRoom,
 use Rattle.osi_pair.proofs.Vocabulary.{length-take, map-append, sum_by-cons, flat_map, first_shown, Held, IsPacket, ArePackets, Rows}
 use Rattle.osi_pair.proofs.Vocabulary.{EndReason, NoMemory, Step, Shown, carried, FindsNoMemory, Starves, End, Holding, ends_end as ends}
 use Rattle.osi_pair.proofs.Vocabulary.{EndLine as Line, Crossing, CarriesPiece, CarriesPieces, crossing, TwoEnds, end_at, reachable, Entry}
-use Rattle.osi_pair.proofs.Vocabulary.{shows, reach_after, other, StandsAt, ShowsFirst, end_entries, shown_entries, told_entries}
-use Rattle.osi_pair.proofs.Vocabulary.{waiting_in, quieted, Side}
+use Rattle.osi_pair.proofs.Vocabulary.{shows, reach_after, other, StandsAt, ShowsFirst, end_entries, told_entries, waiting_in, quieted}
+use Rattle.osi_pair.proofs.Vocabulary.{Side}
 use Rattle.osi_pair.proofs.carry.a_carry_is_deliveries.{CarryLaws, SoFar, piece_laws, pieces_stand}
 use Rattle.osi_pair.proofs.packet.a_packet_is_one_delivery_or_none.{quiet_of}
 use Rattle.osi_pair.proofs.carry.packets_are_taken_in_turn.{GoesOn, still_goes}
@@ -80,12 +80,7 @@ record IsFirst (lines : Rows Line) (p : ℕ × Shown) (rest : List (ℕ × Shown
 
 first_by : (lines : Rows Line) (p : ℕ × Shown) (rest : List (ℕ × Shown)) (o : Option (ℕ × Shown)) → first_shown lines ≡ o →
     waiting_in lines ≡ p ∷ rest → IsFirst lines p rest
-first_by lines p rest None e is = let none = none_waits lines e in absurd (cc)
-first_by lines p rest (Some q) e is =
-    let next = next_is lines q e in
-    let both : q ∷ waiting_in (without_first lines) ≡ p ∷ rest = sym next.shown ∙ is in
-    let same : q ≡ p = cc in
-    record { shown = e ∙ ap Some same; others = (cc); quiet = next.quiet }
+first_by lines p rest o e is = grind (arith, none_waits, next_is)
 
 tell_all : (h : Holding) (shown : List (ℕ × Shown)) → waiting_in h.end.lines ≡ shown →
     CallsInRoom h (tellings shown) (record h { end = record h.end { lines = quieted h.end.lines } })
@@ -107,9 +102,7 @@ all_told between new first h quiet = h.shown ∙ ap (λ (w : List (ℕ × Shown)
 
 pub quieted_is : (between new : Holding) (first : List (ℕ × Shown)) → ShowsFirst between first new → waiting_in new.end.lines ≡ [] →
     new ≡ record between { end = record between.end { lines = quieted between.end.lines } }
-quieted_is between new first h quiet =
-    h.rest ∙ ap (λ (l : Rows Line). record between { end = record between.end { lines = l } }) (sym (quiet_same new.end.lines quiet)
-    ∙ h.lines)
+quieted_is between new first h quiet = grind (arith, quiet_same)
 
 tells_all : (between new : Holding) (first : List (ℕ × Shown)) → ShowsFirst between first new → waiting_in new.end.lines ≡ [] →
     CallsInRoom between (tellings first) new
@@ -150,44 +143,19 @@ pub record IsCarried (s : Side) (old : Crossing) (octets : ℕ) (new : Crossing)
   pub over : (reason : EndReason) → old.to.end.carrier.ended ≡ Some reason → (new.to ≡ old.to) × (flat_map told_in calls ≡ [])
 
 end_once : (s : Side) (o : Option EndReason) → end_entries s o o ≡ []
-end_once s None = refl
-end_once s (Some reason) = refl
+end_once s o = grind arith
 
 pub carried_none_yet : (s : Side) (old new : Crossing) → new ≡ old → IsCarried s old 0 new
-carried_none_yet s old new same = record {
-  calls = [];
-  room = ap (λ (c : Crossing). c.to) same;
-  used = refl;
-  untaken = refl;
-  from = ap (λ (c : Crossing). c.from) same;
-  says = ap (λ (c : Crossing). c.journal) same ∙ sym (append-nil old.journal)
-      ∙ ap (λ (l : List Entry). old.journal ++ l) (sym (end_once s old.to.end.carrier.ended)
-      ∙ ap (λ (o : Option EndReason). end_entries s old.to.end.carrier.ended o)
-      (ap (λ (c : Crossing). c.to.end.carrier.ended) (sym same)));
-  over = λ reason over. (ap (λ (c : Crossing). c.to) same, refl);
-}
+carried_none_yet s old new same = grind (arith, append-nil, end_once)
 
 -- the journal entries of both ends
 says_then : (s : Side) (first mid last : List Entry) (xs ys : List (ℕ × Shown)) (o m n : Option EndReason) →
     mid ≡ first ++ told_entries s o m xs → last ≡ mid ++ told_entries s m n ys → (m ≡ None → o ≡ None) →
     ((reason : EndReason) → m ≡ Some reason → (n ≡ m) × (ys ≡ [])) → last ≡ first ++ told_entries s o n (xs ++ ys)
-says_then s first mid last xs ys o None n h k alive over =
-    let none : o ≡ None = alive refl in
-    k ∙ ap (λ (t : List Entry). t ++ told_entries s None n ys) (h ∙ ap (λ (x : Option EndReason). first ++ told_entries s x None xs) none)
-    ∙ ap (λ (t : List Entry). (first ++ t) ++ told_entries s None n ys) (append-nil (shown_entries s xs))
-    ∙ append_assoc first (shown_entries s xs) (told_entries s None n ys)
-    ∙ ap (λ (t : List Entry). first ++ t) (sym (append_assoc (shown_entries s xs) (shown_entries s ys) (end_entries s None n)))
-    ∙ ap (λ (t : List Entry). first ++ (t ++ end_entries s None n)) (sym (map-append (λ (p : ℕ × Shown). shows s p.0 p.1) xs ys))
-    ∙ ap (λ (x : Option EndReason). first ++ told_entries s x n (xs ++ ys)) (sym none)
-says_then s first mid last xs ys o (Some reason) n h k alive over =
-    let e = over reason refl in
-    k ∙ ap₂ (λ (x : Option EndReason) (zs : List (ℕ × Shown)). mid ++ told_entries s (Some reason) x zs) e.0 e.1 ∙ append-nil mid ∙ h
-    ∙ ap₂ (λ (x : Option EndReason) (zs : List (ℕ × Shown)). first ++ told_entries s o x zs) (sym e.0) (sym (append-nil xs)
-    ∙ ap (λ (zs : List (ℕ × Shown)). xs ++ zs) (sym e.1))
+says_then s first mid last xs ys o m n h k alive over = grind (arith, append-nil, append_assoc, map-append)
 
 alive_by : (o m : Option EndReason) → ((reason : EndReason) → o ≡ Some reason → m ≡ o) → m ≡ None → o ≡ None
-alive_by None m f e = refl
-alive_by (Some reason) m f e = let same = f reason refl in absurd (cc)
+alive_by o m f e = grind arith
 
 abbrev ended_of : Crossing → Option EndReason
 ended_of c = c.to.end.carrier.ended
@@ -222,18 +190,11 @@ carried_then s old mid new n m h k =
 -- ---- a piece
 
 has_room : {D S R M : Type 0} → ((M → ⊥)) → (D ⊎ S) ⊎ (R ⊎ M) → (D ⊎ S) ⊎ R
-has_room none (inl goes) = inl goes
-has_room none (inr (inl refused)) = inr refused
-has_room none (inr (inr starved)) = absurd (none starved)
+has_room none h = grind arith
 
 over_told : (old between new : Holding) (first : List (ℕ × Shown)) → between ≡ old → waiting_in old.end.lines ≡ [] →
     ShowsFirst between first new → waiting_in new.end.lines ≡ [] → (new ≡ old) × (first ≡ [])
-over_told old between new first same none h quiet =
-    let still : waiting_in between.end.lines ≡ [] = ap (λ (x : Holding). waiting_in x.end.lines) same ∙ none in (
-      quieted_is between new first h quiet
-          ∙ ap (λ (l : Rows Line). record between { end = record between.end { lines = l } }) (quiet_same between.end.lines still) ∙ same,
-      sym (all_told between new first h quiet) ∙ still,
-    )
+over_told old between new first same none h quiet = grind (arith, quieted_is, quiet_same, all_told)
 
 piece_carried : CarryLaws → (f : Side) (q : TwoEnds) (steps : List Step) (most used : ℕ) (new : Crossing) → StandsAt q steps →
     most ≤ reachable f q → CarriesPiece (other f) most (crossing f q) used new → new.to.end.carrier.ended ≢ Some NoMemory →
@@ -273,11 +234,7 @@ piece_carried laws f q steps most used new at le piece memory quiet =
 -- nothing is pending after them
 quiet_behind : (f : Side) (p : TwoEnds) (steps : List Step) (most octets : ℕ) (new : Crossing) → SoFar f p steps most octets new →
     waiting_in new.to.end.lines ≡ []
-quiet_behind f p steps most octets new x =
-    let q = crossed f new (reach_after f octets p.reach) in
-    let at = x.stands.stands in
-    ap (λ (c : Crossing). waiting_in c.to.end.lines) (sym (crossed_twice f new (reach_after f octets p.reach)))
-    ∙ quiet_of (other f) q at.now (tables_at q (steps ++ x.stands.more)) at.stands
+quiet_behind f p steps most octets new x = grind (arith, crossed, crossed_twice, quiet_of, tables_at)
 
 pub pieces_carried : CarryLaws → (f : Side) (p : TwoEnds) (steps : List Step) (most : ℕ) (pieces : List ℕ) (new : Crossing) →
     StandsAt p steps → most ≤ reachable f p → CarriesPieces (other f) most pieces (crossing f p) new →

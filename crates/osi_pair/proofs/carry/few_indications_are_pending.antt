@@ -8,19 +8,18 @@ use Rattle.osi_session.specs.Listening as inputs
 use Rattle.osi_spdu.specs.Reading.{behind_at, tsdu_at}
 use Rattle.osi_spdu.specs.declared.kinds.Category.TheVariants.{Zero}
 use Rattle.osi_stack.specs.Moving.{noted}
-use Rattle.osi_pair.proofs.Vocabulary.{◌≡◌, ◌≢◌, ℕ, zero, suc, ◌+◌, ◌≤◌, ◌==◌, ◌⊎◌, inl, inr, Bool, true, false, if◌then◌else◌, List, []}
-use Rattle.osi_pair.proofs.Vocabulary.{◌∷◌, ◌++◌, length, map, nat_lt, Option, Some, None, is_some, IsSome, Result, Ok, Err, refl, sym, ap}
+use Rattle.osi_pair.proofs.Vocabulary.{◌≡◌, ℕ, zero, suc, ◌+◌, ◌≤◌, ◌==◌, ◌⊎◌, inl, inr, Bool, true, false, if◌then◌else◌, List, [], ◌∷◌}
+use Rattle.osi_pair.proofs.Vocabulary.{◌++◌, length, map, nat_lt, Option, Some, None, is_some, IsSome, Result, Ok, Err, refl, sym, ap}
 use Rattle.osi_pair.proofs.Vocabulary.{subst, ◌∙◌, arith, words_show, ◌>>=◌, Next, Placed, next_at, unit_at, continued, category_of}
 use Rattle.osi_pair.proofs.Vocabulary.{Category, SpduFault, EndLine as Line, eqb-true, eq-eqb, length-append, length-map, Held, IsPacket}
 use Rattle.osi_pair.proofs.Vocabulary.{Value, never, was_given, place_at, Happening, tsdu, closed, RiseFrom, Rows, value_at, Connection}
 use Rattle.osi_pair.proofs.Vocabulary.{State as Carrier, NoMemory, put_other, put_rise, reference_of, Both, Between, AreBetween, side}
-use Rattle.osi_pair.proofs.Vocabulary.{progress_of, Progress, awaiting, in_use, shutting, Terms, Tables, word, said_at, said_if_read, Words}
-use Rattle.osi_pair.proofs.Vocabulary.{Listener, taker_of, came, came_as, shows_loss, is_wait_transport, respond_fault, Shown, Units}
-use Rattle.osi_pair.proofs.Vocabulary.{after_packet, concludes, hears, hears_first, hears_next, hears_times, all_lost, opens, starves}
-use Rattle.osi_pair.proofs.Vocabulary.{with_carrier, with_events, RunsOut, Starves, kept_at, told_all, line_by, to_session, by_line}
-use Rattle.osi_pair.proofs.Vocabulary.{needs_memory, End, session_in, never_starved, hears_keep, TwoEnds, end_at, carriers_of, Stands}
-use Rattle.osi_pair.proofs.Vocabulary.{waiting_in, Side, Left, Right, told_opened as opened, told_refused as refused, put_row as put}
-use Rattle.osi_pair.proofs.Vocabulary.{SessionState as State}
+use Rattle.osi_pair.proofs.Vocabulary.{progress_of, Progress, awaiting, in_use, shutting, Terms, Tables, said_at, said_if_read, Words}
+use Rattle.osi_pair.proofs.Vocabulary.{Listener, came, came_as, shows_loss, is_wait_transport, respond_fault, Shown, Units, after_packet}
+use Rattle.osi_pair.proofs.Vocabulary.{concludes, hears, hears_first, hears_next, hears_times, all_lost, opens, starves, with_carrier}
+use Rattle.osi_pair.proofs.Vocabulary.{with_events, RunsOut, Starves, kept_at, told_all, line_by, to_session, by_line, needs_memory, End}
+use Rattle.osi_pair.proofs.Vocabulary.{never_starved, hears_keep, TwoEnds, end_at, carriers_of, Stands, waiting_in, Side, Left, Right}
+use Rattle.osi_pair.proofs.Vocabulary.{told_opened as opened, told_refused as refused, put_row as put, SessionState as State}
 use Rattle.osi_pair.proofs.packet.a_request_begins_a_session.{begun_waits}
 use Rattle.osi_pair.proofs.turn.what_remains_when_a_unit_was_taken.{terms_at, order_of, was_at, PacketAt}
 use Rattle.osi_pair.proofs.packet.an_end_handles_its_carriers_events.{one_told, lasting}
@@ -53,8 +52,7 @@ few_continued Zero unit = grind (arith, few_behind 16 unit.end unit.rest)
 few_continued c unit = grind arith
 
 few_by : (r : Result Placed SpduFault) → FewIn 17 (r >>= λ unit. continued (category_of unit.kind) unit)
-few_by (Ok unit) = few_continued (category_of unit.kind) unit
-few_by (Err fault) = tt
+few_by r = grind (arith, few_continued)
 
 few_units : (octets : List ℕ) → FewIn 17 (tsdu_at octets)
 unfolding tsdu_at
@@ -67,8 +65,7 @@ FewSaid (Ok said) = length said ≤ 17
 FewSaid (Err fault) = Unit {0}
 
 few_said_by : (r : Result Units SpduFault) → FewIn 17 r → FewSaid (said_if_read r)
-few_said_by (Ok us) few = let same = length-map us word in omega arith
-few_said_by (Err fault) few = tt
+few_said_by r few = grind (arith, length-map)
 
 few_said : (octets : List ℕ) → FewSaid (said_at octets)
 unfolding said_at
@@ -80,8 +77,7 @@ fault_shows s fault = grind arith
 
 came_shows : (x : Listener) (r : Result Words SpduFault) → FewSaid r → length (react x (came_as r)).shown ≤ 17
 unfolding react
-came_shows x (Ok said) few = let shown = words_show (taker_of x) said in omega arith
-came_shows x (Err fault) few = fault_shows x.state fault
+came_shows x r few = grind (arith, words_show, fault_shows)
 
 rest_shows : (b : Bool) (x y : Move) → length x.shown ≤ 17 → length y.shown ≤ 17 → length (if b then x else y).shown ≤ 17
 rest_shows b x y h k = grind arith
@@ -101,10 +97,7 @@ broken_shows x = let one = shows_one x in omega arith
 
 few_losses : (lines : Rows Line) (live : Rows Connection) → waiting_in lines ≡ [] → RiseFrom 0 lines → AreLive lines live →
     length live ≤ 64 → length (waiting_in (all_lost lines)) ≤ 81
-few_losses lines live none rise all most =
-    let few = few_lost 0 lines live rise all in
-    let same : length (waiting_in (all_lost lines)) ≡ length (lost_in lines) = ap length (waiting_lost lines none) in
-    omega arith
+few_losses lines live none rise all most = grind (arith, few_lost, lost_in, waiting_lost)
 
 abbrev with_reference : ℕ → List Shown → List (ℕ × Shown)
 with_reference r w = map (λ shown. (r, shown)) w
@@ -118,8 +111,7 @@ lost_behind ((r, line) ∷ lines) = grind (arith, length, length-append, with_le
 
 concluded_by : (e : End) (live : Rows Connection) (b : Bool) → RiseFrom 0 e.lines → AreLive e.lines live → length live ≤ 64 →
     length (waiting_in e.lines) ≤ 17 → length (waiting_in (if b then record e { lines = all_lost e.lines } else e).lines) ≤ 81
-concluded_by e live true rise all most few = let losses = few_lost 0 e.lines live rise all in let sum = lost_behind e.lines in omega arith
-concluded_by e live false rise all most few = omega arith
+concluded_by e live b rise all most few = grind (arith, few_lost, lost_behind)
 
 put_same : (n : ℕ) (line : Line) (lines : Rows Line) → value_at n lines ≡ Some line → put n line lines ≡ lines
 put_same n line [] is = cc
@@ -128,10 +120,7 @@ put_same n line ((r, x) ∷ lines) is = grind (arith, put_same n line lines)
 live_then_by : (n q : ℕ) (line : Line) (lines : Rows Line) (live : Rows Connection) (y : Listener) (b : Bool) → (q == n) ≡ b →
     IsSome (value_at n live) → AreLive lines live → kept_at q (put n line lines) ≡ Some y → shows_loss y.state.phase ≡ true →
     IsSome (value_at q live)
-live_then_by n q line lines live y true e here all kept shown = subst (λ (m : ℕ). IsSome (value_at m live)) (sym (eqb-true q n e)) here
-live_then_by n q line lines live y false e here all kept shown =
-    let apart : q ≢ n = λ same. (let no_way : true ≡ false = sym (eq-eqb q n same) ∙ e in cc) in
-    all q y (sym (ap session_in (put_other q n line lines apart)) ∙ kept) shown
+live_then_by n q line lines live y b e here all kept shown = grind (arith, eqb-true, eq-eqb, put_other)
 
 live_then : (n : ℕ) (line : Line) (lines : Rows Line) (live : Rows Connection) → IsSome (value_at n live) → AreLive lines live →
     AreLive (put n line lines) live
@@ -147,9 +136,7 @@ record Hearing (e : End) (live : Rows Connection) (n : ℕ) : Type 0 where
 
 moved_few : (n : ℕ) (input : Input) (e : End) (live : Rows Connection) (o : Option Line) → value_at n e.lines ≡ o → Hearing e live n →
     ((x : Listener) → length (react x input).shown ≤ 17) → length (waiting_in (concludes (by_line n o input e)).lines) ≤ 81
-moved_few n input e live None is h shows =
-    concluded_by e live (is_some e.carrier.ended) h.rise h.all h.most (let none : length (waiting_in e.lines) ≡ 0 =
-    ap length h.quiet in omega arith)
+moved_few n input e live None is h shows = grind (arith, concluded_by)
 moved_few n input e live (Some line) is h shows = line_few line.session refl
   where
     line_few : (x : Option Listener) → line.session ≡ x → length (waiting_in (concludes (by_line n (Some line) input e)).lines) ≤ 81
@@ -242,9 +229,7 @@ input_of n row h = cc
 opens_few : (n : ℕ) (e : End) (live : Rows Connection) (o : Option Line) → value_at n e.lines ≡ o → e.carrier.ended ≡ None →
     Hearing e live n → length (waiting_in (concludes (opens n o e)).lines) ≤ 81
 opens_few n e live None is lasts h = grind (arith, lasting, begun_waits, quiet, length)
-opens_few n e live (Some line) is lasts h =
-    subst (λ (o : Option Line). length (waiting_in (concludes (by_line n o inputs.opened e)).lines) ≤ 81) (sym is)
-    (moved_few n inputs.opened e live (Some line) is h opened_shows)
+opens_few n e live (Some line) is lasts h = grind (arith, moved_few n inputs.opened e live (Some line) is h opened_shows)
 
 heard_few : PacketLaws → (s : Side) (p : TwoEnds) (b : Between) (t : Tables) (packet : List ℕ) (h : Held) → Stands p b t → Lasts s p →
     (pa : PacketAt s p b packet h) → HasInput (reference_of pa.unit) pa.did.row ⊎ (pa.did.row ≡ agrees) →
@@ -277,11 +262,7 @@ told_few : PacketLaws → (s : Side) (p : TwoEnds) (b : Between) (t : Tables) (p
     length (waiting_in (after_packet (end_at s p).end packet).lines) ≤ 81
 told_few laws s p b t packet h old alive pa true e =
     heard_few laws s p b t packet h old alive pa (input_of (reference_of pa.unit) pa.did.row e)
-told_few laws s p b t packet h old alive pa false e =
-    let x = unheard_packet laws s p b t packet h old alive pa e in
-    let none : length (waiting_in (after_packet (end_at s p).end packet).lines) ≡ 0 =
-    ap (λ (y : End). length (waiting_in y.lines)) x.same ∙ ap length x.waits in
-    omega arith
+told_few laws s p b t packet h old alive pa false e = grind (arith, unheard_packet laws s p b t packet h old alive pa e)
 
 -- ---- an allocation failure
 
@@ -299,8 +280,7 @@ pub record FewLaws : Type 0 where
 -- memory ran out for the effect of the one event
 one_told_by : (x new : End) (event : Happening) (heard : ℕ) → x.carrier.events ≡ event ∷ [] → (out : RunsOut x new) → out.heard ≡ heard →
     new.lines ≡ all_lost x.lines
-one_told_by x new event zero one out e =
-    ap (λ (y : End). y.lines) out.starved ∙ ap (λ (k : ℕ). all_lost (hears_times k x).lines) e
+one_told_by x new event zero one out e = grind arith
 one_told_by x new event (suc m) one out e =
     let next : hears_next x ≡ hears event (with_events [] x) = ap (λ (l : List Happening). hears_first l x) one in
     let none : (hears_next x).carrier.events ≡ [] =
@@ -359,10 +339,7 @@ starved_lost laws Right p b t packet octets new h old alive is cut pa (inr st) =
 
 losses_at : (s : Side) (p : TwoEnds) (b : Between) (t : Tables) → Stands p b t → Lasts s p →
     length (waiting_in (all_lost (end_at s p).end.lines)) ≤ 81
-losses_at s p b t old alive =
-    let order = order_of s p b t old alive in
-    few_losses (end_at s p).end.lines (end_at s p).end.carrier.live (quiet_of s p b t old) order.rising
-    (live_lines s p b t old alive) order.sound.orderly.live
+losses_at s p b t old alive = grind (arith, order_of, few_losses, quiet_of, live_lines)
 
 -- the bound
 pub few_wait : FewLaws → FewWait

@@ -1,12 +1,11 @@
 -- Handing over octets of a side to the other is no step of the machine.
 -- For carries.
-use Rattle.osi_pair.proofs.Vocabulary.{◌≡◌, ℕ, ◌≤◌, Bool, true, false, not, List, ◌++◌, length, take, Option, Some, None, is_some}
-use Rattle.osi_pair.proofs.Vocabulary.{option_map, IfSome, refl, sym, ap, subst, ◌∙◌, arith, ◌<◌, length-take, Held, Between, Both}
-use Rattle.osi_pair.proofs.Vocabulary.{AreBetween, IsOnTheWay, Same, side, with_side, last_of, units_from, lost_from, arriving, reach_of}
-use Rattle.osi_pair.proofs.Vocabulary.{within_reach, under_way, handed_over, is_cut, progress_of, Terms, Step, Seat, Tables, run, start}
-use Rattle.osi_pair.proofs.Vocabulary.{carried, End, Holding, TwoEnds, end_at, with_end, reachable, within, reach_after, other, is_caller}
-use Rattle.osi_pair.proofs.Vocabulary.{carriers_of, IsSeated, IsInOrder, terms_in, Stands, StandsAt, HasJoined, HasLine, Reach, Side, Left}
-use Rattle.osi_pair.proofs.Vocabulary.{Right}
+use Rattle.osi_pair.proofs.Vocabulary.{◌≡◌, ℕ, ◌≤◌, Bool, true, false, List, ◌++◌, length, take, Option, None, is_some, option_map, sym, ap}
+use Rattle.osi_pair.proofs.Vocabulary.{subst, ◌∙◌, arith, ◌<◌, length-take, Held, Between, Both, AreBetween, Same, side, with_side}
+use Rattle.osi_pair.proofs.Vocabulary.{arriving, reach_of, within_reach, under_way, handed_over, is_cut, progress_of, Terms, Step, Seat}
+use Rattle.osi_pair.proofs.Vocabulary.{Tables, run, start, carried, End, Holding, TwoEnds, end_at, with_end, reachable, within, reach_after}
+use Rattle.osi_pair.proofs.Vocabulary.{other, is_caller, carriers_of, IsSeated, IsInOrder, terms_in, Stands, StandsAt, HasJoined, HasLine}
+use Rattle.osi_pair.proofs.Vocabulary.{Reach, Side, Left, Right}
 use Rattle.osi_pair.proofs.turn.what_remains_when_a_unit_was_taken.{terms_at}
 use Rattle.osi_pair.proofs.flight.what_is_in_flight_when_an_end_acts.{way_same}
 use Rattle.osi_pair.proofs.flight.whether_something_is_cut_off.{Lasts}
@@ -22,40 +21,8 @@ holding end octets both = with_side end (record (side end both) { held = octets 
 -- what an end holds that has ended is of no account
 held_between : (terms : Terms) (end : Bool) (both : Both) (b : Between) (octets : List ℕ) → AreBetween terms both b →
     ((side end both).state.ended ≡ None → octets ≡ (side end both).held) → AreBetween terms (holding end octets both) b
-held_between terms true both b octets a same = assumption (lives_by, a.joined, comes_by, a.unbroken, bound_by)
-  where
-    lives_by : (way : Bool) → (side way (holding true octets both)).state.ended ≡ None →
-        (side way (holding true octets both)).state ≡ last_of way b
-    lives_by true e = a.lives true e
-    lives_by false e = a.lives false e
-
-    comes_by : (way : Bool) → (side (not way) (holding true octets both)).state.ended ≡ None →
-        IsOnTheWay (side (not way) (holding true octets both)).held (arriving way (holding true octets both)) (units_from way b)
-        (lost_from way b)
-    comes_by true e = a.comes true e
-    comes_by false e = subst (λ (l : List ℕ). IsOnTheWay l (arriving false both) (units_from false b) (lost_from false b)) (sym (same e))
-        (a.comes false e)
-
-    bound_by : (way : Bool) → IfSome (reach_of way both.reach) (λ k. k ≤ length (side way (holding true octets both)).state.outgoing)
-    bound_by true = a.bound true
-    bound_by false = a.bound false
-held_between terms false both b octets a same = assumption (lives_by, a.joined, comes_by, a.unbroken, bound_by)
-  where
-    lives_by : (way : Bool) → (side way (holding false octets both)).state.ended ≡ None →
-        (side way (holding false octets both)).state ≡ last_of way b
-    lives_by true e = a.lives true e
-    lives_by false e = a.lives false e
-
-    comes_by : (way : Bool) → (side (not way) (holding false octets both)).state.ended ≡ None →
-        IsOnTheWay (side (not way) (holding false octets both)).held (arriving way (holding false octets both)) (units_from way b)
-        (lost_from way b)
-    comes_by true e = subst (λ (l : List ℕ). IsOnTheWay l (arriving true both) (units_from true b) (lost_from true b)) (sym (same e))
-        (a.comes true e)
-    comes_by false e = a.comes false e
-
-    bound_by : (way : Bool) → IfSome (reach_of way both.reach) (λ k. k ≤ length (side way (holding false octets both)).state.outgoing)
-    bound_by true = a.bound true
-    bound_by false = a.bound false
+held_between terms true both b octets a same = search arith
+held_between terms false both b octets a same = search arith
 
 -- ---- octets are handed over
 
@@ -84,28 +51,10 @@ abbrev reach_in : Option Reach → Option (ℕ × ℕ)
 reach_in o = option_map (λ (r : Reach). (r.left, r.right)) o
 
 seat_sent : (n k : ℕ) (h : Holding) (seat : Seat) → IsSeated n h seat → IsSeated n (record h { end = carried k h.end }) seat
-seat_sent n k h seat i =
-    record {
-      joined = i.joined;
-      transport = i.transport;
-      live = i.live;
-      kept = i.kept;
-      over_now = i.over_now;
-      awaiting = i.awaiting;
-      octets = i.octets;
-    }
+seat_sent n k h seat i = grind arith
 
 seat_held : (n : ℕ) (h : Holding) (held : Held) (seat : Seat) → IsSeated n h seat → IsSeated n (record h { held = held }) seat
-seat_held n h held seat i =
-    record {
-      joined = i.joined;
-      transport = i.transport;
-      live = i.live;
-      kept = i.kept;
-      over_now = i.over_now;
-      awaiting = i.awaiting;
-      octets = i.octets;
-    }
+seat_held n h held seat i = grind arith
 
 order_sent : (k : ℕ) (e : End) → IsInOrder e → IsInOrder (carried k e)
 order_sent k e o = search
@@ -114,13 +63,11 @@ order_sent k e o = search
 
 count_left : (o : Option Reach) (octets : List ℕ) →
     length (within_reach (reach_of true (reach_in o)) octets) ≡ within o Left (length octets)
-count_left None octets = refl
-count_left (Some r) octets = let l = length-take r.left octets in omega arith
+count_left o octets = grind (arith, length-take)
 
 count_right : (o : Option Reach) (octets : List ℕ) →
     length (within_reach (reach_of false (reach_in o)) octets) ≡ within o Right (length octets)
-count_right None octets = refl
-count_right (Some r) octets = let l = length-take r.right octets in omega arith
+count_right o octets = grind (arith, length-take)
 
 -- what arrives is what can be carried
 pub arriving_count : (f : Side) (p : TwoEnds) → length (arriving (is_caller f) (carriers_of p)) ≡ reachable f p

@@ -8,10 +8,10 @@ use Rattle.osi_pair.proofs.Vocabulary.{take, drop, Option, Some, None, is_some, 
 use Rattle.osi_pair.proofs.Vocabulary.{drop-nil, append-nil, length-append, length-take, length-drop, Held, IsPacket, IsFaultOf, ArePackets}
 use Rattle.osi_pair.proofs.Vocabulary.{offset_of, TpktFault, State, Rows, EndReason, NoMemory, Both, Between, AreBetween, side, Terms, Step}
 use Rattle.osi_pair.proofs.Vocabulary.{run, start, Shown, carried, TakesPackets, stops, uses_all, RunsDry, StopsBehind, Refuses}
-use Rattle.osi_pair.proofs.Vocabulary.{FindsNoMemory, attends, hears_times, with_events, with_carrier, Starves, End, Holding, waits}
-use Rattle.osi_pair.proofs.Vocabulary.{starved_over, Crossing, CarriesPiece, crossing, TwoEnds, end_at, reachable, Entry, within}
-use Rattle.osi_pair.proofs.Vocabulary.{reach_after, other, terms_in, carriers_of, StandsAt, StandsAtArrivals, waiting_in, quieted}
-use Rattle.osi_pair.proofs.Vocabulary.{told_entries, ShowsFirst, Reach, Side, Left, Right, ends_end as ends, EndLine as Line}
+use Rattle.osi_pair.proofs.Vocabulary.{FindsNoMemory, attends, with_carrier, Starves, End, Holding, waits, starved_over, Crossing}
+use Rattle.osi_pair.proofs.Vocabulary.{CarriesPiece, crossing, TwoEnds, end_at, reachable, Entry, within, reach_after, other, terms_in}
+use Rattle.osi_pair.proofs.Vocabulary.{carriers_of, StandsAt, StandsAtArrivals, waiting_in, quieted, told_entries, ShowsFirst, Reach, Side}
+use Rattle.osi_pair.proofs.Vocabulary.{Left, Right, ends_end as ends, EndLine as Line}
 use Rattle.osi_pair.proofs.turn.what_remains_when_a_unit_was_taken.{terms_at, order_of}
 use Rattle.osi_pair.proofs.carry.handed_octets_are_no_step.{CarriedLaw, handed, HoldsMore, handed_at}
 use Rattle.osi_pair.proofs.packet.a_packet_is_one_delivery_or_none.{quiet_of}
@@ -61,12 +61,7 @@ reach_twice f k j n o e = grind arith
 -- after octets that were handed over
 less_shown : (f : Side) (p : TwoEnds) (k : ℕ) (e : End) (h g : Held) →
     reachable f (shown_pair (other f) e h (handed f k g p)) ≡ reachable f p - k
-less_shown Left p k e h g =
-    ap (λ (n : ℕ). within (reach_after Left k p.reach) Left n) (length-drop k p.left.end.carrier.outgoing)
-    ∙ within_less Left p.reach k (length p.left.end.carrier.outgoing)
-less_shown Right p k e h g =
-    ap (λ (n : ℕ). within (reach_after Right k p.reach) Right n) (length-drop k p.right.end.carrier.outgoing)
-    ∙ within_less Right p.reach k (length p.right.end.carrier.outgoing)
+less_shown f p k e h g = grind (arith, length-drop, within_less)
 
 -- ---- what is handed over first
 
@@ -97,17 +92,11 @@ packed laws f p steps k octets units mid rest at alive le is taken packets =
 
 holds_more : (f : Side) (p : TwoEnds) (k j : ℕ) (e : End) (rest h g : Held) →
     (e.carrier.ended ≡ None → (j ≡ 0) × (h.octets ≡ rest.octets)) → HoldsMore f j h (shown_pair (other f) e rest (handed f k g p))
-holds_more Left p k j e rest h g all =
-    λ lasts. (all lasts).1 ∙ sym (append-nil rest.octets)
-    ∙ ap (λ (n : ℕ). rest.octets ++ take n (drop k p.left.end.carrier.outgoing)) (sym (all lasts).0)
-holds_more Right p k j e rest h g all =
-    λ lasts. (all lasts).1 ∙ sym (append-nil rest.octets)
-    ∙ ap (λ (n : ℕ). rest.octets ++ take n (drop k p.right.end.carrier.outgoing)) (sym (all lasts).0)
+holds_more f p k j e rest h g all = grind (arith, append-nil)
 
 handed_twice : (f : Side) (p : TwoEnds) (k j n : ℕ) (e : End) (rest h g : Held) → k + j ≡ n →
     handed f j h (shown_pair (other f) e rest (handed f k g p)) ≡ shown_pair (other f) e h (handed f n h p)
-handed_twice Left p k j n e rest h g is = grind (arith, shown_pair, handed, drop_twice, reach_twice)
-handed_twice Right p k j n e rest h g is = grind (arith, shown_pair, handed, drop_twice, reach_twice)
+handed_twice f p k j n e rest h g is = grind (arith, shown_pair, handed, drop_twice, reach_twice)
 
 finished : PieceLaws → (f : Side) (p : TwoEnds) (steps : List Step) (k j used : ℕ) (e : End) (rest h g : Held) → k + j ≡ used →
     used ≤ reachable f p → (e.carrier.ended ≡ None → (j ≡ 0) × (h.octets ≡ rest.octets)) →
@@ -140,9 +129,7 @@ starved_ended laws Left p steps packet octets behind new at alive is cut (inl st
 starved_ended laws Right p steps packet octets behind new at alive is cut (inl st) =
     unit_starved p.right.end new st.0 (order_of Right p at.now (run (start (terms_in (terms_at p))) steps) at.stands alive).heard
     (laws.starved (terms_at p) false (carriers_of p) at.now packet octets behind st.0 at.stands.between alive is cut st.1) st.2
-starved_ended laws s p steps packet octets behind new at alive is cut (inr st) =
-    ap (λ (x : End). is_some x.carrier.ended) st.2.starved
-    ∙ starved_over (with_events st.2.more (hears_times st.2.heard (with_carrier st.0 (end_at s p).end)))
+starved_ended laws s p steps packet octets behind new at alive is cut (inr st) = grind (arith, starved_over)
 
 over_not : {A : Type 0} (o : Option EndReason) → is_some o ≡ true → o ≡ None → A
 over_not o e h = grind arith
@@ -279,10 +266,7 @@ record AllShown (old : Holding) (first : List (ℕ × Shown)) (new : Holding) : 
 
 none_left : (waits first rest : List (ℕ × Shown)) → waits ≡ first ++ rest → length waits ≤ 81 → (rest ≡ []) ⊎ (length first ≡ 81) →
     rest ≡ []
-none_left waits first rest is few (inl none) = none
-none_left waits first rest is few (inr many) =
-    let long : length waits ≡ length first + length rest = ap length is ∙ length-append first rest in
-    none_in rest (omega arith)
+none_left waits first rest is few h = grind (arith, length-append, none_in)
 
 all_shown : (old : Holding) (first : List (ℕ × Shown)) (new : Holding) → ShowsFirst old first new → length (waiting_in old.end.lines) ≤ 81 →
     AllShown old first new
@@ -314,15 +298,13 @@ shown_crossing : (f : Side) (p : TwoEnds) (used : ℕ) (e : End) (h g : Held) �
           p.journal ++ told_entries (other f) None e.carrier.ended (waiting_in e.lines);
     }) (reach_after f used p.reach) ≡ shown_pair
     (other f) e h (handed f used g p)
-shown_crossing Left p used e h g = refl
-shown_crossing Right p used e h g = refl
+shown_crossing f p used e h g = grind arith
 
 -- nothing of it was
 over_crossing : (f : Side) (p : TwoEnds) (used : ℕ) →
     crossed f (record { from = record (end_at f p) { end = carried used (end_at f p).end }; to = end_at (other f) p; journal = p.journal })
     (reach_after f used p.reach) ≡ handed f used (end_at (other f) p).held p
-over_crossing Left p used = refl
-over_crossing Right p used = refl
+over_crossing f p used = grind arith
 
 same_crossing : (c : Crossing) (from to : Holding) (journal : List Entry) → c.from ≡ from → c.to ≡ to → c.journal ≡ journal →
     c ≡ record { from = from; to = to; journal = journal }

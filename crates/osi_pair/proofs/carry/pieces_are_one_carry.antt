@@ -2,9 +2,9 @@
 -- For the code of `carrying`.
 use Rattle.osi_pair.specs.Carrying.{Carries}
 use Rattle.osi_pair.specs.declared.entries.Entry.{Entry}
-use Rattle.osi_pair.proofs.Vocabulary.{◌<◌, ◌≤◌, ◌⊎◌, inl, inr, refl, arith, ◌≡◌, ◌∙◌, ℕ, ◌+◌, ◌-◌, Bool, true, false, List, ◌∷◌, sum, map}
-use Rattle.osi_pair.proofs.Vocabulary.{Result, Ok, Err, OnOk, OnErr, is_err, sym, ap, subst, add_comm, sum_by-cons, Holding, Crossing}
-use Rattle.osi_pair.proofs.Vocabulary.{CarriesPiece, entry_by, Side}
+use Rattle.osi_pair.proofs.Vocabulary.{◌<◌, ◌≤◌, ◌⊎◌, arith, ◌≡◌, ◌∙◌, ℕ, ◌+◌, ◌-◌, Bool, true, false, List, ◌∷◌, sum, map, Result, OnOk}
+use Rattle.osi_pair.proofs.Vocabulary.{OnErr, is_err, sym, ap, subst, add_comm, sum_by-cons, Holding, Crossing, CarriesPiece, entry_by}
+use Rattle.osi_pair.proofs.Vocabulary.{Side}
 
 pub carries_more : (side : Side) (most carried used : ℕ) (old mid new : Crossing) → Carries side most old carried mid →
     CarriesPiece side (most - carried) mid used new → Carries side most old (carried + used) new
@@ -19,28 +19,21 @@ pub carries_then : (side : Side) (most carried used : ℕ) (old mid : Crossing) 
     Carries side most old carried mid →
     CarriesPiece side (most - carried) mid used (record { from = from; to = to; journal = map entry_by said }) → after ≡ said →
     Carries side most old (carried + used) (record { from = from; to = to; journal = map entry_by after })
-carries_then side most carried used old mid from to said after h more same =
-    subst (λ (l : List Entry). Carries side most old (carried + used) (record { from = from; to = to; journal = map entry_by l }))
-    (sym same)
-    (carries_more side most carried used old mid (record { from = from; to = to; journal = map entry_by said }) h more)
+carries_then side most carried used old mid from to said after h more same = grind (arith, carries_more)
 
 -- if nothing was refused, what holds of a success holds
 pub not_refused : {T E : Type 0} (P : Type 0) (r : Result T E) (b : Bool) → b ≡ is_err r → b ≡ false → OnOk r P → P
-not_refused P (Ok x) b e f h = h
-not_refused P (Err x) b e f h = cc
+not_refused P r b e f h = grind arith
 
 -- if one was refused, what holds of an error holds
 pub was_refused : {T E : Type 0} (P : Type 0) (r : Result T E) (b : Bool) → b ≡ is_err r → b ≡ true → OnErr r P → P
-was_refused P (Ok x) b e f h = cc
-was_refused P (Err x) b e f h = h
+was_refused P r b e f h = grind arith
 
 -- an end that takes nothing of something has pending indications
 pub held_up : (waiting : Bool) (most used : ℕ) → (waiting ≡ false → 0 < most → 0 < used) → 0 < most → used ≡ 0 → waiting ≡ true
-held_up true most used h some none = refl
-held_up false most used h some none = let more = h refl some in absurd (omega arith)
+held_up waiting most used h some none = grind arith
 
 -- room that was refused was used up by the last piece
 pub refused_late : (len room old before after new : ℕ) → room < len + 82 → (len + 81 < room) ⊎ (before < after) → old ≤ before →
     new ≡ after → old < new
-refused_late len room old before after new full (inl there) le same = absurd (omega arith)
-refused_late len room old before after new full (inr more) le same = omega arith
+refused_late len room old before after new full h le same = grind arith

@@ -30,16 +30,7 @@ cut_line left right l = record {
 -- ---- one connection
 
 pub still_seated : (n : ℕ) (h : Holding) (seat : Seat) (ms : List Message) → IsSeated n h seat → IsSeated n h (record seat { channel = ms })
-still_seated n h seat ms s =
-    record {
-      joined = s.joined;
-      transport = s.transport;
-      live = s.live;
-      kept = s.kept;
-      over_now = s.over_now;
-      awaiting = s.awaiting;
-      octets = s.octets;
-    }
+still_seated n h seat ms s = grind arith
 
 -- a line after the break
 record HasCut (n k l : ℕ) (p : TwoEnds) (c : Between) (left right : ℕ) (lines : List Line) : Type 0 where
@@ -97,8 +88,7 @@ breaks_at : (n k l : ℕ) (p : TwoEnds) (b : Between)
     (lost : Lost (terms_of p.left.end.carrier.local p.right.end.carrier.local) (carriers_of p) (carriers_of (after_break k l p)) b)
     (t : Tables) → Stands p b t → TakesFrom Left t → TakesFrom Right t → IsWithin n (length t.lines) →
     Breaks n k l p b (length t.lines) lost.now t.lines
-breaks_at n k l p b lost t s rightward leftward (inl out) =
-    record { left = 0; right = 0; is = λ some few. absurd (outside_not n (length t.lines) out some few) }
+breaks_at n k l p b lost t s rightward leftward (inl out) = grind (arith, outside_not)
 breaks_at n k l p b lost t s rightward leftward (inr given) = break_line n k l p b lost t rightward leftward (s.lines n given.0 given.1)
 
 -- ---- a break

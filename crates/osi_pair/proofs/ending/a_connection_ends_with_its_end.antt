@@ -81,14 +81,8 @@ seat_ends n c new seat keep ended s = seat_ends_by n c new seat (is_given seat.t
 ended_got : (side : machine.Side) (keep : ℕ → ℕ) (k i : ℕ) (ls : List Line) (l : Line) → slice_get ls i ≡ Some l →
     slice_get (ended_lines side keep k ls) i ≡ Some (seen_from side (ends_there (keep (k + i)) (seen_from side l)))
 ended_got side keep k i [] l e = absurd (cc)
-ended_got side keep k zero (x ∷ ls) l e =
-    ap (λ (o : Option Line). end_some o) e ∙ ap (λ (n : ℕ). Some (seen_from side (ends_there (keep n) (seen_from side l)))) (omega arith)
-  where
-    end_some : Option Line → Option Line
-    end_some None = None
-    end_some (Some y) = Some (seen_from side (ends_there (keep k) (seen_from side y)))
-ended_got side keep k (suc i) (x ∷ ls) l e =
-    ended_got side keep (k + 1) i ls l e ∙ ap (λ (n : ℕ). Some (seen_from side (ends_there (keep n) (seen_from side l)))) (omega arith)
+ended_got side keep k zero (x ∷ ls) l e = grind arith
+ended_got side keep k (suc i) (x ∷ ls) l e = grind (arith, ended_got side keep (k + 1) i ls l e)
 
 pub ended_at_line : (side : machine.Side) (keep : ℕ → ℕ) (n : ℕ) (ls : List Line) (l : Line) → connection_at n ls ≡ Some l →
     connection_at n (ended_lines side keep 1 ls) ≡ Some (seen_from side (ended_line (keep n) (seen_from side l)))
@@ -113,9 +107,7 @@ pub record Front (all first : List between.Message) : Type 0 where
 front_cut : (o c : Option Connection) (n : ℕ) (units : List Value) (cut : Bool) →
     Front (messages_after (begun_at o) (units_of n units ++ to_come cut c))
     (messages_after (begun_at o) (units_of n units ++ to_come true c))
-front_cut o c n units cut =
-    let f = messages_front (units_of n units) (begun_at o) (to_come cut c) in
-    record { gone = f.0; parts = f.1 ∙ ap (λ (l : List Value). messages_after (begun_at o) l ++ f.0) (sym (append-nil (units_of n units))) }
+front_cut o c n units cut = grind (arith, messages_front (units_of n units) (begun_at o) (to_come cut c), append-nil (units_of n units))
 
 pub way_cut : (end : Bool) (n : ℕ) (old new : Both) (b : Between) → is_cut end new ≡ true →
     Front (under_way end n old b) (under_way end n new b)

@@ -101,9 +101,7 @@ at_here r line lines = let e : (r == r) ≡ true = eq-eqb r r refl in rw e refl
 
 -- a reference after is another
 behind_other : (q r : ℕ) (lines : Rows stack.Line) (s : Listener) → RiseFrom r lines → kept_at q lines ≡ Some s → q ≢ r
-behind_other q r lines s rise kept same =
-    let no : None ≡ Some s = sym (ap session_in (absent q r lines (omega arith) rise)) ∙ kept in
-    cc
+behind_other q r lines s rise kept same = grind (arith, absent)
 
 still_live : (r : ℕ) (line : stack.Line) (lines : Rows stack.Line) (live : Rows Connection) → RiseFrom r lines →
     AreLive ((r, line) ∷ lines) live → AreLive lines live
@@ -111,19 +109,13 @@ still_live r line lines live rise all q s kept shown = all q s (at_other q r lin
 
 live_without : (r : ℕ) (lines : Rows stack.Line) (live : Rows Connection) → RiseFrom r lines → AreLive lines live →
     AreLive lines (without r live)
-live_without r lines live rise all q s kept shown =
-    subst IsSome (sym (without_other q r live (behind_other q r lines s rise kept))) (all q s kept shown)
+live_without r lines live rise all q s kept shown = grind (arith, without_other, behind_other)
 
 few_lost_by : (r : ℕ) (line : stack.Line) (lines : Rows stack.Line) (live : Rows Connection) (o : Option Listener) (b : Bool) →
     line.session ≡ o → ((s : Listener) → o ≡ Some s → shows_loss s.state.phase ≡ b) → RiseFrom r lines → AreLive ((r, line) ∷ lines) live →
     ((rows : Rows Connection) → AreLive lines rows → length (lost_in lines) ≤ length rows) →
     length (lost_of r line ++ lost_in lines) ≤ length live
-few_lost_by r line lines live None b e is rise all more =
-    let rest = more live (still_live r line lines live rise all) in
-    let none : lost_of r line ≡ [] = ap (λ (o : Option Listener). map (λ shown. (r, shown)) (shown_at_loss o)) e in
-    let same : length (lost_of r line ++ lost_in lines) ≡ length (lost_in lines) =
-    ap (λ (l : List (ℕ × Shown)). length (l ++ lost_in lines)) none in
-    omega arith
+few_lost_by r line lines live None b e is rise all more = grind (arith, still_live r line lines live rise all)
 few_lost_by r line lines live (Some s) false e is rise all more =
     let rest = more live (still_live r line lines live rise all) in
     let none : lost_of r line ≡ [] = ap (λ (o : Option Listener). map (λ shown. (r, shown)) (shown_at_loss o)) e
@@ -166,8 +158,7 @@ joined_entries : (side : Side) (r : ℕ) (l : List Shown) (es : List entries.Ent
     map Some es ≡ map entry_in (shown_entries side more) →
     map Some (map (shown_at (side_in side) r) l ++ es) ≡ map entry_in (shown_entries side (map (λ shown. (r, shown)) l ++ more))
 joined_entries side r [] es more h = h
-joined_entries side r (x ∷ l) es more h =
-    ap (λ (es : List (Option entries.Entry)). Some (shown_at (side_in side) r x) ∷ es) (joined_entries side r l es more h)
+joined_entries side r (x ∷ l) es more h = grind (arith, joined_entries side r l es more h)
 
 abbrev Ordered : Side → ℕ → List Line → Rows stack.Line → Type 0
 Ordered side m ls lines = map Some (shown_in_order (side_in side) (m + 1) ls) ≡ map entry_in (shown_entries side (lost_in lines))
@@ -264,15 +255,11 @@ all_shown : (lines new : Rows stack.Line) (live : Rows Connection) (first : List
     (waiting_in new ≡ []) ⊎ (length first ≡ 81) → waiting_in new ≡ []
 all_shown lines new live first quiet rise all most shown (inl none) = none
 all_shown lines new live first quiet rise all most shown (inr many) =
-    let few_are = few_lost 0 lines live rise all in
-    let long = length-append first (waiting_in new) in
-    let same : length (first ++ waiting_in new) ≡ length (lost_in lines) = ap length (sym shown ∙ waiting_lost lines quiet) in
-    absurd (omega arith)
+    grind (arith, few_lost 0 lines live rise all, length-append first (waiting_in new), waiting_lost lines quiet)
 
 first_all : (lines : Rows stack.Line) (first rest : List (ℕ × Shown)) → waiting_in lines ≡ [] →
     waiting_in (all_lost lines) ≡ first ++ rest → rest ≡ [] → first ≡ lost_in lines
-first_all lines first rest quiet shown none =
-    sym (append-nil first) ∙ ap (λ l. first ++ l) (sym none) ∙ sym shown ∙ waiting_lost lines quiet
+first_all lines first rest quiet shown none = grind (arith, append-nil, waiting_lost)
 
 -- ---- one side
 

@@ -148,8 +148,7 @@ left_at : (p : TwoEnds) (u : Tables) (e : End) (h : Held) (c : Between) (reason 
     (journal : List Entry) (most n : ℕ) → e.carrier ≡ last_of true c → ((q : ℕ) → kept_at q lines ≡ None) → TakesFrom Left u →
     ((m : ℕ) → 0 < m → m ≤ most → EndingLine Left p u e h c m) → IsWithin n most →
     Ends Left (ended_pair Left reason e.carrier lines held journal p) u c most n
-left_at p u e h c reason lines held journal most n last none takes all (inl out) =
-    record { keep = 0; is = λ some few. absurd (outside_not n most out some few) }
+left_at p u e h c reason lines held journal most n last none takes all (inl out) = grind (arith, outside_not)
 left_at p u e h c reason lines held journal most n last none takes all (inr given) =
     left_line p u e h c reason lines held journal most n last none takes (all n given.0 given.1)
 
@@ -157,8 +156,7 @@ right_at : (p : TwoEnds) (u : Tables) (e : End) (h : Held) (c : Between) (reason
     (journal : List Entry) (most n : ℕ) → e.carrier ≡ last_of false c → ((q : ℕ) → kept_at q lines ≡ None) → TakesFrom Right u →
     ((m : ℕ) → 0 < m → m ≤ most → EndingLine Right p u e h c m) → IsWithin n most →
     Ends Right (ended_pair Right reason e.carrier lines held journal p) u c most n
-right_at p u e h c reason lines held journal most n last none takes all (inl out) =
-    record { keep = 0; is = λ some few. absurd (outside_not n most out some few) }
+right_at p u e h c reason lines held journal most n last none takes all (inl out) = grind (arith, outside_not)
 right_at p u e h c reason lines held journal most n last none takes all (inr given) =
     right_line p u e h c reason lines held journal most n last none takes (all n given.0 given.1)
 
@@ -226,25 +224,13 @@ ended_stands Right p b t u e h c reason ending lines held first journal s m is n
 pub whole_line : (s : Side) (p : TwoEnds) (u : Tables) (e : End) (h : Held) (c : Between) (n : ℕ) (l : Line) →
     connection_at n u.lines ≡ Some (seen_from (side_in s) l) → IsPlaced n e.carrier l.own → IsSeated n (end_at (other s) p) l.peer →
     IsUnderWay s (other s) n (with_holding s e h p) c l.own l.peer → EndingLine s p u e h c n
-whole_line s p u e h c n l found here there out =
-    record {
-      line = l;
-      found = found;
-      here = here;
-      there = there;
-      kept = l.own.channel;
-      more = [];
-      parts = sym (append-nil l.own.channel);
-      whole = λ x. refl;
-      out = out;
-    }
+whole_line s p u e h c n l found here there out = grind (arith, append-nil)
 
 still_line : (s : Side) (p : TwoEnds) (b : Between) (t : Tables) (n : ℕ) (l : Line) →
     connection_at n t.lines ≡ Some (seen_from (side_in s) l) → IsSeen s n p b l →
     IsUnderWay s (other s) n (with_holding s (end_at s p).end (end_at s p).held p) b l.own l.peer →
     EndingLine s p t (end_at s p).end (end_at s p).held b n
-still_line s p b t n l found i out =
-    whole_line s p t (end_at s p).end (end_at s p).held b n l found (placed_seat n (end_at s p) l.own i.here) i.there out
+still_line s p b t n l found i out = search (arith, whole_line, placed_seat)
 
 pub may_end : (s : Side) (p : TwoEnds) (b : Between) (t : Tables) → Stands p b t → TakesFrom s t → Lasts s p →
     MayEnd s p t t (end_at s p).end (end_at s p).held b
@@ -278,9 +264,7 @@ told_all_of h = grind (arith, append-nil, quiet_waits, quiet_twice)
 
 pub all_shown_then : (s : Side) (p : TwoEnds) (b : Between) (t : Tables) → Stands p b t → Lasts s p →
     SaysAll s (quieted (all_lost (end_at s p).end.lines)) (waiting_in (all_lost (end_at s p).end.lines)) t
-all_shown_then s p b t old none =
-    shown_then s p b t (quieted (all_lost (end_at s p).end.lines)) (waiting_in (all_lost (end_at s p).end.lines)) old none
-    (told_all_of (end_at s p))
+all_shown_then s p b t old none = search (arith, shown_then, told_all_of)
 
 pub none_left : (n : ℕ) (lines : Rows stack.Line) → kept_at n (quieted (all_lost lines)) ≡ None
 none_left n lines = none_kept n lines (quieted (all_lost lines)) (quiet_twice (all_lost lines))

@@ -44,12 +44,7 @@ use Rattle.osi_pair.proofs.flight.whether_something_is_cut_off.{Lasts}
 
 -- after one more delivery, tables that are reached are still reached
 pub run_more : (t u : Tables) (who : machine.Side) (n : ℕ) (cut : ℕ → ℕ) → step t (delivers who n cut) ≡ u → IsTableRun t → IsTableRun u
-run_more t u who n cut is run = record {
-  agreed = run.agreed;
-  steps = run.steps ++ delivers who n cut ∷ [];
-  numbered = number_one run.steps (delivers who n cut) run.numbered tt;
-  reached = run_one _ run.steps (delivers who n cut) ∙ ap (λ (v : Tables). step v (delivers who n cut)) run.reached ∙ is;
-}
+run_more t u who n cut is run = grind (arith, run_one, number_one run.steps (delivers who n cut) run.numbered tt)
 
 -- ---- the tables take nothing
 
@@ -200,9 +195,7 @@ silent_loss x = refl
 
 channel_leaves : (broken : Bool) (r : Option Meaning) (channel : List Message) → r ≡ None →
     put broken (over ∷ []) (put broken (replied r) channel) ≡ channel ++ unless_broken broken (over ∷ [])
-channel_leaves broken r channel e =
-    ap (λ (o : Option Meaning). put broken (over ∷ []) (put broken (replied o) channel)) e
-    ∙ ap (put broken (over ∷ [])) (put_nothing broken channel) ∙ put_unless broken (over ∷ []) channel
+channel_leaves broken r channel e = grind (arith, put_nothing, put_unless)
 
 -- a side that has not ended has received no loss
 abbrev pub LosesLate : Type 0
@@ -210,11 +203,7 @@ LosesLate = (t : Tables) → IsTableRun t → LosesAsItEnds t
 
 any_last : (P : Entry → Bool) (es : List Entry) (e : Entry) → P e ≡ true → list_any P (es ++ e ∷ []) ≡ true
 any_last P [] e h = ap (λ (b : Bool). b || false) h
-any_last P (x ∷ es) e h = ap (λ (b : Bool). P x || b) (any_last P es e h) ∙ or_true (P x)
-  where
-    or_true : (b : Bool) → (b || true) ≡ true
-    or_true true = refl
-    or_true false = refl
+any_last P (x ∷ es) e h = grind (arith, any_last P es e h)
 
 own_side : (s : machine.Side) → is_side s s ≡ true
 own_side s = grind arith
@@ -306,14 +295,10 @@ pub record StarveLaws : Type 0 where
 unheard_shown : StarveLaws → (s : Side) (p : TwoEnds) (b : Between) (t : Tables) (packet : List ℕ) (h held : Held) → Stands p b t →
     IsTableRun t → Lasts s p → (pa : PacketAt s p b packet h) → TellsOne (reference_of pa.unit) pa.did.row →
     StandsShown s p t (lost_end NoMemory (told_all pa.unit (end_at s p).end).carrier (end_at s p).end.lines) held
-unheard_shown laws s p b t packet h held old run alive pa (inl q) =
-    lone_shown laws.packet laws.takes s p b t packet h held old run alive pa q
-unheard_shown laws s p b t packet h held old run alive pa (inr (inl q)) =
-    begins_shown laws.packet laws.takes s p b t packet h held old run alive pa q
-unheard_shown laws s p b t packet h held old run alive pa (inr (inr (inl q))) =
-    agrees_shown laws.packet laws.takes s p b t packet h held old run alive pa q
-unheard_shown laws s p b t packet h held old run alive pa (inr (inr (inr q))) =
-    leaves_shown laws.packet laws.takes laws.late s p b t packet h held old run alive pa q.0 q.1
+unheard_shown laws s p b t packet h held old run alive pa (inl q) = search (arith, lone_shown)
+unheard_shown laws s p b t packet h held old run alive pa (inr (inl q)) = search (arith, begins_shown)
+unheard_shown laws s p b t packet h held old run alive pa (inr (inr (inl q))) = search (arith, agrees_shown)
+unheard_shown laws s p b t packet h held old run alive pa (inr (inr (inr q))) = search (arith, leaves_shown)
 
 -- Memory runs out for the effect of a packet: the tables take what arrived if it was answered, and then the end of the
 -- side.

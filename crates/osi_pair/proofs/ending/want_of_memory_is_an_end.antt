@@ -74,8 +74,7 @@ behind_shown s p b t u e h c lines held n cut old m says none is =
 pub ended_shown : (s : Side) (p : TwoEnds) (b : Between) (t : Tables) (held : Held) → Stands p b t → TakesFrom s t → Lasts s p →
     StandsShown s p t (hearing.ends NoMemory (end_at s p).end) held
 ended_shown s p b t held old takes alive =
-    alone_shown s p b t (end_at s p).end (end_at s p).held b (end_at s p).end.lines held old (may_end s p b t old takes alive)
-    (all_shown_then s p b t old alive) (lasting_in s p b t old alive)
+    grind (arith, alone_shown, may_end s p b t old takes alive, all_shown_then s p b t old alive, lasting_in s p b t old alive)
 
 -- ---- the indications, in the order of the tables
 
@@ -113,8 +112,7 @@ same_shown s n line l t u a found shows =
 pub says_then : (s : Side) (n : ℕ) (line l : Line) (t u : Tables) (lines : Rows stack.Line) (first : List (ℕ × Shown)) →
     LinesAfter s n line t u → connection_at n t.lines ≡ Some (seen_from (side_in s) l) →
     (react line.own.session broken_off).shown ≡ (react l.own.session broken_off).shown → SaysAll s lines first t → SaysAll s lines first u
-says_then s n line l t u lines first a found shows says =
-    record { quiet = says.quiet; says = ap (map Some) (same_shown s n line l t u a found shows) ∙ says.says }
+says_then s n line l t u lines first a found shows says = grind (arith, same_shown)
 
 -- ---- what becomes of the packet
 
@@ -159,10 +157,7 @@ HasStarved e u told new = (new ≡ hearing.ends NoMemory e) ⊎ IsUnheard e u to
 one_by : (k : ℕ) (e new : End) (event first : Happening) (more : List Happening) → e.carrier.events ≡ event ∷ [] →
     (hears_times k e).carrier.events ≡ first ∷ more → needs_memory first (with_events more (hears_times k e)) ≡ true →
     new ≡ starves (with_events more (hears_times k e)) → new ≡ starves (with_events [] e)
-one_by zero e new event first more h w n s =
-    let same : event ∷ [] ≡ first ∷ more = sym h ∙ w in
-    let none : more ≡ [] = cc in
-    s ∙ ap (λ (l : List Happening). starves (with_events l e)) none
+one_by zero e new event first more h w n s = grind arith
 one_by (suc k) e new event first more h w n s =
     let quiet_then : (hears_next e).carrier.events ≡ [] =
     ap (λ (l : List Happening). (hears_first l e).carrier.events) h ∙ (hears_keep event (with_events [] e)).events in
@@ -185,12 +180,7 @@ pub has_starved : WantLaws → (s : Side) (p : TwoEnds) (b : Between) (t : Table
     Stands p b t → Lasts s p → IsPacket packet octets → (end_at s p).held.octets ≡ octets ++ h.octets → (pa : PacketAt s p b packet h) →
     Starves (end_at s p).end packet new → HasStarved (end_at s p).end pa.unit (told_for (reference_of pa.unit) pa.did.row) new
 has_starved laws s p b t packet octets h new old alive is cut pa (inl x) =
-    inl (x.2 ∙ grind (
-      arith,
-      (order_of s p b t old alive).heard,
-      carrier_starved laws s p b packet octets h.octets x.0 old.between alive is
-          cut x.1,
-    ))
+    grind (arith, order_of s p b t old alive, carrier_starved laws s p b packet octets h.octets x.0 old.between alive is cut x.1)
 has_starved laws s p b t packet octets h new old alive is cut pa (inr x) =
     let f = acts_at s p b packet h pa in
     let e = (end_at s p).end in

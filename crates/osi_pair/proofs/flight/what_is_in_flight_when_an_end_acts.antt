@@ -2,10 +2,10 @@
 -- For what is in flight, turns, calls, breaks and ends, packets and carries.
 use Rattle.osi_between.specs.Messages as carrier
 use Rattle.osi_between.specs.Progress as progress
-use Rattle.osi_pair.proofs.Vocabulary.{◌≡◌, ℕ, suc, Bool, true, false, ◌||◌, ◌≤◌, ◌⊎◌, inl, inr, List, [], ◌∷◌, ◌++◌, length, map, take}
-use Rattle.osi_pair.proofs.Vocabulary.{drop, Option, Some, None, refl, sym, ap, subst, ◌∙◌, append_assoc, arith, take-append_seam}
-use Rattle.osi_pair.proofs.Vocabulary.{length-map, map-append, append-nil, take-append-drop, Place, connection_in, progress_of, kind_of}
-use Rattle.osi_pair.proofs.Vocabulary.{AreLike, Progress, shutting, Message, unit, EndReason, AreAlike, message_in, word_in, AreUnderWay}
+use Rattle.osi_pair.proofs.Vocabulary.{◌≡◌, ℕ, suc, Bool, true, false, ◌≤◌, ◌⊎◌, inl, inr, List, [], ◌∷◌, ◌++◌, length, map, take, drop}
+use Rattle.osi_pair.proofs.Vocabulary.{Option, Some, None, refl, sym, ap, subst, ◌∙◌, append_assoc, arith, take-append_seam, length-map}
+use Rattle.osi_pair.proofs.Vocabulary.{map-append, append-nil, take-append-drop, Place, connection_in, progress_of, kind_of, AreLike}
+use Rattle.osi_pair.proofs.Vocabulary.{Progress, shutting, Message, unit, EndReason, AreAlike, message_in, word_in, AreUnderWay}
 use Rattle.osi_pair.proofs.Vocabulary.{IsOverWhenLeft, after_message, IsCalm, StaysCalm, IsNoFaultBehind, over_calm, Word, whole, part}
 use Rattle.osi_pair.proofs.Vocabulary.{joins, left_of, IsBegun, AreInOrder, MayFollow, most_data, is_leaving, DT, part_octets, First}
 use Rattle.osi_pair.proofs.Vocabulary.{Middle, Last, list_any, SessionState as State, PartPlace, list_any-append}
@@ -23,24 +23,17 @@ pub same_alike : (g : Progress) (xs ys : Sent) → xs ≡ ys → AreAlike g xs y
 same_alike g xs ys h = grind arith
 
 alike_append : (g : Progress) (xs ys zs : Sent) → AreAlike g xs ys → AreAlike g (xs ++ zs) (ys ++ zs)
-alike_append shutting xs ys zs h = map-append kind_of xs zs ∙ ap (λ l. l ++ map kind_of zs) h ∙ sym (map-append kind_of ys zs)
-alike_append progress.gone xs ys zs h = map-append kind_of xs zs ∙ ap (λ l. l ++ map kind_of zs) h ∙ sym (map-append kind_of ys zs)
-alike_append g xs ys zs h = ap (λ l. l ++ zs) h
+alike_append g xs ys zs h = grind (arith, map-append)
 
 pub map_take : {A B : Type 0} (f : A → B) (k : ℕ) (xs : List A) → map f (take k xs) ≡ take k (map f xs)
 map_take f (suc k) (x ∷ xs) = ap (λ r. f x ∷ r) (map_take f k xs)
 map_take f k xs = grind arith
 
 kinds_take : (xs ys gone : Sent) → map kind_of xs ≡ map kind_of (ys ++ gone) → map kind_of (take (length ys) xs) ≡ map kind_of ys
-kinds_take xs ys gone h =
-    map_take kind_of (length ys) xs ∙ ap (take (length ys)) (h ∙ map-append kind_of ys gone)
-    ∙ ap (λ (k : ℕ). take k (map kind_of ys ++ map kind_of gone)) (sym (length-map ys kind_of))
-    ∙ take-append_seam (map kind_of ys) (map kind_of gone)
+kinds_take xs ys gone h = grind (arith, map_take, map-append, length-map, take-append_seam)
 
 pub alike_take : (g : Progress) (xs ys gone : Sent) → AreAlike g xs (ys ++ gone) → AreAlike g (take (length ys) xs) ys
-alike_take shutting xs ys gone h = kinds_take xs ys gone h
-alike_take progress.gone xs ys gone h = kinds_take xs ys gone h
-alike_take g xs ys gone h = ap (take (length ys)) h ∙ take-append_seam ys gone
+alike_take g xs ys gone h = grind (arith, kinds_take, take-append_seam)
 
 -- ---- if one place is unchanged
 
@@ -89,16 +82,7 @@ no_begun b e h = grind arith
 -- if the receiver has ended, the words in which messages are sent no longer matter
 pub over_way : (q : Option EndReason) (g : Progress) (c : Bool) (H : About) (x : State) (ms : List Message) (xs : Sent) → H None →
     (q ≡ None → ⊥) → AreUnderWay q g c H x ms xs
-over_way q g c H x ms xs held shut = record {
-  words = map whole ms;
-  begun = None;
-  alike = λ e. absurd (shut e);
-  joined = joins_whole ms;
-  order = whole_order ms;
-  finished = λ e. whole_left ms;
-  calm = λ e. no_begun (left_of None (map whole ms)) (whole_left ms) e;
-  held = held;
-}
+over_way q g c H x ms xs held shut = grind (arith, no_begun, joins_whole ms, whole_order ms, whole_left ms)
 
 -- ---- from the end that acts
 
@@ -109,19 +93,14 @@ words_of_puts (m ∷ puts) = ap (λ (l : Sent). message_in m ∷ l) (words_of_pu
 -- words after words
 put_alike : (p : Place) (words more : List Word) (stays put new : Sent) → AreAlike (progress_of p) (map word_in words) stays →
     AreLike (connection_in p) new (stays ++ put) → map word_in more ≡ put → AreAlike (progress_of p) (map word_in (words ++ more)) new
-put_alike p words more stays put new first after same =
-    let parts : map word_in (words ++ more) ≡ map word_in words ++ put =
-    map-append word_in words more ∙ ap (λ (l : Sent). map word_in words ++ l) same in
-    subst (λ (l : Sent). AreAlike (progress_of p) l new) (sym parts)
-    (alike_back p (map word_in words ++ put) new (stays ++ put) (alike_append (progress_of p) (map word_in words) stays put first) after)
+put_alike p words more stays put new first after same = grind (arith, map-append, alike_back, alike_append)
 
 keeps_whole : (o : Option EndReason) (p : Place) (c d : Bool) (H : About) (x : State) (ms puts : List Message) (more : List Word)
     (old new stays put : Sent) → (w : AreUnderWay o (progress_of p) c H x ms old) → c ≡ false → AreWords more puts →
     (o ≡ None → AreAlike (progress_of p) (map word_in w.words) stays) → AreLike (connection_in p) new (stays ++ put) →
     map word_in more ≡ put → AreUnderWay o (progress_of p) d H x (ms ++ puts) new
 keeps_whole o p c d H x ms puts more old new stays put w uncut are first after same =
-    let y = put_words w.begun w.words more puts w.order (w.finished uncut) are in
-    grind (arith, put_alike, after, no_begun)
+    grind (arith, put_alike, no_begun, put_words w.begun w.words more puts w.order (w.finished uncut) are, w.finished uncut)
 
 -- nothing of it is lost, and something is put after it, unless what is in flight was cut
 pub out_puts : (o : Option EndReason) (p : Place) (c d : Bool) (H : About) (x : State) (ms puts : List Message) (more : List Word)
@@ -156,17 +135,11 @@ pub record Takes (x : State) (ms : List Message) : Type 0 where
 
 -- so do they of the first of it
 pub front_takes : (x : State) (ms more : List Message) → Takes x (ms ++ more) → Takes x ms
-front_takes x ms more t = record {
-  behind = λ ahead octets rest is. t.behind ahead octets (rest ++ more)
-      (ap (λ (l : List Message). l ++ more) is ∙ append_assoc ahead (unit (DT octets) ∷ rest) more);
-  left = λ away. t.left (list_any-append is_leaving ms more ∙ ap (λ (b : Bool). b || list_any is_leaving more) away);
-}
+front_takes x ms more t = grind (arith, append_assoc, list_any-append)
 
 front_calm : (x : State) (left : Option (List ℕ)) (ms all : List Message) → Takes x all → (IsBegun left → StaysCalm x all) →
     FrontOf left ms all → StaysCalm x ms
-front_calm x left ms all takes calm (inl a) = takes.behind ms a.octets a.rest a.is
-front_calm x left ms all takes calm (inr (inl away)) = over_calm x ms (takes.left away)
-front_calm x left ms all takes calm (inr (inr same)) = subst (StaysCalm x) same.is (calm same.begins)
+front_calm x left ms all takes calm h = grind (arith, over_calm)
 
 -- this many messages are left
 pub record Left (o : Option EndReason) (g : Progress) (d : Bool) (H : About) (x : State) (ms puts : List Message)
@@ -272,37 +245,17 @@ record SplitWords (g h : Progress) (words : List Word) (m : carrier.Message) (re
 split_same : (g : Progress) (ms : List Word) (m : carrier.Message) (rest : Sent) → ((xs ys : Sent) → xs ≡ ys → AreAlike g xs ys) →
     map word_in ms ≡ m ∷ rest → SplitWords g g ms m rest
 split_same g [] m rest f h = cc
-split_same g (x ∷ ms) m rest f h =
-    let one : word_in x ≡ m = cc in
-    let more : map word_in ms ≡ rest = cc in
-    record {
-      first = x;
-      others = ms;
-      parts = refl;
-      is = f (word_in x ∷ []) (m ∷ []) (ap (λ y. y ∷ []) one);
-      stays = f (map word_in ms) rest more;
-    }
+split_same g (x ∷ ms) m rest f h = grind arith
 
 split_kinds : (g : Progress) (ms : List Word) (m : carrier.Message) (rest : Sent) →
     ((xs ys : Sent) → map kind_of xs ≡ map kind_of ys → AreAlike g xs ys) → map kind_of (map word_in ms) ≡ map kind_of (m ∷ rest) →
     SplitWords g g ms m rest
 split_kinds g [] m rest f h = cc
-split_kinds g (x ∷ ms) m rest f h =
-    let one : kind_of (word_in x) ≡ kind_of m = cc in
-    let more : map kind_of (map word_in ms) ≡ map kind_of rest = cc in
-    record {
-      first = x;
-      others = ms;
-      parts = refl;
-      is = f (word_in x ∷ []) (m ∷ []) (ap (λ y. y ∷ []) one);
-      stays = f (map word_in ms) rest more;
-    }
+split_kinds g (x ∷ ms) m rest f h = grind arith
 
 split : (g : Progress) (ms : List Word) (m : carrier.Message) (rest : Sent) → AreAlike g (map word_in ms) (m ∷ rest) →
     SplitWords g g ms m rest
-split shutting ms m rest h = split_kinds shutting ms m rest (λ xs ys e. e) h
-split progress.gone ms m rest h = split_kinds progress.gone ms m rest (λ xs ys e. e) h
-split g ms m rest h = split_same g ms m rest (λ xs ys e. e) h
+split g ms m rest h = grind (arith, split_kinds, split_same)
 
 -- the way after it, if this has begun, to a session with this state
 abbrev pub BehindFirst : Progress → Bool → Option (List ℕ) → State → List Message → Sent → Type 0
@@ -310,8 +263,7 @@ BehindFirst h d begun x ms rest = AreUnderWay None h d (λ b. b ≡ begun) x ms 
 
 pub behind_first : (q : Option EndReason) (h : Progress) (d : Bool) (K : About) (begun : Option (List ℕ)) (x y : State) (ms : List Message)
     (rest : Sent) → BehindFirst h d begun x ms rest → K begun → (StaysCalm x ms → StaysCalm y ms) → AreUnderWay q h d K y ms rest
-behind_first q h d K begun x y ms rest w held calms =
-    as_now None q h h d d (λ b. b ≡ begun) K x y ms rest rest w (λ e. e) (λ b e. subst K (sym e) held) calms (λ e. w.alike refl)
+behind_first q h d K begun x y ms rest w held calms = grind (arith, as_now)
 
 -- a message comes by itself
 pub record IsAlone (g : Progress) (H : About) (first : Message) (m : carrier.Message) : Type 0 where
@@ -404,44 +356,9 @@ split_way g h d H x ms m rest begun (whole first) others is stays joined order f
     held = refl;
   };
 })
-split_way g h d H x ms m rest begun (part First o) others is stays joined order finished calm held = inr (record {
-  place = First;
-  octets = o;
-  is = is;
-  now = o;
-  short = order.1;
-  how = inl (record { place_is = refl; now_is = refl; held = subst H order.0 held });
-  stays = record {
-    words = others;
-    begun = Some o;
-    alike = λ e. stays;
-    joined = joined;
-    order = order.2;
-    finished = finished;
-    calm = calm;
-    held = refl;
-  };
-  next = part_next x o others ms joined order.2 calm;
-})
-split_way g h d H x ms m rest (Some b) (part Middle o) others is stays joined order finished calm held = inr (record {
-  place = Middle;
-  octets = o;
-  is = is;
-  now = b ++ o;
-  short = order.1;
-  how = inr (record { place_is = refl; front = b; now_is = refl; held = held });
-  stays = record {
-    words = others;
-    begun = Some (b ++ o);
-    alike = λ e. stays;
-    joined = joined;
-    order = order.2;
-    finished = finished;
-    calm = calm;
-    held = refl;
-  };
-  next = part_next x (b ++ o) others ms joined order.2 calm;
-})
+split_way g h d H x ms m rest begun (part First o) others is stays joined order finished calm held = search (arith, part_next)
+split_way g h d H x ms m rest (Some b) (part Middle o) others is stays joined order finished calm held =
+    search (arith, part_next x (b ++ o) others ms joined order.2 calm)
 split_way g h d H x ms m rest (Some b) (part Last o) others is stays joined order finished calm held = inl (record {
   first = unit (DT (b ++ o));
   others = joins None others;
@@ -480,19 +397,13 @@ pub record Alone (g h : Progress) (d : Bool) (H : About) (x : State) (ms : List 
 
 pub alone_of : (g h : Progress) (d : Bool) (H : About) (x : State) (ms : List Message) (m : carrier.Message) (rest : Sent) →
     is_tsdu m ≡ false → Comes g h d H x ms m rest → Alone g h d H x ms m rest
-alone_of g h d H x ms m rest e (inl s) = elim s.how [
-  | inl a ↦ record { first = s.first; others = s.others; parts = s.parts; kind = s.kind; alone = a; stays = s.stays }
-  | inr l ↦ absurd (no_part g (part_octets Last l.last) m e l.is)
-]
-alone_of g h d H x ms m rest e (inr q) = absurd (no_part g (part_octets q.place q.octets) m e q.is)
+alone_of g h d H x ms m rest e h2 = search (arith, no_part)
 
 -- a message arrived
 comes_first : (row : Row) (old new : Place) (words : List Word) (m : carrier.Message) (ys rest : Sent) → progress_of old ≡ before row →
     progress_of new ≡ after row → AreAlike (progress_of old) (map word_in words) ys → AreLike (connection_in new) ys (m ∷ rest) →
     SplitWords (before row) (after row) words m rest
-comes_first row old new ms m ys rest e f h k =
-    let s = split (before row) ms m rest (grind (arith, subst (λ (g : Progress). AreAlike g (map word_in ms) ys) e h)) in
-    record { first = s.first; others = s.others; parts = s.parts; is = s.is; stays = (grind (arith, s.stays)) }
+comes_first row old new ms m ys rest e f h k = search (arith, split, before)
 
 pub back_comes : (row : Row) (o : Option EndReason) (old new : Place) (c d : Bool) (H : About) (x : State) (ms : List Message)
     (m : carrier.Message) (ys rest : Sent) → progress_of old ≡ before row → progress_of new ≡ after row →

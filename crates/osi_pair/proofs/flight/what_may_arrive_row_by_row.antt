@@ -3,12 +3,11 @@
 -- For what is in flight, turns, breaks and ends, packets and carries.
 use Rattle.osi_between.specs.Messages.{Message, ask, agree, deny, bye, over}
 use Rattle.osi_between.specs.Progress as progress
-use Rattle.osi_pair.proofs.Vocabulary.{◌≡◌, ℕ, zero, suc, true, false, List, [], ◌∷◌, Some, refl, arith, flat_map, AllByRecursion, Value}
-use Rattle.osi_pair.proofs.Vocabulary.{request, confirm, disconnect, disconnected, data0, data2, acknowledge, Place, never, was_given}
-use Rattle.osi_pair.proofs.Vocabulary.{connection_in, Happening, tsdu, closed, asked, linked, closing, told_of, answers_in, progress_of}
-use Rattle.osi_pair.proofs.Vocabulary.{message, messages_after, begun_at, Progress, not_yet, awaiting, in_use, shutting, behind_arrivals}
-use Rattle.osi_pair.proofs.Vocabulary.{behind_puts, may_arrive, Terms, by_two, by_zero, refusing, accepts_in, Link as Standing}
-use Rattle.osi_pair.proofs.Vocabulary.{told_opened as opened, told_refused as refused}
+use Rattle.osi_pair.proofs.Vocabulary.{◌≡◌, ℕ, zero, true, List, [], ◌∷◌, Some, refl, arith, flat_map, AllByRecursion, Value, request}
+use Rattle.osi_pair.proofs.Vocabulary.{confirm, disconnect, Place, never, was_given, connection_in, Happening, tsdu, closed, asked, linked}
+use Rattle.osi_pair.proofs.Vocabulary.{closing, told_of, answers_in, progress_of, message, messages_after, begun_at, Progress, not_yet}
+use Rattle.osi_pair.proofs.Vocabulary.{awaiting, in_use, shutting, behind_arrivals, behind_puts, may_arrive, Terms, by_two, by_zero}
+use Rattle.osi_pair.proofs.Vocabulary.{refusing, accepts_in, Link as Standing, told_opened as opened, told_refused as refused}
 use Rattle.osi_pair.proofs.flight.which_unit_arrives_first.{comes}
 
 pub data Row : Type 0 where
@@ -144,17 +143,7 @@ row_linked : (terms : Terms) (n peer : ℕ) (link : Standing) (u : Value) → ac
     ((v : Value) → answers_in terms (was_given (Some (linked peer link))) v ≡ answers_in by_two (was_given (Some (linked peer link))) v) →
     HasRow terms n (was_given (Some (linked peer link))) (messages_after link.ends.joining.begun (u ∷ []))
     (answers_in terms (was_given (Some (linked peer link))) u)
-row_linked terms n peer link (data0 false user) e h a = row_quiet terms n peer link _ e (a (data0 false user))
-row_linked terms n peer link (data0 true user) e h a = row_tells terms n peer link _ _ e (a (data0 true user))
-row_linked terms n peer link (data2 destination number false user) e h a =
-    row_quiet terms n peer link _ e (a (data2 destination number false user))
-row_linked terms n peer link (data2 destination number true user) e h a =
-    row_tells terms n peer link _ _ e (a (data2 destination number true user))
-row_linked terms n peer link (acknowledge credit destination number) e h a =
-    row_quiet terms n peer link _ e (a (acknowledge credit destination number))
-row_linked terms n peer link (disconnect destination (suc source) reason user) e h a =
-    row_leaves terms n peer link reason _ e (a (disconnect destination (suc source) reason user))
-row_linked terms n peer link u e h a = cc
+row_linked terms n peer link u e h a = grind (arith, row_quiet, row_tells, row_leaves)
 
 -- at one that is closing
 row_still : (terms : Terms) (n peer : ℕ) (put : List Message) → accepts_in terms ≡ true → put ≡ [] →
@@ -184,13 +173,7 @@ May from arrived = AllByRecursion (λ m. may_arrive from m ≡ true) arrived
 
 row_closing : (terms : Terms) (n peer : ℕ) (u : Value) (put : List Message) → accepts_in terms ≡ true →
     May shutting (messages_after [] (u ∷ [])) → put ≡ [] → HasRow terms n (was_given (Some (closing peer))) (messages_after [] (u ∷ [])) put
-row_closing terms n peer (request c) put e may none = row_shut terms n peer ask put e may.0 none
-row_closing terms n peer (confirm destination c) put e may none = row_shut terms n peer agree put e may.0 none
-row_closing terms n peer (disconnect destination source reason user) put e may none = row_shut terms n peer _ put e may.0 none
-row_closing terms n peer (disconnected destination source) put e may none = row_shut terms n peer over put e may.0 none
-row_closing terms n peer (data0 true user) put e may none = row_shut terms n peer _ put e may.0 none
-row_closing terms n peer (data2 destination number true user) put e may none = row_shut terms n peer _ put e may.0 none
-row_closing terms n peer u put e may none = row_still terms n peer put e none
+row_closing terms n peer u put e may none = grind (arith, row_shut, row_still)
 
 pub row_of : (terms : Terms) (n : ℕ) (place : Place) (u : Value) → comes (accepts_in terms) place u ≡ true →
     AllByRecursion (λ m. may_arrive (progress_of place) m ≡ true) (messages_after (begun_at (connection_in place)) (u ∷ [])) →

@@ -1,7 +1,7 @@
 -- Whether something of what is in flight was cut off.
 -- For turns, calls, breaks and ends, packets, carries and the promises.
-use Rattle.osi_pair.proofs.Vocabulary.{◌≡◌, sym, ap, ◌∙◌, ℕ, ◌<◌, ◌≤◌, ◌⊎◌, Bool, true, false, ◌||◌, None, is_some, arith, is_cut, Holding}
-use Rattle.osi_pair.proofs.Vocabulary.{TwoEnds, end_at, with_end, other, is_caller, carriers_of, Side}
+use Rattle.osi_pair.proofs.Vocabulary.{◌≡◌, ℕ, ◌<◌, ◌≤◌, ◌⊎◌, Bool, true, false, None, is_some, arith, is_cut, Holding, TwoEnds, end_at}
+use Rattle.osi_pair.proofs.Vocabulary.{with_end, other, is_caller, carriers_of, Side}
 
 -- the end of the side has not ended
 abbrev pub Lasts : Side → TwoEnds → Type 0
@@ -24,8 +24,7 @@ cut_none s p broken is alive e = grind arith
 
 pub cut_broken : (s : Side) (p new : TwoEnds) (broken : Bool) → broken ≡ is_some p.reach → new.reach ≡ p.reach → broken ≡ true →
     is_cut (is_caller s) (carriers_of new) ≡ true
-cut_broken s p new broken is reach e =
-    grind arith ∙ ap (λ (b : Bool). b || is_some (end_at s new).end.carrier.ended) (ap is_some reach ∙ sym is ∙ e)
+cut_broken s p new broken is reach e = grind arith
 
 -- ---- an end is another
 

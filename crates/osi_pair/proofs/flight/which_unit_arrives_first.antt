@@ -79,8 +79,7 @@ open_first n (g ∷ gs) u vs e = same_open u (unit_of n g) (first_is (unit_of n 
 left_first : (n reason : ℕ) (gs : List Given) (u : Value) (vs : List Value) → 0 < n → addressed n gs ++ leaving n reason ∷ [] ≡ u ∷ vs →
     comes_open u ≡ true
 left_first n reason [] u vs some e = same_open u (leaving n reason) (first_is (leaving n reason) u [] vs e) (grind arith)
-left_first n reason (g ∷ gs) u vs some e =
-    same_open u (unit_of n g) (first_is (unit_of n g) u (addressed n gs ++ leaving n reason ∷ []) vs e) (given_open n g)
+left_first n reason (g ∷ gs) u vs some e = grind (arith, same_open, first_is, given_open)
 
 met_comes : (n : ℕ) (m : Meeting) (u : Value) (vs : List Value) → 0 < n → out n (mirror m) ≡ u ∷ vs →
     comes true (was_given (here n m)) u ≡ true
@@ -112,10 +111,8 @@ confirm_comes c n u e = subst (λ (x : Value). comes_asked true x ≡ true) e re
 
 to_caller : (n : ℕ) (caller called : State) (g : Course) (u : Value) (vs : List Value) → 0 < n → Holds n caller called g →
     from_end false n called.local g ≡ u ∷ vs → ComesBy true n caller g (at_end true n g) u
-to_caller n caller called (accepting c p) u vs some h e =
-    record { may = confirm_comes _ n u (first_is _ u _ vs e); class = λ x. cc; given = λ x. cc; waits = λ x. refl }
-to_caller n caller called (withdrawing c p reason) u vs some h e =
-    record { may = confirm_comes _ n u (first_is _ u _ vs e); class = λ x. cc; given = λ x. cc; waits = λ x. refl }
+to_caller n caller called (accepting c p) u vs some h e = grind (arith, confirm_comes, first_is)
+to_caller n caller called (withdrawing c p reason) u vs some h e = grind (arith, confirm_comes, first_is)
 to_caller n caller called (met m) u vs some h e =
     record { may = met_comes n m u vs some e; class = λ x. h.class; given = λ x. cc; waits = λ x. refl }
 to_caller n caller called g u vs some h e = none_first u vs e
@@ -125,15 +122,8 @@ request_comes c u e = subst (λ (x : Value). comes_new x ≡ true) e refl
 
 to_called : (n : ℕ) (caller called : State) (g : Course) (u : Value) (vs : List Value) → 0 < n → Holds n caller called g →
     from_end true n called.local g ≡ u ∷ vs → ComesBy false n caller g (at_end false n g) u
-to_called n caller called (asking c) u vs some h e =
-    record { may = request_comes c u (first_is (request c) u [] vs e); class = λ x. cc; given = λ x. cc; waits = λ x. cc }
-to_called n caller called (met m) u vs some h e =
-    record {
-      may = met_back n m u vs some e;
-      class = λ x. h.class;
-      given = λ x. cc;
-      waits = λ x. not_asked (was_given (here n (mirror m))) (grind arith) x;
-    }
+to_called n caller called (asking c) u vs some h e = grind (arith, request_comes, first_is)
+to_called n caller called (met m) u vs some h e = grind (arith, not_asked, met_back n m u vs some e)
 to_called n caller called g u vs some h e = none_first u vs e
 
 given_by : (n given : ℕ) (o : Option Connection) (b : Bool) → nat_lt given n ≡ b →
@@ -184,30 +174,14 @@ one_first (g ∷ gs) u vs e = one_unit u (unit_of 1 g) (first_is (unit_of 1 g) u
 
 zero_to_caller : (caller called : Local) (g : ZeroCourse) (u : Value) (vs : List Value) → zero_class.Holds caller called g →
     zero_class.from_end false called g ≡ u ∷ vs → ZeroBy true (zero_class.at_end true g) (zero_class.at_end true g) u
-zero_to_caller caller called (zero_class.accepting c p) u vs h e =
-    record {
-      first = one_unit u (confirm 1 _) (first_is _ u _ vs e) refl;
-      may = confirm_comes _ 1 u (first_is _ u _ vs e);
-      class = λ x. cc;
-      given = refl;
-      waits = λ x. refl;
-    }
-zero_to_caller caller called (zero_class.talking p) u vs h e =
-    record { first = one_first p.leftward u vs e; may = open_first 1 p.leftward u vs e; class = λ x. refl; given = refl; waits = λ x. refl }
+zero_to_caller caller called (zero_class.accepting c p) u vs h e = grind (arith, one_unit, first_is, confirm_comes)
+zero_to_caller caller called (zero_class.talking p) u vs h e = search (arith, one_first, open_first)
 zero_to_caller caller called g u vs h e = none_first u vs e
 
 zero_to_called : (caller called : Local) (g : ZeroCourse) (u : Value) (vs : List Value) → zero_class.Holds caller called g →
     zero_class.from_end true called g ≡ u ∷ vs → ZeroBy false (zero_class.at_end true g) (zero_class.at_end false g) u
-zero_to_called caller called (zero_class.asking c) u vs h e =
-    record {
-      first = one_unit u (request c) (first_is (request c) u [] vs e) (source_is 1 caller c h);
-      may = request_comes c u (first_is (request c) u [] vs e);
-      class = λ x. cc;
-      given = refl;
-      waits = λ x. cc;
-    }
-zero_to_called caller called (zero_class.talking p) u vs h e =
-    record { first = one_first p.rightward u vs e; may = open_first 1 p.rightward u vs e; class = λ x. refl; given = refl; waits = λ x. cc }
+zero_to_called caller called (zero_class.asking c) u vs h e = grind (arith, one_unit, first_is, source_is, request_comes)
+zero_to_called caller called (zero_class.talking p) u vs h e = search (arith, one_first, open_first)
 zero_to_called caller called g u vs h e = none_first u vs e
 
 place_by : (n : ℕ) (s : State) (given : ℕ) (live : Rows Connection) → s.given ≡ given → s.live ≡ live →
@@ -216,26 +190,18 @@ place_by n s given live e f = grind arith
 
 zero_first : (end : Bool) (caller taker : State) (there place : Place) (u : Value) → HasOne caller there → HasOne taker place →
     ZeroBy end there place u → IsFirstFor by_zero end caller (place_at (reference_of u) taker) u
-zero_first end caller taker there place u one other z =
-    let at : place_at (reference_of u) taker ≡ place = ap (λ (n : ℕ). place_at n taker) z.first ∙ one_place taker place other in
-    let first = z.first in
-    let given : caller.given ≡ 1 = one.given ∙ z.given in
-    let may = subst (λ (p : Place). comes true p u ≡ true) (sym at) z.may in
-    grind arith
+zero_first end caller taker there place u one other z = search (arith, one_place)
 
 -- ---- if CRs are refused
 
 never_at : (n : ℕ) (s : State) → 0 < n → s.given ≡ 0 → place_at n s ≡ never
-never_at n s some e = place_by n s 0 s.live e refl
-    ∙ ap (λ (b : Bool). if◌then◌else◌ {A = Place} b never (was_given (value_at n s.live))) (let less : nat_lt 0 n ≡ true =
-    grind (arith, nat_tests) in less)
+never_at n s some e = grind (arith, place_by, nat_tests)
 
 refusing_to_called : (reason : ℕ) (caller called : State) (stage : Refusal) (u : Value) (vs : List Value) → refusal.Holds caller stage →
     called.given ≡ 0 → refusal.from_end true reason caller.given stage ≡ u ∷ vs →
     IsFirstFor (refusing reason) false caller (place_at (reference_of u) called) u
-refusing_to_called reason caller called (refusal.asking c) u vs h zero_given e =
-    grind (arith, first_is, source_is, never_at, request_comes, not_asked)
-refusing_to_called reason caller called stage u vs h zero_given e = none_first u vs e
+refusing_to_called reason caller called stage u vs h zero_given e =
+    grind (arith, first_is, source_is, never_at, request_comes, not_asked, none_first)
 
 -- ---- at either end
 
@@ -243,18 +209,15 @@ to_caller_by : (terms : Terms) (caller called : State) (going coming : List Valu
     AreJoinedBy terms caller called going coming → coming ≡ u ∷ rest → IsFirstFor terms true caller (place_at (reference_of u) caller) u
 to_caller_by by_two caller called going coming u rest j e = two_to_caller caller called going coming u rest j e
 to_caller_by by_zero caller called going coming u rest j e =
-    zero_first true caller caller (zero_class.at_end true j.course) (zero_class.at_end true j.course) u j.one j.one
-    (zero_to_caller caller.local called.local j.course u rest j.holds (sym j.coming ∙ e))
+    search (arith, zero_first, zero_to_caller caller.local called.local j.course u rest j.holds (sym j.coming ∙ e))
 to_caller_by (refusing reason) caller called going coming u rest j e = grind (arith, j.holds, j.live, sym j.coming ∙ e)
 
 to_called_by : (terms : Terms) (caller called : State) (going coming : List Value) (u : Value) (rest : List Value) →
     AreJoinedBy terms caller called going coming → going ≡ u ∷ rest → IsFirstFor terms false caller (place_at (reference_of u) called) u
 to_called_by by_two caller called going coming u rest j e = two_to_called caller called going coming u rest j e
 to_called_by by_zero caller called going coming u rest j e =
-    zero_first false caller called (zero_class.at_end true j.course) (zero_class.at_end false j.course) u j.one j.one_called
-    (zero_to_called caller.local called.local j.course u rest j.holds (sym j.going ∙ e))
-to_called_by (refusing reason) caller called going coming u rest j e =
-    refusing_to_called reason caller called j.stage u rest j.holds j.given_called (sym j.going ∙ e)
+    search (arith, zero_first, zero_to_called caller.local called.local j.course u rest j.holds (sym j.going ∙ e))
+to_called_by (refusing reason) caller called going coming u rest j e = search (arith, refusing_to_called)
 
 pub first_for : (terms : Terms) (end : Bool) (both : Both) (b : Between) (u : Value) (rest : List Value) → AreBetween terms both b →
     units_from (not end) b ≡ u ∷ rest → IsFirstFor terms end b.caller (place_at (reference_of u) (last_of end b)) u

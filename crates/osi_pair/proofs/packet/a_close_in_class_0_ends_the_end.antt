@@ -4,13 +4,12 @@
 use Rattle.osi_carrier.specs.State as carriers
 use Rattle.osi_machine.specs.Worlds as worlds
 use Rattle.osi_pair.specs.Entries.{ends}
-use Rattle.osi_pair.proofs.Vocabulary.{◌≡◌, ℕ, ◌≤◌, Bool, true, false, List, [], ◌∷◌, ◌++◌, map, Option, Some, None, refl, sym, ap, subst}
-use Rattle.osi_pair.proofs.Vocabulary.{◌∙◌, arith, append-nil, append_assoc, map-append, Held, closed_with, RiseFrom, AreUpTo, Rows}
-use Rattle.osi_pair.proofs.Vocabulary.{value_at, State, linked, Closed, Between, AreBetween, Terms, by_zero, closed_here, delivers}
-use Rattle.osi_pair.proofs.Vocabulary.{shown_at, Tables, closes_by, stays, after_end, step, Message, Meaning, tsdus_sent, Input, react}
-use Rattle.osi_pair.proofs.Vocabulary.{Shown, after_packet, concludes, all_lost, answers, End, answers_by, TwoEnds, end_at, Entry, side_in}
-use Rattle.osi_pair.proofs.Vocabulary.{carriers_of, Stands, waiting_in, quieted, shown_entries, Side, Left, Right, Link, noted_in}
-use Rattle.osi_pair.proofs.Vocabulary.{EndLine as Line}
+use Rattle.osi_pair.proofs.Vocabulary.{◌≡◌, ℕ, ◌≤◌, Bool, true, List, [], ◌∷◌, ◌++◌, map, Some, None, refl, sym, ap, subst, ◌∙◌, arith}
+use Rattle.osi_pair.proofs.Vocabulary.{append-nil, append_assoc, map-append, Held, closed_with, RiseFrom, AreUpTo, Rows, value_at, State}
+use Rattle.osi_pair.proofs.Vocabulary.{linked, Closed, Between, AreBetween, Terms, by_zero, closed_here, delivers, Tables, after_end, step}
+use Rattle.osi_pair.proofs.Vocabulary.{tsdus_sent, Input, react, Shown, after_packet, concludes, all_lost, answers, End, answers_by}
+use Rattle.osi_pair.proofs.Vocabulary.{TwoEnds, end_at, Entry, side_in, carriers_of, Stands, waiting_in, quieted, shown_entries, Side, Left}
+use Rattle.osi_pair.proofs.Vocabulary.{Right, Link, EndLine as Line}
 use Rattle.osi_pair.proofs.packet.when_a_session_replies_or_closes.{AnswerLaws, closes_alone, known_zero}
 use Rattle.osi_pair.proofs.packet.a_reply_or_close_keeps_the_match.{answered_end, line_with, closing_by, move_ends, linked_closes}
 use Rattle.osi_pair.proofs.packet.a_reply_or_close_keeps_the_match.{moved_order}
@@ -42,28 +41,20 @@ alone_by k lines most rise up = grind arith
 
 -- what is pending, and then the indications of its session's loss
 alone_shows : (lines : Rows Line) → IsAlone lines → waiting_in (all_lost lines) ≡ waiting_in lines ++ waiting_in (all_lost (quieted lines))
-alone_shows [] alone = refl
-alone_shows ((r, l) ∷ []) alone = grind (arith, append-nil, map, map-append)
-alone_shows (x ∷ (y ∷ lines)) alone = absurd alone
+alone_shows lines alone = grind (arith, append-nil, map-append)
 
 -- ---- the two ends
 
 shown_apart : (s : Side) (before : List Entry) (first second : List (ℕ × Shown)) (last : List Entry) →
     before ++ (shown_entries s (first ++ second) ++ last) ≡ (before ++ shown_entries s first) ++ (shown_entries s second ++ last)
-shown_apart s before first second last =
-    ap (λ (es : List Entry). before ++ (es ++ last)) (map-append _ first second)
-    ∙ ap (λ (es : List Entry). before ++ es) (append_assoc (shown_entries s first) (shown_entries s second) last)
-    ∙ sym (append_assoc before (shown_entries s first) (shown_entries s second ++ last))
+shown_apart s before first second last = grind (arith, map-append, append_assoc)
 
 -- what they received, in two parts
 says_so : (s : Side) (before : List Entry) (n : ℕ) (shown : List Shown) (lines : Rows Line) (last : List Entry) →
     waiting_in lines ≡ map (λ x. (n, x)) shown → IsAlone lines →
     before ++ (shown_entries s (waiting_in (all_lost lines)) ++ last) ≡ (before ++ shown_entries s (map (λ x. (n, x)) shown)) ++
     (shown_entries s (waiting_in (all_lost (quieted lines))) ++ last)
-says_so s before n shown lines last waits alone =
-    ap (λ (w : List (ℕ × Shown)). before ++ (shown_entries s w ++ last))
-    (alone_shows lines alone ∙ ap (λ (w : List (ℕ × Shown)). w ++ waiting_in (all_lost (quieted lines))) waits)
-    ∙ shown_apart s before (map (λ x. (n, x)) shown) (waiting_in (all_lost (quieted lines))) last
+says_so s before n shown lines last waits alone = grind (arith, alone_shows, shown_apart)
 
 zero_stands : (s : Side) (p : TwoEnds) (a : State) (lines : Rows Line) (h : Held) (n : ℕ) (shown : List Shown) (now : Between)
     (t : Tables) → Stands (turned_pair s (record { carrier = a; lines = quieted lines }) h n shown p) now t → TakesFrom s t →
@@ -94,10 +85,8 @@ closes_carrier : CarrierLaws →
     (s : Side) (p : TwoEnds) (e : End) (h : Held) (n : ℕ) (shown : List Shown) (now : Between) (peer : ℕ) (link : Link) →
     AreBetween by_zero (carriers_of (turned_pair s e h n shown p)) now → e.carrier.ended ≡ None →
     value_at n e.carrier.live ≡ Some (linked peer link) → closed_with n 128 e.carrier ≡ carriers.ends Closed e.carrier
-closes_carrier laws Left p e h n shown now peer link a lasts at =
-    laws.closed_in_0 true (carriers_of (turned_pair Left e h n shown p)) now n peer link 128 a lasts at
-closes_carrier laws Right p e h n shown now peer link a lasts at =
-    laws.closed_in_0 false (carriers_of (turned_pair Right e h n shown p)) now n peer link 128 a lasts at
+closes_carrier laws Left p e h n shown now peer link a lasts at = grind (arith, turned_pair)
+closes_carrier laws Right p e h n shown now peer link a lasts at = grind (arith, turned_pair)
 
 -- ---- the tables
 
@@ -106,16 +95,7 @@ shut_step : (s : Side) (p : TwoEnds) (t : Tables) (packet : List ℕ) (h : Held)
     known_by t v.m ≡ Some worlds.class_0 → (move_of v.m).closes ≡ true → (move_of v.m).reply ≡ None →
     step t (delivers (side_in s) v.m.n keep) ≡ after_end (side_in s) closed_here keep (moved_tables s t v.m)
 shut_step s p t packet h v keep known closing reply =
-    let m = v.m in
-    let t0 = record t { known = known_by t m } in
-    let es = map (shown_at (side_in s) m.n) (move_of m).shown in
-    v.steps keep ∙ closing_by t0 (side_in s) m.n keep (turn_of t.broken m) closing
-    ∙ ap (λ (o : Option worlds.Class). closes_by o (noted_in es t0) (side_in s) m.n keep (turn_of t.broken m).line) known
-    ∙ ap (λ (o : Option Meaning). after_end (side_in s) closed_here keep (noted_in es (stays t0 (side_in s) m.n (line_with t.broken m o))))
-    reply
-    ∙ ap (λ (ms : List Message). after_end (side_in s) closed_here keep
-    (noted_in es (stays t0 (side_in s) m.n (line_then m.row (move_of m).next ms m.rest m.seen))))
-    (put_nothing t.broken m.seen.own.channel)
+    search (arith, known_by, move_of, closing_by, turn_of, line_with, line_then, put_nothing)
 
 -- ---- the packet
 

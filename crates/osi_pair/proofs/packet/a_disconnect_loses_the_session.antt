@@ -6,7 +6,7 @@ use Rattle.osi_machine.specs.Worlds as worlds
 use Rattle.osi_pair.proofs.Vocabulary.{◌≡◌, ℕ, Bool, true, false, List, [], ◌∷◌, map, take, Option, is_some, refl, sym, ap, subst, ◌∙◌}
 use Rattle.osi_pair.proofs.Vocabulary.{arith, Held, Place, place_at, State as Carrier, reference_of, Between, last_of, under_way, put_in}
 use Rattle.osi_pair.proofs.Vocabulary.{is_cut, progress_of, IsTableRun, delivers, learns, Seat, Line as TableLine, Turn, Tables, seen_from}
-use Rattle.osi_pair.proofs.Vocabulary.{step, without_first, message_taken, Message, over, Transport, put, replied, Meaning, tsdus_sent}
+use Rattle.osi_pair.proofs.Vocabulary.{step, without_first, message_taken, Message, over, put, replied, Meaning, tsdus_sent}
 use Rattle.osi_pair.proofs.Vocabulary.{broken as broken_off, Standing, Move, react, after_packet, concludes, answers, End, answers_by}
 use Rattle.osi_pair.proofs.Vocabulary.{hands_none, TwoEnds, end_at, other, side_in, is_caller, carriers_of, message_in, Stands, Goes}
 use Rattle.osi_pair.proofs.Vocabulary.{HasJoined, quieted, Side, kind_of}
@@ -69,11 +69,7 @@ taken_leaves : (broken : Bool) (terms : worlds.Terms) (keep reason : ℕ) (l : T
     l.own.transport ≡ worlds.linked → kind_of (message_in m) ≡ carrier.bye reason →
     message_taken broken terms keep l.own.transport (without_first l xs) m ≡ left_turn broken keep (leaves reason)
     (react l.own.session broken_off) xs l
-taken_leaves broken terms keep reason l m xs tr e =
-    ap (λ (t : Transport). message_taken broken terms keep t
-    (record { own = seat_now t l.own.session l.own.channel; peer = record l.peer { channel = xs } }) m) tr
-    ∙ turn_leaves broken terms keep reason l.own.session l.own.channel (record l.peer { channel = xs }) m e
-    ∙ grind (arith, silent_broken, put_nothing, take)
+taken_leaves broken terms keep reason l m xs tr e = grind (arith, seat_now, turn_leaves, silent_broken, put_nothing)
 
 -- ---- what is in flight from it
 

@@ -12,10 +12,10 @@ use Rattle.osi_pair.proofs.Vocabulary.{RiseFrom, Rows, value_at, State, referenc
 use Rattle.osi_pair.proofs.Vocabulary.{under_way, progress_of, leaves_use, shutting, Terms, beyond, Step, delivers, HasNumber}
 use Rattle.osi_pair.proofs.Vocabulary.{Line as TableLine, Tables, end_of, step, run, start, Message, after_unit, carries_out, AllCameAbout}
 use Rattle.osi_pair.proofs.Vocabulary.{after_packet, attends, concludes, opens, IsSound, told_all, End, IsAttended, rise_joins, TwoEnds}
-use Rattle.osi_pair.proofs.Vocabulary.{end_at, Entry, side_in, is_caller, terms_in, carriers_of, packet_taken, AreDeliveries}
-use Rattle.osi_pair.proofs.Vocabulary.{StandsAtDeliveries, IsInOrder, Stands, StandsAt, Goes, HasJoined, message_in, waiting_in, Side, Left}
-use Rattle.osi_pair.proofs.Vocabulary.{Right, is_leaving, other, kind_of as message_kind, after_message, StaysCalm, told_opened as opened}
-use Rattle.osi_pair.proofs.Vocabulary.{awaits_cn as awaits, SessionState}
+use Rattle.osi_pair.proofs.Vocabulary.{end_at, side_in, is_caller, terms_in, carriers_of, packet_taken, AreDeliveries, StandsAtDeliveries}
+use Rattle.osi_pair.proofs.Vocabulary.{IsInOrder, Stands, StandsAt, Goes, HasJoined, message_in, waiting_in, Side, Left, Right, is_leaving}
+use Rattle.osi_pair.proofs.Vocabulary.{other, kind_of as message_kind, after_message, StaysCalm, told_opened as opened, awaits_cn as awaits}
+use Rattle.osi_pair.proofs.Vocabulary.{SessionState}
 use Rattle.osi_pair.proofs.flight.a_taken_packet_is_one_row.{CarrierLaws, packet_acts}
 use Rattle.osi_pair.proofs.packet.a_request_begins_a_session.{asks_same, begun_lines, begun_waits, begins_unit, new_at}
 use Rattle.osi_pair.proofs.turn.what_remains_when_a_unit_was_taken.{terms_at, DidAt, is_agree, last_is, order_of, was_at, PacketAt}
@@ -114,16 +114,7 @@ record IsRestRow (row : Row) (n : ℕ) : Type 0 where
   told : told_for n row ≡ []
 
 refuses_row : (n reason : ℕ) → IsRestRow (refuses reason) n
-refuses_row n reason = record {
-  got = carrier.ask;
-  one = refl;
-  rest = refl;
-  resting = refl;
-  agree = refl;
-  awaited = refl;
-  stays = refl;
-  told = refl;
-}
+refuses_row n reason = grind arith
 
 ignores_row : (n : ℕ) (octets : List ℕ) → IsRestRow (ignores octets) n
 ignores_row n octets = record {
@@ -270,10 +261,7 @@ came_alone : (s : Side) (p : TwoEnds) (b : Between) (t : Tables) (packet : List 
     (under_way (is_caller (other s)) (reference_of pa.unit)
     (carriers_of (with_holding s (acted_end pa.unit (end_at s p).end.lines (end_at s p).end) h p))
     (did_at s p b packet h (end_at s p).end.lines pa).now)
-came_alone s p b t packet h alive pa q at other_kind =
-    let lines = (end_at s p).end.lines in
-    back_alone s p b (acted_end pa.unit lines (end_at s p).end) h (reference_of pa.unit) at.line q.got
-    (did_at s p b packet h lines pa) at.is alive (ap arrived_in (same_row s p b packet h lines pa) ∙ q.one) other_kind
+came_alone s p b t packet h alive pa q at other_kind = search (arith, back_alone, acted_end, did_at, arrived_in, same_row)
 
 -- what is joined then, row by row
 held_then : (s : Side) (p : TwoEnds) (b : Between) (t : Tables) (n : ℕ) (row : Row) (l : TableLine) (begun : Option (List ℕ)) →
@@ -289,10 +277,7 @@ held_then s p b t n row l begun old alive stood i shuts =
 calm_then : (s : Side) (p : TwoEnds) (b : Between) (t : Tables) (n : ℕ) (row : Row) (l : TableLine) (ms : List Message) → Stands p b t →
     Lasts s p → progress_of (place_at n (last_of (is_caller s) b)) ≡ before row → IsSeen s n p b l → before row ≡ shutting →
     StaysCalm l.own.session.state ms
-calm_then s p b t n row l ms old alive stood i shuts =
-    let now : progress_of (place_at n (end_at s p).end.carrier) ≡ shutting =
-    ap (λ (c : State). progress_of (place_at n c)) (sym (was_at s p b t old alive)) ∙ stood ∙ shuts in
-    over_stays l.own.session ms ((session_of_seat n (end_at s p) l.own shutting now i.here).over_now refl)
+calm_then s p b t n row l ms old alive stood i shuts = search (arith, was_at, over_stays, session_of_seat)
 
 pub stood_at : (s : Side) (p : TwoEnds) (b : Between) (packet : List ℕ) (h : Held) → (pa : PacketAt s p b packet h) →
     progress_of (place_at (reference_of pa.unit) (last_of (is_caller s) b)) ≡ before pa.did.row
@@ -455,12 +440,7 @@ terms_then s p a h e = grind arith
 
 -- no user received an indication
 shown_nothing : (s : Side) (p : TwoEnds) (a e : End) (h : Held) (n : ℕ) → a ≡ e → turned_pair s e h n [] p ≡ with_holding s a h p
-shown_nothing Left p a e h n same =
-    ap (λ (j : List Entry). record (with_holding Left e h p) { journal = j }) (append-nil p.journal)
-    ∙ ap (λ (x : End). with_holding Left x h p) (sym same)
-shown_nothing Right p a e h n same =
-    ap (λ (j : List Entry). record (with_holding Right e h p) { journal = j }) (append-nil p.journal)
-    ∙ ap (λ (x : End). with_holding Right x h p) (sym same)
+shown_nothing s p a e h n same = grind (arith, with_holding, append-nil)
 
 pub both_carrier : (s : Side) (p : TwoEnds) → (side (is_caller s) (carriers_of p)).state ≡ (end_at s p).end.carrier
 both_carrier s p = grind arith

@@ -1,11 +1,10 @@
 -- A packet is taken: how two ends match a list of steps when its users received the indications.
 -- For packets and carries.
 use Rattle.osi_machine.specs.Core as machine
-use Rattle.osi_pair.proofs.Vocabulary.{◌≡◌, ℕ, false, List, [], ◌∷◌, ◌++◌, Option, None, sym, ap, subst, ◌∙◌, arith, AllByRecursion, Held}
-use Rattle.osi_pair.proofs.Vocabulary.{IsPacket, Rows, State, EndReason, Between, Terms, Step, delivers, HasNumber, ends as ends_side}
-use Rattle.osi_pair.proofs.Vocabulary.{Tables, run, start, Shown, after_packet, End, TwoEnds, end_at, noted, side_in, is_caller, terms_in}
-use Rattle.osi_pair.proofs.Vocabulary.{carriers_of, AreDeliveries, AreArrivals, StandsAtArrivals, Stands, StandsAt, waiting_in, quieted}
-use Rattle.osi_pair.proofs.Vocabulary.{told_entries, Side, EndLine as Line}
+use Rattle.osi_pair.proofs.Vocabulary.{◌≡◌, ℕ, false, List, [], ◌∷◌, ◌++◌, None, sym, ap, subst, ◌∙◌, arith, AllByRecursion, Held, IsPacket}
+use Rattle.osi_pair.proofs.Vocabulary.{State, Between, Terms, Step, delivers, HasNumber, ends as ends_side, Tables, run, start}
+use Rattle.osi_pair.proofs.Vocabulary.{after_packet, End, TwoEnds, end_at, side_in, is_caller, terms_in, carriers_of, AreDeliveries}
+use Rattle.osi_pair.proofs.Vocabulary.{AreArrivals, StandsAtArrivals, Stands, StandsAt, waiting_in, Side}
 use Rattle.osi_pair.proofs.flight.a_taken_packet_is_one_row.{PacketActs, packet_acts}
 use Rattle.osi_pair.proofs.turn.what_remains_when_a_unit_was_taken.{terms_at, order_of, PacketAt}
 use Rattle.osi_pair.proofs.packet.a_packet_is_one_delivery_or_none.{PacketLaws, StandsBehind, is_heard, unheard_packet, both_carrier}
@@ -26,11 +25,7 @@ are_arrivals s xs d = search
 -- an end that goes on, with no indication pending
 pub shown_nothing : (s : Side) (p : TwoEnds) (e : End) (h : Held) (n : ℕ) → e.carrier.ended ≡ None → waiting_in e.lines ≡ [] →
     shown_pair s e h p ≡ turned_pair s e h n [] p
-shown_nothing s p e h n lasts waits =
-    ap (λ (o : Option EndReason). noted (told_entries s None o (waiting_in e.lines))
-    (with_holding s (record e { lines = quieted e.lines }) h p)) lasts
-    ∙ ap (λ (w : List (ℕ × Shown)). noted (told_entries s None None w) (with_holding s (record e { lines = quieted e.lines }) h p)) waits
-    ∙ ap (λ (l : Rows Line). noted [] (with_holding s (record e { lines = l }) h p)) (quiet_same e.lines waits)
+shown_nothing s p e h n lasts waits = grind (arith, with_holding, quiet_same)
 
 behind_shown : (s : Side) (p : TwoEnds) (t : Tables) (packet : List ℕ) (h : Held) → StandsBehind s p t packet h →
     StandsShown s p t (after_packet (end_at s p).end packet) h
@@ -55,8 +50,7 @@ unheard_shown laws s p b t packet h old alive pa e = behind_shown s p t packet h
 numbered_then : (s : machine.Side) (xs ys : List Step) → AllByRecursion HasNumber xs → AreArrivals s ys →
     AllByRecursion HasNumber (xs ++ ys)
 numbered_then s [] (delivers q r keep ∷ ys) a d = (tt, numbered_then s [] ys tt d.1)
-numbered_then s [] (ends_side q e keep ∷ ys) a d =
-    subst (λ (l : List Step). AllByRecursion HasNumber (ends_side q e keep ∷ l)) (sym d.2) (tt, tt)
+numbered_then s [] (ends_side q e keep ∷ ys) a d = grind arith
 numbered_then s (x ∷ xs) ys a d = (a.0, numbered_then s xs ys a.1 d)
 numbered_then s xs ys a d = search
 

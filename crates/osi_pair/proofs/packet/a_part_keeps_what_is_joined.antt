@@ -8,11 +8,11 @@ use Rattle.osi_session.specs.Listening as words
 use Rattle.osi_stack.specs.Moving.{noted}
 use Rattle.osi_pair.proofs.Vocabulary.{◌≡◌, ℕ, ◌≤◌, false, true, List, [], Some, refl, sym, ap, subst, ◌∙◌, arith, Held, place_at, tsdu}
 use Rattle.osi_pair.proofs.Vocabulary.{IsOrderly, Rows, State as Carrier, put_here, put_other, orderly_unit, orderly_same, reference_of}
-use Rattle.osi_pair.proofs.Vocabulary.{Between, last_of, progress_of, leaves_use, Line as TableLine, Tables, Message, part_octets}
-use Rattle.osi_pair.proofs.Vocabulary.{IsJoinedAs, Listener, came, came_as, part_comes, HasNumbersInWords, after_packet, concludes}
-use Rattle.osi_pair.proofs.Vocabulary.{told_all, kept_at, line_after, to_session, End, session_in, came_numbers, hands_none, packet_rises}
-use Rattle.osi_pair.proofs.Vocabulary.{TwoEnds, end_at, other, is_caller, joining, HasJoined, Goes, IsInOrder, Stands, waiting_in, Side}
-use Rattle.osi_pair.proofs.Vocabulary.{put_row as put, EndLine as Line}
+use Rattle.osi_pair.proofs.Vocabulary.{Between, last_of, progress_of, leaves_use, Line as TableLine, Tables, Message, part_octets, Listener}
+use Rattle.osi_pair.proofs.Vocabulary.{came, came_as, part_comes, HasNumbersInWords, after_packet, concludes, told_all, kept_at, line_after}
+use Rattle.osi_pair.proofs.Vocabulary.{to_session, End, session_in, came_numbers, hands_none, packet_rises, TwoEnds, end_at, other}
+use Rattle.osi_pair.proofs.Vocabulary.{is_caller, joining, HasJoined, Goes, IsInOrder, Stands, waiting_in, Side, put_row as put}
+use Rattle.osi_pair.proofs.Vocabulary.{EndLine as Line}
 use Rattle.osi_pair.proofs.turn.what_remains_when_a_unit_was_taken.{TablesAfter, is_agree, order_of, finish, known_then, PacketAt}
 use Rattle.osi_pair.proofs.packet.an_end_handles_its_carriers_events.{one_told, lasting}
 use Rattle.osi_pair.proofs.packet.a_session_that_moved.{MovingLaws, PartArrives, opened_then, lives_then, open_at, seat_transport}
@@ -115,9 +115,7 @@ part_has s p b t packet h pa v octets =
 part_holds : (s : Side) (p : TwoEnds) (b : Between) (t : Tables) (packet : List ℕ) (h : Held) (pa : PacketAt s p b packet h) →
     (v : PartArrives s p b t packet h pa) →
     HasJoined (reference_of pa.unit) (record { end = part_end s p b t packet h pa v; held = h }) (Some v.now)
-part_holds s p b t packet h pa v y at =
-    subst (λ (z : Listener). IsJoinedAs z.state z.joined (Some v.now))
-    (sym (same_listener (joining v.joins.now v.seen.own.session) y (sym (part_session s p b t packet h pa v) ∙ at))) v.joins.stands
+part_holds s p b t packet h pa v y at = grind (arith, same_listener, part_session s p b t packet h pa v)
 
 part_unit : MovingLaws → (s : Side) (p : TwoEnds) (b : Between) (t : Tables) (packet : List ℕ) (h : Held) → Stands p b t → Lasts s p →
     (pa : PacketAt s p b packet h) → (v : PartArrives s p b t packet h pa) →

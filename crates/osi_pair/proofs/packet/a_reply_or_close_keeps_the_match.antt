@@ -5,14 +5,14 @@ use Rattle.osi_machine.specs.Core as machine
 use Rattle.osi_machine.specs.Machine as entries
 use Rattle.osi_machine.specs.Tables.{closed}
 use Rattle.osi_machine.specs.Worlds as worlds
-use Rattle.osi_pair.proofs.Vocabulary.{◌≡◌, ℕ, zero, suc, Bool, true, false, List, [], ◌∷◌, ◌++◌, map, Option, Some, None, refl, sym, ap}
-use Rattle.osi_pair.proofs.Vocabulary.{subst, ◌∙◌, ◌⊎◌, arith, noted_in, append-nil, Held, open_link, sent, sent_on, closed_with, Rows}
+use Rattle.osi_pair.proofs.Vocabulary.{◌≡◌, ℕ, zero, suc, Bool, true, false, List, [], ◌∷◌, map, Option, Some, None, refl, sym, ap, subst}
+use Rattle.osi_pair.proofs.Vocabulary.{◌∙◌, ◌⊎◌, arith, noted_in, append-nil, Held, open_link, sent, sent_on, closed_with, Rows}
 use Rattle.osi_pair.proofs.Vocabulary.{State as Carrier, EndReason, in_use, gone, by_two, delivers, shown_at, replaced, with_connection}
-use Rattle.osi_pair.proofs.Vocabulary.{Line as TableLine, Turn, Tables, seen_from, stays, puts, closes_by, after_turn, step, Message, unit}
-use Rattle.osi_pair.proofs.Vocabulary.{put, replied, Meaning, tsdus_sent, written, is_ended, Shown, after_packet, concludes, with_carrier}
+use Rattle.osi_pair.proofs.Vocabulary.{Line as TableLine, Turn, Tables, stays, puts, closes_by, after_turn, step, Message, unit, put}
+use Rattle.osi_pair.proofs.Vocabulary.{replied, Meaning, tsdus_sent, written, is_ended, Shown, after_packet, concludes, with_carrier}
 use Rattle.osi_pair.proofs.Vocabulary.{IsSound, answers, End, answers_by, hands_none, handed, sent_by_itself, TwoEnds, end_at, Entry}
-use Rattle.osi_pair.proofs.Vocabulary.{side_in, IsInOrder, Stands, waiting_in, quieted, shown_entries, end_entries, told_entries, Side}
-use Rattle.osi_pair.proofs.Vocabulary.{Left, Right, Link, EndLine as Line, quieted_at}
+use Rattle.osi_pair.proofs.Vocabulary.{side_in, IsInOrder, Stands, waiting_in, quieted, shown_entries, told_entries, Side, Link}
+use Rattle.osi_pair.proofs.Vocabulary.{EndLine as Line, quieted_at}
 use Rattle.osi_pair.proofs.turn.what_an_acting_end_leaves_in_flight.{StandsOn}
 use Rattle.osi_pair.proofs.flight.a_taken_packet_is_one_row.{CarrierLaws}
 use Rattle.osi_pair.proofs.call.a_call_is_the_machines.{put_nothing, open_is}
@@ -42,19 +42,12 @@ answered_end c lines = record { carrier = c; lines = lines }
 
 told_is : (s : Side) (n : ℕ) (shown : List Shown) (ended : Option EndReason) (waits : List (ℕ × Shown)) → ended ≡ None →
     waits ≡ map (λ x. (n, x)) shown → shown_entries s (map (λ x. (n, x)) shown) ≡ told_entries s None ended waits
-told_is s n shown ended waits lasts e =
-    ap (shown_entries s) (sym e) ∙ sym (append-nil (shown_entries s waits))
-    ∙ ap (λ (o : Option EndReason). shown_entries s waits ++ end_entries s None o) (sym lasts)
+told_is s n shown ended waits lasts e = grind (arith, append-nil)
 
 pub shown_is : (s : Side) (p : TwoEnds) (e : End) (h : Held) (n : ℕ) (shown : List Shown) (c : Carrier) (lines : Rows Line) →
     c.ended ≡ None → waiting_in lines ≡ map (λ x. (n, x)) shown →
     with_holding s (answered_end c (quieted lines)) h (turned_pair s e h n shown p) ≡ shown_pair s (answered_end c lines) h p
-shown_is Left p e h n shown c lines lasts waits =
-    ap (λ (es : List Entry). record (with_holding Left (answered_end c (quieted lines)) h p) { journal = p.journal ++ es })
-    (told_is Left n shown c.ended (waiting_in lines) lasts waits)
-shown_is Right p e h n shown c lines lasts waits =
-    ap (λ (es : List Entry). record (with_holding Right (answered_end c (quieted lines)) h p) { journal = p.journal ++ es })
-    (told_is Right n shown c.ended (waiting_in lines) lasts waits)
+shown_is s p e h n shown c lines lasts waits = grind (arith, with_holding, told_is)
 
 -- it is in order, as before, if it has the connections that its sessions need
 order_then : (e : End) (c : Carrier) (lines : Rows Line) → e.lines ≡ quieted lines → c.ended ≡ None → c.given ≡ e.carrier.given →
@@ -77,14 +70,12 @@ replaced_twice zero x y (l ∷ ls) = refl
 replaced_twice (suc r) x y (l ∷ ls) = ap (λ (more : List TableLine). l ∷ more) (replaced_twice r x y ls)
 
 with_twice : (r : ℕ) (x y : TableLine) (ls : List TableLine) → with_connection r y (with_connection r x ls) ≡ with_connection r y ls
-with_twice zero x y ls = refl
-with_twice (suc r) x y ls = replaced_twice r x y ls
+with_twice r x y ls = grind (arith, replaced_twice)
 
 -- a line that was another in between
 pub stays_twice : (t : Tables) (s : machine.Side) (n : ℕ) (es : List entries.Entry) (x y : TableLine) →
     stays (noted_in es (stays t s n x)) s n y ≡ noted_in es (stays t s n y)
-stays_twice t s n es x y =
-    ap (λ (ls : List TableLine). noted_in es (record t { lines = ls })) (with_twice n (seen_from s x) (seen_from s y) t.lines)
+stays_twice t s n es x y = grind (arith, with_twice)
 
 pub closing_by : (t : Tables) (s : machine.Side) (n : ℕ) (keep : ℕ → ℕ) (turn : Turn) → turn.closes ≡ true →
     after_turn t s n keep turn ≡ closes_by t.known (noted_in (map (shown_at s n) turn.shown) t) s n keep turn.line
@@ -99,12 +90,7 @@ answered_step : (s : Side) (p : TwoEnds) (t : Tables) (packet : List ℕ) (h : H
     (keep : ℕ → ℕ) → (move_of v.m).closes ≡ false → (move_of v.m).reply ≡ Some x →
     step t (delivers (side_in s) v.m.n keep) ≡ stays (moved_tables s t v.m) (side_in s) v.m.n (puts t.broken (unit x ∷ []) (moved_line v.m))
 answered_step s p t packet h v x keep open_still reply =
-    let m = v.m in
-    let t0 = record t { known = known_by t m } in
-    let es = map (shown_at (side_in s) m.n) (move_of m).shown in
-    v.steps keep ∙ open_by t0 (side_in s) m.n keep (turn_of t.broken m) open_still
-    ∙ ap (λ (o : Option Meaning). noted_in es (stays t0 (side_in s) m.n (line_with t.broken m o))) reply
-    ∙ sym (stays_twice t0 (side_in s) m.n es (moved_line m) (puts t.broken (unit x ∷ []) (moved_line m)))
+    grind (arith, known_by, move_of, open_by, turn_of, stays_twice, moved_line, v.steps keep)
 
 -- the delivery if the move closes
 closed_step : (s : Side) (p : TwoEnds) (t : Tables) (packet : List ℕ) (h : Held) (v : HasMoved s p t packet h) (keep : ℕ) →
@@ -228,14 +214,7 @@ closed_shown laws s p t packet h v sound two known closing reply over =
 
 silent_step : (s : Side) (p : TwoEnds) (t : Tables) (packet : List ℕ) (h : Held) (v : HasMoved s p t packet h) (keep : ℕ → ℕ) →
     (move_of v.m).closes ≡ false → (move_of v.m).reply ≡ None → step t (delivers (side_in s) v.m.n keep) ≡ moved_tables s t v.m
-silent_step s p t packet h v keep open_still reply =
-    let m = v.m in
-    let t0 = record t { known = known_by t m } in
-    let es = map (shown_at (side_in s) m.n) (move_of m).shown in
-    v.steps keep ∙ open_by t0 (side_in s) m.n keep (turn_of t.broken m) open_still
-    ∙ ap (λ (o : Option Meaning). noted_in es (stays t0 (side_in s) m.n (line_with t.broken m o))) reply
-    ∙ ap (λ (ms : List Message). noted_in es (stays t0 (side_in s) m.n (line_then m.row (move_of m).next ms m.rest m.seen)))
-    (put_nothing t.broken m.seen.own.channel)
+silent_step s p t packet h v keep open_still reply = search (arith, known_by, move_of, open_by, turn_of, line_then, put_nothing)
 
 pub silent_shown : (s : Side) (p : TwoEnds) (t : Tables) (packet : List ℕ) (h : Held) (v : HasMoved s p t packet h) →
     (move_of v.m).closes ≡ false → (move_of v.m).reply ≡ None → StandsShown s p t (after_packet (end_at s p).end packet) h

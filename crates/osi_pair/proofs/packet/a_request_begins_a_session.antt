@@ -2,12 +2,12 @@
 -- For packets and carries.
 use Rattle.osi_between.specs.Messages as carrier
 use Rattle.osi_machine.specs.Tables as tables
-use Rattle.osi_pair.proofs.Vocabulary.{◌≡◌, ◌≢◌, ℕ, ◌<◌, ◌≤◌, Bool, true, false, List, [], ◌∷◌, ◌++◌, map, Some, None, is_some, refl, sym}
-use Rattle.osi_pair.proofs.Vocabulary.{ap, subst, ◌∙◌, inl, inr, arith, Held, Value, place_at, Rows, value_at, Connection, State, push_here}
-use Rattle.osi_pair.proofs.Vocabulary.{beyond, push_other, reference_of, Between, progress_of, not_yet, in_use, leaves_use, delivers}
-use Rattle.osi_pair.proofs.Vocabulary.{learns, Tables, seen_from, end_of, step, unseen, Listener, Standing, AreApart, told_all, kept_at}
-use Rattle.osi_pair.proofs.Vocabulary.{session_in, is_used, used_lines, fresh_line, used_by, used_at, Stays, apart_push, used_live, TwoEnds}
-use Rattle.osi_pair.proofs.Vocabulary.{end_at, side_in, message_in, Stands, waiting_in, Side, after_message, StaysCalm, kind_of, Message}
+use Rattle.osi_pair.proofs.Vocabulary.{◌≡◌, ◌≢◌, ℕ, ◌<◌, ◌≤◌, Bool, true, List, [], ◌∷◌, ◌++◌, map, Some, None, is_some, refl, sym, ap}
+use Rattle.osi_pair.proofs.Vocabulary.{subst, ◌∙◌, inl, arith, Held, Value, place_at, Rows, value_at, Connection, State, push_here, beyond}
+use Rattle.osi_pair.proofs.Vocabulary.{push_other, reference_of, Between, progress_of, not_yet, in_use, leaves_use, delivers, learns}
+use Rattle.osi_pair.proofs.Vocabulary.{Tables, seen_from, end_of, step, unseen, Listener, Standing, AreApart, told_all, kept_at, session_in}
+use Rattle.osi_pair.proofs.Vocabulary.{is_used, used_lines, fresh_line, used_by, used_at, Stays, apart_push, used_live, TwoEnds, end_at}
+use Rattle.osi_pair.proofs.Vocabulary.{side_in, message_in, Stands, waiting_in, Side, after_message, StaysCalm, kind_of, Message}
 use Rattle.osi_pair.proofs.Vocabulary.{awaits_cn as awaits, EndLine as Line, SessionState}
 use Rattle.osi_pair.proofs.turn.what_remains_when_a_unit_was_taken.{terms_at, DidAt, TablesAfter, line_then, is_agree, last_is, order_of}
 use Rattle.osi_pair.proofs.turn.what_remains_when_a_unit_was_taken.{finish, known_then, was_at, PacketAt}
@@ -37,11 +37,7 @@ joined_waits n ((r, line) ∷ lines) e =
 
 used_waits_by : (live : Rows Connection) (r : ℕ) (line : Line) (lines : Rows Line) (b : Bool) → is_used live (r, line) ≡ b →
     waiting_in ((r, line) ∷ lines) ≡ [] → waiting_in (used_lines live lines) ≡ [] → waiting_in (used_lines live ((r, line) ∷ lines)) ≡ []
-used_waits_by live r line lines true u e more =
-    ap waiting_in (used_by live (r, line) lines true u)
-    ∙ ap (λ w. map (λ shown. (r, shown)) w ++ waiting_in (used_lines live lines))
-    (none_first (λ shown. (r, shown)) line.waiting (waiting_in lines) e) ∙ more
-used_waits_by live r line lines false u e more = ap waiting_in (used_by live (r, line) lines false u) ∙ more
+used_waits_by live r line lines b u e more = grind (arith, used_by, none_first)
 
 pub used_waits : (live : Rows Connection) (lines : Rows Line) → waiting_in lines ≡ [] → waiting_in (used_lines live lines) ≡ []
 used_waits live [] e = refl
@@ -60,13 +56,11 @@ begun_here n live lines none lives = ap session_in (used_live n live (joined n l
 
 kept_by : (n q : ℕ) (live : Rows Connection) (lines : Rows Line) (x : Listener) → q ≢ n → Stays q live (joined n lines) →
     kept_at q (used_lines live (joined n lines)) ≡ Some x → kept_at q lines ≡ Some x
-kept_by n q live lines x apart (inl same) h = ap session_in (sym (push_other q n new_line lines apart)) ∙ ap session_in (sym same) ∙ h
-kept_by n q live lines x apart (inr gone) h = let no_way : None ≡ Some x = sym (ap session_in gone.0) ∙ h in cc
+kept_by n q live lines x apart h h2 = grind (arith, push_other)
 
 pub begun_kept : (n q : ℕ) (live : Rows Connection) (lines : Rows Line) (x : Listener) → q ≢ n → value_at n lines ≡ None → AreApart lines →
     kept_at q (used_lines live (joined n lines)) ≡ Some x → kept_at q lines ≡ Some x
-begun_kept n q live lines x apart none all h =
-    kept_by n q live lines x apart (used_at q live (joined n lines) (apart_push n new_line lines none all)) h
+begun_kept n q live lines x apart none all h = grind (arith, kept_by, used_at, apart_push)
 
 -- ---- the reference is new
 

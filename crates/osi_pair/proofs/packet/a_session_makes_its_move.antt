@@ -2,13 +2,13 @@
 -- For breaks and ends and packets.
 use Rattle.osi_between.specs.Messages as carrier
 use Rattle.osi_machine.specs.Worlds as worlds
-use Rattle.osi_pair.proofs.Vocabulary.{◌≡◌, ◌≢◌, ℕ, ◌≤◌, Bool, true, false, List, [], ◌∷◌, Option, Some, None, IfSome, option_map, refl}
-use Rattle.osi_pair.proofs.Vocabulary.{sym, ap, subst, ◌∙◌, arith, Held, place_at, Rows, value_at, reference_of, Between, last_of}
-use Rattle.osi_pair.proofs.Vocabulary.{progress_of, leaves_use, connection_at, delivers, learns, Line as TableLine, Turn, Tables, awaits}
-use Rattle.osi_pair.proofs.Vocabulary.{seen_from, end_of, after_turn, step, without_first, message_taken, Message, unit, put, replied}
-use Rattle.osi_pair.proofs.Vocabulary.{IsInOctets, said_of, Meaning, Input, taken, opened, refused, broken as broken_off, Standing, Move}
-use Rattle.osi_pair.proofs.Vocabulary.{react, is_ended, kept_at, End, TwoEnds, end_at, other, side_in, is_caller, class_in, message_in}
-use Rattle.osi_pair.proofs.Vocabulary.{is_parting, Stands, Goes, quieted, Side, kind_of, EndLine as Line}
+use Rattle.osi_pair.proofs.Vocabulary.{◌≡◌, ℕ, ◌≤◌, Bool, true, false, List, [], ◌∷◌, Option, Some, None, IfSome, option_map, refl, sym, ap}
+use Rattle.osi_pair.proofs.Vocabulary.{subst, ◌∙◌, arith, Held, place_at, Rows, value_at, reference_of, Between, last_of, progress_of}
+use Rattle.osi_pair.proofs.Vocabulary.{leaves_use, connection_at, delivers, learns, Line as TableLine, Turn, Tables, awaits, seen_from}
+use Rattle.osi_pair.proofs.Vocabulary.{end_of, after_turn, step, without_first, message_taken, Message, unit, put, replied, IsInOctets}
+use Rattle.osi_pair.proofs.Vocabulary.{said_of, Meaning, Input, taken, opened, refused, broken as broken_off, Standing, Move, react}
+use Rattle.osi_pair.proofs.Vocabulary.{is_ended, End, TwoEnds, end_at, other, side_in, is_caller, class_in, message_in, is_parting, Stands}
+use Rattle.osi_pair.proofs.Vocabulary.{Goes, quieted, Side, kind_of, EndLine as Line}
 use Rattle.osi_pair.proofs.turn.what_remains_when_a_unit_was_taken.{DidAt, TablesAfter, OtherSessions, line_then, finish, PacketAt}
 use Rattle.osi_pair.proofs.packet.an_end_handles_its_carriers_events.{lines_then, kept_other, session_then}
 use Rattle.osi_pair.proofs.packet.a_unit_with_which_no_session_acts.{delivered, tables_delivered, sends_then}
@@ -62,10 +62,7 @@ step_moves t s n keep row l m xs got lasting found first tr move one alike = gri
 
 pub moved_others : (s : Side) (p : TwoEnds) (e : End) (n : ℕ) (line : Line) (x : Standing) (input : Input) →
     e.lines ≡ quieted (lines_then n line x input (end_at s p).end.lines) → OtherSessions s p e n
-moved_others s p e n line x input is =
-    let other : (q : ℕ) → q ≢ n → kept_at q e.lines ≡ kept_at q (end_at s p).end.lines =
-    λ q apart. ap (kept_at q) is ∙ kept_other n q line x input (end_at s p).end.lines apart in
-    record { sessions = λ q apart lives. other q apart; kept = λ q apart y h. sym (other q apart) ∙ h }
+moved_others s p e n line x input is = grind (arith, kept_other)
 
 -- ---- two ends
 

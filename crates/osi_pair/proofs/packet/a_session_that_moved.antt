@@ -11,12 +11,11 @@ use Rattle.osi_pair.proofs.Vocabulary.{IsOrderly, Rows, value_at, State as Carri
 use Rattle.osi_pair.proofs.Vocabulary.{reference_of, Between, under_way, is_cut, last_of, progress_of, in_use, gone, class_of, IsTableRun}
 use Rattle.osi_pair.proofs.Vocabulary.{AreSoundLines, IsSoundLine, AreSendable, is_leaving, connection_at, delivers, learns}
 use Rattle.osi_pair.proofs.Vocabulary.{Line as TableLine, Turn, Tables, seen_from, after_turn, step, Message, unit, agree, deny, put}
-use Rattle.osi_pair.proofs.Vocabulary.{replied, SessionLaws, Meaning, DT, Input, Standing, Move, taken, opened, refused}
-use Rattle.osi_pair.proofs.Vocabulary.{broken as broken_off, react, listening, after_packet, concludes, told_all, kept_at, answers, End}
-use Rattle.osi_pair.proofs.Vocabulary.{session_in, packet_rises, TwoEnds, end_at, other, side_in, is_caller, class_in, carriers_of}
-use Rattle.osi_pair.proofs.Vocabulary.{message_in, AreAlike, IsInOrder, Stands, Goes, joining, HasJoined, waiting_in, quieted, Side}
-use Rattle.osi_pair.proofs.Vocabulary.{IsNoFault, IsJoinedAs, Listener, kind_of, IsInOctets, part_octets, First, Middle, Last}
-use Rattle.osi_pair.proofs.Vocabulary.{after_message, StaysCalm, left_is, said_of, Link, EndLine as Line, PartPlace, SessionState}
+use Rattle.osi_pair.proofs.Vocabulary.{replied, SessionLaws, Meaning, DT, Input, Standing, Move, opened, refused, react, listening}
+use Rattle.osi_pair.proofs.Vocabulary.{after_packet, concludes, told_all, kept_at, answers, End, session_in, packet_rises, TwoEnds, end_at}
+use Rattle.osi_pair.proofs.Vocabulary.{other, side_in, is_caller, class_in, carriers_of, message_in, AreAlike, IsInOrder, Stands, Goes}
+use Rattle.osi_pair.proofs.Vocabulary.{joining, HasJoined, waiting_in, quieted, Side, IsNoFault, IsJoinedAs, Listener, kind_of, IsInOctets}
+use Rattle.osi_pair.proofs.Vocabulary.{part_octets, Last, after_message, StaysCalm, left_is, Link, EndLine as Line, PartPlace, SessionState}
 use Rattle.osi_pair.proofs.turn.what_remains_when_a_unit_was_taken.{terms_at, DidAt, line_then, last_is, order_of, was_at, PacketAt}
 use Rattle.osi_pair.proofs.packet.an_end_handles_its_carriers_events.{lines_then, kept_then, one_told}
 use Rattle.osi_pair.proofs.packet.what_a_session_hears_row_by_row.{as_move, move_heard, got_in, one_in, HearsBy, HearLaws, IsWhole}
@@ -33,7 +32,7 @@ use Rattle.osi_pair.proofs.session.a_reply_can_be_sent.{CanGo}
 use Rattle.osi_pair.proofs.packet.a_unit_with_which_no_session_acts.{delivered, tables_delivered}
 use Rattle.osi_pair.proofs.packet.a_unit_at_rest_keeps_the_match.{acted_end, did_at, same_row, line_at, EndThen, back_one, FoundLine}
 use Rattle.osi_pair.proofs.packet.a_unit_at_rest_keeps_the_match.{back_then, other_lines, over_stays}
-use Rattle.osi_pair.proofs.flight.what_may_arrive_row_by_row.{Row, before, after, arrived_in, agrees, denies, tells, leaves}
+use Rattle.osi_pair.proofs.flight.what_may_arrive_row_by_row.{Row, before, after, arrived_in, tells}
 use Rattle.osi_pair.proofs.session.a_seat_is_its_progress_and_session.{transport_by, value_same, HasSession, lives_in, session_of_seat}
 use Rattle.osi_pair.proofs.session.a_seat_is_its_progress_and_session.{transport_at}
 use Rattle.osi_pair.proofs.turn.a_turn_keeps_the_match.{IsSeen, with_holding, turned_pair, turned_stands}
@@ -218,8 +217,7 @@ seat_progress s p b t n row old alive stood = ap (λ (c : Carrier). progress_of 
 
 pub seat_transport : (s : Side) (p : TwoEnds) (b : Between) (t : Tables) (n : ℕ) (row : Row) (l : TableLine) → Stands p b t → Lasts s p →
     progress_of (place_at n (last_of (is_caller s) b)) ≡ before row → IsSeen s n p b l → l.own.transport ≡ transport_by (before row)
-seat_transport s p b t n row l old alive stood i =
-    i.here.transport ∙ transport_at (place_at n (end_at s p).end.carrier) (before row) (seat_progress s p b t n row old alive stood)
+seat_transport s p b t n row l old alive stood i = grind (arith, transport_at, before, seat_progress)
 
 -- ---- data that comes is no fault
 
@@ -245,15 +243,7 @@ part_fine laws s t n l run found now (inr (inr calm)) = record { all = []; fine 
 part_joins : (joined : Option (List ℕ)) (x : Standing) (place : PartPlace) (octets now : List ℕ) (H : Option (List ℕ) → Type 0) →
     ((begun : Option (List ℕ)) → H begun → IsJoinedAs x.state joined begun) → length now ≤ most_data → IsTaker x joined → FineData x →
     (Begins H place octets now ⊎ GoesOn H place octets now) → PartJoins joined x place octets (Some now)
-part_joins joined x place octets now H holds short kept f (inl a) =
-    subst (λ (q : PartPlace). PartJoins joined x q octets (Some now)) (sym a.place_is)
-    (subst (λ (o : List ℕ). PartJoins joined x First octets (Some o)) (sym a.now_is)
-    (first_joins joined x octets f.all (subst (λ (o : List ℕ). length o ≤ most_data) a.now_is short) kept f.fine (holds None a.held)))
-part_joins joined x place octets now H holds short kept f (inr a) =
-    subst (λ (q : PartPlace). PartJoins joined x q octets (Some now)) (sym a.place_is)
-    (subst (λ (o : List ℕ). PartJoins joined x Middle octets (Some o)) (sym a.now_is)
-    (middle_joins joined x a.front octets f.all (subst (λ (o : List ℕ). length o ≤ most_data) a.now_is short) kept f.fine
-    (holds (Some a.front) a.held)))
+part_joins joined x place octets now H holds short kept f h = search (arith, first_joins, middle_joins)
 
 alone_is : (x y : List ℕ) → carrier.message x ∷ [] ≡ carrier.message y ∷ [] → y ≡ x
 alone_is x y e = let same : x ≡ y = cc in sym same
@@ -445,17 +435,13 @@ DidThen s p b t packet h pa a = DidAt s p b (EndOf s p b t packet h pa a) h (ref
 
 pub opened_then : (s : Side) (p : TwoEnds) (b : Between) (e : End) (h : Held) (n : ℕ) (row : Row) → (d : DidAt s p b e h n) →
     e.carrier.ended ≡ None → d.row ≡ row → after row ≡ in_use → IsLinkedAt n e.carrier
-opened_then s p b e h n row d lasts same open_now =
-    linked_by n e.carrier (nat_lt e.carrier.given n) refl
-    (ap (λ (c : Carrier). progress_of (place_at n c)) (sym (last_is s p b e h n d lasts)) ∙ d.stands ∙ ap after same ∙ open_now)
+opened_then s p b e h n row d lasts same open_now = grind (arith, linked_by, after, last_is s p b e h n d lasts)
 
 -- its other connections are unchanged
 pub lives_then : (s : Side) (p : TwoEnds) (b : Between) (t : Tables) (e : End) (h : Held) (n : ℕ) → Stands p b t → Lasts s p →
     (d : DidAt s p b e h n) → e.carrier.ended ≡ None → IsOrderly e.carrier → (q : ℕ) → q ≢ n →
     value_at q e.carrier.live ≡ value_at q (end_at s p).end.carrier.live
-lives_then s p b t e h n old alive d lasts orderly q apart =
-    value_same q e.carrier (end_at s p).end.carrier orderly (order_of s p b t old alive).sound.orderly
-    (ap (place_at q) (sym (last_is s p b e h n d lasts)) ∙ d.other_places q apart ∙ ap (place_at q) (was_at s p b t old alive))
+lives_then s p b t e h n old alive d lasts orderly q apart = search (arith, value_same, order_of, last_is, was_at)
 
 loud_order : (s : Side) (p : TwoEnds) (b : Between) (t : Tables) (packet : List ℕ) (h : Held) → Stands p b t → Lasts s p →
     (pa : PacketAt s p b packet h) → (a : Arriving s p b t (reference_of pa.unit) pa.did.row) → (d : DidThen s p b t packet h pa a) →
@@ -489,29 +475,20 @@ moved_then laws s p b t packet h old alive pa a d same f =
 
 -- a message that arrives at a session has the effect of what the session receives
 agrees_left : (x : Standing) (m : Message) → kind_of (message_in m) ≡ carrier.agree → after_message x.state m ≡ (react x opened).next.state
-agrees_left x agree k = left_is x opened
-agrees_left x m k = cc
+agrees_left x m k = grind (arith, left_is)
 
 denies_left : (x : Standing) (reason : ℕ) (m : Message) → kind_of (message_in m) ≡ carrier.deny reason →
     after_message x.state m ≡ (react x (refused reason)).next.state
-denies_left x reason (deny why) k =
-    let same : why ≡ reason = cc in
-    left_is x (refused why) ∙ ap (λ (r : ℕ). (react x (refused r)).next.state) same
-denies_left x reason m k = cc
+denies_left x reason m k = grind (arith, left_is)
 
 tells_left : (x : Standing) (octets : List ℕ) (m : Message) → kind_of (message_in m) ≡ carrier.message [] →
     after_message x.state m ≡ (react x (heard_by (tells octets) m)).next.state
-tells_left x octets (unit u) k = left_is x (taken (said_of u))
-tells_left x octets m k = cc
+tells_left x octets m k = grind (arith, left_is)
 
 hears_calm : (row : Row) (x : Standing) (m : Message) (ms : List Message) → is_heard row ≡ true →
     kind_of (message_in m) ≡ kind_of (got_in row) → StaysCalm (after_message x.state m) ms →
     StaysCalm (react x (heard_by row m)).next.state ms
-hears_calm agrees x m ms e k calm = subst (λ (s : SessionState). StaysCalm s ms) (agrees_left x m k) calm
-hears_calm (denies reason) x m ms e k calm = subst (λ (s : SessionState). StaysCalm s ms) (denies_left x reason m k) calm
-hears_calm (tells octets) x m ms e k calm = subst (λ (s : SessionState). StaysCalm s ms) (tells_left x octets m k) calm
-hears_calm (leaves reason) x m ms e k calm = over_stays (react x broken_off).next ms (is_lost x)
-hears_calm row x m ms e k calm = cc
+hears_calm row x m ms e k calm = grind (arith, agrees_left, denies_left, tells_left, over_stays, is_lost)
 
 -- what is still in flight to it
 pub rest_then : (s : Side) (p : TwoEnds) (b : Between) (t : Tables) (packet : List ℕ) (h : Held) → (pa : PacketAt s p b packet h) →

@@ -2,20 +2,18 @@
 -- For turns, breaks and ends and packets.
 use Rattle.osi_between.specs.Messages as carrier
 use Rattle.osi_pair.proofs.Vocabulary.{◌≡◌, ℕ, ◌<◌, ◌≤◌, Bool, true, false, List, [], ◌∷◌, ◌++◌, Option, Some, None, is_some, refl, sym, ap}
-use Rattle.osi_pair.proofs.Vocabulary.{subst, ◌∙◌, arith, inr, append-nil, Held, Value, Place, place_at, connection_in, Rows, State}
-use Rattle.osi_pair.proofs.Vocabulary.{reference_of, Between, last_of, under_way, put_in, is_cut, progress_of, AreLike, kind_of, Progress}
-use Rattle.osi_pair.proofs.Vocabulary.{leaves_use, connection_at, delivers, learns, Line as TableLine, Tables, seen_from, end_of, step}
-use Rattle.osi_pair.proofs.Vocabulary.{unseen, Message, Standing, Shown, told_all, kept_at, End, TwoEnds, end_at, other, side_in, is_caller}
-use Rattle.osi_pair.proofs.Vocabulary.{carriers_of, IsInOrder, Stands, Goes, HasJoined, is_parting, message_in, waiting_in, Side, Left}
-use Rattle.osi_pair.proofs.Vocabulary.{Right, Listener, discards, is_ended, is_over, implied, gone_is, StaysCalm, over_calm}
-use Rattle.osi_pair.proofs.Vocabulary.{EndLine as Line, SessionState}
+use Rattle.osi_pair.proofs.Vocabulary.{subst, ◌∙◌, arith, append-nil, Held, Value, Place, place_at, connection_in, Rows, reference_of}
+use Rattle.osi_pair.proofs.Vocabulary.{Between, last_of, under_way, put_in, is_cut, progress_of, AreLike, kind_of, Progress, leaves_use}
+use Rattle.osi_pair.proofs.Vocabulary.{connection_at, delivers, learns, Line as TableLine, Tables, seen_from, end_of, step, unseen, Message}
+use Rattle.osi_pair.proofs.Vocabulary.{Standing, Shown, told_all, kept_at, End, TwoEnds, end_at, other, side_in, is_caller, carriers_of}
+use Rattle.osi_pair.proofs.Vocabulary.{IsInOrder, Stands, Goes, HasJoined, is_parting, message_in, waiting_in, Side, Left, Right, Listener}
+use Rattle.osi_pair.proofs.Vocabulary.{is_ended, is_over, implied, gone_is, StaysCalm, over_calm, EndLine as Line, SessionState}
 use Rattle.osi_pair.proofs.turn.what_remains_when_a_unit_was_taken.{terms_at, DidAt, TablesAfter, OtherSessions, is_agree, line_then}
 use Rattle.osi_pair.proofs.turn.what_remains_when_a_unit_was_taken.{finish, known_then, was_at, PacketAt}
 use Rattle.osi_pair.proofs.packet.a_unit_with_which_no_session_acts.{step_opens, tables_delivered, tables_rest, is_awaited, learns_row}
 use Rattle.osi_pair.proofs.packet.a_unit_with_which_no_session_acts.{turn_rests, answer_for, unless_broken, put_unless, answers_same, rests}
 use Rattle.osi_pair.proofs.packet.a_unit_with_which_no_session_acts.{sends_then, spare_by}
-use Rattle.osi_pair.proofs.flight.what_may_arrive_row_by_row.{Row, quiet, still, begins, refuses, leaves, ignores, ends, before, after}
-use Rattle.osi_pair.proofs.flight.what_may_arrive_row_by_row.{arrived_in, put_for}
+use Rattle.osi_pair.proofs.flight.what_may_arrive_row_by_row.{Row, quiet, still, refuses, ignores, ends, before, after, arrived_in, put_for}
 use Rattle.osi_pair.proofs.session.a_seat_is_its_progress_and_session.{transport_by, transport_at, HasSession, session_of_seat}
 use Rattle.osi_pair.proofs.turn.a_turn_keeps_the_match.{IsSeen, seen, seen_twice, with_holding, Turned, GoesTo, out_there, back_here}
 use Rattle.osi_pair.proofs.flight.what_is_in_flight_when_an_end_acts.{shuts, out_keeps, back_comes, back_waits, Comes, Alone, alone_of}
@@ -63,8 +61,7 @@ line_at s n p b t old some le =
 
 session_gone : (n : ℕ) (lines : Rows Line) (m : carrier.Message) (x : Standing) → HasSession n lines (before (ends m)) x →
     HasSession n lines (after (ends m)) x
-session_gone n lines m x h =
-    record { joined = h.joined; live = λ e. cc; kept = h.kept; over_now = λ e. h.over_now refl; awaiting = λ e. cc; octets = h.octets }
+session_gone n lines m x h = grind arith
 
 -- the rows in which a session does nothing, and none begins
 abbrev pub is_rest : Row → Bool
@@ -77,8 +74,7 @@ is_rest row = false
 
 pub session_rests : (n : ℕ) (lines : Rows Line) (row : Row) (x : Standing) → is_rest row ≡ true → HasSession n lines (before row) x →
     HasSession n lines (after row) x
-session_rests n lines (ends m) x e h = session_gone n lines m x h
-session_rests n lines row x e h = grind arith
+session_rests n lines row x e h = search (arith, session_gone)
 
 -- ---- what is in flight from it
 
@@ -86,15 +82,11 @@ pub broken_is : (p : TwoEnds) (b : Between) (t : Tables) → Stands p b t → t.
 broken_is p b t old = grind arith
 
 none_sent : (broken : Bool) (channel : List Message) → channel ≡ channel ++ unless_broken broken []
-none_sent true channel = sym (append-nil channel)
-none_sent false channel = sym (append-nil channel)
+none_sent broken channel = grind (arith, append-nil)
 
 pub sends_is : (row : Row) (broken : Bool) (channel : List Message) → leaves_use (before row) (after row) ≡ false →
     sends_then row broken channel ≡ channel ++ unless_broken broken (answer_for row)
-sends_is begins broken channel e = put_unless broken (answer_for begins) channel
-sends_is (refuses reason) broken channel e = put_unless broken (answer_for (refuses reason)) channel
-sends_is (leaves reason) broken channel e = cc
-sends_is row broken channel e = none_sent broken channel
+sends_is row broken channel e = grind (arith, put_unless, answer_for, none_sent)
 
 pub out_row : (s : Side) (p : TwoEnds) (b : Between) (t : Tables) (e : End) (h : Held) (n : ℕ) (l : TableLine) → Stands p b t →
     (d : DidAt s p b e h n) → IsSeen s n p b l → leaves_use (before d.row) (after d.row) ≡ false → Lasts s p →
@@ -165,10 +157,7 @@ pub back_alone : (s : Side) (p : TwoEnds) (b : Between) (e : End) (h : Held) (n 
     Alone (before d.row) (after d.row) (is_cut (is_caller (other s)) (carriers_of (with_holding s e h p)))
     (HasJoined n (end_at s p)) l.own.session.state l.peer.channel got
     (under_way (is_caller (other s)) n (carriers_of (with_holding s e h p)) d.now)
-back_alone s p b e h n l got d i alive one other_kind =
-    alone_of (before d.row) (after d.row) (is_cut (is_caller (other s)) (carriers_of (with_holding s e h p)))
-    (HasJoined n (end_at s p)) l.own.session.state l.peer.channel got
-    (under_way (is_caller (other s)) n (carriers_of (with_holding s e h p)) d.now) other_kind (back_one s p b e h n l got d i alive one)
+back_alone s p b e h n l got d i alive one other_kind = search (arith, alone_of, before, after, with_holding, back_one)
 
 -- what is in flight to an end after the first, if its lines are these
 pub back_then : (s : Side) (p : TwoEnds) (c : Between) (e : End) (h : Held) (n : ℕ) (g : Progress) (begun : Option (List ℕ))
@@ -176,11 +165,7 @@ pub back_then : (s : Side) (p : TwoEnds) (c : Between) (e : End) (h : Held) (n :
     BehindFirst g (is_cut (is_caller (other s)) (carriers_of (with_holding s e h p))) begun x ms
     (under_way (is_caller (other s)) n (carriers_of (with_holding s e h p)) c) → HasJoined n (record { end = e; held = h }) begun →
     (StaysCalm x ms → StaysCalm y ms) → Goes (other s) s n (with_holding s e h p) c g y ms
-back_then s p c e h n g begun x y ms way held calms =
-    back_here s p c e h n g y ms
-    (behind_first e.carrier.ended g (is_cut (is_caller (other s)) (carriers_of (with_holding s e h p)))
-    (HasJoined n (record { end = e; held = h })) begun x y ms
-    (under_way (is_caller (other s)) n (carriers_of (with_holding s e h p)) c) way held calms)
+back_then s p c e h n g begun x y ms way held calms = search (arith, back_here, behind_first, with_holding)
 
 -- the lines of the end have no effect on what is in flight
 pub other_lines : (s : Side) (p : TwoEnds) (b : Between) (packet : List ℕ) (h : Held) (n : ℕ) (lines more : Rows Line) →
@@ -201,9 +186,7 @@ other_lines Right p b packet h n lines more pa g begun x ms way = way
 pub over_holds : (s : Side) (p : TwoEnds) (n : ℕ) (g : Progress) (x : Standing) (begun : Option (List ℕ)) → IsInOrder (end_at s p).end →
     HasSession n (end_at s p).end.lines g x → is_parting (transport_by g) ≡ true → HasJoined n (end_at s p) begun
 over_holds s p n g x begun order h parts y at =
-    let over : is_ended y.state.phase ≡ true = ap (λ (z : Listener). is_ended z.state.phase) (h.kept y at) ∙ h.over_now parts in
-    let off : discards y.state.phase ≡ true = discards_over y.state.phase (implied is_ended is_over refl y.state.phase over) in
-    inr (gone_is y.state.phase y.joined off (kept_of n y (end_at s p).end order at).phase, off)
+    grind (arith, discards_over, implied, gone_is, h.kept y at, h.over_now parts, kept_of n y (end_at s p).end order at)
 
 -- and data is no fault to it
 pub over_stays : (x : Standing) (ms : List Message) → is_ended x.state.phase ≡ true → StaysCalm x.state ms
@@ -223,20 +206,15 @@ same_sessions s p u n = record { sessions = λ q apart is. refl; kept = λ q apa
 -- the session of its connection before
 pub session_before : (s : Side) (p : TwoEnds) (b : Between) (t : Tables) (e : End) (h : Held) (n : ℕ) (l : TableLine) → Stands p b t →
     Lasts s p → (d : DidAt s p b e h n) → IsSeen s n p b l → HasSession n (end_at s p).end.lines (before d.row) l.own.session
-session_before s p b t e h n l old alive d i =
-    session_of_seat n (end_at s p) l.own (before d.row)
-    (ap (λ (c : State). progress_of (place_at n c)) (sym (was_at s p b t old alive)) ∙ d.stood) i.here
+session_before s p b t e h n l old alive d i = grind (arith, session_of_seat, before, was_at)
 
 pub transport_before : (s : Side) (p : TwoEnds) (b : Between) (t : Tables) (e : End) (h : Held) (n : ℕ) (l : TableLine) → Stands p b t →
     Lasts s p → (d : DidAt s p b e h n) → IsSeen s n p b l → l.own.transport ≡ transport_by (before d.row)
-transport_before s p b t e h n l old alive d i =
-    i.here.transport ∙ transport_at (place_at n (end_at s p).end.carrier) (before d.row)
-    (ap (λ (c : State). progress_of (place_at n c)) (sym (was_at s p b t old alive)) ∙ d.stood)
+transport_before s p b t e h n l old alive d i = grind (arith, transport_at, before, was_at)
 
 pub line_same : (row : Row) (l : TableLine) → l.own.transport ≡ transport_by (after row) →
     line_then row l.own.session l.own.channel l.peer.channel l ≡ l
-line_same row l e = ap (λ tr. record { own = record { transport = tr; session = l.own.session; channel = l.own.channel }; peer = l.peer })
-    (sym e)
+line_same row l e = grind arith
 
 abbrev pub NextFor : Side → TwoEnds → Between → Tables → Value → Held → Rows Line → ℕ → List Shown → Tables → Between → Type 0
 NextFor s p b t u h lines n shown new now = Turned s p b t (acted_end u lines (end_at s p).end) h now new n shown

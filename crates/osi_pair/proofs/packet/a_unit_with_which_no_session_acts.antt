@@ -4,11 +4,11 @@
 use Rattle.osi_between.specs.Messages as carrier
 use Rattle.osi_machine.specs.Core as machine
 use Rattle.osi_machine.specs.Worlds as worlds
-use Rattle.osi_pair.proofs.Vocabulary.{◌≡◌, ℕ, Bool, true, false, if◌then◌else◌, List, [], ◌∷◌, ◌++◌, length, map, Option, Some, None, refl}
-use Rattle.osi_pair.proofs.Vocabulary.{sym, ◌⊎◌, arith, append-nil, kind_of, Terms, delivers, shown_at, connection_at, with_connection}
-use Rattle.osi_pair.proofs.Vocabulary.{learns, Seat, Line, Turn, Tables, seen_from, unseen, without_first, message_taken, after_turn, stays}
-use Rattle.osi_pair.proofs.Vocabulary.{end_of, step, Message, Transport, agree, deny, over, put, with_same, with_other, with_count}
-use Rattle.osi_pair.proofs.Vocabulary.{Standing, side_in, message_in, word_in, terms_in, Word, Side, noted_in as noted}
+use Rattle.osi_pair.proofs.Vocabulary.{◌≡◌, ℕ, Bool, true, false, if◌then◌else◌, List, [], ◌∷◌, ◌++◌, length, map, Option, Some, None, ◌⊎◌}
+use Rattle.osi_pair.proofs.Vocabulary.{arith, append-nil, kind_of, Terms, delivers, shown_at, connection_at, with_connection, learns, Seat}
+use Rattle.osi_pair.proofs.Vocabulary.{Line, Turn, Tables, seen_from, unseen, without_first, message_taken, after_turn, stays, end_of, step}
+use Rattle.osi_pair.proofs.Vocabulary.{Message, Transport, agree, deny, over, put, with_same, with_other, with_count, Standing, side_in}
+use Rattle.osi_pair.proofs.Vocabulary.{message_in, word_in, terms_in, Word, Side, noted_in as noted}
 use Rattle.osi_pair.proofs.turn.what_remains_when_a_unit_was_taken.{TablesAfter, line_then}
 use Rattle.osi_pair.proofs.flight.what_may_arrive_row_by_row.{Row, begins, refuses, agrees, denies, leaves, ignores, ends, before}
 use Rattle.osi_pair.proofs.flight.what_may_arrive_row_by_row.{arrived_in, put_for, is_row}
@@ -39,9 +39,7 @@ lines_after s n old line t u e found = grind (arith, length, with_count, with_sa
 
 pub tables_delivered : (s : Side) (n : ℕ) (old : Line) (t : Tables) (known : Option worlds.Class) (turn : Turn) →
     connection_at n t.lines ≡ Some old → TablesAfter s n t (delivered t (side_in s) n known turn) turn.shown turn.line
-tables_delivered s n old t known turn found =
-    let lines = lines_after s n old turn.line t (delivered t (side_in s) n known turn) refl found in
-    grind arith
+tables_delivered s n old t known turn found = search (arith, lines_after)
 
 -- the tables are unchanged
 pub tables_rest : (s : Side) (n : ℕ) (line : Line) (t : Tables) → connection_at n t.lines ≡ Some (seen_from (side_in s) line) →
@@ -72,8 +70,7 @@ abbrev pub unless_broken : Bool → List Message → List Message
 unless_broken broken ms = if broken then [] else ms
 
 pub put_unless : (broken : Bool) (ms channel : List Message) → put broken ms channel ≡ channel ++ unless_broken broken ms
-put_unless true ms channel = sym (append-nil channel)
-put_unless false ms channel = refl
+put_unless broken ms channel = grind (arith, append-nil)
 
 pub unless_same : (broken whole : Bool) (ms : List Message) (ys : Sent) → broken ≡ whole → map message_in ms ≡ ys →
     map message_in (unless_broken broken ms) ≡ (if whole then [] else ys)

@@ -5,9 +5,9 @@ use Rattle.osi_carrier.specs.React.{react as carrier_react}
 use Rattle.osi_machine.specs.Worlds as worlds
 use Rattle.osi_pair.proofs.Vocabulary.{◌≡◌, ◌≢◌, ℕ, true, List, [], ◌∷◌, Some, None, is_some, IfSome, ap, ◌∙◌, arith, Value, Happening}
 use Rattle.osi_pair.proofs.Vocabulary.{Rows, value_at, State as Carrier, Progress, IsInOctets, Input, Standing, react, is_ended, listening}
-use Rattle.osi_pair.proofs.Vocabulary.{awaits, carries_out, after_packet, attends, concludes, hears, with_carrier, with_events, told_all}
-use Rattle.osi_pair.proofs.Vocabulary.{kept_at, line_after, End, session_in, put_here, put_other, quiet_attends, packet_is, is_parting}
-use Rattle.osi_pair.proofs.Vocabulary.{quieted, put_row as put, EndLine as Line, quieted_at, one_heard}
+use Rattle.osi_pair.proofs.Vocabulary.{awaits, carries_out, after_packet, attends, concludes, hears, with_carrier, told_all, kept_at}
+use Rattle.osi_pair.proofs.Vocabulary.{line_after, End, put_here, put_other, quiet_attends, packet_is, is_parting, quieted, put_row as put}
+use Rattle.osi_pair.proofs.Vocabulary.{EndLine as Line, quieted_at, one_heard}
 use Rattle.osi_pair.proofs.session.an_end_moves_as_the_tables_do.{as_made}
 use Rattle.osi_pair.proofs.packet.a_unit_at_rest_keeps_the_match.{acted_end}
 use Rattle.osi_pair.proofs.session.a_seat_is_its_progress_and_session.{transport_by, HasSession}
@@ -22,8 +22,7 @@ carried_out e packet u acts = packet_is e packet ∙ ap (λ (c : Carrier). atten
 pub nothing_heard : (e : End) (packet : List ℕ) (u : Value) → carriers.after_packet e.carrier packet ≡ carrier_react u e.carrier →
     (carrier_react u e.carrier).events ≡ [] → (carrier_react u e.carrier).ended ≡ None → after_packet e packet ≡ acted_end u e.lines e
 nothing_heard e packet u acts none lasts =
-    carried_out e packet u acts ∙ quiet_attends (carries_out u e) (record { lasts = ap is_some lasts; events = none })
-    ∙ ap (λ (l : List Happening). with_events l (carries_out u e)) none
+    grind (arith, carried_out e packet u acts, quiet_attends (carries_out u e) (record { lasts = ap is_some lasts; events = none }))
 
 -- it reported one event
 pub one_told : (e : End) (packet : List ℕ) (u : Value) (event : Happening) →
@@ -44,13 +43,11 @@ lasting e h = grind arith
 
 pub kept_then : (n : ℕ) (line was : Line) (x : Standing) (input : Input) (lines : Rows Line) → value_at n lines ≡ Some was →
     kept_at n (quieted (lines_then n line x input lines)) ≡ Some (listening (react x input).next)
-kept_then n line was x input lines here =
-    quieted_at n (lines_then n line x input lines) ∙ ap session_in (put_here n (line_after line (as_made (react x input))) was lines here)
+kept_then n line was x input lines here = grind (arith, quieted_at, put_here, as_made)
 
 pub kept_other : (n q : ℕ) (line : Line) (x : Standing) (input : Input) (lines : Rows Line) → q ≢ n →
     kept_at q (quieted (lines_then n line x input lines)) ≡ kept_at q lines
-kept_other n q line x input lines apart =
-    quieted_at q (lines_then n line x input lines) ∙ ap session_in (put_other q n (line_after line (as_made (react x input))) lines apart)
+kept_other n q line x input lines apart = grind (arith, quieted_at, put_other, as_made)
 
 pub session_then : (n : ℕ) (line was : Line) (x : Standing) (input : Input) (lines : Rows Line) (g : Progress) →
     value_at n lines ≡ Some was → (is_parting (transport_by g) ≡ true → is_ended (react x input).next.state.phase ≡ true) →

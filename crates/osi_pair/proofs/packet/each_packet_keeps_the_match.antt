@@ -25,11 +25,8 @@ heard_shown : MovingLaws → AnswerLaws → (s : Side) (p : TwoEnds) (b : Betwee
     ((is_move pa.did.row ≡ true) ⊎ ((reason : ℕ) × (pa.did.row ≡ leaves reason))) →
     StandsShown s p t (after_packet (end_at s p).end packet) h
 heard_shown laws answers s p b t packet h old run alive pa a (inl move) =
-    let v = has_moved laws s p b t packet h old run alive pa a move in
-    moving_packet laws.packet answers s p b t packet h old alive pa v.moved v.row v.input
-    (λ shut zero. closes_zero laws.packet answers s p b t packet h old alive pa v.moved v.row v.input shut zero)
-heard_shown laws answers s p b t packet h old run alive pa a (inr left) =
-    leaving_packet laws s p b t packet h left.0 old run alive pa a left.1
+    search (arith, moving_packet, closes_zero, has_moved laws s p b t packet h old run alive pa a move)
+heard_shown laws answers s p b t packet h old run alive pa a (inr left) = search (arith, leaving_packet)
 
 shown_by : MovingLaws → AnswerLaws → (s : Side) (p : TwoEnds) (b : Between) (t : Tables) (packet : List ℕ) (h : Held) → Stands p b t →
     IsTableRun t → Lasts s p → (pa : PacketAt s p b packet h) → (heard : Bool) → is_heard pa.did.row ≡ heard →
@@ -54,20 +51,11 @@ told_at laws answers p steps s packet octets h at alive is cut =
 starved_at : StarveLaws → (p : TwoEnds) (steps : List Step) (s : Side) (packet octets : List ℕ) (new : End) (h : Held) → StandsAt p steps →
     Lasts s p → IsPacket packet octets → (end_at s p).held.octets ≡ octets ++ h.octets → Starves (end_at s p).end packet new →
     StandsAtArrivals s (shown_pair s new h p) steps
-starved_at laws p steps s packet octets new h at alive is cut starved =
-    arrivals_at s p steps new h at
-    (starved_shown laws s p at.now (tables_at p steps) packet octets h h new at.stands (is_run p steps at) alive is cut starved)
+starved_at laws p steps s packet octets new h at alive is cut starved = search (arith, arrivals_at, starved_shown, tables_at, is_run)
 
 ended_at : StarveLaws → (p : TwoEnds) (steps : List Step) (s : Side) (h : Held) → StandsAt p steps → Lasts s p →
     StandsAtArrivals s (shown_pair s (ends_end NoMemory (end_at s p).end) h p) steps
-ended_at laws p steps s h at alive =
-    arrivals_at s p steps (ends_end NoMemory (end_at s p).end) h at
-    (ended_shown s p at.now (tables_at p steps) h at.stands (takes_from laws.takes s (tables_at p steps) (is_run p steps at)) alive)
+ended_at laws p steps s h at alive = search (arith, arrivals_at, ended_shown, tables_at, takes_from, is_run)
 
 pub packet_stands : MovingLaws → AnswerLaws → StarveLaws → PacketStands
-packet_stands laws answers starve = record {
-  told = λ p steps s packet octets h at alive is cut. told_at laws answers p steps s packet octets h at alive is cut;
-  starved = λ p steps s packet octets new h at alive is cut starved. starved_at starve p steps s packet octets new h at alive is cut
-      starved;
-  ended = λ p steps s h at alive. ended_at starve p steps s h at alive;
-}
+packet_stands laws answers starve = search (arith, told_at, starved_at, ended_at)

@@ -3,9 +3,9 @@
 use Rattle.osi_between.specs.Messages as carrier
 use Rattle.osi_between.specs.Progress as progress
 use Rattle.osi_machine.specs.Worlds as worlds
-use Rattle.osi_pair.proofs.Vocabulary.{◌≡◌, ℕ, ◌≤◌, true, false, None, option_map, sym, ap, subst, ◌∙◌, inl, inr, arith, Held, Value}
-use Rattle.osi_pair.proofs.Vocabulary.{place_at, State, Between, last_of, in_use, class_behind_all, Terms, class_of, learns, Line, Tables}
-use Rattle.osi_pair.proofs.Vocabulary.{Message, End, TwoEnds, is_caller, class_in, terms_in, message_in, Stands, Side, Left, Right, kind_of}
+use Rattle.osi_pair.proofs.Vocabulary.{◌≡◌, ℕ, ◌≤◌, true, None, option_map, sym, ap, subst, ◌∙◌, inl, inr, arith, Held, Value, place_at}
+use Rattle.osi_pair.proofs.Vocabulary.{Between, last_of, in_use, Terms, class_of, learns, Line, Tables, Message, End, TwoEnds, is_caller}
+use Rattle.osi_pair.proofs.Vocabulary.{class_in, terms_in, message_in, Stands, Side, kind_of}
 use Rattle.osi_pair.proofs.flight.which_unit_arrives_first.{IsFirstFor}
 use Rattle.osi_pair.proofs.turn.what_remains_when_a_unit_was_taken.{terms_at, DidAt, is_agree, last_is, known_then}
 use Rattle.osi_pair.proofs.packet.what_a_session_hears_row_by_row.{AsMove, got_in}
@@ -22,11 +22,7 @@ use Rattle.osi_pair.proofs.flight.whether_something_is_cut_off.{Lasts}
 -- the caller has the class then
 class_agreed : (s : Side) (p : TwoEnds) (b : Between) (e : End) (h : Held) (n : ℕ) → (d : DidAt s p b e h n) → e.carrier.ended ≡ None →
     d.row ≡ agrees → is_caller s ≡ true → (with_holding s e h p).left.end.carrier.class ≡ class_of (terms_at p)
-class_agreed Left p b e h n d lasts same caller =
-    ap (λ (c : State). c.class) (sym (last_is Left p b e h n d lasts)) ∙ d.class
-    ∙ ap (λ (r : Row). class_behind_all (class_of (terms_at p)) b.caller.class (arrived_in r)) same
-    ∙ grind (arith, subst (λ (r : Row). is_row (terms_at p) r) same d.is)
-class_agreed Right p b e h n d lasts same caller = absurd (let no : false ≡ true = caller in cc)
+class_agreed s p b e h n d lasts same caller = search (arith, last_is, terms_at, arrived_in, is_row)
 
 -- and the tables learn it
 learned : (t : Tables) (l : Line) (m : Message) (terms : Terms) → t.terms ≡ terms_in terms → l.own.transport ≡ worlds.waiting →
@@ -70,8 +66,5 @@ moved_class s p b t e h n l m u row old d first same (inl is) tr alike open_now 
     let row_is : is_row (terms_at p) agrees = subst (λ (r : Row). is_row (terms_at p) r) (same ∙ is) d.is in
     learned t l m (terms_at p) old.terms (tr ∙ ap (λ (r : Row). transport_by (before r)) is) row_is
     (subst (λ (r : Row). kind_of (message_in m) ≡ kind_of (got_in r)) is alike)
-moved_class s p b t e h n l m u row old d first same (inr (inl is)) tr alike open_now =
-    let no : progress.gone ≡ in_use = sym (ap after is.1) ∙ open_now in absurd cc
-moved_class s p b t e h n l m u row old d first same (inr (inr is)) tr alike open_now =
-    learns_row row l.own.transport t.terms m t.known tr (ap is_awaited is.1) ∙ old.known
-    ∙ ap (option_map class_in) (sym old.class_then ∙ first.class (grind (arith, d.stood ∙ ap before (same ∙ is.1))))
+moved_class s p b t e h n l m u row old d first same (inr (inl is)) tr alike open_now = grind (arith, after)
+moved_class s p b t e h n l m u row old d first same (inr (inr is)) tr alike open_now = grind (arith, learns_row, is_awaited, before)

@@ -101,8 +101,7 @@ hears_agrees n m joined x kept none goes octets = record {
 }
 
 needs_none : (x : Standing) → is_ended x.state.phase ≡ true → needs_link x.state.phase ≡ true → in_use ≡ gone
-needs_none x ended needs = let none : needs_link x.state.phase ≡ false =
-    excluded is_ended needs_link refl x.state.phase ended in absurd (no_move (sym none ∙ needs))
+needs_none x ended needs = grind (arith, excluded, no_move)
 
 hears_denies : (n reason : ℕ) (m : Message) (joined : Option (List ℕ)) (x : Standing) → IsTaker x joined → joined ≡ None →
     is_ended (react x (session.refused reason)).next.state.phase ≡ true → IfSome x.waiting IsInOctets → HearsBy n (denies reason) m joined x
@@ -190,9 +189,7 @@ waiting_goes laws seat c w h y e = grind (arith, offer_goes)
 
 pub tells_by : HearLaws → (n : ℕ) (octets : List ℕ) (m : Message) (joined : Option (List ℕ)) (x : Standing) → joined ≡ None →
     message_in m ∷ [] ≡ carrier.message octets ∷ [] → IsWhole m → IfSome x.waiting IsInOctets → HearsBy n (tells octets) m joined x
-tells_by laws n octets (unit u) joined x none e whole waits =
-    hears_tells laws.replies laws.readings laws.units n octets u joined x (let same : octets ≡ written u = cc in same) whole none waits
-tells_by laws n octets m joined x none e whole waits = cc
+tells_by laws n octets m joined x none e whole waits = search (arith, hears_tells)
 
 -- the last part of one Data
 pub tells_last : HearLaws → (n : ℕ) (octets front last : List ℕ) (joined : Option (List ℕ)) (x : Standing) →
@@ -223,18 +220,11 @@ hears_as : HearLaws → (n : ℕ) (row : Row) (m : Message) (joined : Option (Li
     seat.transport ≡ transport_by (before row) → (seat.transport ≡ worlds.waiting → IsCalling seat) → CanBeSent seat.session.waiting →
     IfSome seat.session.waiting IsInOctets → HearsBy n row m joined seat.session
 hears_as laws n row m joined seat kept none tsdus (inl (inl is)) tr calls sendable octets =
-    subst (λ (r : Row). HearsBy n r m joined seat.session) (sym is)
-    (hears_agrees n m joined seat.session kept (none (ap is_move is) (ap (λ (r : Row). is_tsdu (got_in r)) is))
-    (waiting_goes laws.replies seat (calls (tr ∙ ap (λ (r : Row). transport_by (before r)) is)) sendable octets) octets)
+    grind (arith, hears_agrees, is_move, is_tsdu, waiting_goes, transport_by, before)
 hears_as laws n row m joined seat kept none tsdus (inl (inr (inl is))) tr calls sendable octets =
-    let c = calls (tr ∙ ap (λ (r : Row). transport_by (before r)) is.1) in
-    subst (λ (r : Row). HearsBy n r m joined seat.session) (sym is.1)
-    (hears_denies n is.0 m joined seat.session kept (none (ap is_move is.1) (ap (λ (r : Row). is_tsdu (got_in r)) is.1))
-    (ended_refused seat.session is.0 c.phase) octets)
-hears_as laws n row m joined seat kept none tsdus (inl (inr (inr is))) tr calls sendable octets =
-    subst (λ (r : Row). HearsBy n r m joined seat.session) (sym is.1) (tsdus is.0 is.1)
-hears_as laws n row m joined seat kept none tsdus (inr is) tr calls sendable octets =
-    subst (λ (r : Row). HearsBy n r m joined seat.session) (sym is.1) (hears_leaves n is.0 m joined seat.session kept octets)
+    grind (arith, transport_by, before, hears_denies, is_move, is_tsdu, ended_refused)
+hears_as laws n row m joined seat kept none tsdus (inl (inr (inr is))) tr calls sendable octets = grind arith
+hears_as laws n row m joined seat kept none tsdus (inr is) tr calls sendable octets = grind (arith, hears_leaves)
 
 -- what happens to the session at a side
 pub hears_row : HearLaws → (n : ℕ) (row : Row) (m : Message) (joined : Option (List ℕ)) (seat : Seat) → IsTaker seat.session joined →
@@ -242,5 +232,4 @@ pub hears_row : HearLaws → (n : ℕ) (row : Row) (m : Message) (joined : Optio
     ((octets : List ℕ) → row ≡ tells octets → HearsBy n (tells octets) m joined seat.session) → is_heard row ≡ true →
     seat.transport ≡ transport_by (before row) → (seat.transport ≡ worlds.waiting → IsCalling seat) → CanBeSent seat.session.waiting →
     IfSome seat.session.waiting IsInOctets → HearsBy n row m joined seat.session
-hears_row laws n row m joined seat kept none tsdus heard tr calls sendable octets =
-    hears_as laws n row m joined seat kept none tsdus (as_heard row heard) tr calls sendable octets
+hears_row laws n row m joined seat kept none tsdus heard tr calls sendable octets = search (arith, hears_as, as_heard)

@@ -82,11 +82,7 @@ class_known s p b t packet h old pa used = grind arith
 known_by_class : (s : Side) (p : TwoEnds) (b : Between) (t : Tables) (packet : List ℕ) (h : Held) (terms : Terms) (class : worlds.Class) →
     Stands p b t → (pa : PacketAt s p b packet h) → before pa.did.row ≡ in_use → terms_at p ≡ terms → terms_in terms ≡ accepts class →
     option_map class_in (class_of terms) ≡ Some class → (tr : Transport) (m : Message) → learns t.terms tr m t.known ≡ Some class
-known_by_class s p b t packet h terms class old pa used is accepted agreed tr m =
-    let known : t.known ≡ Some class = class_known s p b t packet h old pa used ∙ ap (λ (x : Terms). option_map class_in (class_of x)) is
-    ∙ agreed in
-    ap (λ (o : Option worlds.Class). learns t.terms tr m o) known
-    ∙ ap (λ (x : worlds.Terms). learns x tr m (Some class)) (old.terms ∙ ap terms_in is ∙ accepted) ∙ grind arith
+known_by_class s p b t packet h terms class old pa used is accepted agreed tr m = grind (arith, class_known s p b t packet h old pa used)
 
 pub known_two : (s : Side) (p : TwoEnds) (b : Between) (t : Tables) (packet : List ℕ) (h : Held) → Stands p b t →
     (pa : PacketAt s p b packet h) → before pa.did.row ≡ in_use → terms_at p ≡ by_two → (tr : Transport) (m : Message) →
@@ -104,8 +100,7 @@ known_zero s p b t packet h old pa used zero tr m = known_by_class s p b t packe
 pub answering_packet : PacketLaws → (s : Side) (p : TwoEnds) (b : Between) (t : Tables) (packet : List ℕ) (h : Held) → Stands p b t →
     Lasts s p → PacketAt s p b packet h → (v : HasMoved s p t packet h) (x : Meaning) → (move_of v.m).closes ≡ false →
     (move_of v.m).reply ≡ Some x → StandsShown s p t (after_packet (end_at s p).end packet) h
-answering_packet laws s p b t packet h old alive pa v x open_still reply =
-    answered_shown laws.two s p t packet h v x (sound_behind laws s p b t packet h old alive pa) open_still reply
+answering_packet laws s p b t packet h old alive pa v x open_still reply = search (arith, answered_shown, sound_behind)
 
 -- in class 2 it closes
 pub closing_packet : PacketLaws → AnswerLaws → (s : Side) (p : TwoEnds) (b : Between) (t : Tables) (packet : List ℕ) (h : Held) →
@@ -130,8 +125,7 @@ by_terms : PacketLaws → AnswerLaws → (s : Side) (p : TwoEnds) (b : Between) 
     v.m.input ≡ heard_by v.m.row v.m.first → (move_of v.m).closes ≡ true →
     (terms_at p ≡ by_zero → StandsShown s p t (after_packet (end_at s p).end packet) h) → ((terms_at p ≡ by_two) ⊎ (terms_at p ≡ by_zero)) →
     StandsShown s p t (after_packet (end_at s p).end packet) h
-by_terms laws moves s p b t packet h old alive pa v row input shut zero (inl two) =
-    closing_packet laws moves s p b t packet h old alive pa v row input two shut
+by_terms laws moves s p b t packet h old alive pa v row input shut zero (inl two) = search (arith, closing_packet)
 by_terms laws moves s p b t packet h old alive pa v row input shut zero (inr e) = zero e
 
 -- if it closes; the state of two ends of class 0 then is given
@@ -152,11 +146,9 @@ by_move : PacketLaws → AnswerLaws → (s : Side) (p : TwoEnds) (b : Between) (
     (move_of v.m).reply ≡ reply →
     ((move_of v.m).closes ≡ true → terms_at p ≡ by_zero → StandsShown s p t (after_packet (end_at s p).end packet) h) →
     StandsShown s p t (after_packet (end_at s p).end packet) h
-by_move laws moves s p b t packet h old alive pa v row input true reply shut e zero =
-    shutting_packet laws moves s p b t packet h old alive pa v row input shut (zero shut)
+by_move laws moves s p b t packet h old alive pa v row input true reply shut e zero = search (arith, shutting_packet)
 by_move laws moves s p b t packet h old alive pa v row input false None stays e zero = silent_shown s p t packet h v stays e
-by_move laws moves s p b t packet h old alive pa v row input false (Some x) stays e zero =
-    answering_packet laws s p b t packet h old alive pa v x stays e
+by_move laws moves s p b t packet h old alive pa v row input false (Some x) stays e zero = search (arith, answering_packet)
 
 -- a packet with which a session moves; the state of two ends of class 0, if it closes, is given
 pub moving_packet : PacketLaws → AnswerLaws → (s : Side) (p : TwoEnds) (b : Between) (t : Tables) (packet : List ℕ) (h : Held) →

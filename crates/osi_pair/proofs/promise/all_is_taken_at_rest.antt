@@ -9,17 +9,16 @@ use Rattle.osi_machine.specs.Sayings.{is_parting}
 use Rattle.osi_machine.specs.Worlds as worlds
 use Rattle.osi_pair.specs.Promises.{sent_by, kept_at as kept_by}
 use Rattle.osi_pair.proofs.Vocabulary.{◌≡◌, refl, sym, ◌∙◌, ap, subst, ℕ, ◌<◌, ◌≤◌, Bool, true, false, List, [], ◌∷◌, ◌++◌, length, map}
-use Rattle.osi_pair.proofs.Vocabulary.{Option, Some, None, option_map, is_some, inl, inr, ◌⊎◌, arith, unit_packet, units_in, IsHeardAsSaid}
-use Rattle.osi_pair.proofs.Vocabulary.{append-nil, AllByRecursion, completed_partial, partial_not_whole, IsPartial, packet_of, Value}
-use Rattle.osi_pair.proofs.Vocabulary.{begun_by, kept_in, was_given, place_at, value_at, Connection, State, linked, packets, Both, Between}
-use Rattle.osi_pair.proofs.Vocabulary.{AreBetween, IsOnTheWay, AreJoinedBy, arriving, reach_of, within_reach, last_of, lost_from}
-use Rattle.osi_pair.proofs.Vocabulary.{units_from, under_way, IsStill, IsAllThere, is_cut, progress_of, Progress, Terms, terms_of, Step}
-use Rattle.osi_pair.proofs.Vocabulary.{side_of, turned, Message, Listener, kept_at, session_at, joined_of, joined_in, End, TwoEnds, end_at}
-use Rattle.osi_pair.proofs.Vocabulary.{taken_by, AreTakenInOrder, AreAtRest, IsOpenAt, begun_of, kept_of, IsAllTaken, HoldLess, other}
-use Rattle.osi_pair.proofs.Vocabulary.{terms_in, is_caller, transport_in, carriers_of, AreAlike, HasLine, StandsAt, AreUnderWay, word_in}
-use Rattle.osi_pair.proofs.Vocabulary.{HasJoined, IsInOrder, Reach, Side, Left, Right, EndReason, Word, joins, left_of, IsJoinedAs}
-use Rattle.osi_pair.proofs.Vocabulary.{joined_octets, may_hold, joined_holds, implied, needs_link, is_open, given_live}
-use Rattle.osi_pair.proofs.Vocabulary.{SessionState as Session, Link as Standing, seen_from, side_in}
+use Rattle.osi_pair.proofs.Vocabulary.{Option, Some, None, option_map, is_some, arith, unit_packet, units_in, IsHeardAsSaid, append-nil}
+use Rattle.osi_pair.proofs.Vocabulary.{AllByRecursion, completed_partial, partial_not_whole, IsPartial, packet_of, Value, begun_by, kept_in}
+use Rattle.osi_pair.proofs.Vocabulary.{was_given, place_at, value_at, Connection, State, linked, packets, Both, Between, AreBetween}
+use Rattle.osi_pair.proofs.Vocabulary.{IsOnTheWay, AreJoinedBy, arriving, reach_of, within_reach, last_of, lost_from, units_from, under_way}
+use Rattle.osi_pair.proofs.Vocabulary.{IsStill, IsAllThere, is_cut, progress_of, Progress, Terms, terms_of, Step, side_of, turned, Message}
+use Rattle.osi_pair.proofs.Vocabulary.{Listener, kept_at, session_at, joined_of, joined_in, End, TwoEnds, end_at, taken_by, AreTakenInOrder}
+use Rattle.osi_pair.proofs.Vocabulary.{AreAtRest, IsOpenAt, begun_of, kept_of, IsAllTaken, HoldLess, other, terms_in, is_caller}
+use Rattle.osi_pair.proofs.Vocabulary.{transport_in, carriers_of, AreAlike, HasLine, StandsAt, AreUnderWay, word_in, HasJoined, IsInOrder}
+use Rattle.osi_pair.proofs.Vocabulary.{Reach, Side, Left, Right, EndReason, Word, IsJoinedAs, may_hold, joined_holds, implied, needs_link}
+use Rattle.osi_pair.proofs.Vocabulary.{is_open, given_live, SessionState as Session, Link as Standing, seen_from, side_in}
 use Rattle.osi_pair.proofs.promise.nothing_is_kept_at_rest.{open_there, open_here, none_begun, none_joined as all_none_joined}
 use Rattle.osi_pair.proofs.turn.what_remains_when_a_unit_was_taken.{order_of}
 use Rattle.osi_pair.proofs.promise.matching_ends_keep_the_promises.{tables_at, line_at, outside_by, within}
@@ -60,18 +59,14 @@ no_words (w ∷ words) e = absurd (cc)
 -- Nothing is in flight: no message comes any more, and if nothing was cut off, nothing has begun.
 none_comes : (o : Option EndReason) (g : Progress) (c : Bool) (H : Option (List ℕ) → Type 0) (x : Session) (ms : List Message)
     (sent : List carrier.Message) → (w : AreUnderWay o g c H x ms sent) → c ≡ false → map word_in w.words ≡ [] → (ms ≡ []) × H None
-none_comes o g c H x ms sent w uncut none =
-    let gone = no_words w.words none in
-    (sym w.joined ∙ ap (joins w.begun) gone, subst H (sym (ap (left_of w.begun) gone) ∙ w.finished uncut) w.held)
+none_comes o g c H x ms sent w uncut none = grind (arith, no_words)
 
 uncut_at : (side : Side) (p : TwoEnds) → Resting p → is_cut (is_caller side) (carriers_of p) ≡ false
 uncut_at side p rest = cut_none side p (is_some p.reach) refl (rest.lasts side) (ap is_some rest.unbroken)
 
 open_place : (side : Side) (r : ℕ) (p : TwoEnds) (steps : List Step) (h : StandsAt p steps) → Lasts side p →
     (o : IsOpenAt r (end_at side p).end) → place_at r (end_at side p).end.carrier ≡ was_given (Some (linked o.peer o.link))
-open_place side r p steps h lasts o =
-    given_live r (end_at side p).end.carrier (linked o.peer o.link)
-    (order_of side p h.now (tables_at p steps) h.stands lasts).sound.orderly o.live
+open_place side r p steps h lasts o = grind (arith, given_live, order_of, tables_at)
 
 last_now : (side : Side) (p : TwoEnds) (steps : List Step) (h : StandsAt p steps) → Lasts side p →
     (end_at side p).end.carrier ≡ last_of (is_caller side) h.now
@@ -132,15 +127,7 @@ at_rest p steps h rest = record {
 -- its reference was given
 open_given : (r : ℕ) (p : TwoEnds) (steps : List Step) (h : StandsAt p steps) → IsOpenAt r p.left.end →
     (0 < r) × (r ≤ p.left.end.carrier.given)
-open_given r p steps h o = by (within r p.left.end.carrier.given)
-  where
-    by : ((r ≡ 0) ⊎ (p.left.end.carrier.given < r)) ⊎ ((0 < r) × (r ≤ p.left.end.carrier.given)) → (0 < r) × (r ≤ p.left.end.carrier.given)
-    by (inr given) = given
-    by (inl out) =
-        let none = outside_by r p.left.end.carrier.given p.left p.left.end.carrier.ended refl h.stands.over_left h.stands.order_left
-        (omega arith) out in
-        let no_way : None ≡ Some (linked o.peer o.link) = sym none ∙ o.live in
-        absurd (cc)
+open_given r p steps h o = grind (arith, within, outside_by)
 
 -- nothing is in flight, so what was taken is all
 none_left : (heard said : List Meaning) (ms : List Message) → ms ≡ [] → heard ++ units_in ms ≡ said → heard ≡ said
@@ -189,8 +176,7 @@ has_joined_none p steps r h rest o Right = (gets_all p steps r h rest o Left).1
 none_of : (r : ℕ) (e : End) (l : Listener) → is_some (value_at r e.carrier.live) ≡ true → session_at r e ≡ Some l →
     ((y : Listener) → kept_at r e.lines ≡ Some y → IsJoinedAs y.state y.joined None) → joined_of (session_at r e) ≡ 0
 none_of r e l lives is held =
-    ap joined_of is ∙ ap (λ (j : Option (List ℕ)). length (joined_octets j))
-    (none_joined l.state l.joined (held l (sym (live_session r e lives) ∙ is)))
+    grind (arith, none_joined l.state l.joined (held l (sym (live_session r e lives) ∙ is)), live_session r e lives)
 
 all_there : Heard → Empties → (p : TwoEnds) (steps : List Step) (r : ℕ) → StandsAt p steps → Resting p → IsOpenAt r p.left.end →
     IsOpenAt r p.right.end → IsAllTaken r p steps

@@ -7,10 +7,10 @@ use Rattle.osi_machine.specs.Runs as runs
 use Rattle.osi_machine.specs.Views.{Told, told_of}
 use Rattle.osi_pair.proofs.Vocabulary.{◌≡◌, refl, sym, ◌∙◌, ap, subst, ℕ, ◌<◌, ◌≤◌, Bool, true, false, ◌&&◌, List, [], ◌∷◌, map, Option}
 use Rattle.osi_pair.proofs.Vocabulary.{Some, None, option_map, is_some, IsSome, inl, inr, ◌⊎◌, if◌then◌else◌, arith, none_held, or_parts}
-use Rattle.osi_pair.proofs.Vocabulary.{list_any, absent, beyond, Rows, value_at, Connection, EndReason, terms_of, IsTableRun, OfEachLine}
+use Rattle.osi_pair.proofs.Vocabulary.{list_any, absent, beyond, value_at, Connection, EndReason, terms_of, IsTableRun, OfEachLine}
 use Rattle.osi_pair.proofs.Vocabulary.{HoldNoneTwice, AreAgreed, IsSeenInBoth, TellsNoFault, LosesAsItEnds, AreOffered, offers_in, Token}
 use Rattle.osi_pair.proofs.Vocabulary.{has, Ending, IsLegal, Step, connection_at, is_loss, loses, Tables, run, start, Listener, Standing}
-use Rattle.osi_pair.proofs.Vocabulary.{held_by, numbers_of, Holding, session_at, session_in, TwoEnds, end_at, Entry, with_word, journal_in}
+use Rattle.osi_pair.proofs.Vocabulary.{held_by, numbers_of, Holding, session_at, session_in, TwoEnds, end_at, Entry, journal_in}
 use Rattle.osi_pair.proofs.Vocabulary.{IsLegalJournal, AllWereAskedFor, OfEachConnection, HaveOneHolder, AgreeUnlessDuplex, IsShownAsAsked}
 use Rattle.osi_pair.proofs.Vocabulary.{IsSeenThere, confirmed_at, ConfirmedIsSeen, is_fault, HasNoFault, EndsForFewReasons, ending_of}
 use Rattle.osi_pair.proofs.Vocabulary.{LoseAsTheyEnd, side_in, entry_in, ending_in, terms_in, HasLine, IsInOrder, StandsAt, joining, Side}
@@ -29,9 +29,7 @@ rest_same x y xs ys e = cc
 words_by : (js : List entries.Entry) (es : List Entry) → map Some js ≡ map entry_in es → journal_in es ≡ js
 words_by [] [] e = refl
 words_by (j ∷ js) (x ∷ es) e =
-    ap (λ (o : Option entries.Entry). with_word o (journal_in es))
-    (sym (first_same (Some j) (entry_in x) (map Some js) (map entry_in es) e))
-    ∙ ap (λ (l : List entries.Entry). j ∷ l) (words_by js es (rest_same (Some j) (entry_in x) (map Some js) (map entry_in es) e))
+    grind (arith, first_same, rest_same, words_by js es (rest_same (Some j) (entry_in x) (map Some js) (map entry_in es) e))
 words_by js es e = grind arith
 
 -- ---- the tables that two ends match
@@ -65,13 +63,7 @@ pub line_at : (r : ℕ) (p : TwoEnds) (steps : List Step) (h : StandsAt p steps)
 line_at r p steps h above within = h.stands.lines r above (let same = h.stands.given in omega arith)
 
 pub all_asked : ((t : Tables) → IsTableRun t → AreOffered t) → (p : TwoEnds) (steps : List Step) → StandsAt p steps → AllWereAskedFor p
-all_asked offered p steps h r above within =
-    let line = line_at r p steps h above within in
-    let offer = offered (tables_at p steps) (is_run p steps h) r line.line line.found in
-    record {
-      offer = offer.offer;
-      found = ap (λ (l : List entries.Entry). connection_at r (offers_in l)) (journal_at p steps h) ∙ offer.found;
-    }
+all_asked offered p steps h r above within = search (arith, line_at r p steps h above within, is_run p steps h, journal_at p steps h)
 
 -- a statement about each connection of the tables holds for the two ends
 of_each : (P : State → State → Told → Told → Type 0) (Q : ℕ → Told → Told → Type 0) (p : TwoEnds) (steps : List Step)
@@ -123,19 +115,11 @@ no_session r h e = ap (λ (o : Option Connection). if is_some o then session_in 
 pub outside_by : (r most : ℕ) (h : Holding) (ended : Option EndReason) → h.end.carrier.ended ≡ ended →
     (IsSome h.end.carrier.ended → h.end.carrier.live ≡ []) → (h.end.carrier.ended ≡ None → IsInOrder h.end) → h.end.carrier.given ≤ most →
     (r ≡ 0) ⊎ (most < r) → value_at r h.end.carrier.live ≡ None
-outside_by r most h None e over order given (inl none) = absent r 0 h.end.carrier.live (omega arith) (order e).sound.orderly.rise
-outside_by r most h None e over order given (inr above) =
-    beyond r h.end.carrier.given h.end.carrier.live (order e).sound.orderly.up_to (omega arith)
-outside_by r most h (Some why) e over order given out =
-    ap (λ (rows : Rows Connection). value_at r rows) (over (subst (λ (o : Option EndReason). IsSome o) (sym e) refl))
+outside_by r most h ended e over order given out = grind (arith, absent, beyond)
 
 pub outside : (side : Side) (r : ℕ) (p : TwoEnds) (steps : List Step) → StandsAt p steps → (r ≡ 0) ⊎ (p.left.end.carrier.given < r) →
     session_at r (end_at side p).end ≡ None
-outside Left r p steps h out = no_session r p.left
-    (outside_by r p.left.end.carrier.given p.left p.left.end.carrier.ended refl h.stands.over_left h.stands.order_left (omega arith) out)
-outside Right r p steps h out = no_session r p.right
-    (outside_by r p.left.end.carrier.given p.right p.right.end.carrier.ended refl h.stands.over_right h.stands.order_right
-    (let back = h.stands.given_back in let same = h.stands.given in omega arith) out)
+outside side r p steps h out = grind (arith, no_session, outside_by)
 
 -- an end reports what the tables have, or nothing
 data Says (n : ℕ) (h : Holding) (s : Standing) : Type 0 where
@@ -150,8 +134,7 @@ says_by n h s joined false e seated = of_none (ap (λ (b : Bool). if b then sess
 -- ---- tokens
 
 none_holds : (o other : Option Listener) (t : Token) → o ≡ None → (has (held_by o) t && has (held_by other) t) ≡ false
-none_holds o other t e =
-    ap (λ (x : Option Listener). has (held_by x) t && has (held_by other) t) e ∙ ap (λ (b : Bool). b && has (held_by other) t) (none_held t)
+none_holds o other t e = grind (arith, none_held)
 
 one_holds : (n : ℕ) (left right : Holding) (s q : Standing) (t : Token) → Says n left s → Says n right q →
     (has s.state.held t && has q.state.held t) ≡ false →
@@ -207,8 +190,7 @@ confirmed_is_seen all p steps h = of_each IsSeenInBoth (ConfirmedIsSeen p) p ste
 -- ---- the end of an end
 
 pub few_reasons : (p : TwoEnds) (steps : List Step) → StandsAt p steps → EndsForFewReasons p
-few_reasons p steps h Left why is = grind (arith, h.stands.left_end)
-few_reasons p steps h Right why is = grind (arith, h.stands.right_end)
+few_reasons p steps h h2 why is = search arith
 
 same_end : (t : Option Ending) (o : Option EndReason) → option_map Some t ≡ option_map ending_in o → t ≡ ending_of o
 same_end t o h = grind arith

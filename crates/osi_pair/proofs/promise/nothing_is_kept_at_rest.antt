@@ -2,12 +2,12 @@
 -- octet is kept.
 -- For the promises.
 use Rattle.osi_between.specs.Zero as zero
-use Rattle.osi_pair.proofs.Vocabulary.{◌≡◌, refl, sym, ◌∙◌, ap, subst, ℕ, Bool, true, false, ◌==◌, if◌then◌else◌, List, [], ◌∷◌, ◌++◌}
-use Rattle.osi_pair.proofs.Vocabulary.{Option, Some, None, is_some, arith, none_open, at_one, first_here, eqb-true, sum_by-cons, Value}
-use Rattle.osi_pair.proofs.Vocabulary.{swapped, Local, absent, begun_by, kept_in, Place, was_given, place_at, RiseFrom, Rows, value_at}
-use Rattle.osi_pair.proofs.Vocabulary.{Connection, State, linked, given_live, within_given, AreJoinedBy, Course, met, at_end, from_end}
-use Rattle.osi_pair.proofs.Vocabulary.{talking, left_here, left_there, Terms, by_two, by_zero, refusing, Listener, kept_at, session_in}
-use Rattle.osi_pair.proofs.Vocabulary.{joined_of, joined_live, joined_in, Link as Standing, EndLine as Line, kept_first}
+use Rattle.osi_pair.proofs.Vocabulary.{◌≡◌, refl, sym, ◌∙◌, ap, subst, ℕ, Bool, true, false, if◌then◌else◌, List, [], ◌∷◌, ◌++◌, Option}
+use Rattle.osi_pair.proofs.Vocabulary.{Some, None, is_some, arith, none_open, at_one, first_here, eqb-true, sum_by-cons, Value, Local}
+use Rattle.osi_pair.proofs.Vocabulary.{absent, begun_by, kept_in, Place, was_given, place_at, RiseFrom, Rows, value_at, Connection, State}
+use Rattle.osi_pair.proofs.Vocabulary.{linked, given_live, within_given, AreJoinedBy, Course, at_end, from_end, Terms, by_two, by_zero}
+use Rattle.osi_pair.proofs.Vocabulary.{refusing, Listener, kept_at, joined_of, joined_live, joined_in, Link as Standing, EndLine as Line}
+use Rattle.osi_pair.proofs.Vocabulary.{kept_first}
 
 -- ---- a connection that is open at one end
 
@@ -29,15 +29,11 @@ last_there (v ∷ us) u e = cc
 -- class 2: at the called end, and at the caller
 linked_there : (n p : ℕ) (x : Standing) (called : Local) (g : Course) → at_end true n g ≡ was_given (Some (linked p x)) →
     from_end false n called g ≡ [] → IsLinked (at_end false n g)
-linked_there n p x called (met (talking l)) a back = record { peer = n; link = (swapped l).left; is = refl }
-linked_there n p x called (met (left_there l us reason)) a back = absurd (last_there _ _ back)
-linked_there n p x called g a back = absurd (cc)
+linked_there n p x called g a back = grind (arith, last_there)
 
 linked_here : (n p : ℕ) (x : Standing) (called : Local) (g : Course) → at_end false n g ≡ was_given (Some (linked p x)) →
     from_end true n called g ≡ [] → from_end false n called g ≡ [] → IsLinked (at_end true n g)
-linked_here n p x called (met (talking l)) a out back = record { peer = n; link = l.left; is = refl }
-linked_here n p x called (met (left_here l us reason)) a out back = absurd (last_there _ _ out)
-linked_here n p x called g a out back = absurd (cc)
+linked_here n p x called g a out back = grind (arith, last_there)
 
 at_place : (n : ℕ) (s : State) → IsLinked (place_at n s) → IsLinkedAt n s
 at_place n s l = grind arith
@@ -48,15 +44,11 @@ one_linked n s x e live = record { peer = 1; link = x; live = ap (value_at n) li
 
 zero_there : (s r : State) (n p : ℕ) (x : Standing) (g : zero.ZeroCourse) → zero.HasOne s (zero.at_end true g) →
     zero.HasOne r (zero.at_end false g) → value_at n s.live ≡ Some (linked p x) → IsLinkedAt n r
-zero_there s r n p x (zero.talking l) one other at =
-    one_linked n r l.right (at_one s n (linked 1 l.left) (linked p x) one at).reference other.live
-zero_there s r n p x g one other at = grind arith
+zero_there s r n p x g one other at = grind (arith, one_linked, at_one)
 
 zero_here : (s r : State) (n p : ℕ) (x : Standing) (g : zero.ZeroCourse) → zero.HasOne s (zero.at_end true g) →
     zero.HasOne r (zero.at_end false g) → [] ≡ zero.from_end false r.local g → value_at n r.live ≡ Some (linked p x) → IsLinkedAt n s
-zero_here s r n p x (zero.talking l) one other back at =
-    one_linked n s l.left (at_one r n (linked 1 l.right) (linked p x) other at).reference one.live
-zero_here s r n p x g one other back at = grind arith
+zero_here s r n p x g one other back at = grind (arith, one_linked, at_one)
 
 -- whatever they agree on
 pub open_there : (terms : Terms) (s r : State) (n p : ℕ) (x : Standing) → AreJoinedBy terms s r [] [] →
@@ -81,14 +73,7 @@ open_here (refusing reason) s r n p x j at = absurd (let no : None ≡ Some (lin
 
 row_behind : (r q : ℕ) (x y : Connection) (rows : Rows Connection) → RiseFrom r rows → value_at q rows ≡ Some y →
     value_at q ((r, x) ∷ rows) ≡ Some y
-row_behind r q x y rows rise at = by (r == q) refl
-  where
-    by : (b : Bool) → (r == q) ≡ b → (if b then Some x else value_at q rows) ≡ Some y
-    by true e =
-        let same : r ≡ q = eqb-true r q e in
-        let no : None ≡ Some y = sym (absent q r rows (omega arith) rise) ∙ at in
-        absurd (cc)
-    by false e = at
+row_behind r q x y rows rise at = grind (arith, eqb-true, absent)
 
 pub none_begun : (n : ℕ) (rows : Rows Connection) → RiseFrom n rows →
     ((r : ℕ) (x : Connection) → value_at r rows ≡ Some x → begun_by x ≡ 0) → kept_in rows ≡ 0
@@ -102,14 +87,7 @@ none_begun n ((r, x) ∷ rows) rise all =
 
 behind_by : (r q : ℕ) (line : Line) (lines : Rows Line) (l : Listener) → RiseFrom r lines → kept_at q lines ≡ Some l →
     kept_at q ((r, line) ∷ lines) ≡ Some l
-behind_by r q line lines l rise at = by (r == q) refl
-  where
-    by : (b : Bool) → (r == q) ≡ b → session_in (if b then Some line else value_at q lines) ≡ Some l
-    by true e =
-        let same : r ≡ q = eqb-true r q e in
-        let no : None ≡ Some l = sym (ap session_in (absent q r lines (omega arith) rise)) ∙ at in
-        absurd (cc)
-    by false e = at
+behind_by r q line lines l rise at = grind (arith, eqb-true, absent)
 
 none_of : (live : Bool) (session : Option Listener) → ((l : Listener) → live ≡ true → session ≡ Some l → l.joined ≡ None) →
     (if live then joined_of session else 0) ≡ 0

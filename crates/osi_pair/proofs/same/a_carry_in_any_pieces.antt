@@ -4,11 +4,11 @@
 use Rattle.osi_stack.specs.Runs.{Call, AreAlike}
 use Rattle.osi_pair.proofs.Vocabulary.{◌≡◌, ℕ, ◌<◌, ◌^◌, List, [], ◌∷◌, ◌++◌, min, take, Option, Some, None, refl, sym, ap, subst, ◌∙◌, ◌⊎◌}
 use Rattle.osi_pair.proofs.Vocabulary.{inl, inr, arith, PacketLaws, in_room, pieces_end, calls_read, pieces_alike, feeding, telling}
-use Rattle.osi_pair.proofs.Vocabulary.{carrying, Calls, CallsInRoom, HasRoom, put_back, used_in, told_in, carried_in, empty_partial}
+use Rattle.osi_pair.proofs.Vocabulary.{carrying, Calls, CallsInRoom, HasRoom, used_in, told_in, carried_in, empty_partial}
 use Rattle.osi_pair.proofs.Vocabulary.{completed_partial, partial_not_whole, one_packet, one_list, IsSameEnd, AreSameEnds, FoundMemory}
-use Rattle.osi_pair.proofs.Vocabulary.{append-nil, flat_map, Rows, EndReason, IsPartial, Shown, carried, RunsDry, StopsBehind, Refuses, End}
-use Rattle.osi_pair.proofs.Vocabulary.{Holding, EndLine as Line, Crossing, CarriesFrom, crossing, TwoEnds, end_at, reachable, Entry}
-use Rattle.osi_pair.proofs.Vocabulary.{reach_after, other, IsReached, told_entries, waiting_in, quieted, Side, Left, Right}
+use Rattle.osi_pair.proofs.Vocabulary.{append-nil, flat_map, EndReason, IsPartial, Shown, carried, RunsDry, StopsBehind, Refuses, End}
+use Rattle.osi_pair.proofs.Vocabulary.{Holding, Crossing, CarriesFrom, crossing, TwoEnds, end_at, reachable, Entry, reach_after, other}
+use Rattle.osi_pair.proofs.Vocabulary.{IsReached, told_entries, waiting_in, Side}
 use Rattle.osi_pair.proofs.carry.a_carry_with_enough_memory.{IsCarried, pieces_carried}
 use Rattle.osi_pair.proofs.carry.a_carry_is_deliveries.{CarryLaws, carries_stand}
 use Rattle.osi_pair.proofs.packet.a_packet_is_one_delivery_or_none.{quiet_of}
@@ -18,13 +18,11 @@ use Rattle.osi_pair.proofs.session.an_end_with_nothing_pending.{quiet_same}
 -- ---- both sides
 
 pub same_at : (s : Side) (p q : TwoEnds) → AreSameEnds p q → IsSameEnd (end_at s p) (end_at s q)
-same_at Left p q h = h.left
-same_at Right p q h = h.right
+same_at s p q h = grind arith
 
 pub same_both : (s : Side) (p q : TwoEnds) → IsSameEnd (end_at s p) (end_at s q) → IsSameEnd (end_at (other s) p) (end_at (other s) q) →
     p.reach ≡ q.reach → p.journal ≡ q.journal → AreSameEnds p q
-same_both Left p q own there reach journal = record { left = own; right = there; reach = reach; journal = journal }
-same_both Right p q own there reach journal = record { left = there; right = own; reach = reach; journal = journal }
+same_both s p q own there reach journal = grind arith
 
 pub same_moved : (a b c d : Holding) → IsSameEnd a b → c ≡ a → d ≡ b → IsSameEnd c d
 same_moved a b c d h e f = subst (λ (x : Holding). IsSameEnd x d) (sym e) (subst (λ (x : Holding). IsSameEnd a x) (sym f) h)
@@ -32,12 +30,7 @@ same_moved a b c d h e f = subst (λ (x : Holding). IsSameEnd x d) (sym e) (subs
 -- an end that lasts, to which the same is done
 pub same_done : (a b : Holding) (does : End → End) → IsSameEnd a b → a.end.carrier.ended ≡ None →
     IsSameEnd (record a { end = does a.end }) (record b { end = does b.end })
-same_done a b does h alive = record {
-  end = ap does h.end;
-  octets = h.octets;
-  offset = λ lasts. h.offset alive;
-  counted = λ lasts. h.counted alive;
-}
+same_done a b does h alive = grind arith
 
 -- octets of it are carried
 same_carried : (octets : ℕ) (a b : Holding) → IsSameEnd a b →
@@ -55,36 +48,14 @@ made e offset octets = record { end = e; held = record { offset = offset; octets
 
 plain_same : (a b : Holding) → IsSameEnd a b → a.end.carrier.ended ≡ None → plain a ≡ plain b
 unfolding made
-plain_same a b h alive =
-    ap (λ (e : End). made e a.held.offset a.held.octets) h.end ∙ ap (λ (n : ℕ). made b.end n a.held.octets) (h.offset alive)
-    ∙ ap (λ (l : List ℕ). made b.end b.held.offset l) h.octets
+plain_same a b h alive = grind (arith, made)
 
 plain_goes : (old new : Holding) (piece : List ℕ) (used : ℕ) →
     (RunsDry old piece used new ⊎ StopsBehind old piece used new) ⊎ Refuses old piece used new →
     (RunsDry (plain old) piece used (plain new) ⊎ StopsBehind (plain old) piece used (plain new))
     ⊎ Refuses (plain old) piece used (plain new)
-plain_goes old new piece used (inl (inl d)) = inl (inl (record {
-  units = d.units;
-  all = d.all;
-  packets = d.packets;
-  partial = d.partial;
-  taken = d.taken;
-  quiet = d.quiet;
-  offset = d.offset;
-  room = omega arith;
-}))
-plain_goes old new piece used (inl (inr d)) = inl (inr (record {
-  within = d.within;
-  units = d.units;
-  bound = d.bound;
-  packets = d.packets;
-  taken = d.taken;
-  stopped = d.stopped;
-  uses = d.uses;
-  held = d.held;
-  offset = d.offset;
-  room = omega arith;
-}))
+plain_goes old new piece used (inl (inl d)) = grind arith
+plain_goes old new piece used (inl (inr d)) = grind arith
 plain_goes old new piece used (inr d) = inr (record {
   units = d.units;
   fault = d.fault;
@@ -98,8 +69,7 @@ plain_goes old new piece used (inr d) = inr (record {
 })
 
 no_want : {D R M : Type 0} → D ⊎ R → D ⊎ (R ⊎ M)
-no_want (inl d) = inl d
-no_want (inr r) = inr (inl r)
+no_want h = grind arith
 
 plain_call : (call : Call) (old new : Holding) → Calls old call new → HasRoom old call new → Calls (plain old) call (plain new)
 plain_call (feeding piece fed) old new h room = record {
@@ -120,13 +90,7 @@ plain_room (carrying octets) old new room = tt
 
 plain_calls : (calls : List Call) (old new : Holding) → CallsInRoom old calls new → CallsInRoom (plain old) calls (plain new)
 plain_calls [] old new h = ap plain h
-plain_calls (call ∷ calls) old new h = (
-  plain h.0,
-  plain_call call old h.0 h.1 h.2,
-  plain_room call old h.0 h.2,
-  plain_calls calls h.0
-      new h.3,
-)
+plain_calls (call ∷ calls) old new h = search (arith, plain_call, plain_room, plain_calls calls h.0 new h.3)
 
 -- ---- the end that is fed
 
@@ -137,9 +101,6 @@ packet_laws = record { one = one_packet; front = completed_partial; proper = par
 record AreOne (a : Holding) (xs : List Call) (b : Holding) (ys : List Call) : Type 0 where
   alike : AreAlike a xs b ys
   offset : a.end.carrier.ended ≡ None → a.held.offset ≡ b.held.offset
-
-turned : (a b : Holding) (xs ys : List Call) → AreAlike b ys a xs → AreAlike a xs b ys
-turned a b xs ys h = record { octets = sym h.octets; end = sym h.end; told = sym h.told }
 
 one_by : (h a b : Holding) (xs ys : List Call) (o m : Option EndReason) → a.end.carrier.ended ≡ o → b.end.carrier.ended ≡ m →
     IsPartial h.held.octets → h.held.offset < 2 ^ 64 → h.end.carrier.ended ≡ None → CallsInRoom h xs a → CallsInRoom h ys b →
@@ -159,24 +120,15 @@ one_by h a b xs ys None (Some reason) e f partial bound alive x y used =
 -- if nothing is pending and nothing was carried, what is alike is the same
 hushed_same : (a b : Holding) (xs ys : List Call) → AreAlike a xs b ys → flat_map carried_in xs ≡ [] → flat_map carried_in ys ≡ [] →
     waiting_in a.end.lines ≡ [] → waiting_in b.end.lines ≡ [] → a.end ≡ b.end
-hushed_same a b xs ys h none none_too quiet still =
-    ap (λ (l : Rows Line). record a.end { lines = l }) (sym (quiet_same a.end.lines quiet))
-    ∙ ap (λ (l : List ℕ). put_back l (record a.end { lines = quieted a.end.lines })) (sym none)
-    ∙ h.end ∙ ap (λ (l : List ℕ). put_back l (record b.end { lines = quieted b.end.lines })) none_too
-    ∙ ap (λ (l : Rows Line). record b.end { lines = l }) (quiet_same b.end.lines still)
+hushed_same a b xs ys h none none_too quiet still = grind (arith, quiet_same)
 
 told_same : (a b : Holding) (xs ys : List Call) → AreAlike a xs b ys → waiting_in a.end.lines ≡ [] → waiting_in b.end.lines ≡ [] →
     flat_map told_in xs ≡ flat_map told_in ys
-told_same a b xs ys h quiet still =
-    sym (append-nil (flat_map told_in xs)) ∙ ap (λ (w : List (ℕ × Shown)). flat_map told_in xs ++ w) (sym quiet) ∙ h.told
-    ∙ ap (λ (w : List (ℕ × Shown)). flat_map told_in ys ++ w) still ∙ append-nil (flat_map told_in ys)
+told_same a b xs ys h quiet still = grind (arith, append-nil)
 
 counted_by : (h a : Holding) (xs : List Call) → h.held.offset < 2 ^ 64 → CallsInRoom h xs a → a.end.carrier.ended ≡ None →
     a.held.offset < 2 ^ 64
-counted_by h a xs bound x lasts =
-    let r = calls_read empty_partial h xs a (in_room h xs a x) lasts in
-    let is = r.offset bound in
-    omega arith
+counted_by h a xs bound x lasts = grind (arith, calls_read, empty_partial, in_room)
 
 -- what two carries did to the end that is fed
 record IsFedOnce (a b : Holding) (xs ys : List Call) : Type 0 where
@@ -186,10 +138,7 @@ record IsFedOnce (a b : Holding) (xs ys : List Call) : Type 0 where
 fed_by : (s : Side) (p q a b : Crossing) (n : ℕ) (o : Option EndReason) → p.to.end.carrier.ended ≡ o → IsSameEnd p.to q.to →
     p.from.end ≡ q.from.end → IsPartial p.to.held.octets → (x : IsCarried s p n a) → (y : IsCarried s q n b) →
     waiting_in a.to.end.lines ≡ [] → waiting_in b.to.end.lines ≡ [] → IsFedOnce a.to b.to x.calls y.calls
-fed_by s p q a b n (Some reason) e same from partial x y quiet still =
-    let over = x.over reason e in
-    let there = y.over reason (ap (λ (z : End). z.carrier.ended) (sym same.end) ∙ e) in
-    record { same = same_moved p.to q.to a.to b.to same over.0 there.0; told = over.1 ∙ sym there.1 }
+fed_by s p q a b n (Some reason) e same from partial x y quiet still = grind (arith, same_moved)
 fed_by s p q a b n None e same from partial x y quiet still =
     let h = plain p.to in
     let used : flat_map used_in x.calls ≡ flat_map used_in y.calls = x.used ∙ ap (λ (z : End). take n z.carrier.outgoing) from
@@ -222,9 +171,7 @@ carried_at laws f most p new octets at c memory =
 
 quiet_then : CarryLaws → (f : Side) (most : ℕ) (p new : TwoEnds) (octets : ℕ) → IsReached p → CarriesFrom f most p octets new →
     waiting_in (end_at (other f) new).end.lines ≡ []
-quiet_then laws f most p new octets at c =
-    let x = carries_stand laws f most p octets new at.steps at.stands c in
-    quiet_of (other f) new x.stands.now (tables_at new (at.steps ++ x.more)) x.stands.stands
+quiet_then laws f most p new octets at c = grind (arith, quiet_of, tables_at, carries_stand laws f most p octets new at.steps at.stands c)
 
 pub same_carry : CarryLaws → (f : Side) (most : ℕ) (p q a b : TwoEnds) (octets : ℕ) → IsReached p → IsReached q → AreSameEnds p q →
     CarriesFrom f most p octets a → CarriesFrom f most q octets b → FoundMemory a → FoundMemory b → AreSameEnds a b

@@ -2,11 +2,11 @@
 -- For packets.
 use Rattle.osi_session.specs.Listening as words
 use Rattle.osi_stack.specs.Moving.{noted}
-use Rattle.osi_pair.proofs.Vocabulary.{◌≡◌, ◌≢◌, ℕ, ◌≤◌, ◌==◌, Bool, true, false, [], Some, None, refl, sym, ap, subst, ◌∙◌, arith}
-use Rattle.osi_pair.proofs.Vocabulary.{eqb-true, eq-eqb, IsOrderly, value_at, State as Carrier, is_open, put_here, put_other, put_rise}
-use Rattle.osi_pair.proofs.Vocabulary.{put_up, Listener, Input, Standing, react, HasNumbersInWords, CameAbout, AllCameAbout, needs_link}
-use Rattle.osi_pair.proofs.Vocabulary.{kept_at, limit_for, answers, line_after, to_session, End, session_in, session_all, came_moves}
-use Rattle.osi_pair.proofs.Vocabulary.{apart_put, up_more, IsInOrder, put_row as put, EndLine as Line}
+use Rattle.osi_pair.proofs.Vocabulary.{◌≡◌, ◌≢◌, ℕ, ◌≤◌, ◌==◌, Bool, true, false, [], Some, None, refl, subst, arith, eqb-true, eq-eqb}
+use Rattle.osi_pair.proofs.Vocabulary.{IsOrderly, value_at, State as Carrier, is_open, put_here, put_other, put_rise, put_up, Listener}
+use Rattle.osi_pair.proofs.Vocabulary.{Input, Standing, react, HasNumbersInWords, CameAbout, AllCameAbout, needs_link, kept_at, limit_for}
+use Rattle.osi_pair.proofs.Vocabulary.{answers, line_after, to_session, End, session_all, came_moves, apart_put, up_more, IsInOrder}
+use Rattle.osi_pair.proofs.Vocabulary.{put_row as put, EndLine as Line}
 use Rattle.osi_pair.proofs.packet.an_end_handles_its_carriers_events.{lines_then}
 use Rattle.osi_pair.proofs.session.an_end_moves_as_the_tables_do.{as_made}
 
@@ -37,16 +37,8 @@ links_by : (b : Bool) (n q : ℕ) (e : End) (c : Carrier) (line was : Line) (m :
     value_at n e.lines ≡ Some was → (needs_link m.next.state.phase ≡ true → is_open n c ≡ true) →
     kept_at q (put n (line_after line m) e.lines) ≡ Some y → needs_link y.state.phase ≡ true → is_open q c ≡ true
 links_by true n q e c line was m y f o alive lasts apart here opens kept needs =
-    let at : q ≡ n = eqb-true q n f in
-    let now : kept_at q (put n (line_after line m) e.lines) ≡ Some m.next =
-    ap (λ (r : ℕ). kept_at r (put n (line_after line m) e.lines)) at ∙ ap session_in (put_here n (line_after line m) was e.lines here) in
-    let two : Some y ≡ Some m.next = sym kept ∙ now in
-    let same : y ≡ m.next = cc in
-    ap (λ (r : ℕ). is_open r c) at ∙ opens (ap (λ (s : Listener). needs_link s.state.phase) (sym same) ∙ needs)
-links_by false n q e c line was m y f o alive lasts apart here opens kept needs =
-    let other : q ≢ n = λ same. (let no_way : true ≡ false = sym (eq-eqb q n same) ∙ f in cc) in
-    cc (apart q other)
-    ∙ o.sound.links alive q y (sym (ap session_in (put_other q n (line_after line m) e.lines other)) ∙ kept) needs
+    grind (arith, eqb-true q n f, put_here n (line_after line m) was e.lines here)
+links_by false n q e c line was m y f o alive lasts apart here opens kept needs = grind (arith, eq-eqb, put_other)
 
 pub moves_order : (e : End) (c : Carrier) (n : ℕ) (line : Line) (l : Listener) (heard : words.Input) (m : words.Move) → IsInOrder e →
     e.carrier.ended ≡ None → IsOrderly c → c.events ≡ [] → c.ended ≡ None → e.carrier.given ≤ c.given →

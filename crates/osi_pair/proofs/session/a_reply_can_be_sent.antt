@@ -2,12 +2,12 @@
 -- For packets.
 use Rattle.osi_message.specs.Written.{unit_of}
 use Rattle.osi_session.specs.Respond.{over}
-use Rattle.osi_pair.proofs.Vocabulary.{◌≡◌, ◌<◌, ◌≤◌, ℕ, ◌&&◌, Bool, true, false, not, if◌then◌else◌, [], length, Some, None, IfSome, refl}
-use Rattle.osi_pair.proofs.Vocabulary.{sym, ap, subst, ◌∙◌, arith, SpduLaws, sent_short, IsOctets, Offer, offer_sent, IsInOctets, Meaning}
-use Rattle.osi_pair.proofs.Vocabulary.{CN, RF, AB, AA, Said, said_of, IsSendable, written, Input, opened, refused, broken, taken, Standing}
+use Rattle.osi_pair.proofs.Vocabulary.{◌≡◌, ◌<◌, ◌≤◌, ℕ, Bool, true, false, not, if◌then◌else◌, [], length, Some, None, IfSome, refl, sym}
+use Rattle.osi_pair.proofs.Vocabulary.{ap, subst, ◌∙◌, arith, SpduLaws, sent_short, IsOctets, Offer, offer_sent, IsInOctets, Meaning, CN}
+use Rattle.osi_pair.proofs.Vocabulary.{RF, AB, AA, Said, said_of, IsSendable, written, Input, opened, refused, broken, taken, Standing}
 use Rattle.osi_pair.proofs.Vocabulary.{denied, rests, react, is_wait_transport, is_aborting, is_ended, Outcome, in_aborting, in_ended}
-use Rattle.osi_pair.proofs.Vocabulary.{reply_for, respond, respond_unit, Verdict, dropped, faulty, fine, verdict, enacted, functional_units}
-use Rattle.osi_pair.proofs.Vocabulary.{has_data, are_sizes, SessionState as State}
+use Rattle.osi_pair.proofs.Vocabulary.{reply_for, respond, respond_unit, Verdict, dropped, faulty, fine, verdict, enacted}
+use Rattle.osi_pair.proofs.Vocabulary.{SessionState as State}
 
 -- what is sent can be handed to the carrier
 pub record CanGo (x : Meaning) : Type 0 where
@@ -53,8 +53,7 @@ ended_answer s (AB bits octets) m e = same_answer AA m accept_answer e
 ended_answer s u m e = absurd cc
 
 over_answer : (b : Bool) (s : State) (u m : Meaning) → (if b then in_aborting s u else in_ended s u).reply ≡ Some m → IsAnswer m
-over_answer true s u m e = let no : None ≡ Some m = sym (grind arith) ∙ e in absurd cc
-over_answer false s u m e = ended_answer s u m e
+over_answer b s u m e = search (arith, ended_answer)
 
 connect_answer : (version some : Bool) (m : Meaning) →
     (if not version then Some (RF 132 []) else (if not some then Some (RF 134 []) else None)) ≡ Some m → IsAnswer m
@@ -63,8 +62,7 @@ connect_answer true false m e = same_answer (RF 134 []) m (refuse_answer 134 (om
 connect_answer true true m e = absurd cc
 
 good_answer : (u m : Meaning) → reply_for u ≡ Some m → IsAnswer m
-good_answer (CN version requirements serial wishes from to sizes octets) m e =
-    connect_answer version (has_data (functional_units requirements) && are_sizes sizes) m e
+good_answer (CN version requirements serial wishes from to sizes octets) m e = search (arith, connect_answer)
 good_answer (AB bits octets) m e = same_answer AA m accept_answer e
 good_answer u m e = absurd cc
 

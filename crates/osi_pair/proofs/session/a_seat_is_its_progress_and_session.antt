@@ -2,11 +2,11 @@
 -- For turns, calls, breaks and ends, packets and the promises.
 use Rattle.osi_between.specs.Progress as progress
 use Rattle.osi_machine.specs.Worlds as worlds
-use Rattle.osi_pair.proofs.Vocabulary.{◌≡◌, ℕ, ◌<◌, Bool, true, false, nat_lt, if◌then◌else◌, List, Option, Some, None, is_some, IfSome}
-use Rattle.osi_pair.proofs.Vocabulary.{refl, sym, ap, ◌∙◌, arith, nat_tests, Held, Place, never, was_given, place_at, IsOrderly, Rows}
-use Rattle.osi_pair.proofs.Vocabulary.{value_at, State, beyond, progress_of, Progress, not_yet, awaiting, in_use, shutting, Seat, awaits}
-use Rattle.osi_pair.proofs.Vocabulary.{Message, Transport, IsInOctets, Listener, Standing, is_ended, kept_at, End, Holding, session_in}
-use Rattle.osi_pair.proofs.Vocabulary.{session_at, transport_in, is_parting, IsSeated, joining, EndLine as Line}
+use Rattle.osi_pair.proofs.Vocabulary.{◌≡◌, ℕ, Bool, true, false, nat_lt, if◌then◌else◌, List, Option, Some, None, is_some, IfSome, refl}
+use Rattle.osi_pair.proofs.Vocabulary.{ap, arith, nat_tests, Held, Place, never, was_given, place_at, IsOrderly, Rows, value_at, State}
+use Rattle.osi_pair.proofs.Vocabulary.{beyond, progress_of, Progress, not_yet, awaiting, in_use, shutting, Seat, awaits, Message, Transport}
+use Rattle.osi_pair.proofs.Vocabulary.{IsInOctets, Listener, Standing, is_ended, kept_at, End, Holding, session_in, session_at}
+use Rattle.osi_pair.proofs.Vocabulary.{transport_in, is_parting, IsSeated, joining, EndLine as Line}
 
 -- ---- by how far the connection is
 
@@ -36,8 +36,7 @@ live_there n s h = grind arith
 
 lives_by : (n : ℕ) (s : State) (b : Bool) → nat_lt s.given n ≡ b → IsOrderly s → is_some (value_at n s.live) ≡ true →
     lives_in (progress_of (place_at n s)) ≡ true
-lives_by n s true e o h = grind (arith, nat_tests, beyond, is_some)
-lives_by n s false e o h = ap (λ p. lives_in (progress_of p)) (place_by n s false e) ∙ grind arith ∙ h
+lives_by n s b e o h = grind (arith, nat_tests, beyond, place_by)
 
 pub lives_there : (n : ℕ) (s : State) → IsOrderly s → is_some (value_at n s.live) ≡ true → lives_in (progress_of (place_at n s)) ≡ true
 lives_there n s o h = lives_by n s (nat_lt s.given n) refl o h
@@ -45,16 +44,7 @@ lives_there n s o h = lives_by n s (nat_lt s.given n) refl o h
 -- the rows of two carriers at one place
 value_by : (n : ℕ) (s t : State) (b c : Bool) → nat_lt s.given n ≡ b → nat_lt t.given n ≡ c → IsOrderly s → IsOrderly t →
     place_at n s ≡ place_at n t → value_at n s.live ≡ value_at n t.live
-value_by n s t true true e f o q h =
-    let above : s.given < n = grind (arith, nat_tests) in
-    let higher : t.given < n = grind (arith, nat_tests) in
-    beyond n s.given s.live o.up_to above ∙ sym (beyond n t.given t.live q.up_to higher)
-value_by n s t true false e f o q h = let no_way : never ≡ was_given (value_at n t.live) =
-    sym (place_by n s true e) ∙ h ∙ place_by n t false f in cc
-value_by n s t false true e f o q h = let no_way : was_given (value_at n s.live) ≡ never =
-    sym (place_by n s false e) ∙ h ∙ place_by n t true f in cc
-value_by n s t false false e f o q h = let same : was_given (value_at n s.live) ≡ was_given (value_at n t.live) =
-    sym (place_by n s false e) ∙ h ∙ place_by n t false f in cc
+value_by n s t b c e f o q h = grind (arith, nat_tests, beyond, place_by)
 
 pub value_same : (n : ℕ) (s t : State) → IsOrderly s → IsOrderly t → place_at n s ≡ place_at n t → value_at n s.live ≡ value_at n t.live
 value_same n s t o q h = value_by n s t (nat_lt s.given n) (nat_lt t.given n) refl refl o q h

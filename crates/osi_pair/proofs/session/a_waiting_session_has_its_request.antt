@@ -2,9 +2,9 @@
 -- For packets.
 use Rattle.osi_machine.specs.Core as machine
 use Rattle.osi_machine.specs.Machine.{start, run}
-use Rattle.osi_pair.proofs.Vocabulary.{◌≡◌, ℕ, true, Option, Some, None, sym, ap, subst, ◌∙◌, arith, SaysItsUnit, At, line_there}
-use Rattle.osi_pair.proofs.Vocabulary.{all_follow, IsTableRun, Offer, offer_sent, Machine, connection_at, Seat, Line, Tables, seen_from}
-use Rattle.osi_pair.proofs.Vocabulary.{World, waiting, SessionLaws, is_wait_transport}
+use Rattle.osi_pair.proofs.Vocabulary.{◌≡◌, ℕ, true, Option, Some, sym, ap, subst, ◌∙◌, arith, SaysItsUnit, At, line_there, all_follow}
+use Rattle.osi_pair.proofs.Vocabulary.{IsTableRun, Offer, offer_sent, Machine, connection_at, Seat, Line, Tables, seen_from, World, waiting}
+use Rattle.osi_pair.proofs.Vocabulary.{SessionLaws, is_wait_transport}
 use Rattle.osi_pair.proofs.turn.a_turn_keeps_the_match.{seen_twice}
 
 pub record IsCalling (x : Seat) : Type 0 where
@@ -14,8 +14,7 @@ pub record IsCalling (x : Seat) : Type 0 where
 
 calls_at : (s : machine.Side) (l : Line) (o : Option World) → At (Some l) o → (seen_from s l).own.transport ≡ waiting →
     IsCalling (seen_from s l).own
-calls_at s l (Some w) h e = grind arith
-calls_at s l None h e = absurd h
+calls_at s l o h e = search arith
 
 -- in tables that are reached, seen from either side
 pub is_calling : SessionLaws → SaysItsUnit → (s : machine.Side) (r : ℕ) (l : Line) (t : Tables) → IsTableRun t →

@@ -25,16 +25,7 @@ moves_so s input = grind (arith, kept_none, moves_as_whole)
 -- what it has joined
 pub moves_apart : (joined : Option (List ℕ)) (s : Standing) (input : Input) → IsKeptIn s.state.phase joined → is_apart input ≡ true →
     kept_in (react s input).next.state.phase joined ≡ None → words.react (joining joined s) (in_words input) ≡ as_made (react s input)
-moves_apart joined s input kept apart none =
-    let m = react s input in
-    others (joining joined s) input kept apart
-    ∙ (λ i. record {
-      next = record { state = m.next.state; waiting = m.next.waiting; joined = none i };
-      shown = m.shown;
-      reply = m.reply;
-      closes = m.closes;
-      error = m.error;
-    })
+moves_apart joined s input kept apart none = search (arith, others (joining joined s) input kept apart)
 
 -- a call
 abbrev SameCall : Option (List ℕ) → words.Move → Move → Type 0
@@ -74,14 +65,12 @@ joins_by joined x place octets begun j = grind (arith, taken_is, word_behind)
 
 pub first_joins : (joined : Option (List ℕ)) (x : Standing) (octets all : List ℕ) → length octets ≤ most_data →
     IsKeptIn x.state.phase joined → IsNoFault x.state all → IsJoinedAs x.state joined None → PartJoins joined x First octets (Some octets)
-first_joins joined x octets all short kept fine stands =
-    joins_by joined x First octets (Some octets) (first_arrives x.state joined octets all short kept fine stands)
+first_joins joined x octets all short kept fine stands = grind (arith, joins_by, first_arrives)
 
 pub middle_joins : (joined : Option (List ℕ)) (x : Standing) (b octets all : List ℕ) → length (b ++ octets) ≤ most_data →
     IsKeptIn x.state.phase joined → IsNoFault x.state all → IsJoinedAs x.state joined (Some b) →
     PartJoins joined x Middle octets (Some (b ++ octets))
-middle_joins joined x b octets all short kept fine stands =
-    joins_by joined x Middle octets (Some (b ++ octets)) (middle_arrives x.state joined b octets all short kept fine stands)
+middle_joins joined x b octets all short kept fine stands = grind (arith, joins_by, middle_arrives)
 
 -- the last does what the whole Data does
 pub last_moves : (joined : Option (List ℕ)) (x : Standing) (front last : List ℕ) → length (front ++ last) ≤ most_data →

@@ -1,10 +1,9 @@
 -- The lines of an end when all indications were fetched.
 -- For breaks and ends, packets, carries and pairs in the same state.
 use Rattle.osi_session.specs.Listening.{Move}
-use Rattle.osi_pair.proofs.Vocabulary.{◌≡◌, ℕ, ◌==◌, Bool, true, false, if◌then◌else◌, List, [], ◌∷◌, ◌++◌, map, Some, refl, sym, ap, ◌∙◌}
-use Rattle.osi_pair.proofs.Vocabulary.{arith, eqb-true, append-nil, RiseFrom, Rows, value_at, Shown, AllCameAbout, line_after, End}
-use Rattle.osi_pair.proofs.Vocabulary.{IsInOrder, waiting_in, quieted, put_row as put, EndLine as Line, quieted_at, quieted_apart}
-use Rattle.osi_pair.proofs.Vocabulary.{quieted_up}
+use Rattle.osi_pair.proofs.Vocabulary.{◌≡◌, ℕ, ◌==◌, Bool, List, [], ◌∷◌, ◌++◌, map, Some, refl, sym, ap, ◌∙◌, arith, eqb-true, append-nil}
+use Rattle.osi_pair.proofs.Vocabulary.{RiseFrom, Rows, value_at, Shown, AllCameAbout, line_after, End, IsInOrder, waiting_in, quieted}
+use Rattle.osi_pair.proofs.Vocabulary.{put_row as put, EndLine as Line, quieted_at, quieted_apart, quieted_up}
 
 pub quiet_waits : (lines : Rows Line) → waiting_in (quieted lines) ≡ []
 quiet_waits [] = refl
@@ -47,9 +46,7 @@ put_by : (n r : ℕ) (line was there : Line) (move : Move) (lines : Rows Line) (
     waiting_in ((r, there) ∷ lines) ≡ [] → value_at n ((r, there) ∷ lines) ≡ Some was →
     (value_at n lines ≡ Some was → waiting_in (put n (line_after line move) lines) ≡ of_one n move.shown) →
     waiting_in (put n (line_after line move) ((r, there) ∷ lines)) ≡ of_one n move.shown
-put_by n r line was there move lines true e waits none is more =
-    grind (arith, eqb-true, none_first, none_second, if◌then◌else◌, map, append-nil)
-put_by n r line was there move lines false e waits none is more = grind (arith, none_first, if◌then◌else◌, map)
+put_by n r line was there move lines b e waits none is more = grind (arith, eqb-true, none_first, none_second, append-nil)
 
 -- the line that is put there has what was pending in the line before it
 pub put_waits : (n : ℕ) (line was : Line) (move : Move) (lines : Rows Line) → was.waiting ≡ line.waiting → waiting_in lines ≡ [] →

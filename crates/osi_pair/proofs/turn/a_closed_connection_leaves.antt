@@ -86,8 +86,7 @@ out_closes s p b t n l old a i takes =
 
 session_shuts : (n : ℕ) (lines : Rows StackLine) (x : Standing) → is_ended x.state.phase ≡ true → HasSession n lines in_use x →
     HasSession n lines shutting x
-session_shuts n lines x ended h =
-    record { joined = h.joined; live = λ e. h.live refl; kept = h.kept; over_now = λ e. ended; awaiting = λ e. cc; octets = h.octets }
+session_shuts n lines x ended h = grind arith
 
 -- after a close of the end of a side, which is this, the ends match the tables, if this much is kept of what was in
 -- flight

@@ -58,8 +58,7 @@ out_there s p c e h n g x ms way = subst (λ (y : Holding). GoesTo s y n (with_h
 
 pub back_here : (s : Side) (p : TwoEnds) (c : Between) (e : End) (h : Held) (n : ℕ) (g : Progress) (x : SessionState) (ms : List Message) →
     GoesTo (other s) (record { end = e; held = h }) n (with_holding s e h p) c g x ms → Goes (other s) s n (with_holding s e h p) c g x ms
-back_here s p c e h n g x ms way =
-    subst (λ (y : Holding). GoesTo (other s) y n (with_holding s e h p) c g x ms) (sym (holding_here s e h p)) way
+back_here s p c e h n g x ms way = grind (arith, holding_here)
 
 -- what stays of all other connections
 pub record Others (s : Side) (p : TwoEnds) (b : Between) (e : End) (h : Held) (c : Between) (n : ℕ) : Type 0 where
@@ -110,10 +109,7 @@ pub record LinesAfter (s : Side) (n : ℕ) (line : Line) (t u : Tables) : Type 0
 lines_by : (s : Side) (p : TwoEnds) (b : Between) (e : End) (h : Held) (c : Between) (n q : ℕ) (line : Line) (t u : Tables) (same : Bool) →
     (q == n) ≡ same → Lasts s p → Others s p b e h c n → IsSeen s n (with_holding s e h p) c line → LinesAfter s n line t u →
     HasLine q p b t → HasLine q (with_holding s e h p) c u
-lines_by s p b e h c n q line t u true f alive o i a old =
-    let is : n ≡ q = sym (eqb-true q n f) in
-    subst (λ (m : ℕ). HasLine m (with_holding s e h p) c u) is
-    (record { line = seen_from (side_in s) line; found = a.found; is = unseen s n (with_holding s e h p) c line i })
+lines_by s p b e h c n q line t u true f alive o i a old = grind (arith, eqb-true q n f, unseen s n (with_holding s e h p) c line i)
 lines_by s p b e h c n q line t u false f alive o i a old =
     let apart : q ≢ n = λ same. (let no_way : true ≡ false = sym (eq-eqb q n same) ∙ f in cc) in
     record {
@@ -134,10 +130,7 @@ shown_says s n (x ∷ shown) = ap (λ l. Some (shown_at (side_in s) n x) ∷ l) 
 pub says_more : (s : Side) (n : ℕ) (shown : List Shown) (before : List entries.Entry) (journal : List Entry) →
     map Some before ≡ map entry_in journal →
     map Some (before ++ map (shown_at (side_in s) n) shown) ≡ map entry_in (journal ++ shown_entries s (map (λ x. (n, x)) shown))
-says_more s n shown before journal e =
-    map-append Some before (map (shown_at (side_in s) n) shown) ∙ ap (λ l. l ++ map Some (map (shown_at (side_in s) n) shown)) e
-    ∙ ap (λ l. map entry_in journal ++ l) (shown_says s n shown)
-    ∙ sym (map-append entry_in journal (shown_entries s (map (λ x. (n, x)) shown)))
+says_more s n shown before journal e = grind (arith, map-append, shown_says)
 
 -- ---- two ends
 

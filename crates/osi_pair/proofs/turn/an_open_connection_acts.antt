@@ -2,12 +2,11 @@
 -- state of two ends then.
 -- For turns and calls.
 use Rattle.osi_between.specs.Messages as carrier
-use Rattle.osi_pair.proofs.Vocabulary.{◌≡◌, ◌≢◌, ℕ, Bool, true, false, nat_lt, if◌then◌else◌, List, [], ◌++◌, Option, Some, None}
-use Rattle.osi_pair.proofs.Vocabulary.{option_map, refl, sym, ap, subst, ◌∙◌, arith, not, append-nil, Place, never, was_given, place_at}
-use Rattle.osi_pair.proofs.Vocabulary.{connection_in, value_at, Connection, State, put_here, put_other, Between, AreBetween, Carries}
-use Rattle.osi_pair.proofs.Vocabulary.{last_of, under_way, put_in, is_cut, Acted, becomes, side, progress_of, AreLike, Progress, in_use}
-use Rattle.osi_pair.proofs.Vocabulary.{progress_in, leaves_use, connection_at, Line, Tables, seen_from, stays, Message, with_same}
-use Rattle.osi_pair.proofs.Vocabulary.{with_other, with_count, none_there, with_carrier, End, Holding, TwoEnds, end_at, Entry, other}
+use Rattle.osi_pair.proofs.Vocabulary.{◌≡◌, ◌≢◌, ℕ, Bool, true, false, List, [], ◌++◌, Some, None, option_map, sym, ap, subst, ◌∙◌, arith}
+use Rattle.osi_pair.proofs.Vocabulary.{not, append-nil, place_at, connection_in, value_at, Connection, State, put_here, put_other, Between}
+use Rattle.osi_pair.proofs.Vocabulary.{AreBetween, Carries, last_of, under_way, put_in, is_cut, Acted, becomes, side, progress_of, AreLike}
+use Rattle.osi_pair.proofs.Vocabulary.{Progress, in_use, progress_in, leaves_use, connection_at, Line, Tables, seen_from, stays, Message}
+use Rattle.osi_pair.proofs.Vocabulary.{with_same, with_other, with_count, none_there, with_carrier, End, Holding, TwoEnds, end_at, other}
 use Rattle.osi_pair.proofs.Vocabulary.{side_in, is_caller, class_in, carriers_of, IsSeated, IsInOrder, Stands, Goes, HasJoined, Side, Left}
 use Rattle.osi_pair.proofs.Vocabulary.{Right, given_live, Held, Terms, waiting_in, put_row as put, SessionState}
 use Rattle.osi_pair.proofs.turn.what_an_acting_end_leaves_in_flight.{StandsOn, there, of_end}
@@ -94,9 +93,7 @@ stood_in_use s p b t n g c put old alive a =
 
 here_now : (s : Side) (p : TwoEnds) (b : Between) (n : ℕ) (g : Progress) (c : State) (put : List carrier.Message) →
     CarrierActs s p b n g c put → IsInOrder (end_with s c p) → progress_of (place_at n c) ≡ g
-here_now s p b n g c ms a order =
-    ap progress_of (given_live n c a.on.connection order.sound.orderly
-    (ap (value_at n) a.on.live ∙ put_here n a.on.connection a.was (end_at s p).end.carrier.live a.at)) ∙ a.on.progress
+here_now s p b n g c ms a order = grind (arith, given_live, put_here n a.on.connection a.was (end_at s p).end.carrier.live a.at)
 
 pub stands_now : (s : Side) (p : TwoEnds) (b : Between) (n : ℕ) (g : Progress) (c : State) (put : List carrier.Message) →
     (a : CarrierActs s p b n g c put) → IsInOrder (end_with s c p) → progress_of (place_at n (last_of (is_caller s) a.now)) ≡ g
@@ -106,15 +103,7 @@ stands_now s p b n g c put a order =
 -- ---- all other connections
 
 other_place : (q n : ℕ) (g : Progress) (old new : State) → ActsOn n g old new → q ≢ n → place_at q new ≡ place_at q old
-other_place q n g old new a apart = by_rows (nat_lt old.given q) refl
-  where
-    same : nat_lt new.given q ≡ nat_lt old.given q
-    same = ap (λ (k : ℕ). nat_lt k q) a.given
-
-    by_rows : (b : Bool) → nat_lt old.given q ≡ b → place_at q new ≡ place_at q old
-    by_rows b e = place_by q new b (same ∙ e)
-        ∙ ap (λ (o : Option Connection). if◌then◌else◌ {A = Place} b never (was_given o))
-        (ap (value_at q) a.live ∙ put_other q n a.connection old.live apart) ∙ sym (place_by q old b e)
+other_place q n g old new a apart = grind (arith, place_by, put_other)
 
 others_stay : (s : Side) (p : TwoEnds) (b : Between) (n : ℕ) (g : Progress) (c : State) (put : List carrier.Message) →
     (a : CarrierActs s p b n g c put) → Others s p b (end_with s c p) (end_at s p).held a.now n
@@ -177,10 +166,7 @@ pub record Keeps (old new : State) : Type 0 where
 kept_given : (s : Side) (p : TwoEnds) (b : Between) (t : Tables) (e : End) (h : Held) (c : Between) → Stands p b t →
     Keeps (end_at s p).end.carrier e.carrier → AreBetween (terms_at p) (carriers_of (with_holding s e h p)) c →
     last_of (is_caller (other s)) c ≡ last_of (is_caller (other s)) b → GivenAfter s p t e h c
-kept_given Left p b t e h c old k between there =
-    let last = sym (between.lives true k.lasts) in
-    assumption (k.given, old.given_back, ap (λ (x : State). x.given) last, ap (λ (x : State). x.class) last)
-kept_given Right p b t e h c old k between there = grind arith
+kept_given s p b t e h c old k between h2 = search arith
 
 kept_known : (s : Side) (p : TwoEnds) (b : Between) (t : Tables) (e : End) (h : Held) → Stands p b t →
     Keeps (end_at s p).end.carrier e.carrier → t.known ≡ option_map class_in (with_holding s e h p).left.end.carrier.class
@@ -200,8 +186,7 @@ turned_by s p b t e h c n l line old k between found i o there order quiet =
 
 pub nothing_noted : (s : Side) (e : End) (p : TwoEnds) (n : ℕ) →
     turned_pair s e (end_at s p).held n [] p ≡ with_holding s e (end_at s p).held p
-nothing_noted Left e p n = ap (λ (j : List Entry). record (with_holding Left e p.left.held p) { journal = j }) (append-nil p.journal)
-nothing_noted Right e p n = ap (λ (j : List Entry). record (with_holding Right e p.right.held p) { journal = j }) (append-nil p.journal)
+nothing_noted s e p n = grind (arith, with_holding, append-nil)
 
 -- the line at a reference, seen from a side
 pub seen_at : (s : Side) (p : TwoEnds) (b : Between) (t : Tables) (n : ℕ) (l : Line) → Stands p b t →

@@ -134,10 +134,7 @@ there none (suc k) p b t l s at = there_by k p b t l (nat_le (suc k) (length t.l
 
 says_more : (es : List entries.Entry) (js : List Entry) (x : entries.Entry) (e : Entry) → map Some es ≡ map entry_in js →
     entry_in e ≡ Some x → map Some (es ++ x ∷ []) ≡ map entry_in (js ++ e ∷ [])
-says_more es js x e h is =
-    map-append Some es (x ∷ []) ∙ ap (λ (l : List (Option entries.Entry)). l ++ Some x ∷ []) h
-    ∙ ap (λ (o : Option entries.Entry). map entry_in js ++ o ∷ []) (sym is)
-    ∙ sym (map-append entry_in js (e ∷ []))
+says_more es js x e h is = grind (arith, map-append)
 
 pub more_said : (p : TwoEnds) (b : Between) (t : Tables) (e : Entry) (x : entries.Entry) → entry_in e ≡ Some x → Stands p b t →
     Stands (noted (e ∷ []) p) b (noted_in (x ∷ []) t)

@@ -60,8 +60,7 @@ DidAt s p b e h n = UnitActs (terms_at p) (is_caller s) (is_caller (other s)) (c
 
 pub last_is : (s : Side) (p : TwoEnds) (b : Between) (e : End) (h : Held) (n : ℕ) → (d : DidAt s p b e h n) → e.carrier.ended ≡ None →
     last_of (is_caller s) d.now ≡ e.carrier
-last_is Left p b e h n d lasts = sym (d.between.lives true lasts)
-last_is Right p b e h n d lasts = sym (d.between.lives false lasts)
+last_is s p b e h n d lasts = search arith
 
 pub was_at : (s : Side) (p : TwoEnds) (b : Between) (t : Tables) → Stands p b t → Lasts s p →
     last_of (is_caller s) b ≡ (end_at s p).end.carrier
@@ -135,11 +134,7 @@ given_after Left p b t e h n old alive d lasts named behind =
     let refs = refs_row (terms_at p) d.row d.is new in
     let same : d.now.caller.given ≡ b.caller.given = let more = d.given in omega arith in
     grind arith
-given_after Right p b t e h n old alive d lasts named behind =
-    let there : d.now.caller.given ≡ p.left.end.carrier.given = d.given_there ∙ old.given_then in
-    let here : d.now.called.given ≡ e.carrier.given = ap (λ (c : State). c.given) (last_is Right p b e h n d lasts) in
-    let count = old.given in
-    grind arith
+given_after Right p b t e h n old alive d lasts named behind = search (arith, last_is)
 
 -- for an end that took a unit, everything that is stated of an end that acted
 pub finish : (s : Side) (p : TwoEnds) (b : Between) (t u : Tables) (e : End) (h : Held) (n : ℕ) (shown : List Shown) (l : Line)

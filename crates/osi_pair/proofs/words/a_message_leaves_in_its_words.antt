@@ -41,9 +41,7 @@ rest_is begun words later short = search
 parts_are : (words : Words) → AreParts words → length (joined words) ≤ most_data →
     AreWords (map word_of words) (unit (DT (joined words)) ∷ [])
 parts_are (sent.part First octets ∷ words) parts short =
-    let more = rest_is octets words parts short in
-    let fits : length octets ≤ most_data = omega (arith, short, length-append octets (joined words)) in
-    record { joined = more.joined; left = more.left; order = (refl, fits, more.order) }
+    grind (arith, rest_is octets words parts short, length-append octets (joined words))
 parts_are words parts short = search
 
 -- ---- a message
@@ -65,11 +63,7 @@ IsBounded m = Unit {0}
 
 in_parts : PartLaws → (limit : ℕ) (octets : List ℕ) → is_size limit ≡ true → is_parted limit (DT octets) ≡ true →
     length octets ≤ most_data → AreWords (map word_of (words_sent limit (DT octets))) (unit (DT octets) ∷ [])
-in_parts laws limit octets size parted short =
-    let all = laws.joined limit octets in
-    subst (λ (o : List ℕ). AreWords (map word_of (words_sent limit (DT octets))) (unit (DT o) ∷ [])) all
-    (parts_are (words_sent limit (DT octets)) (laws.parts limit octets size parted)
-    (subst (λ (o : List ℕ). length o ≤ most_data) (sym all) short))
+in_parts laws limit octets size parted short = grind (arith, parts_are)
 
 by_itself : (limit : ℕ) (m : Meaning) → is_parted limit m ≡ false → AreWords (map word_of (words_sent limit m)) (unit m ∷ [])
 by_itself limit m e = subst (λ (words : Words). AreWords (map word_of words) (unit m ∷ [])) (sym (word_alone limit m e))

@@ -71,21 +71,14 @@ abbrev pub Next : List ℕ → Option (List ℕ) → List Message → Type 0
 Next b left ms = IsRest b ms ⊎ ((list_any is_leaving ms ≡ true) ⊎ IsCut left ms)
 
 next_more : (b x : List ℕ) (left : Option (List ℕ)) (ms : List Message) → Next (b ++ x) left ms → Next b left ms
-next_more b x left ms (inl more) =
-    inl (record {
-      rest = x ++ more.rest;
-      others = more.others;
-      is = more.is ∙ ap (λ (o : List ℕ). unit (DT o) ∷ more.others) (append_assoc b x more.rest);
-    })
-next_more b x left ms (inr other) = inr other
+next_more b x left ms h = grind (arith, append_assoc)
 
 pub next_is : (b : List ℕ) (words : List Word) → AreInOrder (Some b) words → Next b (left_of (Some b) words) (joins (Some b) words)
 next_is b [] h = inr (inr (record { none = refl; begins = tt }))
 next_is b (whole (bye r) ∷ words) h = inr (inl refl)
 next_is b (whole over ∷ words) h = inr (inl refl)
 next_is b (part Last x ∷ words) h = inl (record { rest = x; others = joins None words; is = refl })
-next_is b (part Middle x ∷ words) h =
-    next_more b x (left_of (Some (b ++ x)) words) (joins (Some (b ++ x)) words) (next_is (b ++ x) words h.2)
+next_is b (part Middle x ∷ words) h = search (arith, next_more, next_is (b ++ x) words h.2)
 next_is b _ h = let no : Some b ≡ None = h.0 in cc
 
 -- ---- what is in flight
@@ -93,16 +86,10 @@ next_is b _ h = let no : Some b ≡ None = h.0 in cc
 -- the words without a suffix make the messages without a suffix
 pub cut_behind : (b : Option (List ℕ)) (kept gone : List Word) → AreInOrder b (kept ++ gone) →
     (take (length (joins b kept)) (joins b (kept ++ gone)) ≡ joins b kept) × AreInOrder b kept
-cut_behind b kept gone h = (
-  ap (take (length (joins b kept))) (joins_append b kept gone)
-      ∙ take-append_seam (joins b kept) (joins (left_of b kept) gone),
-  order_front b kept gone h,
-)
+cut_behind b kept gone h = grind (arith, joins_append, take-append_seam, order_front)
 
 pub cut_fits : (b : Option (List ℕ)) (kept gone : List Word) → length (joins b kept) ≤ length (joins b (kept ++ gone))
-cut_fits b kept gone =
-    let long = ap length (joins_append b kept gone) ∙ length-append (joins b kept) (joins (left_of b kept) gone) in
-    omega arith
+cut_fits b kept gone = grind (arith, joins_append, length-append)
 
 -- words that are these messages, each of them whole
 pub record AreWords (words : List Word) (messages : List Message) : Type 0 where
