@@ -1,13 +1,13 @@
 -- A capture has one finding of a side: a run that explains more explains less, so a side breaks the protocol once.
-use Rattle.std.proofs.Common.{◌≡◌, ◌∙◌, refl, sym, ap, subst, ℕ, zero, suc, ◌+◌, ◌<◌, ◌≤◌, ◌⊎◌, inl, inr, List, [], ◌∷◌, ◌++◌, take, drop}
-use Rattle.std.proofs.Common.{Some, arith}
+use Rattle.std.proofs.Common.{◌≡◌, refl, ap, subst, ℕ, zero, suc, ◌+◌, ◌<◌, ◌≤◌, ◌⊎◌, inl, inr, List, [], ◌∷◌, ◌++◌, take, drop, Some}
+use Rattle.std.proofs.Common.{arith}
 use Rattle.std.proofs.lemmas.List.{append_assoc, take-append-drop}
 use Rattle.osi_session.specs.Standing.{Seen, CanSay, after_count}
 use Rattle.osi_judge.specs.declared.directions.Direction.{Direction}
 use Rattle.osi_judge.specs.declared.findings.Finding.{Finding}
 use Rattle.osi_judge.specs.declared.findings.Finding.TheVariants.{Kept, Broke, Left, TooMany}
 use Rattle.osi_judge.specs.Captures.{Capture, other}
-use Rattle.osi_judge.specs.Explaining.{Remark, Told, remarks, remarks_of, Explains, done, takes, answers, says, IsExplained, IsBlamed}
+use Rattle.osi_judge.specs.Explaining.{Remark, Told, remarks, Explains, done, takes, answers, says, IsExplained, IsBlamed}
 use Rattle.osi_judge.specs.Judging.{IsFound}
 use Rattle.osi_judge.specs.Tapping.{IsFoundIn, begin_of, heard, told}
 use Rattle.osi_judge.specs.Transport.{Sent, IsSent}
@@ -38,14 +38,11 @@ front_of us (x ∷ a) b (m ∷ ms) taken s e (says _ _ _ _ next w k g d) =
 
 remarks_both : (xs ys : List Told) → remarks (xs ++ ys) ≡ remarks xs ++ remarks ys
 remarks_both [] ys = refl
-remarks_both (x ∷ xs) ys =
-    ap (λ (z : List Remark). remarks_of x ++ z) (remarks_both xs ys) ∙ sym (append_assoc (remarks_of x) (remarks xs) (remarks ys))
+remarks_both (x ∷ xs) ys = grind (arith, append_assoc, remarks_both xs ys)
 
 explained_less : (begin : Seen) (us : List (List ℕ)) (said : List Told) (n : ℕ) → IsExplained begin us said
     → IsExplained begin us (take n said)
-explained_less begin us said n d =
-    front_of us (remarks (take n said)) (remarks (drop n said)) (remarks said) 0 begin
-    (ap remarks (sym (take-append-drop n said)) ∙ remarks_both (take n said) (drop n said)) d
+explained_less begin us said n d = grind (arith, front_of, take-append-drop n said, remarks_both (take n said) (drop n said))
 
 pub take_less : (xs : List Told) (n m : ℕ) → n ≤ m → take n (take m xs) ≡ take n xs
 take_less xs zero m l = refl
@@ -62,23 +59,16 @@ kept_or_broke begin us said i k b = b.broke (explained_less begin us said (i + 1
 not_later : (begin : Seen) (us : List (List ℕ)) (said : List Told) (i j : ℕ) → IsBlamed begin us said i → IsBlamed begin us said j
     → i < j → ⊥
 not_later begin us said i j b c l =
-    b.broke (subst (λ (z : List Told). IsExplained begin us z) (take_less said (i + 1) j (omega arith))
-    (explained_less begin us (take j said) (i + 1) c.so_far))
+    grind (arith, take_less said (i + 1) j (omega arith), explained_less begin us (take j said) (i + 1) c.so_far)
 
 pub compare : (i j : ℕ) → (i < j) ⊎ ((j < i) ⊎ (i ≡ j))
 compare zero zero = inr (inr refl)
 compare zero (suc j) = inl (omega arith)
 compare (suc i) zero = inr (inl (omega arith))
-compare (suc i) (suc j) = elim (compare i j) [
-  | inl l ↦ inl (omega (arith, l))
-  | inr k ↦ elim k [ inl l ↦ inr (inl (omega (arith, l))) | inr e ↦ inr (inr (ap suc e)) ]
-]
+compare (suc i) (suc j) = grind (arith, compare i j)
 
 one_break : (begin : Seen) (us : List (List ℕ)) (said : List Told) (i j : ℕ) → IsBlamed begin us said i → IsBlamed begin us said j → i ≡ j
-one_break begin us said i j b c = elim (compare i j) [
-  | inl l ↦ absurd (not_later begin us said i j b c l)
-  | inr k ↦ elim k [ inl l ↦ absurd (not_later begin us said j i c b l) | inr e ↦ e ]
-]
+one_break begin us said i j b c = grind (arith, compare, not_later)
 
 one_found : (begin : Seen) (us : List (List ℕ)) (said : List Told) (f g : Finding) → IsDecided f → IsDecided g
     → IsFound begin us said f → IsFound begin us said g → f ≡ g

@@ -1,6 +1,6 @@
 -- The line of the side that broke the protocol first has words, so a verdict ends with one: for the laws.
-use Rattle.std.proofs.Common.{◌≡◌, refl, sym, ap, subst, ℕ, ◌<◌, Bool, true, false, ◌||◌, ◌&&◌, List, []}
-use Rattle.std.proofs.Common.{nat_lt, if◌then◌else◌, length, Option, Some, None, arith}
+use Rattle.std.proofs.Common.{◌≡◌, refl, sym, ap, subst, ℕ, ◌<◌, Bool, true, false, ◌||◌, ◌&&◌, List, [], if◌then◌else◌, length, Option}
+use Rattle.std.proofs.Common.{Some, None, arith}
 use Rattle.osi_judge.specs.declared.directions.Direction.{Direction}
 use Rattle.osi_judge.specs.declared.directions.Direction.TheVariants as side
 use Rattle.osi_judge.specs.declared.findings.Finding.{Finding}
@@ -9,7 +9,7 @@ use Rattle.osi_judge.specs.declared.rules.Break.{Break}
 use Rattle.osi_judge.specs.declared.standings.Stands.{Stands}
 use Rattle.osi_judge.specs.declared.stops.Stopped.{Stopped}
 use Rattle.osi_judge.specs.Captures.{Capture}
-use Rattle.osi_judge.specs.Stops.{is_break, breaks, broke_session}
+use Rattle.osi_judge.specs.Stops.{breaks, broke_session}
 use Rattle.osi_judge.specs.Tapping.{IsFoundIn, IsReferenceIn, told}
 use Rattle.osi_judge.specs.Transport.{Sent, IsSent}
 use Rattle.osi_judge.proofs.captured.what_is_known_of_a_side_is_of_the_capture.{nameless_said_nothing}
@@ -21,18 +21,14 @@ use Rattle.osi_judge.specs.declared.stops.Stop.TheVariants as stop
 use Rattle.osi_dispute.specs.Names.{unjudged_text}
 use Rattle.osi_dispute.specs.Texts.{first_text, broke_first, left_first as left_first_line, stopped_first, connection_first}
 use Rattle.osi_dispute.specs.Texts.{is_stopped_before, first_line, unjudged_line, line_by, outcome_line}
-use Rattle.osi_dispute.specs.Facts.{Facts, AreFacts, is_broken, told_by, is_refused, is_unanswered}
-use Rattle.osi_dispute.specs.Facts.{connection_by}
-use Rattle.osi_dispute.specs.Facts.{left_first, account_by, keeps, unjudged, begins_late}
-use Rattle.osi_dispute.specs.Facts.{kept_outcome, outcome_of, outcome_unless, verdict_by, IsFirstOf}
-use Rattle.osi_dispute.specs.Facts.{IsDetermined}
+use Rattle.osi_dispute.specs.Facts.{Facts, AreFacts, is_broken, told_by, connection_by, left_first, account_by, keeps, unjudged}
+use Rattle.osi_dispute.specs.Facts.{begins_late, kept_outcome, outcome_of, outcome_unless, verdict_by, IsFirstOf, IsDetermined}
 
 abbrev HasWords : List ℕ → Type 0
 HasWords line = line ≡ [] → ⊥
 
 both_left : (a b : Bool) → (a && b) ≡ true → a ≡ true
-both_left true b e = refl
-both_left false b e = e
+both_left a b e = grind arith
 
 -- ---- lines
 
@@ -53,8 +49,7 @@ stop_words side.Left (Some s) b e = absurd (cc)
 stop_words side.Right (Some s) b e = absurd (cc)
 
 broke_before : (s : Option Stopped) (offset : ℕ) → is_stopped_before s offset ≡ true → breaks s ≡ true
-broke_before None offset b = absurd (cc)
-broke_before (Some s) offset b = both_left (is_break s.stop) (nat_lt s.offset offset) b
+broke_before s offset b = grind (arith, both_left)
 
 -- of a side whose session is to blame, its transport is told if it broke the protocol before
 sooner_words : (d : Direction) (s : Option Stopped) (offset : ℕ) (line : List ℕ) (sooner : Bool) → is_stopped_before s offset ≡ sooner
@@ -83,10 +78,7 @@ some_said d c mine others i l e = let n = ap (λ (x : List Sent). length (told d
 
 said_by : (d : Direction) (c : Capture) (f : Finding) → broke_session f ≡ true → IsFoundIn d c f
     → (mine : List Sent) × IsSent d c mine × (mine ≡ [] → ⊥)
-said_by d c Kept b h = absurd (cc)
-said_by d c TooMany b h = absurd (cc)
-said_by d c (Broke i) b h = (h.mine, h.is_mine, some_said d c h.mine h.others i h.found.0.there)
-said_by d c (Left i) b h = (h.mine, h.is_mine, some_said d c h.mine h.others i h.found.0)
+said_by d c f b h = grind (arith, some_said)
 
 -- it gave the connection a reference
 named : (d : Direction) (c : Capture) (f : Facts) → AreFacts d c f → broke_session f.found ≡ true → f.reference ≡ None → ⊥
@@ -117,9 +109,7 @@ side_words d TooMany count offset stands by stopped (Some r) false false h n = s
 
 account_words : (d : Direction) (c : Capture) (f right : Facts) → AreFacts d c f → is_broken f ≡ true
     → HasWords (first_line d (account_by false f right))
-account_words d c f right h b =
-    side_words d f.found f.count f.offset f.stands f.by f.stopped f.reference (is_refused right.stopped)
-    (is_unanswered right.reference right.stopped) b (named d c f h)
+account_words d c f right h b = search (arith, side_words, named)
 
 -- ---- the last line
 
@@ -135,16 +125,14 @@ judged_words : (c : Capture) (first : Option Direction) (l r : Facts) (v : Verdi
     → v.right ≡ account_by (left_first first side.Left l.found) r r
     → HasWords (line_by v (outcome_of first (keeps l.found l.stopped && keeps r.found r.stopped) (unjudged l.stopped)
     (unjudged r.stopped)))
-judged_words c None l r v a b f m s =
-    kept_words v (keeps l.found l.stopped && keeps r.found r.stopped) (unjudged l.stopped) (unjudged r.stopped)
+judged_words c None l r v a b f m s = grind (arith, kept_words)
 judged_words c (Some side.Left) l r v a b f m s =
     subst (λ (x : Account). HasWords (first_line side.Left x)) (sym m) (account_words side.Left c l r a f)
 judged_words c (Some side.Right) l r v a b f m s =
     subst (λ (x : Account). HasWords (first_line side.Right x)) (sym s) (account_words side.Right c r r b f)
 
 not_late : (b late : Bool) → late ≡ false → (b || late) ≡ b
-not_late true late e = refl
-not_late false late e = e
+not_late b late e = grind arith
 
 words_unless : (c : Capture) (first : Option Direction) (l r : Facts) (late : Bool) → begins_late l.stopped ≡ late → AreFacts side.Left c l
     → AreFacts side.Right c r → IsFirstOf first l r → HasWords (line_by (verdict_by first l r) (outcome_unless late

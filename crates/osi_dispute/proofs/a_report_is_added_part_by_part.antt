@@ -1,5 +1,5 @@
 -- The text of a report is added one part after the other, and one connection after the other: for the functions of `report_texts`.
-use Rattle.std.proofs.Common.{◌≡◌, ◌∙◌, refl, sym, ap, ℕ, ◌+◌, Bool, true, false, ◌&&◌, List, [], ◌∷◌, ◌++◌, length, arith, subst}
+use Rattle.std.proofs.Common.{◌≡◌, ◌∙◌, refl, sym, ap, ℕ, ◌+◌, Bool, true, ◌&&◌, List, [], ◌∷◌, ◌++◌, length, arith, subst}
 use Rattle.std.specs.List.{flat_map}
 use Rattle.std.proofs.lemmas.List.{append-nil, append_assoc}
 use Rattle.std.proofs.lemmas.Grind.{flat_map-append}
@@ -25,12 +25,10 @@ one_longer [] p = refl
 one_longer (q ∷ ps) p = let h = one_longer ps p in omega (arith, h)
 
 and_true : (b : Bool) → b ≡ (b && true)
-and_true true = refl
-and_true false = refl
+and_true b = grind arith
 
 and_assoc : (a b c : Bool) → (a && (b && c)) ≡ ((a && b) && c)
-and_assoc true b c = refl
-and_assoc false b c = refl
+and_assoc a b c = grind arith
 
 one_keeps : (ps : List Pair) (p : Pair) → all_keep (ps ++ p ∷ []) ≡ (all_keep ps && p.keeps)
 one_keeps [] p = sym (and_true p.keeps)
@@ -38,11 +36,7 @@ one_keeps (q ∷ ps) p = ap (λ (b : Bool). q.keeps && b) (one_keeps ps p) ∙ a
 
 lines_more : (ps : List Pair) (p : Pair) (old mid new : List ℕ) → mid ≡ old ++ flat_map pair_lines ps → new ≡ mid ++ pair_lines p
     → new ≡ old ++ flat_map pair_lines (ps ++ p ∷ [])
-lines_more ps p old mid new e f =
-    f ∙ ap (λ (z : List ℕ). z ++ pair_lines p) e
-    ∙ ap (λ (z : List ℕ). (old ++ flat_map pair_lines ps) ++ z) (sym (append-nil (pair_lines p)))
-    ∙ append_assoc old (flat_map pair_lines ps) (flat_map pair_lines (p ∷ []))
-    ∙ ap (λ (z : List ℕ). old ++ z) (sym (flat_map-append pair_lines ps (p ∷ [])))
+lines_more ps p old mid new e f = grind (arith, append-nil, append_assoc, flat_map-append)
 
 place_of : (n m : ℕ) → m ≡ n → n ≡ 0 + m
 place_of n m e = omega (arith, e)
@@ -71,10 +65,7 @@ text_of r = refl
 
 four_parts : (t read pairs carries all a b c d : List ℕ) → read ≡ t ++ a → pairs ≡ read ++ b → carries ≡ pairs ++ c → all ≡ carries ++ d
     → all ≡ t ++ ((a ++ b ++ c) ++ d)
-four_parts t read pairs carries all a b c d e f g h =
-    h ∙ ap (λ (z : List ℕ). z ++ d) (g ∙ ap (λ (z : List ℕ). z ++ c) (f ∙ ap (λ (z : List ℕ). z ++ b) e))
-    ∙ ap (λ (z : List ℕ). z ++ d) (ap (λ (z : List ℕ). z ++ c) (append_assoc t a b) ∙ append_assoc t (a ++ b) c)
-    ∙ append_assoc t ((a ++ b) ++ c) d
+four_parts t read pairs carries all a b c d e f g h = grind (arith, append_assoc)
 
 pub report_added : (s : State) (left right : Transport) (last : Last) (t read pairs carries all : List ℕ) (keeps : Bool) (status : ℕ)
     → left ≡ carried side.Left s → right ≡ carried side.Right s → read ≡ t ++ read_lines left right

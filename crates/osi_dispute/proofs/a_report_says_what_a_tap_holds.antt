@@ -1,6 +1,6 @@
 -- What is reported of connections is what a tap holds of them: for the functions of `reports`.
-use Rattle.std.proofs.Common.{◌≡◌, ◌∙◌, refl, sym, ap, subst, ℕ, ◌+◌, Bool, false, not, ◌&&◌, List, [], ◌∷◌, ◌++◌}
-use Rattle.std.proofs.Common.{length, Option, Some, None, IfSome, arith}
+use Rattle.std.proofs.Common.{◌≡◌, ◌∙◌, sym, subst, ℕ, ◌+◌, Bool, false, not, ◌&&◌, List, [], ◌∷◌, ◌++◌, length, Option, Some, None, IfSome}
+use Rattle.std.proofs.Common.{arith}
 use Rattle.osi_judge.specs.declared.directions.Direction.{Direction}
 use Rattle.osi_judge.specs.declared.directions.Direction.TheVariants.{Left, Right}
 use Rattle.osi_judge.specs.declared.findings.Finding.{Finding}
@@ -9,14 +9,14 @@ use Rattle.osi_judge.specs.declared.rules.Break.{Break}
 use Rattle.osi_judge.specs.declared.standings.Stands.{Stands}
 use Rattle.osi_judge.specs.Captures.{other}
 use Rattle.osi_judge.specs.Explaining.{Told as Said}
-use Rattle.osi_judge.specs.Judging.{Watched, Watches, WatchesBy, Keeps}
+use Rattle.osi_judge.specs.Judging.{Watched, Watches, Keeps}
 use Rattle.osi_judge.specs.Onward.{StandsFor}
 use Rattle.osi_judge.specs.Stops.{broke_session}
 use Rattle.osi_judge.specs.Tapping.{begin_of}
 use Rattle.osi_tap.specs.declared.connections.Connection.{Connection as Joint}
 use Rattle.osi_tap.specs.Connections.{Joined, Sessions, spoken, reference_of, numbered}
 use Rattle.osi_tap.specs.Blaming.{IsMarkOf, IsToBlame}
-use Rattle.osi_tap.specs.Courses.{marks_of, first_of}
+use Rattle.osi_tap.specs.Courses.{marks_of}
 use Rattle.osi_tap.specs.Holding.{line_in, HoldsJoined, HoldsFound, IsHeard, IsPlace}
 use Rattle.osi_tap.specs.declared.marks.First.{First}
 use Rattle.osi_tap.specs.declared.marks.Mark.{Mark}
@@ -37,12 +37,10 @@ use Rattle.osi_dispute.specs.Reports.{no_pair, all_keep, carried, is_clear, kept
 -- ---- the session of a side
 
 watches_at : (d : Direction) (c : Joint) (j : Joined) → HoldsJoined c j → Watches (line_in d c).side (told (spoken d j))
-watches_at Left c j h = h.sides.this.says
-watches_at Right c j h = h.sides.that.says
+watches_at d c j h = grind arith
 
 begins_at : (d : Direction) (c : Joint) (j : Joined) → HoldsJoined c j → (line_in d c).side.begin ≡ begin_of d
-begins_at Left c j h = h.sides.this.begins_so
-begins_at Right c j h = h.sides.that.begins_so
+begins_at d c j h = grind arith
 
 pub session_at : (d : Direction) (c : Joint) (j : Joined) → HoldsJoined c j → IsHeard c → IsSession d j (line_in d c).side
 session_at d c j h k = record { begins = begins_at d c j h; says = watches_at d c j h; hears = heard_at d c j h k }
@@ -52,27 +50,17 @@ pub kept_says : (d : Direction) (c : Joint) (j : Joined) (v : Watched) (n : ℕ)
     → ((said : List Said) → Watches v said → v.finding ≡ finding.Kept → n ≡ length said)
     → ((said : List Said) → Keeps v said → StandsFor v said s)
     → HoldsJoined c j → SaysSo d j (line_in d c).side (what.Kept n s)
-kept_says d c j v n s e k counts stands h =
-    let w = (line_in d c).side in
-    let said = told (spoken d j) in
-    let says = watches_at d c j h in
-    let counted : (said : List Said) → Watches w said → w.finding ≡ finding.Kept → n ≡ length said =
-    subst (λ (x : Watched). (said : List Said) → Watches x said → x.finding ≡ finding.Kept → n ≡ length said) e counts in
-    let standing : (said : List Said) → Keeps w said → StandsFor w said s =
-    subst (λ (x : Watched). (said : List Said) → Keeps x said → StandsFor x said s) e stands in
-    (k, counted said says k, standing said (subst (λ (f : Finding). WatchesBy f w said) k says))
+kept_says d c j v n s e k counts stands h = search (arith, watches_at)
 
 pub broke_says : (d : Direction) (c : Joint) (j : Joined) (i o : ℕ) (b : Break) → (line_in d c).side.finding ≡ finding.Broke i
     → IsPlace (line_in d c).side.finding (spoken d j).said o → b ≡ (line_in d c).side.by
     → SaysSo d j (line_in d c).side (what.Broke o b)
-broke_says d c j i o b k place e =
-    (i, k, record { place = subst (λ (f : Finding). IsPlace f (spoken d j).said o) k place; rule = e })
+broke_says d c j i o b k place e = grind arith
 
 pub left_says : (d : Direction) (c : Joint) (j : Joined) (i o : ℕ) (b : Break) → (line_in d c).side.finding ≡ finding.Left i
     → IsPlace (line_in d c).side.finding (spoken d j).said o → b ≡ (line_in d c).side.by
     → SaysSo d j (line_in d c).side (what.Left o b)
-left_says d c j i o b k place e =
-    (i, k, record { place = subst (λ (f : Finding). IsPlace f (spoken d j).said o) k place; rule = e })
+left_says d c j i o b k place e = grind arith
 
 -- ---- the connection of a side
 
@@ -80,11 +68,7 @@ pub tells_as : (d : Direction) (j : Joined) (own other : Watched) (t : Told) (r 
     → SaysSo d j own t → is_dropped own.finding other.finding ≡ dropped → reference_of d j ≡ r → broke_session own.finding ≡ blamed
     → is_refused_in j ≡ refused → is_opened j ≡ opened
     → Tells d j own other (connection_by dropped r blamed refused (not opened) t)
-tells_as d j own other t r dropped blamed refused opened h e g b f o = record {
-  session = t;
-  says = h;
-  is = λ i. connection_by (sym e i) (sym g i) (sym b i) (sym f i) (not (sym o i)) t;
-}
+tells_as d j own other t r dropped blamed refused opened h e g b f o = grind arith
 
 -- ---- one connection after the other
 
@@ -101,17 +85,14 @@ more_pairs ss n (q ∷ ps) p h k =
 
 -- the connection that has it
 pub joined_at : (o : Option Joined) (c : Joint) → HoldsFound (Some c) o → (j : Joined) × (o ≡ Some j) × HoldsJoined c j
-joined_at None c h = absurd h
-joined_at (Some j) c h = (j, refl, h)
+joined_at o c h = search arith
 
 pub pair_held : (o : Option Joined) (c : Joint) (p : Pair) → HoldsFound (Some c) o → ((j : Joined) → HoldsJoined c j → IsPair j p)
     → IsPairOf o p
-pair_held None c p h k = absurd h
-pair_held (Some j) c p h k = k j h
+pair_held o c p h k = grind arith
 
 pub pair_missing : (o : Option Joined) (p : Pair) → HoldsFound None o → p ≡ no_pair → IsPairOf o p
-pair_missing None p h k = k
-pair_missing (Some j) p h k = absurd h
+pair_missing o p h k = grind arith
 
 -- ---- the last line
 
@@ -121,12 +102,7 @@ same_mark m k e = cc
 -- the break that is told as the first is of transport
 pub mark_told : (s : State) (d : Direction) (f : First) (m : Mark) → Some m ≡ (marks_of d s.course).broke → f.direction ≡ d
     → IsMarkOf d f s.course → IsMarkLast s f (ending.Transport d m)
-mark_told s d f m e w (k, b, is) = record {
-  mark = m;
-  broke = ap (λ (x : Direction). (marks_of x s.course).broke) w ∙ sym e;
-  first = is ∙ ap first_of (sym (same_mark m k (e ∙ b)));
-  is = ap (λ (x : Direction). ending.Transport x m) (sym w);
-}
+mark_told s d f m e w (k, b, is) = grind (arith, same_mark)
 
 pub no_mark : (o : Option Mark) (k : Mark) → None ≡ o → o ≡ Some k → ⊥
 no_mark o k e f = let n : None ≡ Some k = e ∙ f in cc
@@ -141,24 +117,12 @@ kept_is s ps left right all last l r a e = e ∙ (λ i. kept_last (is_clear (l i
 pub stray_held : (s : State) (d : Direction) (c : Joint) (t : Told) (last : Last) (f : First) (number : ℕ) (j : Joined)
     → numbered number s.course.sessions ≡ Some j → f.direction ≡ d → f.connection ≡ Some number → HoldsJoined c j → IsHeard c
     → SaysSo d j (line_in d c).side t → stray_last d t ≡ Some last → IsStrayLast s f last
-stray_held s d c t last f number j e w n h k says is = record {
-  number = number;
-  connection = j;
-  session = (line_in d c).side;
-  told = t;
-  of_number = n;
-  numbered_so = e;
-  is_session = subst (λ (x : Direction). IsSession x j (line_in d c).side) (sym w) (session_at d c j h k);
-  says = subst (λ (x : Direction). SaysSo x j (line_in d c).side t) (sym w) says;
-  is = ap (λ (x : Direction). stray_last x t) w ∙ is;
-}
+stray_held s d c t last f number j e w n h k says is = grind (arith, session_at)
 
 -- a session is to blame, and is found
 pub kept_or_blamed : (d : Direction) (c : Joint) (j : Joined) (f : Finding) → f ≡ (line_in d c).side.finding → broke_session f ≡ false
     → HoldsJoined c j → IsToBlame d j → ⊥
-kept_or_blamed d c j f e kept h b =
-    let blamed = ap broke_session e ∙ broken d c j h b in
-    absurd (cc)
+kept_or_blamed d c j f e kept h b = grind (arith, broken)
 
 same_found : (o : Option Joined) (i j : Joined) → o ≡ Some i → o ≡ Some j → i ≡ j
 same_found o i j e f = let both : Some i ≡ Some j = sym e ∙ f in cc
@@ -175,5 +139,4 @@ pub dropped_as : (own beside f g : Finding) (r x : Bool) → own ≡ f → besid
 dropped_as own beside f g r x a b e h = (λ i. is_dropped (sym a i) (sym b i)) ∙ sym e ∙ h
 
 pub if_some : {T : Type 0} {P Q : T → Type 0} (o : Option T) → IfSome o P → ((x : T) → P x → Q x) → IfSome o Q
-if_some None h f = tt
-if_some (Some x) h f = f x h
+if_some o h f = grind arith

@@ -1,7 +1,7 @@
 -- The sessions before a break determine its rule, and whether it breaks the protocol or leaves the profile: for the law that a
 -- text has one judgement.
-use Rattle.std.proofs.Common.{◌≡◌, ◌∙◌, refl, sym, ap, subst, ℕ, zero, suc, ◌+◌, ◌<◌, ◌⊎◌, inl, inr, true, false, Bool, List, [], ◌∷◌}
-use Rattle.std.proofs.Common.{length, take, get_or, Some, arith}
+use Rattle.std.proofs.Common.{◌≡◌, ◌∙◌, refl, sym, ap, subst, ℕ, zero, suc, ◌+◌, ◌<◌, ◌⊎◌, true, false, Bool, List, [], ◌∷◌, length, take}
+use Rattle.std.proofs.Common.{get_or, Some, arith}
 use Rattle.osi_judge.specs.declared.directions.Direction.{Direction}
 use Rattle.osi_judge.specs.declared.findings.Finding.{Finding}
 use Rattle.osi_judge.specs.declared.findings.Finding.TheVariants.{Kept, Broke, Left, TooMany}
@@ -44,16 +44,11 @@ same_told d c mine others yours theirs m o = λ j. told d c (m j) (o j)
 
 same_tsdu : (said others : List Told) (i : ℕ) (x y : Told) → said ≡ others → i < length said → x ≡ get_or said i x → y ≡ get_or others i y
     → x ≡ y
-same_tsdu said others i x y e l h k =
-    one_element others i x y (subst (λ (z : List Told). i < length z) e l) (subst (λ (z : List Told). x ≡ get_or z i x) e h) k
+same_tsdu said others i x y e l h k = grind (arith, one_element)
 
 pub break_same : (us vs : List (List ℕ)) (x y : Told) (m n at o : List Member) (b e : Break) → us ≡ vs → x ≡ y → m ≡ n
     → BreaksWith us x.octets x.before m at b → BreaksWith vs y.octets y.before n o e → b ≡ e
-break_same us vs x y m n at o b e u t p h k =
-    (one_break vs y.octets y.before n at o b e
-    (subst (λ (z : List Member). BreaksWith vs y.octets y.before z at b) p
-    (subst (λ (z : Told). BreaksWith vs z.octets z.before m at b) t
-    (subst (λ (z : List (List ℕ)). BreaksWith z x.octets x.before m at b) u h))) k).1
+break_same us vs x y m n at o b e u t p h k = grind (arith, one_break)
 
 -- the lists of TSDUs of both sides, and the TSDU at which the side strays
 pub record Strays (d : Direction) (c : Capture) (i : ℕ) : Type 0 where
@@ -77,8 +72,7 @@ there_in : HasOneList → (d : Direction) (c : Capture) (i : ℕ) (mine others y
     → IsSent (other d) c others
     → IsSent d c yours → IsSent (other d) c theirs → i < length (told d c mine others) → i < length (told d c yours theirs)
 there_in one d c i mine others yours theirs m o y t l =
-    subst (λ (z : List Told). i < length z)
-    (same_told d c mine others yours theirs (one d c mine yours m y) (one (other d) c others theirs o t)) l
+    grind (arith, same_told d c mine others yours theirs (one d c mine yours m y) (one (other d) c others theirs o t))
 
 abbrev broke_at : HasOneList → (d : Direction) (c : Capture) (m at : List Member) (i : ℕ) (b : Break) → IsFoundIn d c (Broke i)
     → IsBrokenBy d c m at i b
@@ -110,15 +104,12 @@ left_at one d c m at i b f h = record {
 
 explained_same : (d : Direction) (us vs : List (List ℕ)) (said others : List Told) (i : ℕ) → us ≡ vs → said ≡ others
     → IsExplained (begin_of d) us (take (i + 1) said) → IsExplained (begin_of d) vs (take (i + 1) others)
-explained_same d us vs said others i u e h =
-    subst (λ (z : List Told). IsExplained (begin_of d) vs (take (i + 1) z)) e
-    (subst (λ (z : List (List ℕ)). IsExplained (begin_of d) z (take (i + 1) said)) u h)
+explained_same d us vs said others i u e h = grind arith
 
 one_broken : HasOneList → (d : Direction) (c : Capture) (m n at o : List Member) (i : ℕ) (b e : Break) → IsFoundIn d c (Broke i)
     → IsBrokenBy d c m at i b → IsBrokenBy d c n o i e → m ≡ n → b ≡ e
 one_broken one d c m n at o i b e f h k p =
-    let s = one_strays one d c i (broke_at one d c m at i b f h) (broke_at one d c n o i e f k) in
-    break_same (heard h.others) (heard k.others) h.tsdu k.tsdu m n at o b e s.1 s.2 p h.near k.near
+    grind (arith, break_same, one_strays one d c i (broke_at one d c m at i b f h) (broke_at one d c n o i e f k))
 
 -- how a side left the profile
 abbrev pub Leaves : Direction → List (List ℕ) → List Told → (i : ℕ) → Told → (members at : List Member) → Break → Type 0
@@ -129,19 +120,12 @@ Leaves d us said i x m at b =
 pub left_same : (d : Direction) (us vs : List (List ℕ)) (said others : List Told) (i : ℕ) (x y : Told) (m n at o : List Member)
     (b e : Break)
     → said ≡ others → us ≡ vs → x ≡ y → m ≡ n → Leaves d us said i x m at b → Leaves d vs others i y n o e → b ≡ e
-left_same d us vs said others i x y m n at o b e s u t p (inl h) (inl k) = break_same us vs x y m n at o b e u t p h.0 k.0
-left_same d us vs said others i x y m n at o b e s u t p (inl h) (inr k) =
-    absurd (h.2 (explained_same d vs us others said i (sym u) (sym s) k.1))
-left_same d us vs said others i x y m n at o b e s u t p (inr h) (inl k) = absurd (k.2 (explained_same d us vs said others i u s h.1))
-left_same d us vs said others i x y m n at o b e s u t p (inr h) (inr k) = h.0 ∙ (λ j. selection_of (t j).before (p j)) ∙ sym k.0
+left_same d us vs said others i x y m n at o b e s u t p h h2 = grind (arith, break_same, explained_same)
 
 one_left : HasOneList → (d : Direction) (c : Capture) (m n at o : List Member) (i : ℕ) (b e : Break) → IsFoundIn d c (Left i)
     → IsLeftBy d c m at i b → IsLeftBy d c n o i e → m ≡ n → b ≡ e
 one_left one d c m n at o i b e f h k p =
-    let s = one_strays one d c i (left_at one d c m at i b f h) (left_at one d c n o i e f k) in
-    left_same d (heard h.others) (heard k.others) (told d c h.mine h.others) (told d c k.mine k.others) i h.tsdu k.tsdu m n at o b e s.0
-    s.1 s.2 p
-    h.near k.near
+    grind (arith, left_same, one_strays one d c i (left_at one d c m at i b f h) (left_at one d c n o i e f k))
 
 pub one_rule : HasOneList → (d : Direction) (c : Capture) (f : Finding) (b e : Break) → IsFoundIn d c f
     → IsRuledIn d c f b → IsRuledIn d c f e → broke_session f ≡ true → b ≡ e
@@ -157,11 +141,7 @@ pub left_broken : (d : Direction) (us vs : List (List ℕ)) (said others : List 
     (b e : Break)
     → said ≡ others → us ≡ vs → x ≡ y → m ≡ n → BreaksWith us x.octets x.before m at b → leaves x.octets b ≡ false
     → (IsExplained (begin_of d) us (take (i + 1) said) → ⊥) → Leaves d vs others i y n o e → ⊥
-left_broken d us vs said others i x y m n at o b e s u t p h l z (inl k) =
-    let same = break_same us vs x y m n at o b e u t p h k.0 in
-    not_both (leaves y.octets e) k.1 (subst (λ (w : Break). leaves y.octets w ≡ false) same
-    (subst (λ (w : Told). leaves w.octets b ≡ false) t l))
-left_broken d us vs said others i x y m n at o b e s u t p h l z (inr k) = z (explained_same d vs us others said i (sym u) (sym s) k.1)
+left_broken d us vs said others i x y m n at o b e s u t p h l z h2 = grind (arith, break_same, not_both, explained_same)
 
 broke_or_left : HasOneList → (d : Direction) (c : Capture) (m n at o : List Member) (i : ℕ) (b e : Break) → IsFoundIn d c (Broke i)
     → IsFoundIn d c (Left i) → IsBrokenBy d c m at i b → IsLeftBy d c n o i e → m ≡ n → ⊥

@@ -1,6 +1,5 @@
 -- Of a session one thing is found, and by one rule, from what it said and heard: for the law on reports.
-use Rattle.std.proofs.Common.{◌≡◌, ◌∙◌, ◌⊎◌, inl, inr, refl, sym, ap, subst, ℕ, ◌+◌, ◌<◌, ◌≤◌, true, false, List}
-use Rattle.std.proofs.Common.{length, take, get_or, arith}
+use Rattle.std.proofs.Common.{◌≡◌, ◌∙◌, inl, inr, refl, sym, ap, subst, ℕ, ◌+◌, ◌<◌, ◌≤◌, true, false, List, length, take, get_or, arith}
 use Rattle.osi_session.specs.Standing.{Seen}
 use Rattle.osi_judge.specs.declared.directions.Direction.{Direction}
 use Rattle.osi_judge.specs.declared.findings.Finding.{Finding}
@@ -11,7 +10,7 @@ use Rattle.osi_judge.specs.Breaking.{BreaksAt}
 use Rattle.osi_judge.specs.Explaining.{Told, IsExplained}
 use Rattle.osi_judge.specs.Judging.{Watched, Watches, WatchesBy, IsKept, IsFew, HasRoom, IsFound}
 use Rattle.osi_judge.specs.Kept.{kept}
-use Rattle.osi_judge.specs.Profiles.{leaves, selects_outside}
+use Rattle.osi_judge.specs.Profiles.{leaves}
 use Rattle.osi_judge.specs.Stops.{broke_session}
 use Rattle.osi_judge.specs.Tapping.{begin_of}
 use Rattle.osi_judge.proofs.told.a_side_strays_at_one_place.{Strays, never_strays, no_crowd}
@@ -47,64 +46,24 @@ KnownBy TooMany d us said members by = HasRoom (begin_of d) us said TooMany
 
 known_by : (f : Finding) (d : Direction) (w : Watched) (said : List Told) → w.begin ≡ begin_of d → WatchesBy f w said
     → IsFound (begin_of d) w.heard said f → HasRoom (begin_of d) w.heard said f → KnownBy f d w.heard said w.members w.by
-known_by Kept d w said e k f r =
-    (f, r, subst (λ (z : Seen). w.members ≡ kept z w.heard said) e (k.kept w.heard (λ i l. refl)))
-known_by (Broke i) d w said e (b, (x, s, h, l)) f r = (
-  x,
-  record {
-    strays = record { so_far = (f.0.so_far, f.1); astray = inl f.0.broke };
-    there = f.0.there;
-    few = r;
-    is = s.is;
-    kept_so = subst (λ (z : Seen). w.members ≡ kept z w.heard (take i said)) e (s.kept w.heard (λ i l. refl));
-  },
-  (h, l, f.0.broke),
-)
-known_by (Left i) d w said e (b, (x, s, inl (h, l, u))) f r = (
-  x,
-  record {
-    strays = record { so_far = f.1; astray = f.2 };
-    there = f.0;
-    few = r;
-    is = s.is;
-    kept_so = subst (λ (z : Seen). w.members ≡ kept z w.heard (take i said)) e (s.kept w.heard (λ i l. refl));
-  },
-  (h.0, inl (h.1, l, subst (λ (z : Seen). Unexplained z w.heard said i) e (u.1 w.heard (λ i l. refl)).1)),
-)
-known_by (Left i) d w said e (b, (x, s, inr (h, u))) f r = (
-  x,
-  record {
-    strays = record { so_far = f.1; astray = f.2 };
-    there = f.0;
-    few = r;
-    is = s.is;
-    kept_so = subst (λ (z : Seen). w.members ≡ kept z w.heard (take i said)) e (s.kept w.heard (λ i l. refl));
-  },
-  (w.members, inr (h, subst (λ (z : Seen). IsExplained z w.heard (take (i + 1) said)) e (u w.heard (λ i l. refl)))),
-)
+known_by Kept d w said e k f r = grind arith
+known_by (Broke i) d w said e (b, (x, s, h, l)) f r = grind arith
+known_by (Left i) d w said e (b, (x, s, inl (h, l, u))) f r = grind arith
+known_by (Left i) d w said e (b, (x, s, inr (h, u))) f r = grind arith
 known_by TooMany d w said e k f r = r
 
 known : (d : Direction) (w : Watched) (said : List Told) → w.begin ≡ begin_of d → Watches w said
     → KnownBy w.finding d w.heard said w.members w.by
-known d w said e k =
-    known_by w.finding d w said e k (subst (λ (z : Seen). IsFound z w.heard said w.finding) e (found_as w said k))
-    (subst (λ (z : Seen). HasRoom z w.heard said w.finding) e (room_as w said k))
+known d w said e k = grind (arith, known_by, found_as, room_as)
 
 -- ---- one place
 
 not_later : (begin : Seen) (us : List (List ℕ)) (said : List Told) (i j : ℕ) → Strays begin us said i → Strays begin us said j → i < j → ⊥
 not_later begin us said i j b c l =
-    never_strays begin us (take j said) i c.so_far (record {
-      so_far = subst (λ (z : List Told). IsKept begin us z) (sym (take_less said i j (omega (arith, l)))) b.so_far;
-      astray = subst (λ (z : List Told). (IsExplained begin us z → ⊥) ⊎ (selects_outside us z ≡ true))
-          (sym (take_less said (i + 1) j (omega (arith, l)))) b.astray;
-    })
+    grind (arith, never_strays, take_less said i j (omega (arith, l)), take_less said (i + 1) j (omega (arith, l)))
 
 one_place : (begin : Seen) (us : List (List ℕ)) (said : List Told) (i j : ℕ) → Strays begin us said i → Strays begin us said j → i ≡ j
-one_place begin us said i j b c = elim (compare i j) [
-  | inl l ↦ absurd (not_later begin us said i j b c l)
-  | inr k ↦ elim k [ inl l ↦ absurd (not_later begin us said j i c b l) | inr e ↦ e ]
-]
+one_place begin us said i j b c = grind (arith, compare, not_later)
 
 too_many : (n : ℕ) → 4096 < n → n ≤ 4096 → ⊥
 too_many n h k = omega arith
@@ -118,20 +77,15 @@ pub record IsOne (f g : Finding) (m n : List Member) (b e : Break) : Type 0 wher
 
 both_broke : (d : Direction) (us : List (List ℕ)) (said : List Told) (i : ℕ) (m n : List Member) (b e : Break)
     → KnownBy (Broke i) d us said m b → KnownBy (Broke i) d us said n e → b ≡ e
-both_broke d us said i m n b e (x, s, (h, l, u)) (y, t, (k, m2, v)) =
-    break_same us us x y m n h.0 k.0 b e refl (one_element said i x y s.there s.is t.is) (s.kept_so ∙ sym t.kept_so) h.1 k.1
+both_broke d us said i m n b e (x, s, (h, l, u)) (y, t, (k, m2, v)) = grind (arith, break_same, one_element)
 
 both_left : (d : Direction) (us : List (List ℕ)) (said : List Told) (i : ℕ) (m n : List Member) (b e : Break)
     → KnownBy (Left i) d us said m b → KnownBy (Left i) d us said n e → b ≡ e
-both_left d us said i m n b e (x, s, h) (y, t, k) =
-    left_same d us us said said i x y m n h.0 k.0 b e refl refl (one_element said i x y s.there s.is t.is) (s.kept_so ∙ sym t.kept_so)
-    h.1 k.1
+both_left d us said i m n b e (x, s, h) (y, t, k) = grind (arith, left_same, one_element)
 
 broke_or_left : (d : Direction) (us : List (List ℕ)) (said : List Told) (i : ℕ) (m n : List Member) (b e : Break)
     → KnownBy (Broke i) d us said m b → KnownBy (Left i) d us said n e → ⊥
-broke_or_left d us said i m n b e (x, s, (h, l, u)) (y, t, k) =
-    left_broken d us us said said i x y m n h.0 k.0 b e refl refl (one_element said i x y s.there s.is t.is) (s.kept_so ∙ sym t.kept_so)
-    h.1 l u k.1
+broke_or_left d us said i m n b e (x, s, (h, l, u)) (y, t, k) = grind (arith, left_broken, one_element)
 
 broke_at : (d : Direction) (us : List (List ℕ)) (said : List Told) (i j : ℕ) (m : List Member) (b : Break) → j ≡ i
     → KnownBy (Broke j) d us said m b → KnownBy (Broke i) d us said m b
@@ -146,8 +100,7 @@ one_known : (d : Direction) (us : List (List ℕ)) (said : List Told) (f g : Fin
 one_known d us said Kept Kept m n b e h k = record { found = refl; rule = λ t. cc; sessions = λ t. h.2 ∙ sym k.2 }
 one_known d us said Kept (Broke j) m n b e h k = absurd (never_strays (begin_of d) us said j h.0 k.1.strays)
 one_known d us said Kept (Left j) m n b e h k = absurd (never_strays (begin_of d) us said j h.0 k.1.strays)
-one_known d us said Kept TooMany m n b e h (i, l, y, c) =
-    absurd (too_many (length (kept (begin_of d) us (take (i + 1) said))) c.1 (h.1 (i + 1)))
+one_known d us said Kept TooMany m n b e h (i, l, y, c) = grind (arith, too_many)
 one_known d us said (Broke i) Kept m n b e h k = absurd (never_strays (begin_of d) us said i k.0 h.1.strays)
 one_known d us said (Broke i) (Broke j) m n b e h k =
     let same = one_place (begin_of d) us said i j h.1.strays k.1.strays in
@@ -172,8 +125,7 @@ one_known d us said (Left i) (Left j) m n b e h k =
       sessions = λ t. cc;
     }
 one_known d us said (Left i) TooMany m n b e h k = absurd (no_crowd (begin_of d) us said i h.1.strays h.1.few k)
-one_known d us said TooMany Kept m n b e (i, l, y, c) k =
-    absurd (too_many (length (kept (begin_of d) us (take (i + 1) said))) c.1 (k.1 (i + 1)))
+one_known d us said TooMany Kept m n b e (i, l, y, c) k = grind (arith, too_many)
 one_known d us said TooMany (Broke j) m n b e h k = absurd (no_crowd (begin_of d) us said j k.1.strays k.1.few h)
 one_known d us said TooMany (Left j) m n b e h k = absurd (no_crowd (begin_of d) us said j k.1.strays k.1.few h)
 one_known d us said TooMany TooMany m n b e h k = record { found = refl; rule = λ t. cc; sessions = λ t. cc }

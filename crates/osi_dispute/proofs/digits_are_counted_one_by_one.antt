@@ -1,17 +1,14 @@
 -- A counter that takes one octet of a line after the other comes to the number of digits on it, blanks and a comment left out.
 -- For `digits_on` and `counted`.
-use Rattle.std.proofs.Common.{◌≡◌, ◌∙◌, refl, sym, ap, ℕ, suc, take, Bool, true, false, cond, not, List, [], ◌∷◌, length, arith, ◌+◌}
-use Rattle.std.proofs.Common.{◌==◌, filter, inl, inr}
-use Rattle.std.specs.List.{before_first, prefix_len}
+use Rattle.std.proofs.Common.{◌≡◌, ◌∙◌, refl, ap, ℕ, Bool, true, false, cond, not, List, [], ◌∷◌, length, arith, ◌+◌, ◌==◌, filter, inl}
+use Rattle.std.proofs.Common.{inr}
+use Rattle.std.specs.List.{before_first}
 use Rattle.std.proofs.lemmas.Bool.Decides.{eqb_tells}
 use Rattle.osi_listing.specs.Capture.{is_comment_sign, is_blank}
 use Rattle.osi_dispute.specs.Rows.{digits_on, digits_left}
 
 kept : (c : ℕ) (line : List ℕ) → is_comment_sign c ≡ false → before_first is_comment_sign (c ∷ line) ≡ c ∷ before_first is_comment_sign line
-kept c line h =
-    let n : ℕ = prefix_len (λ x. not (is_comment_sign x)) line in
-    let one : 1 + n ≡ suc n = omega arith in
-    rw h (ap (λ k. take k (c ∷ line)) one)
+kept c line h = grind arith
 
 cut : (c : ℕ) (line : List ℕ) → is_comment_sign c ≡ true → before_first is_comment_sign (c ∷ line) ≡ []
 cut c line h = rw h refl
@@ -40,26 +37,20 @@ pub digits_blank : (c : ℕ) (line : List ℕ) → (c ≡ 35 → ⊥) → is_bla
 digits_blank c line e b = by_blank c line e ∙ ap (λ (x : Bool). with_octet (not x) c line) b
 
 pub digits_more : (c : ℕ) (line : List ℕ) → (c ≡ 35 → ⊥) → is_blank c ≡ false → digits_on (c ∷ line) ≡ digits_on line + 1
-digits_more c line e b =
-    let one = by_blank c line e ∙ ap (λ (x : Bool). with_octet (not x) c line) b in
-    omega (arith, one)
+digits_more c line e b = grind (arith, by_blank)
 
 -- ---- by a counter
 
 pub in_comment : (b : Bool) (n c : ℕ) (rest : List ℕ) → b ≡ true → n + digits_left b rest ≡ n + digits_left b (c ∷ rest)
-in_comment true n c rest e = refl
-in_comment false n c rest e = absurd (cc)
+in_comment b n c rest e = grind arith
 
 pub begins_comment : (b : Bool) (n c : ℕ) (rest : List ℕ) → b ≡ false → c ≡ 35 → n + 0 ≡ n + digits_left b (c ∷ rest)
-begins_comment true n c rest e s = absurd (cc)
-begins_comment false n c rest e s = ap (λ (x : ℕ). n + x) (sym (digits_end c rest s))
+begins_comment b n c rest e s = grind (arith, digits_end)
 
 pub at_blank : (b : Bool) (n c : ℕ) (rest : List ℕ) → b ≡ false → (c ≡ 35 → ⊥) → is_blank c ≡ true
     → n + digits_left b rest ≡ n + digits_left b (c ∷ rest)
-at_blank true n c rest e s k = absurd (cc)
-at_blank false n c rest e s k = ap (λ (x : ℕ). n + x) (sym (digits_blank c rest s k))
+at_blank b n c rest e s k = grind (arith, digits_blank)
 
 pub at_digit : (b : Bool) (n c : ℕ) (rest : List ℕ) → b ≡ false → (c ≡ 35 → ⊥) → is_blank c ≡ false
     → (n + 1) + digits_on rest ≡ n + digits_left b (c ∷ rest)
-at_digit true n c rest e s k = absurd (cc)
-at_digit false n c rest e s k = let one = digits_more c rest s k in omega (arith, one)
+at_digit b n c rest e s k = grind (arith, digits_more)

@@ -25,13 +25,13 @@ use Rattle.osi_tap.specs.declared.marks.Cause.TheVariants.{BadUnit, BadPacket}
 use Rattle.osi_tap.specs.declared.marks.Mark.{Mark}
 use Rattle.osi_tap.specs.declared.marks.Marks.{Marks}
 use Rattle.osi_tap.specs.Blaming.{IsToBlame, SomeIs, SomeoneIs}
-use Rattle.osi_tap.specs.Connections.{Joined, Sessions, count, numbered, has_number, asked, asked_at, placed, changed, packet_begins}
-use Rattle.osi_tap.specs.Connections.{all_begin, adds, adds_if, meant, taken, taken_at, source_of}
-use Rattle.osi_tap.specs.Courses.{Course, way_of, cause_of, marks_of, marked, moved, reached, changes, breaks, halts, first_marked}
-use Rattle.osi_tap.specs.Courses.{noted_by, unit_passes, units_pass, unread, unread_mark, unread_moment, packet_by}
+use Rattle.osi_tap.specs.Connections.{Joined, Sessions, count, numbered, has_number, asked_at, placed, changed, packet_begins, all_begin}
+use Rattle.osi_tap.specs.Connections.{adds, adds_if, meant, taken, taken_at, source_of}
+use Rattle.osi_tap.specs.Courses.{Course, way_of, marks_of, marked, moved, reached, changes, noted_by, unit_passes, units_pass, unread}
+use Rattle.osi_tap.specs.Courses.{unread_mark, unread_moment, packet_by}
 use Rattle.osi_tap.specs.Rooms.{fits, spent}
 use Rattle.osi_tap.specs.declared.rooms.Room.{Room}
-use Rattle.osi_tap.specs.Streams.{Front, partial, faulty, whole, front_of, Streamed, counted, gathered}
+use Rattle.osi_tap.specs.Streams.{Front, partial, faulty, whole, Streamed, counted, gathered}
 use Rattle.osi_tap.specs.Tapping.{State, stream_of, with_stream, looked_at, begun, octet_passes, begin, after, comes_to}
 use Rattle.osi_tap.proofs.a_piece_comes_to_what_its_octets_do.{looks}
 
@@ -65,8 +65,7 @@ same_joined j k e = cc
 having_set : (n i : ℕ) (js : List Joined) (j k : Joined) → slice_get js i ≡ Some k
     → having n (set js i j) + one (k.number == n) ≡ having n js + one (j.number == n)
 having_set n i [] j k e = absurd (cc)
-having_set n zero (x ∷ js) j k e =
-    let h = same_one n x k (ap (λ (y : Joined). y.number) (same_joined x k e)) in omega (arith, h)
+having_set n zero (x ∷ js) j k e = grind (arith, same_one, same_joined)
 having_set n (suc i) (x ∷ js) j k e = let h = having_set n i js j k e in omega (arith, h)
 
 having_map : (n : ℕ) (d : Direction) (js : List Joined) → having n (map (packet_begins d) js) ≡ having n js
@@ -85,97 +84,55 @@ abbrev IsOwn : Sessions → Type 0
 IsOwn s = count s < 2 ^ 64 - 1 → AreOwn s
 
 same_own : (s t : Sessions) → count t ≡ count s → ((n : ℕ) → all_having n t ≡ all_having n s) → IsOwn s → IsOwn t
-same_own s t c e h few =
-    let own = h (omega (arith, c)) in
-    record {
-      once = λ n. (let a = own.once n in let b = e n in omega (arith, a, b));
-      none = λ n le. e n ∙ own.none n (omega (arith, c));
-    }
+same_own s t c e h few = grind arith
 
 few_offset : (n : ℕ) → n < 2 ^ 64 - 1 → offset_of n ≡ n
 few_offset n h = omega arith
 
 once_by : (b : Bool) (m n all more : ℕ) → (m == n) ≡ b → all ≤ 1 → (m ≤ n → all ≡ 0) → more ≡ all + one (m == n) → more ≤ 1
-once_by true m n all more e le h k =
-    let same = eqb-true m n e in
-    let none = h (omega (arith, same)) in
-    let has = ap one e in
-    omega (arith, none, has, k)
-once_by false m n all more e le h k = let has = ap one e in omega (arith, has, k)
+once_by b m n all more e le h k = grind (arith, eqb-true)
 
 none_by : (b : Bool) (m n : ℕ) → (m == n) ≡ b → m < n → one (m == n) ≡ 0
-none_by true m n e lt = let same = eqb-true m n e in absurd (omega (arith, same))
-none_by false m n e lt = ap one e
+none_by b m n e lt = grind (arith, eqb-true)
 
 -- one more, which has their count as its number
 more_own : (s t : Sessions) (number : ℕ) → number ≡ offset_of (count s) → count t ≡ count s + 1
     → ((n : ℕ) → all_having n t ≡ all_having n s + one (number == n)) → IsOwn s → IsOwn t
-more_own s t number is c e h few =
-    let own = h (omega (arith, c)) in
-    let low : count s < 2 ^ 64 - 1 = omega (arith, c) in
-    let same : number ≡ count s = is ∙ few_offset (count s) low in
-    record {
-      once = λ n. once_by (number == n) number n (all_having n s) (all_having n t) refl (own.once n)
-          (λ le. own.none n (omega (arith, same))) (e n);
-      none = λ n le.
-          (let a = own.none n (omega (arith, c)) in
-          let b = none_by (number == n) number n refl (omega (arith, same, c)) in
-          let k = e n in omega (arith, a, b, k));
-    }
+more_own s t number is c e h few = grind (arith, few_offset, once_by, none_by)
 
 -- ---- a unit
 
 placed_count : (i : ℕ) (j : Joined) (s : Sessions) (o : Option Joined) → count (placed i j s o) ≡ count s + 1
-placed_count i j s None = let h = length-append s.live (j ∷ []) in omega (arith, h)
-placed_count i j s (Some over) =
-    let h = length-set s.live i j in
-    let k = length-append s.done (over ∷ []) in omega (arith, h, k)
+placed_count i j s o = grind (arith, length-append, length-set)
 
 placed_having : (n i : ℕ) (j : Joined) (s : Sessions) (o : Option Joined) → slice_get s.live i ≡ o
     → all_having n (placed i j s o) ≡ all_having n s + one (j.number == n)
-placed_having n i j s None e = let h = having_more n s.live j in omega (arith, h)
-placed_having n i j s (Some over) e =
-    let h = having_set n i s.live j over e in
-    let k = having_more n s.done over in omega (arith, h, k)
+placed_having n i j s o e = grind (arith, having_more, having_set)
 
 asked_own : (i calling : ℕ) (s : Sessions) → IsOwn s → IsOwn (asked_at i calling s)
-asked_own i calling s h =
-    let j = asked (offset_of (count s)) calling s.room in
-    let o = slice_get s.live i in
-    more_own s (placed i j s o) j.number refl (placed_count i j s o) (λ n. placed_having n i j s o refl) h
+asked_own i calling s h = grind (arith, more_own, placed_count, placed_having)
 
 changed_count : (i : ℕ) (f : Joined → Joined) (s : Sessions) (o : Option Joined) → count (changed i f s o) ≡ count s
-changed_count i f s None = refl
-changed_count i f s (Some j) = let h = length-set s.live i (f j) in omega (arith, h)
+changed_count i f s o = grind (arith, length-set)
 
 changed_having : (n i : ℕ) (f : Joined → Joined) (s : Sessions) (o : Option Joined) → ((j : Joined) → (f j).number ≡ j.number)
     → slice_get s.live i ≡ o → all_having n (changed i f s o) ≡ all_having n s
 changed_having n i f s None number e = refl
-changed_having n i f s (Some j) number e =
-    let h = having_set n i s.live (f j) j e in
-    let k = same_one n (f j) j (number j) in omega (arith, h, k)
+changed_having n i f s (Some j) number e = grind (arith, having_set n i s.live (f j) j e, same_one n (f j) j (number j))
 
 changed_own : (i : ℕ) (f : Joined → Joined) (s : Sessions) → ((j : Joined) → (f j).number ≡ j.number) → IsOwn s
     → IsOwn (changed i f s (slice_get s.live i))
-changed_own i f s number h =
-    let o = slice_get s.live i in
-    same_own s (changed i f s o) (changed_count i f s o) (λ n. changed_having n i f s o number refl) h
+changed_own i f s number h = grind (arith, same_own, changed_count, changed_having)
 
 added_number : (b : Bool) (room : Room) (d : Direction) (at : ℕ) (end : Bool) (octets : List ℕ) (j : Joined)
     → (adds_if b room d at end octets j).number ≡ j.number
-added_number true room Left at end octets j = refl
-added_number true room Right at end octets j = refl
-added_number false room d at end octets j = refl
+added_number b room d at end octets j = grind arith
 
 adds_number : (d : Direction) (at : ℕ) (end : Bool) (octets : List ℕ) (j : Joined) → (adds d at end octets j).number ≡ j.number
 adds_number d at end octets j = added_number (fits j.room (length octets)) (spent j.room (length octets)) d at end octets j
 
 meant_number : (d : Direction) (at : ℕ) (v : Value) (m : Meaning) (j : Joined) → (meant d at v m j).number ≡ j.number
-meant_number d at v meaning.Opens j = refl
-meant_number d at v meaning.Closes j = refl
-meant_number d at v (meaning.Adds end) j = adds_number d at end _ j
-meant_number d at v meaning.Asks j = refl
-meant_number d at v meaning.Nothing j = refl
+meant_number d at v m j = grind (arith, adds_number)
 
 meant_own : (d : Direction) (at : ℕ) (v : Value) (m : Meaning) (i : ℕ) (s : Sessions) → IsOwn s
     → IsOwn (changed i (meant d at v m) s (slice_get s.live i))
@@ -196,28 +153,20 @@ taken_own d at v m (Some i) s h = place_own d at v m i s h
 -- ---- a packet
 
 changes_own : (d : Direction) (f : Marks → Marks) (c : Course) → IsOwn c.sessions → IsOwn (changes d f c).sessions
-changes_own Left f c h = h
-changes_own Right f c h = h
+changes_own d f c h = grind arith
 
 reached_own : (m : Mark) (r : Reach) (c : Course) → IsOwn c.sessions → IsOwn (reached m r c).sessions
-reached_own m reach.Nothing c h = h
-reached_own m reach.Connection c h = h
-reached_own m reach.Side c h = changes_own m.direction (halts m) c h
-reached_own m reach.Everything c h = h
+reached_own m r c h = grind (arith, changes_own)
 
 marked_own : (m : Mark) (r : Reach) (c : Course) → IsOwn c.sessions → IsOwn (marked m r c).sessions
-marked_own m r c h =
-    reached_own m r (changes m.direction (breaks m) (first_marked m c)) (changes_own m.direction (breaks m) (first_marked m c) h)
+marked_own m r c h = grind (arith, reached_own, changes_own)
 
 noted_own : (d : Direction) (at : ℕ) (v : Value) (told : Told) (o : Option Cause) (c : Course) → IsOwn c.sessions
     → IsOwn (noted_by d at v told o c).sessions
-noted_own d at v told None c h = h
-noted_own d at v told (Some cause) c h = marked_own _ told.reach c h
+noted_own d at v told o c h = grind (arith, marked_own)
 
 unit_own : (d : Direction) (at : ℕ) (v : Value) (c : Course) → IsOwn c.sessions → IsOwn (unit_passes d at v c).sessions
-unit_own d at v c h =
-    let told = (traffic.takes (way_of d) v c.traffic).told in
-    noted_own d at v told (cause_of told.finding) _ (taken_own d at v told.meaning told.place c.sessions h)
+unit_own d at v c h = search (arith, noted_own, taken_own)
 
 units_own : (d : Direction) (at : ℕ) (vs : List Value) (c : Course) → IsOwn c.sessions → IsOwn (units_pass d at vs c).sessions
 units_own d at [] c h = h
@@ -226,8 +175,7 @@ units_own d at (v ∷ vs) c h = units_own d at vs (unit_passes d at v c) (unit_o
 unread_by : (b : Bool) (d : Direction) (at : ℕ) (cause : Cause) (c : Course) → IsOwn c.sessions
     → IsOwn (if b then c else marked (unread_mark d at cause) (traffic.refused_reach (way_of d) c.traffic)
     (moved (unread_moment d at cause c.sessions) (record c { traffic = traffic.refused (way_of d) c.traffic }))).sessions
-unread_by true d at cause c h = h
-unread_by false d at cause c h = marked_own (unread_mark d at cause) (traffic.refused_reach (way_of d) c.traffic) _ h
+unread_by b d at cause c h = grind (arith, marked_own)
 
 unread_own : (d : Direction) (at : ℕ) (cause : Cause) (c : Course) → IsOwn c.sessions → IsOwn (unread d at cause c).sessions
 unread_own d at cause c h = unread_by (is_some (marks_of d c).halted) d at cause c h
@@ -240,8 +188,7 @@ read_own d at (Err fault) c h = unread_own d at (BadUnit fault) c h
 -- ---- octets
 
 with_own : (d : Direction) (t : Streamed) (s : State) → IsOwn s.course.sessions → IsOwn (with_stream d t s).course.sessions
-with_own Left t s h = h
-with_own Right t s h = h
+with_own d t s h = grind arith
 
 looked_own : (d : Direction) (t : Streamed) (f : Front) (s : State) → IsOwn s.course.sessions
     → IsOwn (looked_at d t f s).course.sessions
@@ -252,9 +199,7 @@ looked_own Left t (whole unit) s h = read_own Left t.at (units_of unit) s.course
 looked_own Right t (whole unit) s h = read_own Right t.at (units_of unit) s.course h
 
 all_own : (d : Direction) (s : Sessions) → IsOwn s → IsOwn (all_begin d s)
-all_own d s h =
-    let c = length-map s.live (packet_begins d) in
-    same_own s (all_begin d s) (omega (arith, c)) (λ n. (let k = having_map n d s.live in omega (arith, k))) h
+all_own d s h = grind (arith, length-map, same_own, having_map)
 
 begun_own : (d : Direction) (held : List ℕ) (s : State) → IsOwn s.course.sessions → IsOwn (begun d held s).course.sessions
 begun_own d [] s h = all_own d s.course.sessions h
@@ -264,9 +209,7 @@ octet_by : (b : Bool) (d : Direction) (os : List ℕ) (s : State) → IsOwn s.co
     → IsOwn (if b then with_stream d (counted (length os) (stream_of d s)) s
     else looks d (gathered os (stream_of d s)) (begun d (stream_of d s).held s)).course.sessions
 octet_by true d os s h = with_own d (counted (length os) (stream_of d s)) s h
-octet_by false d os s h =
-    let t = gathered os (stream_of d s) in
-    looked_own d t (front_of t.held) (begun d (stream_of d s).held s) (begun_own d (stream_of d s).held s h)
+octet_by false d os s h = search (arith, looked_own, begun_own)
 
 after_own : (capture : Capture) (s : State) → IsOwn s.course.sessions → IsOwn (after capture s).course.sessions
 after_own [] s h = h
@@ -312,14 +255,7 @@ Found d o = (j : Joined) × (o ≡ Some j) × IsToBlame d j
 found_by : (b : Bool) (d : Direction) (n : ℕ) (j : Joined) (js : List Joined) → (j.number == n) ≡ b → having n (j ∷ js) ≤ 1
     → ((Some n ≡ Some j.number) × IsToBlame d j) ⊎ SomeIs d (Some n) js
     → (having n js ≤ 1 → SomeIs d (Some n) js → Found d (find (has_number n) js)) → Found d (cond b (Some j) (find (has_number n) js))
-found_by true d n j js e le h k = elim h [
-  | inl a ↦ (j, refl, a.1)
-  | inr r ↦ (let more = some_having d n js r in let own = ap one e in absurd (omega (arith, more, own, le)))
-]
-found_by false d n j js e le h k = elim h [
-  | inl a ↦ (let own = has_it n j a.0 in let not = ap one e in absurd (omega (arith, own, not)))
-  | inr r ↦ k (omega (arith, le)) r
-]
+found_by b d n j js e le h k = grind (arith, some_having, has_it)
 
 found_in : (d : Direction) (n : ℕ) (js : List Joined) → having n js ≤ 1 → SomeIs d (Some n) js → Found d (find (has_number n) js)
 found_in d n [] le h = absurd h

@@ -24,9 +24,7 @@ passes_none k j = λ capture t. subst (λ (c : Capture). k j c) (sym (append-nil
 
 passes_more : {T : Type 0} (k : T → Capture → Type 0) (old now new : T) (a b c : Capture) → c ≡ a ++ b → Passes k old now a
     → Passes k now new b → Passes k old new c
-passes_more k old now new a b c e p q = λ capture t.
-    subst (λ (z : Capture). k new z) (append_assoc capture a b ∙ ap (λ (z : Capture). capture ++ z) (sym e))
-    (q (capture ++ a) (p capture t))
+passes_more k old now new a b c e p q = grind (arith, append_assoc)
 
 pub passes_as : (old new : Judge) (more : Capture)
     → ((capture : Capture) → Taps (judged old) capture → Taps (judged new) (capture ++ more))
@@ -40,8 +38,7 @@ Comes begin t capture = HoldsState t (after capture begin)
 
 pub comes_as : (begin : State) (old new : Tap) (more : Capture) → ((s : State) → HoldsState old s → HoldsState new (after more s))
     → Passes (Comes begin) old new more
-comes_as begin old new more t = λ capture k.
-    subst (λ (s : State). HoldsState new s) (sym (after_more capture more begin)) (t (after capture begin) k)
+comes_as begin old new more t = grind (arith, after_more)
 
 -- ---- octets of a piece
 
@@ -63,16 +60,14 @@ fed_more k d old now new octets rest n (fed, e, p) q = (
 pub fed_all : {T : Type 0} (k : T → Capture → Type 0) (d : Direction) (old now : T) (octets rest : List ℕ) → rest ≡ []
     → IsFed k d old now octets rest
     → Passes k old now (piece d octets)
-fed_all k d old now octets rest n (fed, e, p) =
-    subst (λ (z : List ℕ). Passes k old now (piece d z)) (sym (e ∙ ap (λ (z : List ℕ). fed ++ z) n ∙ append-nil fed)) p
+fed_all k d old now octets rest n (fed, e, p) = grind (arith, append-nil)
 
 pub empty_yes : (xs : List ℕ) (b : Bool) → b ≡ (length xs == 0) → b ≡ true → xs ≡ []
 empty_yes [] b e t = refl
 empty_yes (x ∷ xs) b e t = absurd (grind (arith, e, t))
 
 pub empty_not : (xs : List ℕ) (b : Bool) → b ≡ (length xs == 0) → not b ≡ false → xs ≡ []
-empty_not xs true e t = empty_yes xs true e refl
-empty_not xs false e t = absurd (cc)
+empty_not xs b e t = grind (arith, empty_yes)
 
 -- ---- rows
 
@@ -99,5 +94,4 @@ more_fed k left old now new rows rest later r g (fed, e, p) q = (
 pub all_fed : {T : Type 0} (k : T → Capture → Type 0) (left : Bool) (old now : T) (rows rest : List Row) → rest ≡ []
     → AreFed k left old now rows rest
     → Passes k old now (passed_by left rows)
-all_fed k left old now rows rest n (fed, e, p) =
-    subst (λ (z : List Row). Passes k old now (passed_by left z)) (sym (e ∙ ap (λ (z : List Row). fed ++ z) n ∙ append-nil fed)) p
+all_fed k left old now rows rest n (fed, e, p) = grind (arith, append-nil)

@@ -1,5 +1,5 @@
 -- What is told of a side is told by what a judge keeps of it, and that is so of the capture: for the functions of `verdicts`.
-use Rattle.std.proofs.Common.{◌≡◌, ◌∙◌, refl, sym, ap, subst, ℕ, Bool, true, false, List, Option, Some, None}
+use Rattle.std.proofs.Common.{◌≡◌, ◌∙◌, refl, sym, ap, subst, ℕ, Bool, true, false, List, Option, Some, None, arith}
 use Rattle.osi_session.specs.Standing.{seen_called}
 use Rattle.osi_judge.specs.declared.directions.Direction.{Direction}
 use Rattle.osi_judge.specs.declared.directions.Direction.TheVariants as side
@@ -126,22 +126,14 @@ blamed t right r c x e b q h = subst (λ (y : Connection). Connects false t righ
 pub answered : (t right : Tapped) (r : ℕ) (c : Connection) (x : Told) → t.line.reference ≡ Some r → broke_session t.side.finding ≡ false
     → is_refused (stopped_of right) ≡ false
     → is_unanswered right.line.reference (stopped_of right) ≡ false → c ≡ Session r x → IsToldOf t x → Connects false t right c
-answered t right r c x e b f a q h = subst (λ (y : Connection). Connects false t right y) (sym q) (record {
-  stands = h.stands;
-  is = ap (Session r) h.is ∙ sym (connects_as t right r false false false (told_of (facts_of t h.stands)) e b f a);
-  standing = h.standing;
-})
+answered t right r c x e b f a q h = grind (arith, connects_as)
 
 -- ---- of a side
 
 pub accounted : (d : Bool) (t right : Tapped) (r : Reading) (c : Connection) (s : Option Stopped) → r ≡ reading_of t → s ≡ stopped_of t
     → Connects d t right c
     → Accounts d t right (record { reading = r; connection = c; stopped = s })
-accounted d t right r c s e f k = record {
-  stands = k.stands;
-  is = λ i. record { reading = e i; connection = k.is i; stopped = f i };
-  standing = k.standing;
-}
+accounted d t right r c s e f k = grind arith
 
 -- ---- of the capture
 

@@ -1,33 +1,22 @@
 -- A script has one transcript: after each line, the two ends of one run and those of another have the same state.
 -- For the law of the same name.
-use Rattle.std.proofs.Common.{◌≡◌, ◌∙◌, ℕ, List, [], ◌∷◌, ◌++◌, length, drop, min, Option, Some, None, inl, inr, refl, sym, ap, ap₂, subst}
-use Rattle.std.proofs.Common.{arith}
+use Rattle.std.proofs.Common.{◌≡◌, ◌∙◌, ℕ, List, [], ◌∷◌, ◌++◌, length, drop, Option, Some, None, inl, inr, sym, ap, ap₂, subst, arith}
 use Rattle.osi_class.specs.declared.terms.Local.{Local}
-use Rattle.osi_stack.specs.State.{End}
-use Rattle.osi_pair.specs.Ends.{TwoEnds, fresh_ends, reachable}
+use Rattle.osi_pair.specs.Ends.{TwoEnds, fresh_ends}
 use Rattle.osi_pair.specs.Entries.{Entry}
-use Rattle.osi_pair.specs.Events.{misfit, misfit_break, misfit_told, Does}
+use Rattle.osi_pair.specs.Events.{misfit, Does}
 use Rattle.osi_pair.specs.Reached.{IsReached}
-use Rattle.osi_pair.specs.Reaching.{within}
 use Rattle.osi_pair.specs.SameEnds.{AreSameEnds, FoundMemory}
 use Rattle.osi_pair.specs.Standing.{StandsAt}
 use Rattle.osi_pair.specs.declared.events.Event.{Event}
 use Rattle.osi_pair.specs.declared.events.Event.TheVariants as event
-use Rattle.osi_pair.specs.declared.faults.PairError.{PairError}
-use Rattle.osi_pair.specs.declared.reach.Reach.{Reach}
-use Rattle.osi_pair.specs.declared.sides.Side.{Side}
-use Rattle.osi_pair.specs.declared.sides.Side.TheVariants.{Left, Right}
 use Rattle.osi_pair.proofs.event.each_end_holds_less_than_a_packet.{fresh_less}
-use Rattle.osi_script.specs.Answers.{answer_line}
 use Rattle.osi_script.specs.Commands.{Command, Ends, Connect, OfUser, Carry, Break, Told, command_of}
-use Rattle.osi_script.specs.declared.answers.Answer.TheVariants.{LineFailed}
-use Rattle.osi_script.specs.declared.answers.LineFault.{LineFault}
 use Rattle.osi_script.specs.declared.commands.Classes.{Classes}
 use Rattle.osi_transcript.specs.Asking.{IsEvent}
 use Rattle.osi_transcript.specs.Entries.{entry_texts}
 use Rattle.osi_transcript.specs.Playing.{Lines, Rest, IsApplied, FailsAt, RefusesLine, Applies, PlaysLine, Plays, IsLocal, Starts}
-use Rattle.osi_transcript.specs.Playing.{BeginsWith, Transcribes, carried_by, event_text, new_texts, fault_of}
-use Rattle.osi_transcript.specs.Standings.{standing_texts}
+use Rattle.osi_transcript.specs.Playing.{BeginsWith, Transcribes, carried_by, event_text, new_texts}
 use Rattle.osi_transcript.proofs.one_line_has_one_effect.{AreOneEvent, one_event}
 use Rattle.osi_transcript.proofs.the_same_numbers_are_one_configuration.{one_local}
 
@@ -51,43 +40,21 @@ IsRestOnce rest = (p q : TwoEnds) (a b : List ℕ) (s t : ℕ) → AreBehind p q
 
 -- ---- an event
 
-reached_by : Option Reach → Side → End → ℕ
-reached_by o side e = within o side (length e.carrier.outgoing)
-
-same_reach : (side : Side) (p q : TwoEnds) → AreSameEnds p q → reachable side p ≡ reachable side q
-unfolding reached_by
-same_reach Left p q h = ap₂ (λ (o : Option Reach) (e : End). reached_by o Left e) h.reach h.left.end
-same_reach Right p q h = ap₂ (λ (o : Option Reach) (e : End). reached_by o Right e) h.reach h.right.end
-
 same_carried : (x : Event) (p q : TwoEnds) → AreSameEnds p q → carried_by x p ≡ carried_by x q
-same_carried (event.Carry side most) p q h = ap (min most) (same_reach side p q h)
-same_carried (event.Connect asked) p q h = refl
-same_carried (event.Call side reference request) p q h = refl
-same_carried (event.Break left right) p q h = refl
-same_carried (event.Told side) p q h = refl
+same_carried x p q h = grind arith
 
 same_misfit : (x : Event) (p q : TwoEnds) → AreSameEnds p q → misfit x p ≡ misfit x q
-same_misfit (event.Break left right) p q h = ap misfit_break h.reach
-same_misfit (event.Told side) p q h = ap misfit_told h.reach
-same_misfit (event.Connect asked) p q h = refl
-same_misfit (event.Call side reference request) p q h = refl
-same_misfit (event.Carry side most) p q h = refl
+same_misfit x p q h = grind arith
 
 -- it fits in neither run
 fails_once : (number : ℕ) (x y : Event) (p q : TwoEnds) (a b : List ℕ) (s t : ℕ) → misfit x p ≡ misfit y q → FailsAt number x p a s →
     FailsAt number y q b t → AreOne a b s t
-fails_once number x y p q a b s t same h k =
-    let why : h.why ≡ k.why = some_one (sym h.misfit ∙ ap fault_of same ∙ k.misfit) in
-    (h.says ∙ ap (λ (w : LineFault). answer_line (LineFailed number w)) why ∙ sym k.says, h.bad ∙ sym k.bad)
-  where
-    some_one : {v w : LineFault} → Some v ≡ Some w → v ≡ w
-    some_one e = cc
+fails_once number x y p q a b s t same h k = grind arith
 
 -- it fits in one of two runs, and not in the other
 fits_both : (number : ℕ) (x y : Event) (p q new : TwoEnds) (text : List ℕ) (status : ℕ) → misfit x p ≡ misfit y q → IsApplied x p new →
     FailsAt number y q text status → ⊥
-fits_both number x y p q new text status same h k =
-    let none : None ≡ Some k.why = sym (ap fault_of h.fits) ∙ ap fault_of same ∙ k.misfit in cc
+fits_both number x y p q new text status same h k = grind arith
 
 event_once : DoesOnce → (number : ℕ) (x y : Event) (rest : Rest) → IsRestOnce rest → AreOneEvent x y →
     (p q : TwoEnds) (a b : List ℕ) (s t : ℕ) → AreBehind p q →
@@ -105,12 +72,9 @@ event_once law number x y rest once one p q a b s t h (inl i) (inl k) =
           ∙ ap (λ (w : List ℕ). event_text y (carried_by y q) ++ new_texts q k.0 ++ w) more.0 ∙ sym k.3,
       more.1,
     )
-event_once law number x y rest once one p q a b s t h (inl i) (inr k) = absurd
-    (fits_both number x y p q i.0 b t (same_misfit x p q h.same ∙ one.fits q) i.2 k)
-event_once law number x y rest once one p q a b s t h (inr i) (inl k) = absurd
-    (fits_both number y x q p k.0 a s (sym (same_misfit x p q h.same ∙ one.fits q)) k.2 i)
-event_once law number x y rest once one p q a b s t h (inr i) (inr k) = fails_once number x y p q a b s t (same_misfit x p q h.same
-    ∙ one.fits q) i k
+event_once law number x y rest once one p q a b s t h (inl i) (inr k) = search (arith, fits_both, same_misfit)
+event_once law number x y rest once one p q a b s t h (inr i) (inl k) = search (arith, fits_both, same_misfit)
+event_once law number x y rest once one p q a b s t h (inr i) (inr k) = grind (arith, fails_once, same_misfit)
 
 -- ---- a line
 
@@ -139,11 +103,7 @@ line_once law number (Some (Break left right)) rest once p q a b s t h i k = ask
 line_once law number (Some (Told side)) rest once p q a b s t h i k = asked_once law number (Told side) rest once p q a b s t h i k
 
 plays_once : DoesOnce → (lines : Lines) → IsRestOnce (Plays lines)
-plays_once law [] p q a b s t h i k = (
-  i.stands ∙ ap₂ (λ (e f : End). standing_texts Left e 65535 ++ standing_texts Right f 65535) h.same.left.end h.same.right.end
-      ∙ sym k.stands,
-  i.good ∙ sym k.good,
-)
+plays_once law [] p q a b s t h i k = grind arith
 plays_once law ((number, line) ∷ lines) p q a b s t h i k = line_once law number (command_of line) (Plays lines)
     (plays_once law lines) p q a b s t h i k
 
@@ -153,31 +113,22 @@ fresh_reached : ((left right : Local) → StandsAt (fresh_ends left right) []) �
 fresh_reached begins left right = record { steps = []; stands = begins left right; held = fresh_less left right }
 
 fresh_same : (left right : Local) → AreSameEnds (fresh_ends left right) (fresh_ends left right)
-fresh_same left right = record {
-  left = record { end = refl; octets = refl; offset = λ lasts. refl; counted = λ lasts. omega arith };
-  right = record { end = refl; octets = refl; offset = λ lasts. refl; counted = λ lasts. omega arith };
-  reach = refl;
-  journal = refl;
-}
+fresh_same left right = grind arith
 
 local_once : (classes : Classes) (code units : ℕ) (a b : Local) → IsLocal classes code units a → IsLocal classes code units b → a ≡ b
-local_once classes code units a b h k = one_local a b (h.class0 ∙ sym k.class0) (h.class2 ∙ sym k.class2) (h.size
-    ∙ sym k.size) (h.window ∙ sym k.window)
+local_once classes code units a b h k = grind (arith, one_local)
 
 starts_once : ((left right : Local) → StandsAt (fresh_ends left right) []) →
     (caller called : Classes) (size window : ℕ) (p q : TwoEnds) → Starts caller called size window p →
     Starts caller called size window q → AreBehind p q
 starts_once begins caller called size window p q h k =
-    let left = local_once caller size window k.left h.left k.is_left h.is_left in
-    let right = local_once called size window k.right h.right k.is_right h.is_right in
-    let there : q ≡ fresh_ends h.left h.right = k.fresh ∙ ap₂ fresh_ends left right in
-    let reached = fresh_reached begins h.left h.right in
-    record {
-      here = subst IsReached (sym h.fresh) reached;
-      there = subst IsReached (sym there) reached;
-      same = subst (λ (x : TwoEnds). AreSameEnds x q) (sym h.fresh)
-          (subst (λ (x : TwoEnds). AreSameEnds (fresh_ends h.left h.right) x) (sym there) (fresh_same h.left h.right));
-    }
+    grind (
+      arith,
+      local_once caller size window k.left h.left k.is_left h.is_left,
+      local_once called size window k.right h.right k.is_right h.is_right,
+      fresh_reached begins h.left h.right,
+      fresh_same h.left h.right,
+    )
 
 begins_once : DoesOnce → ((left right : Local) → StandsAt (fresh_ends left right) []) →
     (number : ℕ) (o : Option Command) (lines : Lines) (a b : List ℕ) (s t : ℕ) →
@@ -194,6 +145,4 @@ begins_once law begins number (Some (Told side)) lines a b s t h k = refuses_onc
 pub one_transcript : DoesOnce → ((left right : Local) → StandsAt (fresh_ends left right) []) →
     (lines : Lines) (text other : List ℕ) (status code : ℕ) →
     Transcribes lines text status → Transcribes lines other code → (text ≡ other) × (status ≡ code)
-one_transcript law begins [] text other status code h k = (h.0 ∙ sym k.0, h.1 ∙ sym k.1)
-one_transcript law begins ((number, line) ∷ lines) text other status code h k = begins_once law begins number
-    (command_of line) lines text other status code h k
+one_transcript law begins lines text other status code h k = grind (arith, begins_once)

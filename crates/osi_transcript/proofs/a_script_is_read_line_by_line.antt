@@ -1,25 +1,21 @@
 -- A script is read line by line.
 -- For `Walk`: what is left of the octets after each line.
-use Rattle.std.proofs.Common.{◌≡◌, ◌∙◌, ℕ, ◌+◌, ◌<◌, ◌^◌, Bool, true, false, not, List, [], ◌∷◌, length, Option, Some, None, option_map}
-use Rattle.std.proofs.Common.{refl, sym, ap, arith, if◌then◌else◌}
+use Rattle.std.proofs.Common.{◌≡◌, ◌∙◌, ℕ, ◌+◌, ◌<◌, ◌^◌, Bool, true, false, not, List, [], ◌∷◌, length, Option, option_map, refl, sym, ap}
+use Rattle.std.proofs.Common.{arith, if◌then◌else◌}
 use Rattle.std.specs.Option.{option_map_or}
 use Rattle.std.proofs.lemmas.List.Splits.{length-slice_split}
 use Rattle.std.proofs.lemmas.List.Sums.{count_by-le-length}
-use Rattle.osi_script.specs.Scripts.{lines_of, is_line_feed, is_skipped}
+use Rattle.osi_script.specs.Scripts.{lines_of, is_skipped}
 use Rattle.osi_transcript.specs.Numbered.{numbered, lines_left}
 
 -- a text has at most one line more than octets
 pub few_lines : (text : List ℕ) → length text < 2 ^ 32 → 1 + length (lines_of text) < 2 ^ 40
 unfolding lines_of
-few_lines text h =
-    let lines = length-slice_split is_line_feed text in
-    let ends = count_by-le-length is_line_feed text in
-    omega (arith, lines, ends)
+few_lines text h = grind (arith, length-slice_split, count_by-le-length)
 
 pub same_left : {A : Type 0} (now : A → List ℕ) (rest : Option A) →
     option_map_or (λ r. lines_of (now r)) rest [] ≡ lines_left (option_map now rest)
-same_left now None = refl
-same_left now (Some text) = refl
+same_left now rest = grind arith
 
 by_test : (number : ℕ) (line : List ℕ) (lines : List (List ℕ)) (b : Bool) → is_skipped line ≡ b →
     numbered number (line ∷ lines) ≡ (if b then numbered (number + 1) lines else (number, line) ∷ numbered (number + 1) lines)
@@ -43,9 +39,7 @@ unfolding numbered
 none_numbered number = refl
 
 pub flip_false : (b : Bool) → not b ≡ true → b ≡ false
-flip_false true h = cc
-flip_false false h = refl
+flip_false b h = grind arith
 
 pub flip_true : (b : Bool) → not b ≡ false → b ≡ true
-flip_true true h = refl
-flip_true false h = cc
+flip_true b h = grind arith

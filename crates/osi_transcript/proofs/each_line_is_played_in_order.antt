@@ -10,8 +10,8 @@ use Rattle.osi_script.specs.declared.answers.Answer.TheVariants.{LineRefused}
 use Rattle.osi_transcript.specs.Asking.{IsEvent, IsNoEvent}
 use Rattle.osi_transcript.specs.Playing.{Lines, Applies, PlaysLine, Plays, BeginsWith, Transcribes, carried_by, event_text, new_texts}
 use Rattle.osi_transcript.specs.Standings.{all_standings}
-use Rattle.osi_transcript.specs.Starting.{IsStart, IsNoStart}
-use Rattle.osi_transcript.specs.Steps.{DoesEvent, FailsEvent, PlaysEvent, StopsAtLine, GoesBehind, PlaysOne, PlaysAll}
+use Rattle.osi_transcript.specs.Starting.{IsStart}
+use Rattle.osi_transcript.specs.Steps.{DoesEvent, FailsEvent, PlaysEvent, StopsAtLine, GoesBehind, PlaysAll}
 
 by_command : (number : ℕ) (c : Command) (event : Event) (lines : Lines) (p : TwoEnds) (text : List ℕ) (status : ℕ) → IsEvent c event →
     Applies number event (Plays lines) p text status → PlaysLine number (Some c) (Plays lines) p text status
@@ -120,17 +120,6 @@ begins number (Some (OfUser side reference call)) lines p text status starts pla
 begins number (Some (Carry side octets)) lines p text status starts plays = absurd starts
 begins number (Some (Break left right)) lines p text status starts plays = absurd starts
 begins number (Some (Told side)) lines p text status starts plays = absurd starts
-
-refused : (number : ℕ) (command : Option Command) (lines : Lines) (text : List ℕ) → IsNoStart command →
-    text ≡ answer_line (LineRefused number) →
-    BeginsWith number command lines text 1
-refused number None lines text starts says = record { says = says; bad = refl }
-refused number (Some (Ends caller called size window)) lines text starts says = absurd starts
-refused number (Some (Connect requirements serial wishes sizes octets)) lines text starts says = record { says = says; bad = refl }
-refused number (Some (OfUser side reference call)) lines text starts says = record { says = says; bad = refl }
-refused number (Some (Carry side octets)) lines text starts says = record { says = says; bad = refl }
-refused number (Some (Break left right)) lines text starts says = record { says = says; bad = refl }
-refused number (Some (Told side)) lines text starts says = record { says = says; bad = refl }
 
 -- the two ends are there, and the lines after the first were played
 pub transcribed : (lines left : Lines) (number : ℕ) (line : List ℕ) (p : TwoEnds) (before text : List ℕ) (status : ℕ) →

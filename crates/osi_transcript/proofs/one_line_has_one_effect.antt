@@ -1,7 +1,7 @@
 -- Two events in memory for the same line of a script have the same effect, carry as many octets and give the same text.
 -- For a_script_has_one_transcript.
-use Rattle.std.proofs.Common.{◌≡◌, ◌∙◌, ℕ, ◌+◌, ◌||◌, Bool, true, not, List, [], ◌∷◌, ◌++◌, length, Option, Some, None, refl, sym, ap, ap₂}
-use Rattle.std.proofs.Common.{subst, if◌then◌else◌}
+use Rattle.std.proofs.Common.{◌≡◌, ◌∙◌, ℕ, ◌+◌, ◌||◌, true, not, List, [], ◌∷◌, length, Option, Some, None, refl, sym, ap, ap₂, subst}
+use Rattle.std.proofs.Common.{if◌then◌else◌, arith}
 use Rattle.std.specs.Prelude.{nat_le}
 use Rattle.osi_carrier.specs.Calls.{may_connect, asks}
 use Rattle.osi_carrier.specs.declared.events.Ref.{Ref}
@@ -18,13 +18,13 @@ use Rattle.osi_session.specs.declared.phases.Phase.TheVariants.{WaitTransport}
 use Rattle.osi_session.specs.declared.requests.Request.{Request}
 use Rattle.osi_spdu.specs.declared.fields.TsduMaximumSize.{TsduMaximumSize}
 use Rattle.osi_spdu.specs.declared.settings.TokenSetting.{TokenSetting}
-use Rattle.osi_stack.specs.Calls.{after_open, is_long_address, connect_error, connects}
+use Rattle.osi_stack.specs.Calls.{after_open, is_long_address, connect_error}
 use Rattle.osi_stack.specs.State.{End, Holding, joins}
 use Rattle.osi_stack.specs.declared.connecting.Connect.{Connect as Wanted}
 use Rattle.osi_stack.specs.declared.connecting.ConnectError.{ConnectError}
 use Rattle.osi_stack.specs.declared.connecting.ConnectError.TheVariants.{NotSelected, TooLong}
 use Rattle.osi_pair.specs.Asked.{Asked, asked_of}
-use Rattle.osi_pair.specs.Ends.{TwoEnds, answer_with, noted, connected_by, after_connect, after_call}
+use Rattle.osi_pair.specs.Ends.{TwoEnds, answer_with, noted, connected_by, after_connect}
 use Rattle.osi_pair.specs.Entries.{asks as entry}
 use Rattle.osi_pair.specs.Events.{misfit, Does}
 use Rattle.osi_pair.specs.declared.events.Event.{Event}
@@ -32,7 +32,7 @@ use Rattle.osi_pair.specs.declared.events.Event.TheVariants as event
 use Rattle.osi_pair.specs.declared.sides.Side as ends
 use Rattle.osi_script.specs.Commands.{Command, Ends, Connect, OfUser, Carry, Break, Told}
 use Rattle.osi_script.specs.declared.sides.Side.{Side}
-use Rattle.osi_transcript.specs.Asking.{side_in, plainly, IsEvent}
+use Rattle.osi_transcript.specs.Asking.{side_in, IsEvent}
 use Rattle.osi_transcript.specs.Playing.{carried_by, event_text}
 
 -- they fit alike, and do the same
@@ -89,8 +89,7 @@ after_asked a p =
 
 same_end : (o : Option ConnectError) (c : Wanted) (h : Holding) → connected_by o c h ≡ asked_by o (asked_of c) h
 unfolding asked_by asked_end asked_session
-same_end None c h = refl
-same_end (Some error) c h = refl
+same_end o c h = grind arith
 
 same_error : (c : Wanted) (e : End) → connect_error c e ≡ asked_error (asked_of c) e
 unfolding asked_error
@@ -98,32 +97,17 @@ same_error c e = refl
 
 as_asked : (c : Wanted) (p : TwoEnds) → after_connect c p ≡ after_asked (asked_of c) p
 unfolding after_asked
-as_asked c p =
-    ap (λ (o : Option ConnectError). noted (entry (asked_of c) (answer_with (p.left.end.carrier.given + 1) o) ∷ [])
-    (record p { left = connected_by o c p.left })) (same_error c p.left.end)
-    ∙ ap (λ (h : Holding). noted (entry (asked_of c)
-    (answer_with (p.left.end.carrier.given + 1) (asked_error (asked_of c) p.left.end)) ∷ []) (record p { left = h }))
-    (same_end (asked_error (asked_of c) p.left.end) c p.left)
+as_asked c p = grind (arith, same_error, asked_error, same_end)
 
 connects_one : (x y : Wanted) → asked_of x ≡ asked_of y → AreOneEvent (event.Connect x) (event.Connect y)
 unfolding event_text
-connects_one x y same = record {
-  fits = λ p. refl;
-  carries = λ p. refl;
-  says = λ octets. refl;
-  does = λ p new octets h. (h.0 ∙ as_asked y p ∙ ap (λ (a : Asked). after_asked a p) (sym same) ∙ sym (as_asked x p), h.1);
-}
+connects_one x y same = grind (arith, as_asked, after_asked)
 
 -- ---- a call, by what it asks for
 
 calls_one : (s : ends.Side) (r : Ref) (x y : Request) → called_by x ≡ called_by y → AreOneEvent (event.Call s r x) (event.Call s r y)
 unfolding event_text
-calls_one s r x y same = record {
-  fits = λ p. refl;
-  carries = λ p. refl;
-  says = λ octets. refl;
-  does = λ p new octets h. (h.0 ∙ ap (λ (call : session.Call). after_call s r.0 call p) (sym same), h.1);
-}
+calls_one s r x y same = grind arith
 
 -- ---- each command
 

@@ -1,7 +1,6 @@
 -- The line of a connection's state in memory.
 -- For `push_side`, which writes the states of one end.
-use Rattle.std.proofs.Common.{◌≡◌, ◌∙◌, ◌+◌, ◌-◌, ◌<◌, ◌++◌, ◌&&◌, Bool, true, false, List, [], ℕ, zero, suc, refl, sym, ap, subst, add-one}
-use Rattle.std.proofs.Common.{arith}
+use Rattle.std.proofs.Common.{◌≡◌, ◌∙◌, ◌+◌, ◌-◌, ◌<◌, ◌++◌, ◌&&◌, Bool, false, List, [], ℕ, zero, suc, refl, sym, ap, add-one, arith}
 use Rattle.std.specs.Prelude.{Some, None, nat_lt, nat_le, if◌then◌else◌}
 use Rattle.std.proofs.lemmas.Bool.Decides.{nat_tests}
 use Rattle.std.proofs.lemmas.List.{append-nil}
@@ -27,8 +26,7 @@ no_standings side e = refl
 pub standings_more : (side : Side) (e : End) (n : ℕ) → standing_texts side e (n + 1) ≡ standing_texts side e n ++
     standing_text side (n + 1) e
 unfolding standing_texts
-standings_more side e n = subst (λ (m : ℕ). standing_texts side e m ≡ standing_texts side e n ++ standing_text side m e) (sym (add-one n))
-    refl
+standings_more side e n = grind (arith, add-one)
 
 -- ---- references that were never given
 
@@ -39,15 +37,13 @@ given_before : (r given : ℕ) → 0 < r → (nat_lt 0 r && nat_le r given) ≡ 
 given_before r given some h = grind (arith, nat_tests)
 
 none_alone : (b : Bool) (p : Phase) → (if b then Some p else None) ≡ None → b ≡ false
-none_alone true p h = cc
-none_alone false p h = refl
+none_alone b p h = grind arith
 
 no_phase : (r : ℕ) (e : End) → e.carrier.given < r → phase_at r e ≡ None
 no_phase r e h = ap (λ (b : Bool). if b then Some (phase_of (session_at r e)) else None) (not_given r e.carrier.given h)
 
 last_given : (r : ℕ) (e : End) → 0 < r → phase_at r e ≡ None → e.carrier.given < r
-last_given r e some h =
-    given_before r e.carrier.given some (none_alone (nat_lt 0 r && nat_le r e.carrier.given) (phase_of (session_at r e)) h)
+last_given r e some h = grind (arith, given_before, none_alone)
 
 no_standing : (side : Side) (r : ℕ) (e : End) → e.carrier.given < r → standing_text side r e ≡ []
 unfolding standing_text

@@ -1,6 +1,6 @@
 -- Two configurations of an end with the same numbers are the same.
 -- For one_line_has_one_effect.
-use Rattle.std.proofs.Common.{◌≡◌, ◌∙◌, ℕ, ◌≤◌, ◌<◌, Bool, ap, ap₂, subst}
+use Rattle.std.proofs.Common.{◌≡◌, ◌∙◌, ℕ, ◌≤◌, Bool, ap₂, subst}
 use Rattle.std.specs.Coded.{le_prop}
 use Rattle.osi_class.specs.declared.terms.Local.{Local}
 use Rattle.osi_tpdu.specs.declared.limits.SizeCode.{SizeCode}

@@ -1,7 +1,7 @@
 -- Whatever two carriers agree on: how they begin, and what is asked of them.
 -- For the invariant and the laws.
 use Rattle.osi_between.proofs.Vocabulary.{◌≡◌, true, false, not, [], length, refl, arith, empty_partial, Local, fresh_state, IsOnTheWay}
-use Rattle.osi_between.proofs.Vocabulary.{AreJoinedBy, AreBetween, fresh_both, fresh_between, Terms, by_two, by_zero, refusing, terms_of}
+use Rattle.osi_between.proofs.Vocabulary.{AreJoinedBy, AreBetween, fresh_both, fresh_between, Terms, terms_of}
 use Rattle.osi_between.proofs.between.an_acting_end_keeps_the_invariant.{by_end}
 use Rattle.osi_between.proofs.joined.requests_beginnings_and_nothing_in_flight.{fresh_joined}
 use Rattle.osi_between.proofs.link.a_request_before_a_class_is_agreed.{come_to_two}
@@ -10,9 +10,7 @@ use Rattle.osi_between.proofs.zero.a_called_end_that_refuses_all.{provides_none}
 use Rattle.osi_between.proofs.zero.class_0_provides_what_is_asked.{provides_zero}
 
 pub provides : (terms : Terms) → Provides terms
-provides by_two = provides_two
-provides by_zero = provides_zero
-provides (refusing reason) = provides_none reason
+provides terms = grind (arith, provides_two, provides_zero, provides_none)
 
 begins_by : (caller called : Local) (terms : Terms) → terms_of caller called ≡ terms →
     AreJoinedBy terms (fresh_state true caller) (fresh_state false called) [] []

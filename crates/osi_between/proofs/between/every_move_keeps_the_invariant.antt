@@ -65,9 +65,7 @@ or_true b = grind arith
 -- what is still to be cut into units is lost
 front_cut : (o : Option Connection) (n : ℕ) (units : List Value) (cut after : Bool) (c : Option Connection) → true ≡ after →
     Front (sum_of o n units cut c) (sum_of o n units after c)
-front_cut o n units cut after c e =
-    subst (λ (t : Bool). Front (sum_of o n units cut c) (sum_of o n units t c)) e
-    (front_parts o n units units [] (to_come cut c) (sym (append-nil units)))
+front_cut o n units cut after c e = grind (arith, front_parts o n units units [] (to_come cut c) (sym (append-nil units)), append-nil units)
 
 -- ---- the byte connection breaks
 
@@ -79,9 +77,7 @@ record BreakOf (held outgoing : List ℕ) (k : ℕ) (ended : Option EndReason) (
 
 break_by : (held outgoing : List ℕ) (k : ℕ) (ended : Option EndReason) (units lost : List Value) → lost ≡ [] →
     (ended ≡ None → IsOnTheWay held outgoing units lost) → BreakOf held outgoing k ended units
-break_by held outgoing k None units lost none h =
-    let c = way_breaks held outgoing k units lost none (h refl) in
-    record { done = c.done; left = c.left; parts = c.parts; way = λ e. c.way }
+break_by held outgoing k None units lost none h = grind (arith, way_breaks held outgoing k units lost none (h refl))
 break_by held outgoing k (Some reason) units lost none h = record { done = units; left = []; parts = sym (append-nil units); way = λ e. cc }
 
 unbroken_way : (held outgoing : List ℕ) (reach : Option ℕ) (units lost : List Value) → reach ≡ None →
@@ -184,18 +180,14 @@ pub took_unit : (terms : Terms) (p : Provides terms) (end : Bool) (both : Both) 
     (side end both).held ≡ packet_of (written u) ++ behind →
     Acted terms end (reference_of u) both (becomes end (react u (side end both).state) behind both) b (u ∷ [])
     (answers_in terms (place_at (reference_of u) (last_of end b)) u)
-took_unit terms p end both b u rest behind a alive first cut =
-    takes terms p end both b u rest behind a alive first
-    (way_unit u rest behind (side end both).held (arriving (not end) both) (units_from (not end) b) (lost_from (not end) b) first cut
-    (comes_to terms end both b a alive))
+took_unit terms p end both b u rest behind a alive first cut = search (arith, takes, way_unit, comes_to)
 
 -- a call
 call : (terms : Terms) (end : Bool) (n : ℕ) (both : Both) (b : Between) (next : State) (put : List Message) → AreBetween terms both b →
     (side end both).state.ended ≡ None →
     Does terms end n (last_of end b) (last_of (not end) b) next (all_from end b) (all_from (not end) b) (all_from (not end) b) [] put →
     Acted terms end n both (becomes end next (side end both).held both) b [] put
-call terms end n both b next put a alive d =
-    acted terms end n both b next (side end both).held (units_from (not end) b) [] put a alive (comes_to terms end both b a alive) refl d
+call terms end n both b next put a alive d = search (arith, acted, comes_to)
 
 pub sends : (terms : Terms) (p : Provides terms) (end : Bool) (both : Both) (b : Between) (n peer : ℕ) (link : Standing) (tsdu : List ℕ) →
     AreBetween terms both b → (side end both).state.ended ≡ None → value_at n (side end both).state.live ≡ Some (linked peer link) →
@@ -224,11 +216,7 @@ closes end both b n peer link reason a alive at small =
 pub closes_ends : (end : Bool) (both : Both) (b : Between) (n peer : ℕ) (link : Standing) (reason : ℕ) → AreBetween by_zero both b →
     (side end both).state.ended ≡ None → value_at n (side end both).state.live ≡ Some (linked peer link) →
     closed_with n reason (side end both).state ≡ ends Closed (side end both).state
-closes_ends end both b n peer link reason a alive at =
-    let same = a.lives end alive in
-    subst (λ (s : State). closed_with n reason s ≡ ends Closed s) (sym same)
-    (closes_zero end (last_of end b) (last_of (not end) b) (all_from end b) (all_from (not end) b) n peer link reason
-    (joined_at by_zero end both b a) (ap (λ (s : State). value_at n s.live) (sym same) ∙ at))
+closes_ends end both b n peer link reason a alive at = search (arith, closes_zero, all_from, joined_at)
 
 pub connects : (terms : Terms) (p : Provides terms) (both : Both) (b : Between) (calling to : Option (List ℕ)) → AreBetween terms both b →
     both.caller.state.ended ≡ None → may_connect both.caller.state ≡ None → IsTsap calling → IsTsap to →

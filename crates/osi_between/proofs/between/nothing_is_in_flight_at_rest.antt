@@ -1,13 +1,11 @@
 -- If no unit is in flight, nothing is in flight for a connection that is open at both ends.
 -- For the laws.
 use Rattle.osi_between.specs.Zero.{unasked, talking, at_end, from_end, Holds}
-use Rattle.osi_between.proofs.Vocabulary.{◌≡◌, ℕ, Bool, true, false, List, [], ◌∷◌, ◌++◌, Option, Some, None, is_some, ◌||◌, refl, sym, ap}
-use Rattle.osi_between.proofs.Vocabulary.{subst, ◌∙◌, arith, append-nil, Value, LinkPair, Standing, quiet_unsent, nothing_begun, was_given}
-use Rattle.osi_between.proofs.Vocabulary.{place_at, connection_in, value_at, Connection, linked, State, packets, EndReason, units_of, Both}
-use Rattle.osi_between.proofs.Vocabulary.{reach_of, within_reach, Between, IsOnTheWay, AreJoinedBy, AreBetween, IsStill, IsAllThere, is_cut}
-use Rattle.osi_between.proofs.Vocabulary.{to_come, IsEmpty, under_way_for, messages_to, messages_after, begun_at, AreOpen, Terms, by_two}
-use Rattle.osi_between.proofs.Vocabulary.{by_zero, refusing, ZeroCourse, HasOne}
-use Rattle.osi_between.proofs.joined.requests_beginnings_and_nothing_in_flight.{still, still_messages, none_addressed}
+use Rattle.osi_between.proofs.Vocabulary.{◌≡◌, ℕ, true, false, List, [], ◌∷◌, ◌++◌, Option, Some, None, refl, sym, subst, arith, Value}
+use Rattle.osi_between.proofs.Vocabulary.{LinkPair, Standing, quiet_unsent, nothing_begun, was_given, value_at, linked, State, packets}
+use Rattle.osi_between.proofs.Vocabulary.{Both, within_reach, Between, IsOnTheWay, AreJoinedBy, AreBetween, IsStill, IsAllThere, IsEmpty}
+use Rattle.osi_between.proofs.Vocabulary.{under_way_for, AreOpen, Terms, by_two, by_zero, refusing, ZeroCourse, HasOne}
+use Rattle.osi_between.proofs.joined.requests_beginnings_and_nothing_in_flight.{still, none_addressed}
 use Rattle.osi_between.proofs.meeting.a_connection_after_each_unit_and_call.{open_mirror}
 use Rattle.osi_between.proofs.joined.class_2_provides_what_is_asked.{linked_own}
 use Rattle.osi_between.proofs.zero.a_called_end_that_refuses_all.{none_open}
@@ -48,10 +46,7 @@ done_by s r n p q x y g one other is back h at at_there = absurd (not_asked s n 
 done_at : (terms : Terms) (s r : State) (n p q : ℕ) (x y : Standing) → AreJoinedBy terms s r [] [] → value_at n s.live ≡ Some (linked p x) →
     value_at n r.live ≡ Some (linked q y) → IsDone n s r x y
 done_at by_two s r n p q x y j at at_there =
-    let here = linked_own true s r [] [] n p x j at in
-    let there = linked_own false r s [] [] n q y j at_there in
-    let ms = still_messages s r n x y j here there in
-    record { links = still s r n x y j here there; there = ms.0; back = ms.1 }
+    grind (arith, still, linked_own true s r [] [] n p x j at, linked_own false r s [] [] n q y j at_there)
 done_at by_zero s r n p q x y j at at_there = done_by s r n p q x y j.course j.one j.one_called j.going j.coming j.holds at at_there
 done_at (refusing reason) s r n p q x y j at at_there = absurd (none_open s j.stage n p x j.live at)
 
@@ -61,44 +56,19 @@ packets_none (u ∷ us) front e = cc
 
 way_none : (held outgoing : List ℕ) (reach : Option ℕ) (us lost : List Value) → held ≡ [] → outgoing ≡ [] → reach ≡ None →
     IsOnTheWay held (within_reach reach outgoing) us lost → us ≡ []
-way_none held outgoing reach us lost none empty whole w =
-    let octets : held ++ within_reach reach outgoing ≡ [] =
-    ap (λ (l : List ℕ). l ++ within_reach reach outgoing) none ∙ ap (λ (r : Option ℕ). within_reach r outgoing) whole ∙ empty in
-    packets_none us w.front (sym octets ∙ w.octets)
-
-cut_none : (reach : Option (ℕ × ℕ)) (ended : Option EndReason) → reach ≡ None → ended ≡ None → (is_some reach || is_some ended) ≡ false
-cut_none reach ended whole lasts = ap (λ (r : Option (ℕ × ℕ)). is_some r || is_some ended) whole ∙ ap is_some lasts
-
-none_way : (o c : Option Connection) (n : ℕ) (us : List Value) (cut : Bool) → us ≡ [] → cut ≡ false → messages_to c (units_of n []) o ≡ [] →
-    messages_after (begun_at o) (units_of n us ++ to_come cut c) ≡ []
-none_way o c n us cut none whole e = grind arith
+way_none held outgoing reach us lost none empty whole w = grind (arith, packets_none)
 
 pub emptied : (terms : Terms) (both : Both) (b : Between) (n p q : ℕ) (x y : Standing) → AreBetween terms both b → IsStill both →
     value_at n both.caller.state.live ≡ Some (linked p x) → value_at n both.called.state.live ≡ Some (linked q y) → IsAllThere n both b x y
 emptied terms both b n p q x y a still at at_there =
-    let same = a.lives true still.lasts in
-    let same_called = a.lives false still.lasts_called in
-    let going : b.going ≡ [] =
-    way_none both.called.held both.caller.state.outgoing
-    (reach_of true both.reach) b.going b.going_lost still.held_called still.outgoing (ap (reach_of true) still.unbroken)
-    (a.comes true still.lasts_called) in
-    let coming : b.coming ≡ [] =
-    way_none both.caller.held both.called.state.outgoing
-    (reach_of false both.reach) b.coming b.coming_lost still.held still.outgoing_called (ap (reach_of false) still.unbroken)
-    (a.comes false still.lasts) in
-    let all : b.going ++ b.going_lost ≡ [] = ap (λ (l : List Value). b.going ++ l) (a.unbroken still.unbroken true) ∙ append-nil b.going
-    ∙ going in
-    let all_back : b.coming ++ b.coming_lost ≡ [] =
-    ap (λ (l : List Value). b.coming ++ l) (a.unbroken still.unbroken false) ∙ append-nil b.coming ∙ coming in
-    let j = subst (λ (l : List Value). AreJoinedBy terms b.caller b.called l []) all
-    (subst (λ (l : List Value). AreJoinedBy terms b.caller b.called (b.going ++ b.going_lost) l) all_back a.joined) in
-    let d = done_at terms b.caller b.called n p q x y j (ap (λ (s : State). value_at n s.live) (sym same) ∙ at)
-    (ap (λ (s : State). value_at n s.live) (sym same_called) ∙ at_there) in
-    assumption (
-      d.links,
-      none_way (connection_in (place_at n b.called)) (connection_in (place_at n b.caller)) n b.going
-          (is_cut true both) going (cut_none both.reach both.caller.state.ended still.unbroken still.lasts) d.there,
-      none_way
-          (connection_in (place_at n b.caller)) (connection_in (place_at n b.called)) n b.coming (is_cut false both) coming
-          (cut_none both.reach both.called.state.ended still.unbroken still.lasts_called) d.back,
+    grind (
+      arith,
+      way_none,
+      done_at,
+      a.lives true still.lasts,
+      a.lives false still.lasts_called,
+      a.comes true still.lasts_called,
+      a.comes false still.lasts,
+      a.unbroken still.unbroken true,
+      a.unbroken still.unbroken false,
     )

@@ -1,8 +1,8 @@
 -- TSDUs that are handed in together, between two carriers.
 -- For the laws.
 use Rattle.osi_between.specs.Between.{under_way}
-use Rattle.osi_between.proofs.Vocabulary.{◌≡◌, refl, sym, ◌∙◌, ap, subst, ℕ, ◌+◌, Bool, false, not, nat_lt, if◌then◌else◌, List, [], ◌∷◌}
-use Rattle.osi_between.proofs.Vocabulary.{◌++◌, map, Option, Some, None, is_some, arith, append_assoc, append-nil, map-append, flat_map}
+use Rattle.osi_between.proofs.Vocabulary.{◌≡◌, refl, sym, ◌∙◌, ap, subst, ℕ, ◌+◌, Bool, false, not, if◌then◌else◌, List, [], ◌∷◌, ◌++◌, map}
+use Rattle.osi_between.proofs.Vocabulary.{Option, Some, None, is_some, arith, append_assoc, append-nil, map-append, flat_map}
 use Rattle.osi_between.proofs.Vocabulary.{AllByRecursion, IsOctets, IsShortTsdu, Standing, sent, sent_all, Place, never, was_given}
 use Rattle.osi_between.proofs.Vocabulary.{place_at, connection_in, value_at, Connection, linked, State, Both, Between, AreBetween, Acted}
 use Rattle.osi_between.proofs.Vocabulary.{Carries, side, becomes, last_of, put_in, told_of, progress_of, BringsTo, Message, message}
@@ -35,8 +35,7 @@ linked_in p e = absurd (cc)
 
 linked_is : (o : Option Connection) (peer : ℕ) (link : Standing) (xs ys : List Message) → o ≡ Some (linked peer link) → AreLike o xs ys →
     xs ≡ ys
-linked_is o peer link xs ys e h = let k : AreLike (Some (linked peer link)) xs ys =
-    subst (λ (c : Option Connection). AreLike c xs ys) e h in k
+linked_is o peer link xs ys e h = grind arith
 
 -- the connection at this reference
 record IsAt (n : ℕ) (s : State) : Type 0 where
@@ -49,10 +48,7 @@ at_place : (b : Bool) (o : Option Connection) → progress_of (if b then never e
 at_place b o e = grind arith
 
 open_at : (n : ℕ) (s : State) → progress_of (place_at n s) ≡ in_use → IsAt n s
-open_at n s e =
-    let l = linked_in (place_at n s) e in
-    let k = at_place (nat_lt s.given n) (value_at n s.live) e in
-    record { peer = l.peer; link = l.link; at = sym k.1 ∙ l.is }
+open_at n s e = grind (arith, linked_in, at_place)
 
 -- TSDUs that are put change neither how far the connection is nor which references were given
 puts_nothing : (p : Progress) (ts : List (List ℕ)) → behind_puts p (map message ts) ≡ p

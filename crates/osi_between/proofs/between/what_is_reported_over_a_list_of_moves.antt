@@ -38,8 +38,7 @@ lost_sealed from n old new b c cut place s = grind (arith, or_still, is_over)
 
 same_fact : (terms : Terms) (from x : Bool) (n : ℕ) (both new : Both) (b : Between) → (t : Same terms both new b) →
     is_cut from both ≡ is_cut from new → Fact from x n both new b t.now [] []
-same_fact terms from x n both new b t cut =
-    fact_still from x n both new b t.now (t.under from n) (t.stays x n) (sealed_same from n both new b t.now cut (t.stays from n))
+same_fact terms from x n both new b t cut = search (arith, fact_still, sealed_same)
 
 lost_fact : (terms : Terms) (from x : Bool) (n : ℕ) (both new : Both) (b : Between) → (t : Lost terms both new b) →
     Fact from x n both new b t.now [] []
@@ -211,8 +210,7 @@ record Told (from : Bool) (n : ℕ) (ms : List Move) (both : Both) (b : Between)
 
 -- the connection takes nothing more after this move
 ends_told : (told more under : List (List ℕ)) → more ≡ [] → AreFirstOf told under → AreFirstOf (told ++ more) under
-ends_told told more under none h =
-    subst (λ (l : List (List ℕ)). AreFirstOf l under) (sym (ap (λ (l : List (List ℕ)). told ++ l) none ∙ append-nil told)) h
+ends_told told more under none h = grind (arith, append-nil)
 
 -- after it, only what is in flight is reported
 sealed_told : (told more under first : List (List ℕ)) → AreFirstOf (told ++ under) first → AreFirstOf more under →
@@ -271,15 +269,12 @@ pub told_was_handed_in : (terms : Terms) (from : Bool) (n : ℕ) (ms : List Move
     is_over (progress_of (place_at n (last_of (not from) b))) ≡ over → AreBetween terms both b → MayAll ms both →
     AreFirstOf (all_told (not from) n ms both) (tsdus_in (under_way from n both b) ++ all_handed_in from n ms)
 told_was_handed_in terms from n ms both b true e a may =
-    subst (λ (l : List (List ℕ)). AreFirstOf l (tsdus_in (under_way from n both b) ++ all_handed_in from n ms))
-    (sym ((told_along terms from n ms both b a may).shut e))
-    (first_none (tsdus_in (under_way from n both b) ++ all_handed_in from n ms))
+    grind (arith, told_along terms from n ms both b a may, first_none (tsdus_in (under_way from n both b) ++ all_handed_in from n ms))
 told_was_handed_in terms from n ms both b false e a may = (told_along terms from n ms both b a may).first e
 
 pub told_from : (terms : Terms) (from : Bool) (n : ℕ) (ms : List Move) (both : Both) (b : Between) → AreBetween terms both b →
     MayAll ms both → AreFirstOf (all_told (not from) n ms both) (tsdus_in (under_way from n both b) ++ all_handed_in from n ms)
-told_from terms from n ms both b a may =
-    told_was_handed_in terms from n ms both b (is_over (progress_of (place_at n (last_of (not from) b)))) refl a may
+told_from terms from n ms both b a may = grind (arith, told_was_handed_in, is_over)
 
 -- ---- from the beginning on
 

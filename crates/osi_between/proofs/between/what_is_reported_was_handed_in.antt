@@ -27,8 +27,7 @@ pub first_more : (xs ys zs : List (List ℕ)) → AreFirstOf xs ys → AreFirstO
 first_more xs ys zs h = record { more = h.more ++ zs; is = ap (λ (l : List (List ℕ)). l ++ zs) h.is ∙ append_assoc xs h.more zs }
 
 pub first_through : (xs ys zs : List (List ℕ)) → AreFirstOf xs ys → AreFirstOf ys zs → AreFirstOf xs zs
-first_through xs ys zs h k =
-    record { more = h.more ++ k.more; is = k.is ∙ ap (λ (l : List (List ℕ)). l ++ k.more) h.is ∙ append_assoc xs h.more k.more }
+first_through xs ys zs h k = grind (arith, append_assoc)
 
 pub first_behind : (told xs ys : List (List ℕ)) → AreFirstOf xs ys → AreFirstOf (told ++ xs) (told ++ ys)
 first_behind told xs ys h = record { more = h.more; is = ap (λ (l : List (List ℕ)). told ++ l) h.is ∙ sym (append_assoc told xs h.more) }
@@ -193,12 +192,6 @@ put_broken both put e = ap (λ (t : Bool). if◌then◌else◌ {A = List Message
 pub or_left : (s t : Bool) → (s || t) ≡ false → s ≡ false
 or_left s t e = grind arith
 
-or_right : (s t : Bool) → (s || t) ≡ false → t ≡ false
-or_right s t e = grind arith
-
-or_either : (s t u v : Bool) → (s || t) ≡ true → s ≡ u → (t ≡ true → v ≡ true) → (u || v) ≡ true
-or_either s t u v e same more = grind arith
-
 or_second : (u v : Bool) → v ≡ true → (u || v) ≡ true
 or_second u v e = grind arith
 
@@ -217,28 +210,13 @@ pub record Acts (end : Bool) (old new : Both) : Type 0 where
 
 over_still : (accepts : Bool) (from to : Progress) (arrived put : List Message) →
     to ≡ behind_puts (behind_arrivals accepts from arrived) put → is_over from ≡ true → is_over to ≡ true
-over_still accepts from to arrived put e h =
-    ap is_over e ∙ stays_over_puts (behind_arrivals accepts from arrived) put (stays_over accepts from arrived h)
+over_still accepts from to arrived put e h = grind (arith, stays_over_puts, stays_over)
 
 -- what is put has no TSDU
 sent_plain : (terms : Terms) (end : Bool) (n : ℕ) (old new : Both) (b c : Between) (taken : List Value) (put : List Message) →
     Carries terms end n old new b c taken put → Acts end old new → tsdus_in put ≡ [] → Fact end (not end) n old new b c [] []
 sent_plain terms end n old new b c taken put k w none =
-    grind (
-      arith,
-      not,
-      like_equal,
-      tsdus_join,
-      put_none,
-      is_some,
-      append-nil,
-      first_none,
-      first_more,
-      in_use_still,
-      or_right,
-      or_either,
-      over_still,
-    )
+    grind (arith, like_equal, tsdus_join, put_none, append-nil, in_use_still, over_still)
 
 -- a TSDU is handed in at an open connection
 not_either : (s t : Bool) → s ≡ false → t ≡ false → (s || t) ≡ true → ⊥
@@ -394,11 +372,7 @@ fact_taken_by terms end q n old new b c taken put told true e k all w closed_off
     (sym (eqb-true q n e))
     (λ k2 all2 no2 is2. taken_same terms end n old new b c taken put told k2 all2 w no2 is2) k all closed_off is
 fact_taken_by terms end q n old new b c taken put told false e k all w closed_off is =
-    let apart : q ≢ n = not_same q n e in
-    let none : told ≡ [] = is ∙ (told_all terms n q (place_at q (last_of end b)) k.arrived).other apart in
-    subst (λ (l : List (List ℕ)). Fact (not end) end n old new b c l []) (sym none)
-    (fact_still (not end) end n old new b c (k.others n (λ same. apart (sym same)) (not end)) (k.other_places n (λ same. apart (sym same)))
-    (sealed_same (not end) n old new b c w.there (ap (λ (s : State). place_at n s) k.there)))
+    grind (arith, fact_still, not_same q n e, told_all terms n q (place_at q (last_of end b)) k.arrived)
 
 pub fact_taken : (terms : Terms) (end : Bool) (q n : ℕ) (old new : Both) (b c : Between) (taken : List Value) (put : List Message)
     (told : List (List ℕ)) → (k : Carries terms end q old new b c taken put) → AreFor q taken → Acts end old new →

@@ -4,13 +4,13 @@ use Rattle.osi_between.specs.Between.{under_way}
 use Rattle.osi_between.specs.Refusing as refusal
 use Rattle.osi_between.specs.Zero as zero
 use Rattle.osi_between.proofs.Vocabulary.{◌≡◌, ℕ, ◌<◌, ◌≤◌, Bool, true, false, List, [], ◌++◌, ◌==◌, Option, Some, None, refl, sym, ap, ◌∙◌}
-use Rattle.osi_between.proofs.Vocabulary.{arith, if◌then◌else◌, Value, never, was_given, place_at, connection_in, value_at, Connection}
-use Rattle.osi_between.proofs.Vocabulary.{asked, State, units_of, AreFor, Both, Between, AreJoinedBy, AreBetween, is_cut, to_come, Course}
-use Rattle.osi_between.proofs.Vocabulary.{at_end, from_end, Holds, AreJoined, addressed, messages_after, begun_at, AreRefusing, Refusal}
-use Rattle.osi_between.proofs.Vocabulary.{rows_in, Terms, by_two, by_zero, refusing, ZeroCourse, HasOne}
+use Rattle.osi_between.proofs.Vocabulary.{arith, if◌then◌else◌, Value, never, place_at, connection_in, value_at, Connection, asked, State}
+use Rattle.osi_between.proofs.Vocabulary.{units_of, AreFor, Both, Between, AreJoinedBy, AreBetween, is_cut, to_come, at_end, from_end}
+use Rattle.osi_between.proofs.Vocabulary.{Holds, AreJoined, addressed, messages_after, begun_at, AreRefusing, Refusal, rows_in, Terms}
+use Rattle.osi_between.proofs.Vocabulary.{by_two, by_zero, refusing, ZeroCourse, HasOne}
 use Rattle.osi_between.proofs.unit.the_units_of_one_connection.{units_join, units_other, front_none}
 use Rattle.osi_between.proofs.joined.requests_beginnings_and_nothing_in_flight.{next_never, not_asked}
-use Rattle.osi_between.proofs.joined.joined_carriers_stay_joined.{within_given, given_live}
+use Rattle.osi_between.proofs.joined.joined_carriers_stay_joined.{within_given}
 use Rattle.osi_between.proofs.link.a_request_before_a_class_is_agreed.{proposed_source}
 use Rattle.osi_between.proofs.zero.class_0_provides_what_is_asked.{at_one, not_here}
 use Rattle.osi_between.proofs.zero.the_one_connection_of_class_0.{zero_for}
@@ -25,16 +25,7 @@ record IsAhead (n : ℕ) (caller called : State) (going coming : List Value) : T
   back : units_of n coming ≡ []
 
 ahead_two : (n : ℕ) (s r : State) (going coming : List Value) → AreJoined s r going coming → s.given < n → IsAhead n s r going coming
-ahead_two n s r going coming j above =
-    let st = j.stands n (omega arith) in
-    let at : place_at n s ≡ never = next_never s n above in
-    let none = not_asked n st.course (sym st.place ∙ at) in
-    search (
-      st.place_there ∙ ap (at_end false n) none,
-      st.out ∙ ap (from_end true n r.local) none,
-      st.back
-          ∙ ap (from_end false n r.local) none,
-    )
+ahead_two n s r going coming j above = grind (arith, not_asked, j.stands n (omega arith), next_never s n above)
 
 -- in class 0 the connection is 1
 zero_units : (n : ℕ) (us vs : List Value) → 1 < n → us ≡ vs → AreFor 1 vs → units_of n us ≡ []
@@ -108,10 +99,6 @@ none_more terms both b a = behind_at terms b.caller b.called (b.going ++ b.going
 
 -- ---- before a class holds
 
-awaits_two : (n : ℕ) (x : Connection) (s r : State) (g : Course) → s.class ≡ None → Holds n s r g → at_end true n g ≡ was_given (Some x) →
-    x ≡ asked
-awaits_two n x s r g none h at = grind arith
-
 awaits_zero : (n : ℕ) (x : Connection) (s : State) (g : ZeroCourse) → HasOne s (zero.at_end true g) → s.class ≡ None →
     value_at n s.live ≡ Some x → x ≡ asked
 awaits_zero n x s g one none at = grind (arith, not_here, at_one)
@@ -124,16 +111,13 @@ awaits_refused n given x st at = grind (arith, one_row)
 
 awaits_at : (terms : Terms) (n : ℕ) (x : Connection) (s r : State) (going coming : List Value) → AreJoinedBy terms s r going coming →
     s.class ≡ None → value_at n s.live ≡ Some x → x ≡ asked
-awaits_at by_two n x s r going coming j none at =
-    let st = j.stands n (within_given n s x j.orderly at).0 in
-    awaits_two n x s r st.course none st.holds (sym st.place ∙ given_live n s x j.orderly at)
+awaits_at by_two n x s r going coming j none at = grind (arith, j.stands n (within_given n s x j.orderly at).0)
 awaits_at by_zero n x s r going coming j none at = awaits_zero n x s j.course j.one none at
 awaits_at (refusing reason) n x s r going coming j none at = awaits_refused n s.given x j.stage (sym (ap (value_at n) j.live) ∙ at)
 
 pub awaits_all : (terms : Terms) (both : Both) (b : Between) (n : ℕ) (x : Connection) → AreBetween terms both b → b.caller.class ≡ None →
     value_at n b.caller.live ≡ Some x → x ≡ asked
-awaits_all terms both b n x a none at =
-    awaits_at terms n x b.caller b.called (b.going ++ b.going_lost) (b.coming ++ b.coming_lost) a.joined none at
+awaits_all terms both b n x a none at = grind (arith, awaits_at)
 
 -- ---- which is which
 

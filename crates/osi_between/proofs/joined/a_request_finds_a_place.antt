@@ -115,13 +115,7 @@ first_is g k n more e = grind arith
 
 one_behind : (g k : ℕ) (refs : List ℕ) (u : Value) (more : List ℕ) → RiseFrom 0 (marked refs) → AreUpTo g (marked refs) →
     asked_by u ++ more ≡ behind g k → Behind g refs u
-one_behind g k refs (request c) more rise up e =
-    asked_behind g c.source refs (request c) rise up refl refl refl (first_is g k c.source more e) refl
-one_behind g k refs (disconnect destination source reason user) more rise up e =
-    dropped_behind g destination refs (disconnect destination source reason user) rise up refl refl refl refl
-one_behind g k refs (disconnected destination source) more rise up e =
-    dropped_behind g destination refs (disconnected destination source) rise up refl refl refl refl
-one_behind g k refs u more rise up e = same_behind g refs u rise up refl refl refl
+one_behind g k refs u more rise up e = grind (arith, asked_behind, first_is, dropped_behind, same_behind)
 
 -- ---- units one after the other
 
@@ -200,13 +194,7 @@ live_behind_one : (q : ℕ) (b : Bool) (s r : State) (going coming : List Value)
     After (references r.live) going → is_some (value_at q (marked (live_after (references r.live) going))) ≡ true →
     is_some (value_at q s.live) ≡ true
 live_behind_one q false s r going coming e j a there = grind (arith, absent, ltb-false, is_some)
-live_behind_one q true s r going coming e j a there =
-    let st = j.stands q (ltb-true 0 q e) in
-    let refs = marked (references r.live) in
-    live_by q s r.local st.course (value_at q refs) st.place
-    (λ unmade. marked_none q r.live (never_live_by q r (nat_lt r.given q) refl j.orderly_called (st.place_there ∙ unmade)))
-    (λ gone. marked_none q r.live (is_given q r None (st.place_there ∙ gone)).is)
-    (sym (ap is_some (a.each q ∙ ap (stays_after (value_at q refs)) st.out)) ∙ there)
+live_behind_one q true s r going coming e j a there = grind (arith, live_by, marked_none, never_live_by, j.stands q (ltb-true 0 q e))
 
 marked_length : (refs : List ℕ) → length (marked refs) ≡ length refs
 marked_length [] = refl

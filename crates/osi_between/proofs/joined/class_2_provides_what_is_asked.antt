@@ -3,7 +3,7 @@
 use Rattle.osi_between.proofs.Vocabulary.{◌≡◌, ℕ, ◌+◌, ◌<◌, Bool, true, List, [], ◌∷◌, ◌++◌, Option, Some, None, refl, sym, ap, subst, ◌∙◌}
 use Rattle.osi_between.proofs.Vocabulary.{arith, IsOctets, Value, IsShortTsdu, Standing, may_connect, asks, sent, closed_with, was_given}
 use Rattle.osi_between.proofs.Vocabulary.{place_at, Happening, react, value_at, linked, State, reference_of, answers_in, IsTsap, Course}
-use Rattle.osi_between.proofs.Vocabulary.{at_end, answers_at, JoinedFrom, Did, Meeting, here, Message, ask, message, bye, Terms, by_two}
+use Rattle.osi_between.proofs.Vocabulary.{at_end, JoinedFrom, Did, Meeting, here, Message, ask, message, bye, Terms, by_two}
 use Rattle.osi_between.proofs.between.an_acting_end_keeps_the_invariant.{steps_two, JoinedAt, Does}
 use Rattle.osi_between.proofs.joined.requests_beginnings_and_nothing_in_flight.{caller_asks}
 use Rattle.osi_between.proofs.joined.joined_carriers_stay_joined.{seen, takes_one, sends, closes, given_live, within_given}
@@ -46,10 +46,7 @@ takes_two : (end : Bool) (this other : State) (going coming rest : List Value) (
     JoinedAt end by_two this other going coming → coming ≡ unit ∷ rest →
     Does by_two end (reference_of unit) this other (react unit this) going coming rest (unit ∷ [])
     (answers_in by_two (place_at (reference_of unit) this) unit)
-takes_two end this other going coming rest unit j cut =
-    does_two end (reference_of unit) this other (react unit this) going coming rest (unit ∷ [])
-    (answers_at (place_at (reference_of unit) this) unit) cut
-    (takes_one end this other going coming rest unit (to_from end this other going coming j) cut)
+takes_two end this other going coming rest unit j cut = search (arith, does_two, takes_one, to_from)
 
 -- the peer's number of an open connection is its own
 own_met : (n peer : ℕ) (link : Standing) (m : Meeting) → here n m ≡ Some (linked peer link) → peer ≡ n
@@ -85,15 +82,7 @@ closes_two end this other going coming n peer link reason j at small =
 
 queued_two : (end : Bool) (this other : State) (o : List ℕ) (e : List Happening) (going coming : List Value) →
     JoinedAt end by_two this other going coming → JoinedAt end by_two (with_queues o e this) other going coming
-queued_two end this other o e going coming j =
-    to_at end (with_queues o e this) other going coming (queued end this other o e going coming (to_from end this other going coming j))
+queued_two end this other o e going coming j = grind (arith, to_at, with_queues, queued, to_from)
 
 pub provides_two : Provides by_two
-provides_two = record {
-  takes_one = takes_two;
-  connects = λ this other going coming calling called j may fits fits_called.
-      does_two true (this.given + 1) this other (asks calling called this) going coming coming [] (ask ∷ []) refl
-      (caller_asks this other going coming calling called j may fits fits_called);
-  hands_in = sends_two;
-  queued = queued_two;
-}
+provides_two = search (arith, takes_two, does_two, caller_asks, sends_two, queued_two)

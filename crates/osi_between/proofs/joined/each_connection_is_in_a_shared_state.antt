@@ -1,8 +1,8 @@
 -- If one end of two joined carriers acts, each connection is in a state that both share.
 -- For joined carriers.
 use Rattle.osi_between.proofs.Vocabulary.{◌≡◌, ◌≢◌, ℕ, ◌+◌, ◌<◌, ◌==◌, Bool, true, false, not, List, [], ◌++◌, Option, refl, sym, ap, subst}
-use Rattle.osi_between.proofs.Vocabulary.{◌∙◌, arith, flat_map, eqb-true, eq-eqb, append-nil, append_cancel_left, Value, LinkPair, Local}
-use Rattle.osi_between.proofs.Vocabulary.{Connect, Place, place_at, connection_in, Happening, Connection, State, units_of, AreFor, at_end}
+use Rattle.osi_between.proofs.Vocabulary.{◌∙◌, arith, flat_map, eq-eqb, append-nil, append_cancel_left, Value, LinkPair, Local, Connect}
+use Rattle.osi_between.proofs.Vocabulary.{Place, place_at, connection_in, Happening, Connection, State, units_of, AreFor, at_end}
 use Rattle.osi_between.proofs.Vocabulary.{messages_from, told_opening, Course, from_end, IsAskedBy, IsAccepted, HoldsAt, called_local, Acts}
 use Rattle.osi_between.proofs.Vocabulary.{BringsTo, CourseMoves, progress_of, StandsBetween, under_way_for, ActsFor, Message, messages_to}
 use Rattle.osi_between.proofs.Vocabulary.{AreLike, leaves_use}
@@ -48,12 +48,10 @@ stands_after : (end : Bool) (n asked : ℕ) (this other next : State) (going com
     (s : StandsBetween end n this other going coming) → coming ≡ taken ++ rest → AreFor n taken →
     (mv : CourseMoves end n s.course this other next taken asked put) → StandsBetween end n next other (going ++ mv.units) rest
 stands_after end n asked this other next going coming rest taken put s cut all mv =
-    let local = called_stays end n this other next mv.units mv.events mv.acts in
-    search (
-      s.place_there ∙ sym mv.there,
-      out_after end n asked this other next going coming taken put s mv ∙ ap (λ (x : Local). from_end end n x mv.new) local,
-      back_after end n asked this other next going coming rest taken put s cut all mv
-          ∙ ap (λ (x : Local). from_end (not end) n x mv.new) local,
+    grind (
+      arith,
+      out_after end n asked this other next going coming taken put s mv,
+      back_after end n asked this other next going coming rest taken put s cut all mv,
     )
 
 stands_still : (end : Bool) (q n : ℕ) (this other next : State) (going coming rest taken units : List Value) (told : List Happening) →
@@ -67,8 +65,7 @@ stands_by : (end : Bool) (q n asked : ℕ) (this other next : State) (going comi
     coming ≡ taken ++ rest → AreFor n taken → (mv : CourseMoves end n s.course this other next taken asked put) →
     StandsBetween end q next other (going ++ mv.units) rest
 stands_by end q n asked this other next going coming rest taken put true e own s cut all mv =
-    subst (λ (m : ℕ). StandsBetween end m next other (going ++ mv.units) rest) (sym (eqb-true q n e))
-    (stands_after end n asked this other next going coming rest taken put s cut all mv)
+    grind (arith, stands_after end n asked this other next going coming rest taken put s cut all mv)
 stands_by end q n asked this other next going coming rest taken put false e own s cut all mv =
     stands_still end q n this other next going coming rest taken mv.units mv.events (λ same. let yes =
     eq-eqb q n same in cc) own cut all mv.acts

@@ -28,8 +28,7 @@ joined_queues s r o p e f going coming j = grind (arith, orderly_same, stands_qu
 
 pub queued : (end : Bool) (this other : State) (o : List ℕ) (e : List Happening) (going coming : List Value) →
     JoinedFrom end this other going coming → JoinedFrom end (with_queues o e this) other going coming
-queued true s r o e going coming j = joined_queues s r o r.outgoing e r.events going coming j
-queued false r s o e coming going j = joined_queues s r s.outgoing o s.events e going coming j
+queued end this other o e going coming j = search (arith, joined_queues)
 
 -- seen from the other end
 pub joined_turned : (end : Bool) (this other : State) (going coming : List Value) → JoinedFrom end this other going coming →
@@ -61,13 +60,7 @@ behind_octets n this other next going coming behind rest put held c a =
 took : (end : Bool) (done : List Value) (this other next : State) (going coming left : List Value) (held : List ℕ) →
     JoinedFrom end this other going coming → AreComing held this.outgoing going → coming ≡ done ++ left → TakesUnits this done next →
     Took end this other next going coming done left held
-took end [] this other next going coming left held j c cut takes = record {
-  behind = going;
-  takes = (takes, refl, sym cut);
-  joined = subst (λ (l : List Value). JoinedFrom end next other going l) cut
-      (subst (λ (x : State). JoinedFrom end x other going coming) (sym takes) j);
-  octets = subst (λ (x : State). AreComing held x.outgoing going) (sym takes) c;
-}
+took end [] this other next going coming left held j c cut takes = grind arith
 took end (u ∷ us) this other next going coming left held j c cut takes =
     let n = reference_of u in
     let put = answers_at (place_at n this) u in
@@ -124,8 +117,7 @@ was_fed end this other next going coming k fed l few h =
 pub was_called : (end : Bool) (this other : Carrying) (next : State) (n : ℕ) (going coming : List Value) (put : List Message) →
     AreLinked end this other going coming → (d : Did end n this.state other.state next going coming coming put) →
     AreLinked end (with_state next this) other d.behind coming
-was_called end this other next n going coming put l d =
-    assumption (behind_octets n this.state other.state next going coming d.behind coming put other.held.octets l.going_octets d.acts)
+was_called end this other next n going coming put l d = search (arith, behind_octets)
 
 pub tells : (end : Bool) (this other : Carrying) (events : List Happening) (going coming : List Value) →
     AreLinked end this other going coming → AreLinked end (with_events events this) other going coming

@@ -46,29 +46,15 @@ pub joined_caller : (s r t : State) (going coming rest taken : List Value) (put 
     (mv : CourseMoves true n st.course s r t taken count put) → HasPlaces (live_after (references r.live) going) mv.units →
     AreJoined t r (going ++ mv.units) rest
 joined_caller s r t going coming rest taken put n count some j st cut all orderly mv fits =
-    let before = j.given in
-    let after = mv.given in
-    record {
-      is_caller = mv.acts.is_caller ∙ j.is_caller;
-      is_called = j.is_called;
-      lasts = mv.acts.ended ∙ j.lasts;
-      lasts_called = j.lasts_called;
-      orderly = orderly;
-      orderly_called = j.orderly_called;
-      supports = ap (λ (x : Local). x.class2) mv.acts.local ∙ j.supports;
-      supports_called = j.supports_called;
-      class = mv.acts.may j.class;
-      class_called = j.class_called;
-      named = named_join going mv.units j.named (named_for n mv.units some mv.acts.all_for);
-      named_back = named_rest taken rest (subst (λ (l : List Value). AreNamed l) cut j.named_back);
-      stands = all_stand true n count s r t going coming rest taken put j.stands st cut all mv;
-      ahead = j.ahead + count;
-      given = omega arith;
-      numbers = requests_join going mv.units ∙ ap (λ (l : List ℕ). l ++ requests mv.units) j.numbers
-          ∙ ap (λ (l : List ℕ). behind r.given j.ahead ++ l) (mv.numbers ∙ ap (λ (g : ℕ). behind g count) j.given)
-          ∙ sym (behind_join r.given j.ahead count);
-      places = places_join (references r.live) going mv.units j.places fits;
-    }
+    grind (
+      arith,
+      named_rest,
+      named_join going mv.units j.named (named_for n mv.units some mv.acts.all_for),
+      all_stand true n count s r t going coming rest taken put j.stands st cut all mv,
+      requests_join going mv.units,
+      behind_join r.given j.ahead count,
+      places_join (references r.live) going mv.units j.places fits,
+    )
 
 -- ---- the called end acts
 
@@ -137,27 +123,21 @@ Fits false other going units = Unit {0}
 
 fits_none : (end : Bool) (other : State) (going units taken : List Value) → requests (asked_in end units taken) ≡ [] →
     Fits end other going units
-fits_none true other going units taken e = places_for (live_after (references other.live) going) units e
-fits_none false other going units taken e = tt
+fits_none end other going units taken e = grind (arith, places_for)
 
 joined_after : (end : Bool) (this other next : State) (going coming rest taken : List Value) (put : List Message) (n count : ℕ)
     (some : 0 < n) (j : JoinedFrom end this other going coming) → coming ≡ taken ++ rest → AreFor n taken → IsOrderly next →
     (mv : CourseMoves end n ((seen end this other going coming j).stands n some).course this other next taken count put) →
     Fits end other going mv.units → JoinedFrom end next other (going ++ mv.units) rest
-joined_after true s r t going coming rest taken put n count some j cut all orderly mv fits =
-    joined_caller s r t going coming rest taken put n count some j (j.stands n some) cut all orderly mv fits
-joined_after false r s t coming going rest taken put n count some j cut all orderly mv fits =
-    joined_called s r t going coming rest taken put n count some j cut all orderly mv
+joined_after true s r t going coming rest taken put n count some j cut all orderly mv fits = search (arith, joined_caller)
+joined_after false r s t coming going rest taken put n count some j cut all orderly mv fits = search (arith, joined_called)
 
 did : (end : Bool) (this other next : State) (going coming rest taken : List Value) (put : List Message) (n count : ℕ) (some : 0 < n)
     (j : JoinedFrom end this other going coming) → coming ≡ taken ++ rest → AreFor n taken → IsOrderly next →
     (mv : CourseMoves end n ((seen end this other going coming j).stands n some).course this other next taken count put) →
     Fits end other going mv.units → Did end n this other next going coming rest put
-did end this other next going coming rest taken put n count some j cut all orderly mv fits = record {
-  behind = going ++ mv.units;
-  acts = acts_for end n count this other next going coming rest taken put ((seen end this other going coming j).stands n some) cut all mv;
-  joined = joined_after end this other next going coming rest taken put n count some j cut all orderly mv fits;
-}
+did end this other next going coming rest taken put n count some j cut all orderly mv fits =
+    search (arith, acts_for, joined_after end this other next going coming rest taken put n count some j cut all orderly mv fits)
 
 -- ---- the caller takes a unit
 
@@ -297,8 +277,7 @@ above_zero : (n : ℕ) (s : State) (x : Connection) (b : Bool) → nat_lt 0 n �
 above_zero n s x b e orderly at = grind (arith, ltb-true, absent, ltb-false)
 
 pub within_given : (n : ℕ) (s : State) (x : Connection) → IsOrderly s → value_at n s.live ≡ Some x → (0 < n) × (n ≤ s.given)
-within_given n s x orderly at =
-    (above_zero n s x (nat_lt 0 n) refl orderly at, (is_given n s (Some x) (given_live n s x orderly at)).within)
+within_given n s x orderly at = grind (arith, above_zero, is_given, given_live)
 
 sends_by : (end : Bool) (n : ℕ) (this other : State) (g : Course) (link : Standing) (octets : List ℕ) → this.ended ≡ None → IsOrderly this →
     place_at n this ≡ at_end end n g → HoldsAt end n this other g → value_at n this.live ≡ Some (linked n link) → n ≤ this.given →

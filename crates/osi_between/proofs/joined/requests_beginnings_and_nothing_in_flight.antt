@@ -1,10 +1,10 @@
 -- The caller requests a connection; two new carriers are joined; and if no unit is in flight, no message is.
 -- For joined carriers, class 0, the invariant and the laws.
 use Rattle.osi_between.proofs.Vocabulary.{◌≡◌, ℕ, ◌+◌, ◌<◌, Bool, true, false, List, [], ◌∷◌, ◌++◌, length, Option, Some, None, refl, sym}
-use Rattle.osi_between.proofs.Vocabulary.{ap, subst, ◌∙◌, inr, arith, if◌then◌else◌, lt-ltb, Value, LinkPair, swapped, IsQuiet, Standing}
-use Rattle.osi_between.proofs.Vocabulary.{Given, Local, quiet_unsent, nothing_begun, references, fresh_state, may_connect, asks, Place}
-use Rattle.osi_between.proofs.Vocabulary.{never, was_given, place_at, value_at, linked, State, free_of, orderly_asks, orderly_fresh}
-use Rattle.osi_between.proofs.Vocabulary.{live_after, Course, unasked, met, at_end, from_end, IsTsap, Holds, StandsBetween, AreJoined, Did}
+use Rattle.osi_between.proofs.Vocabulary.{ap, ◌∙◌, inr, arith, if◌then◌else◌, lt-ltb, Value, LinkPair, swapped, IsQuiet, Standing, Given}
+use Rattle.osi_between.proofs.Vocabulary.{Local, quiet_unsent, nothing_begun, references, fresh_state, may_connect, asks, Place, never}
+use Rattle.osi_between.proofs.Vocabulary.{was_given, place_at, value_at, linked, State, free_of, orderly_asks, orderly_fresh, live_after}
+use Rattle.osi_between.proofs.Vocabulary.{Course, unasked, met, at_end, from_end, IsTsap, Holds, StandsBetween, AreJoined, Did}
 use Rattle.osi_between.proofs.Vocabulary.{under_way_for, IsEmpty, talking, addressed, ask, AreOpen}
 use Rattle.osi_between.proofs.meeting.how_a_connection_is_opened.{asks_moves}
 use Rattle.osi_between.proofs.joined.a_request_finds_a_place.{no_more_live}
@@ -68,26 +68,20 @@ none_addressed n [] e = refl
 none_addressed n (g ∷ gs) e = cc
 
 still_pair : (p : LinkPair) → AreOpen true p → p.rightward ≡ [] → p.leftward ≡ [] → IsQuiet p
-still_pair p a rightward leftward =
-    record { rightward = rightward; leftward = leftward; left = a.left.given; right = a.right.given; handed_out = a.right.handed }
+still_pair p a rightward leftward = grind arith
 
 still_unsent : (p : LinkPair) → AreOpen true p → p.rightward ≡ [] → p.leftward ≡ [] → p.left.ends.unsent ≡ []
 still_unsent p a rightward leftward = quiet_unsent p (inr (a.agree.window, a.agree.some, a.agree.agree)) (still_pair p a rightward leftward)
 
 still_links : (p : LinkPair) → AreOpen true p → p.rightward ≡ [] → p.leftward ≡ [] → IsEmpty p.left p.right
 still_links p a rightward leftward =
-    let unsent = still_unsent p a rightward leftward in
-    let unsent_there = still_unsent (swapped p) (open_mirror true p a) leftward rightward in
-    assumption (nothing_begun (swapped p) a.whole_back leftward unsent_there, nothing_begun p a.whole rightward unsent)
+    grind (arith, nothing_begun, still_unsent p a rightward leftward, still_unsent (swapped p) (open_mirror true p a) leftward rightward)
 
 still_by : (n : ℕ) (s r : State) (called : Local) (g : Course) (x y : Standing) → at_end true n g ≡ was_given (Some (linked n x)) →
     at_end false n g ≡ was_given (Some (linked n y)) → from_end true n called g ≡ [] → from_end false n called g ≡ [] → Holds n s r g →
     IsEmpty x y
 still_by n s r called (met (talking p)) x y a b out back h =
-    let left : p.left ≡ x = cc in
-    let right : p.right ≡ y = cc in
-    subst (λ (l : Standing). IsEmpty l y) left (subst (λ (l : Standing). IsEmpty p.left l) right
-    (still_links p h.stands (none_addressed n p.rightward out) (none_addressed n p.leftward back)))
+    grind (arith, still_links p h.stands (none_addressed n p.rightward out) (none_addressed n p.leftward back))
 still_by n s r called g x y a b out back h = cc
 
 pub still : (s r : State) (n : ℕ) (x y : Standing) → AreJoined s r [] [] → value_at n s.live ≡ Some (linked n x) →

@@ -29,13 +29,11 @@ along_join a b c (t ∷ ts) us (mid, first, rest) more = (mid, first, along_join
 
 joined_outs : (f : Turn → List (List ℕ)) (ts us : List Turn) (xs ys : List (List ℕ)) → flat_map f ts ≡ xs → flat_map f us ≡ ys →
     flat_map f (ts ++ us) ≡ xs ++ ys
-joined_outs f ts us xs ys a b =
-    flat_map-append f ts us ∙ ap (λ (l : List (List ℕ)). l ++ flat_map f us) a ∙ ap (λ (l : List (List ℕ)). xs ++ l) b
+joined_outs f ts us xs ys a b = grind (arith, flat_map-append)
 
 joined_backs : (f : Turn → List (List ℕ)) (ts us : List Turn) (xs ys : List (List ℕ)) → flat_map f (map opposite ts) ≡ xs →
     flat_map f (map opposite us) ≡ ys → flat_map f (map opposite (ts ++ us)) ≡ xs ++ ys
-joined_backs f ts us xs ys a b =
-    ap (λ (l : List Turn). flat_map f l) (map-append opposite ts us) ∙ joined_outs f (map opposite ts) (map opposite us) xs ys a b
+joined_backs f ts us xs ys a b = grind (arith, map-append, joined_outs)
 
 pub turned_join : (a b c : LinkPair) (i j o p : List (List ℕ)) → Turned a b i o → Turned b c j p → Turned a c (i ++ j) (o ++ p)
 turned_join a b c i j o p first second = grind (arith, along_join, joined_outs, joined_backs)
@@ -129,16 +127,12 @@ agree_turned true old new i o t a = search (
 
 -- what is in flight from links that may have the beginning of a TSDU
 pub turned_any : (old new : LinkPair) (i o : List (List ℕ)) → Turned old new i o → under_way_before old i ≡ under_way new
-turned_any old new i o t =
-    ap (λ (l : List (List ℕ)). under_way_before old l) (sym (append-nil (flat_map left_in t.turns) ∙ t.sent))
-    ∙ turns_keep old new t.turns [] t.along ∙ ap (λ (l : List (List ℕ)). l ++ under_way new) t.none
+turned_any old new i o t = grind (arith, append-nil (flat_map left_in t.turns), turns_keep old new t.turns [] t.along)
 
 pub turned_any_back : (old new : LinkPair) (i o : List (List ℕ)) → Turned old new i o →
     under_way (swapped old) ≡ o ++ under_way (swapped new)
 turned_any_back old new i o t =
-    ap (λ (l : List (List ℕ)). under_way_before (swapped old) l) (sym (append-nil (flat_map left_in (map opposite t.turns)) ∙ t.sent_back))
-    ∙ turns_keep (swapped old) (swapped new) (map opposite t.turns) [] (other_way old new t.turns t.along)
-    ∙ ap (λ (l : List (List ℕ)). l ++ under_way (swapped new)) t.got
+    grind (arith, turns_keep (swapped old) (swapped new) (map opposite t.turns) [] (other_way old new t.turns t.along))
 
 -- what is in flight, to the right and to the left
 pub turned_right : (old new : LinkPair) (i o : List (List ℕ)) → Turned old new i o → HasWholeTsdus old → under_way old ++ i ≡ under_way new
@@ -200,8 +194,7 @@ range_behind [] vs a b = b
 range_behind (u ∷ us) vs a b = (a.0, range_behind us vs a.1 b)
 
 with_well : (s : Standing) (tsdu : List ℕ) → IsWell s → IsOctets tsdu → IsWell (with_tsdu s tsdu)
-with_well s tsdu h is = assumption
-    (move_sound (hand_in tsdu) s (with_tsdu s tsdu) h.sound tt refl, octets_behind s.ends.unsent tsdu h.octets is)
+with_well s tsdu h is = grind (arith, move_sound, octets_behind)
 
 out_well : (s : Standing) → IsWell s → IsWell (handed_out s)
 out_well s h = grind arith
@@ -283,10 +276,7 @@ turned_take l t r out g rest destination is =
 -- a TSDU that is handed in at the left, whatever its peer
 pub turned_send : (l r : Standing) (out back : List Given) (tsdu : List ℕ) →
     Turned (links l out r back) (links (pumped (with_tsdu l tsdu)) (out ++ all_given (with_tsdu l tsdu)) r back) (tsdu ∷ []) []
-turned_send l r out back tsdu =
-    turned_join (links l out r back) (links (with_tsdu l tsdu) out r back)
-    (links (pumped (with_tsdu l tsdu)) (out ++ all_given (with_tsdu l tsdu)) r back) (tsdu ∷ []) [] [] []
-    (turned_in l r out back tsdu) (turned_pumped (with_tsdu l tsdu) r out back)
+turned_send l r out back tsdu = search (arith, turned_join, turned_in l r out back tsdu, turned_pumped (with_tsdu l tsdu) r out back)
 
 -- ---- the two calls at the left of open links
 
@@ -302,10 +292,8 @@ sends_passes two p tsdu a short octets =
 
 oldest_taken : (two : Bool) (p : LinkPair) (unit : Given) (rest : List Given) (destination : ℕ) → AreOpen two p → AgreeIn two p →
     p.leftward ≡ unit ∷ rest → TakesOldest (swapped p) (unit_of destination unit) rest
-oldest_taken false p unit rest destination a z e =
-    oldest_in_class_0 (swapped p) unit rest destination z.agree_back a.whole_back a.short_back e
-oldest_taken true p unit rest destination a t e =
-    oldest_in_class_2 (swapped p) t.back t.window unit rest destination t.agree_back t.agree a.whole_back a.short_back e
+oldest_taken false p unit rest destination a z e = grind (arith, oldest_in_class_0)
+oldest_taken true p unit rest destination a t e = search (arith, oldest_in_class_2)
 
 left_takes_by : (two : Bool) (p : LinkPair) (g : Given) (rest : List Given) (destination : ℕ) → destination < 65536 → AreOpen two p →
     p.leftward ≡ g ∷ rest → TakesOldest (swapped p) (unit_of destination g) rest → LeftTakes two p (unit_of destination g) rest
@@ -328,5 +316,4 @@ left_takes_by two p g rest destination few a e t =
 
 pub left_takes : (two : Bool) (p : LinkPair) (unit : Given) (rest : List Given) (destination : ℕ) → destination < 65536 → AreOpen two p →
     p.leftward ≡ unit ∷ rest → LeftTakes two p (unit_of destination unit) rest
-left_takes two p unit rest destination few a e =
-    left_takes_by two p unit rest destination few a e (oldest_taken two p unit rest destination a a.agree e)
+left_takes two p unit rest destination few a e = grind (arith, left_takes_by, oldest_taken)

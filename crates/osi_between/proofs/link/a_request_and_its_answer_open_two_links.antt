@@ -2,11 +2,10 @@
 -- For links, connections of class 2 and joined carriers.
 use Rattle.osi_class.proofs.giving.when_nothing_is_given as nothing
 use Rattle.osi_between.proofs.Vocabulary.{◌≡◌, ℕ, ◌<◌, Bool, ◌^◌, ◌≤◌, true, List, [], length, IfSome, min, Option, Some, refl, sym, subst}
-use Rattle.osi_between.proofs.Vocabulary.{inl, arith, AllByRecursion, pow-le-pow_right, IsOctets, size_code, window_units, Connect}
-use Rattle.osi_between.proofs.Vocabulary.{IsConnect, request, confirm, opened_pair, under_way, IsShortTsdu, Standing, two_standing}
-use Rattle.osi_between.proofs.Vocabulary.{fresh_two, accept, selected_by, selected_size, Class, Two, Local, agree_begins, begins}
-use Rattle.osi_between.proofs.Vocabulary.{IsSendable, proposal_by, proposes_zero, alternatives, confirmed, agreed_size, opened_link}
-use Rattle.osi_between.proofs.Vocabulary.{answer_of, IsTsap, AreOpen, IsSettled}
+use Rattle.osi_between.proofs.Vocabulary.{arith, AllByRecursion, pow-le-pow_right, IsOctets, size_code, window_units, Connect, IsConnect}
+use Rattle.osi_between.proofs.Vocabulary.{request, confirm, opened_pair, under_way, IsShortTsdu, Standing, two_standing, fresh_two, accept}
+use Rattle.osi_between.proofs.Vocabulary.{selected_by, selected_size, Class, Two, Local, agree_begins, begins, IsSendable, proposal_by}
+use Rattle.osi_between.proofs.Vocabulary.{alternatives, confirmed, agreed_size, opened_link, answer_of, IsTsap, AreOpen, IsSettled}
 use Rattle.osi_between.proofs.unit.a_unit_fits_a_packet.{request_sendable, confirm_sendable}
 
 -- ---- links
@@ -18,29 +17,7 @@ new_link code window credit = two_standing (fresh_two (2 ^ code) window credit).
 new_settled : (code window credit : ℕ) → 7 ≤ code → code ≤ 13 → 1 ≤ window → window ≤ 15 → credit ≤ 15 →
     IsSettled (new_link code window credit)
 new_settled code window credit least most some few small =
-    let largest : 2 ^ code ≤ 8192 = pow-le-pow_right {n = 2} (omega arith) most in
-    let size : 128 ≤ 2 ^ code = pow-le-pow_right {n = 2} (omega arith) least in
-    record {
-      limit = omega arith;
-      handed = refl;
-      given = (nothing.class_2 (new_link code window credit).ends (fresh_two (2 ^ code) window credit).flow).1 (refl, inl refl);
-      well = record {
-        sound = record {
-          least = omega arith;
-          most = omega arith;
-          begun = omega arith;
-          flow = record {
-            next = omega arith;
-            credit = omega arith;
-            window_least = some;
-            window_most = few;
-            expected = omega arith;
-            waiting = omega arith;
-          };
-        };
-        octets = tt;
-      };
-    }
+    grind (arith, pow-le-pow_right {n = 2} (omega arith) most, pow-le-pow_right {n = 2} (omega arith) least)
 
 pub none_short : (ts : List (List ℕ)) → ts ≡ [] → AllByRecursion IsShortTsdu ts
 none_short ts e = subst (λ (l : List (List ℕ)). AllByRecursion IsShortTsdu l) (sym e) tt
@@ -126,9 +103,7 @@ asked_connect caller class calling called n few fits fits_called = grind (arith,
 
 pub asked_sendable : (caller : Local) (class : Option Class) (calling called : Option (List ℕ)) (n : ℕ) → n < 65536 → IsTsap calling →
     IsTsap called → IsSendable (request (request_of caller class calling called n))
-asked_sendable caller class calling called n few fits fits_called =
-    request_sendable (request_of caller class calling called n) (asked_connect caller class calling called n few fits fits_called)
-    (alternatives_fit (proposes_zero caller class)) refl
+asked_sendable caller class calling called n few fits fits_called = search (arith, request_sendable, asked_connect, alternatives_fit)
 
 answer_connect : (caller local : Local) (class : Option Class) (calling called : Option (List ℕ)) (n : ℕ) → n < 65536 → IsTsap calling →
     IsTsap called → IsConnect (answer_of n local (request_of caller class calling called n))
@@ -136,6 +111,4 @@ answer_connect caller local class calling called n few fits fits_called = grind 
 
 pub answer_sendable : (caller local : Local) (class : Option Class) (calling called : Option (List ℕ)) (n : ℕ) → n < 65536 →
     IsTsap calling → IsTsap called → IsSendable (confirm n (answer_of n local (request_of caller class calling called n)))
-answer_sendable caller local class calling called n few fits fits_called =
-    confirm_sendable n (answer_of n local (request_of caller class calling called n)) few
-    (answer_connect caller local class calling called n few fits fits_called) tt refl
+answer_sendable caller local class calling called n few fits fits_called = search (arith, confirm_sendable, answer_connect)

@@ -19,9 +19,7 @@ zero_connect caller class calling called n few fits fits_called = grind (arith, 
 sendable_by : (b : Bool) (caller : Local) (calling called : Option (List ℕ)) (n : ℕ) → n < 65536 → IsTsap calling → IsTsap called →
     IsSendable (request (proposal_by b caller None calling called n))
 sendable_by true caller calling called n few fits fits_called = asked_sendable caller None calling called n few fits fits_called
-sendable_by false caller calling called n few fits fits_called =
-    request_sendable (proposal_by false caller None calling called n)
-    (zero_connect caller None calling called n few fits fits_called) tt refl
+sendable_by false caller calling called n few fits fits_called = search (arith, request_sendable, zero_connect)
 
 pub proposal_sendable : (caller : Local) (calling called : Option (List ℕ)) (n : ℕ) → n < 65536 → IsTsap calling → IsTsap called →
     IsSendable (request (proposal caller None calling called n))
@@ -109,18 +107,7 @@ abbrev zero_link : ℕ → Standing
 zero_link code = zero_standing (fresh_ends (2 ^ code - 3))
 
 zero_settled : (code : ℕ) → 7 ≤ code → code ≤ 13 → IsSettled (zero_link code)
-zero_settled code least most =
-    let largest : 2 ^ code ≤ 8192 = pow-le-pow_right {n = 2} (omega arith) most in
-    let size : 128 ≤ 2 ^ code = pow-le-pow_right {n = 2} (omega arith) least in
-    record {
-      limit = omega arith;
-      handed = refl;
-      given = refl;
-      well = record {
-        sound = record { least = omega arith; most = omega arith; begun = omega arith; flow = tt };
-        octets = tt;
-      };
-    }
+zero_settled code least most = grind (arith, pow-le-pow_right {n = 2} (omega arith) most, pow-le-pow_right {n = 2} (omega arith) least)
 
 zero_open : (i j : ℕ) → 7 ≤ i → i ≤ 13 → 7 ≤ j → j ≤ 13 → AreOpen false (opened_pair (zero_link i) (zero_link j))
 zero_open i j least most least_j most_j =

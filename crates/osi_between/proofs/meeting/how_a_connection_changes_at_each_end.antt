@@ -7,7 +7,7 @@ use Rattle.osi_between.proofs.Vocabulary.{ltb-false, Value, AreOfClass, Given, C
 use Rattle.osi_between.proofs.Vocabulary.{was_given, place_at, Happening, Rows, value_at, put, Connection, State, AreFor, reference_of}
 use Rattle.osi_between.proofs.Vocabulary.{asked_by, is_last, live_behind, live_after, requests, met, HaveMet, told_opening, CourseCarries}
 use Rattle.osi_between.proofs.Vocabulary.{Acts, CourseMoves, Meeting, talking, left_here, left_there, left_both, waiting_there, mirror}
-use Rattle.osi_between.proofs.Vocabulary.{here, addressed, leaving, farewell, rows_with, out, back, Stands, Changes, told_at, messages_back}
+use Rattle.osi_between.proofs.Vocabulary.{here, addressed, farewell, rows_with, out, back, Stands, Changes, told_at, messages_back}
 use Rattle.osi_between.proofs.Vocabulary.{messages_out, answers_of, Moves, Message, ask, agree, deny, message, bye, over, messages_to}
 use Rattle.osi_between.proofs.Vocabulary.{AreLike, Progress, not_yet, awaiting, in_use, shutting, gone, progress_in, may_arrive, asks_in}
 use Rattle.osi_between.proofs.Vocabulary.{class_behind_all, leaves_use, Brings, put_named, drop_named}
@@ -96,13 +96,10 @@ plain_farewell n last = grind arith
 
 pub plain_out : (n : ℕ) (m : Meeting) → Stands m → AllByRecursion (IsPlain n) (out n m)
 plain_out n (talking p) h = plain_units n p.rightward h.agree.agree.class
-plain_out n (left_here p us reason) h =
-    plain_join n (addressed n p.rightward) (leaving n reason ∷ []) (plain_units n p.rightward h.0.agree.agree.class) ((refl, refl), tt)
+plain_out n (left_here p us reason) h = search (arith, plain_join, plain_units)
 plain_out n (left_there p us reason) h = plain_units n us h.1
-plain_out n (left_both us reason vs other) h =
-    plain_join n (addressed n us) (leaving n reason ∷ []) (plain_units n us h.0) ((refl, refl), tt)
-plain_out n (waiting_there us last) h =
-    plain_join n (addressed n us) (farewell n last ∷ []) (plain_units n us h) (plain_farewell n last, tt)
+plain_out n (left_both us reason vs other) h = search (arith, plain_join, plain_units)
+plain_out n (waiting_there us last) h = search (arith, plain_join, plain_units, plain_farewell)
 plain_out n m h = tt
 
 -- ---- both have had it open
@@ -234,9 +231,7 @@ turned_carries : (n : ℕ) (m new : Meeting) (es : List Happening) (taken : List
     Brings true (progress_in (here n (mirror m))) (progress_in (here n new)) (here n (mirror m)) (here n new) taken c.arrived put →
     (leaves_use (progress_in (here n (mirror m))) (progress_in (here n new)) ≡ false → c.lost ≡ []) →
     CarriesBoth n (mirror m) (mirror (mirror new)) es taken put
-turned_carries n m new es taken put c b k =
-    subst (λ (x : Meeting). CarriesBoth n (mirror m) x es taken put) (sym (mirror_twice new))
-    (record { carries = c; brings = b; keeps = k })
+turned_carries n m new es taken put c b k = search (arith, mirror_twice)
 
 pub met_called : (n : ℕ) (m : Meeting) (r s t : State) (taken : List Value) (put : List Message) → HaveMet s r m → n ≤ r.given →
     IsOneAtMost taken → asks_in put ≡ 0 → Moves n (mirror m) r t taken put → CourseMoves false n (met m) r s t taken 0 put

@@ -164,9 +164,7 @@ nothing_unsent n s r c p h = ap (λ (l : Standing). l.ends.unsent) h.left
 -- what follows the CC
 behind_confirm : (n : ℕ) (p : LinkPair) → AreOpen true p → p.left.ends.joining.begun ≡ [] →
     messages_after [] (addressed n p.leftward ++ uncut_units p.right.ends.unsent) ≡ map message (under_way (swapped p))
-behind_confirm n p a none =
-    ap (λ (b : List ℕ). messages_after b (addressed n p.leftward ++ uncut_units p.right.ends.unsent)) (sym none)
-    ∙ pair_messages n (swapped p) a.left.handed
+behind_confirm n p a none = grind (arith, pair_messages n (swapped p) a.left.handed)
 
 accepted_there : (n : ℕ) (s r t : State) (c : Connect) (p q : LinkPair) → IsAccepted n s r c p → t.local ≡ r.local → t.class ≡ r.class →
     AreOpen true q → q.rightward ≡ p.rightward → q.left ≡ p.left → IsAccepted n s t c q

@@ -3,11 +3,11 @@
 use Rattle.osi_carrier.specs.Calls.{closes}
 use Rattle.osi_between.proofs.Vocabulary.{◌≡◌, ℕ, Bool, true, List, [], ◌∷◌, ◌++◌, map, take, Option, Some, None, Result, Ok, refl, sym, ap}
 use Rattle.osi_between.proofs.Vocabulary.{subst, ◌∙◌, arith, put_same, append-nil, Value, disconnect, disconnected, all_given, Standing}
-use Rattle.osi_between.proofs.Vocabulary.{Given, unit_of, is_of_two, taken, with_tsdu, LinkFault, Class, Two, link_of, open_link, sent_on}
-use Rattle.osi_between.proofs.Vocabulary.{sent, closed_on, closed_with, Happening, tsdu, closed, pumped, react, in_class, in_two}
-use Rattle.osi_between.proofs.Vocabulary.{to_reference, to_connection, to_linked, to_closing, taking, handed_out, leaves, IsOrderly}
-use Rattle.osi_between.proofs.Vocabulary.{value_at, put, without, Connection, linked, closing, State, packets, put_here, without_here}
-use Rattle.osi_between.proofs.Vocabulary.{put_other, without_other, react_quiet, Changes, addressed, leaving}
+use Rattle.osi_between.proofs.Vocabulary.{Given, unit_of, is_of_two, taken, with_tsdu, LinkFault, Class, Two, link_of, open_link, sent}
+use Rattle.osi_between.proofs.Vocabulary.{closed_on, closed_with, Happening, tsdu, closed, pumped, react, in_class, in_two, to_reference}
+use Rattle.osi_between.proofs.Vocabulary.{to_connection, to_linked, to_closing, taking, handed_out, leaves, IsOrderly, value_at, put}
+use Rattle.osi_between.proofs.Vocabulary.{without, Connection, linked, closing, State, packets, put_here, without_here, put_other}
+use Rattle.osi_between.proofs.Vocabulary.{without_other, react_quiet, Changes, addressed, leaving}
 
 -- ---- what changed
 
@@ -53,9 +53,6 @@ pub linked_takes : (n peer : ℕ) (link : Standing) (g : Given) (s : State) →
     to_linked n peer link (unit_of n g) s ≡ taking n peer (taken link (unit_of n g)) s
 linked_takes n peer link g s = grind arith
 
-closing_ignores : (n : ℕ) (g : Given) (s : State) → to_closing n (unit_of n g) s ≡ s
-closing_ignores n g s = grind arith
-
 -- a DT or an AK that the link takes
 pub given_changes : (n : ℕ) (s : State) (link t : Standing) (g : Given) → s.ended ≡ None → s.class ≡ Some Two → IsOrderly s →
     is_of_two g ≡ true → value_at n s.live ≡ Some (linked n link) → taken link (unit_of n g) ≡ Ok t →
@@ -75,10 +72,7 @@ given_changes n s link t g quiet class orderly two at ok =
 pub given_ignored : (n : ℕ) (s : State) (g : Given) → s.ended ≡ None → s.class ≡ Some Two → IsOrderly s → is_of_two g ≡ true →
     value_at n s.live ≡ Some (closing n) → Changes n s (react (unit_of n g) s) (Some (closing n)) [] []
 given_ignored n s g quiet class orderly two at =
-    let does : react (unit_of n g) s ≡ s =
-    react_two (unit_of n g) s quiet class ∙ given_to s.is_caller n g s two ∙ at_connection n (Some (closing n)) (unit_of n g) s at
-    ∙ closing_ignores n g s in
-    subst (λ (r : State). Changes n s r (Some (closing n)) [] []) (sym does) (changes_none n s (closing n) orderly at)
+    grind (arith, react_two (unit_of n g) s quiet class, changes_none n s (closing n) orderly at)
 
 -- a DR to an open connection
 pub leaving_changes : (n : ℕ) (s : State) (link : Standing) (reason : ℕ) → s.ended ≡ None → s.class ≡ Some Two → IsOrderly s →
@@ -121,13 +115,7 @@ open_is_linked n s link quiet at = rw quiet (ap link_of at)
 pub send_changes : (n : ℕ) (s : State) (link : Standing) (octets : List ℕ) → s.ended ≡ None → IsOrderly s →
     value_at n s.live ≡ Some (linked n link) →
     Changes n s (sent n octets s) (Some (linked n (pumped (with_tsdu link octets)))) (addressed n (all_given (with_tsdu link octets))) []
-send_changes n s link octets quiet orderly at =
-    let us = addressed n (all_given (with_tsdu link octets)) in
-    let x = linked n (pumped (with_tsdu link octets)) in
-    subst (λ (r : State). Changes n s r (Some x) us [])
-    (sym (ap (λ (o : Option (ℕ × Standing)). sent_on n octets o s) (open_is_linked n s link quiet at)))
-    (changes_put n s (sent_on n octets (Some (n, link)) s) x (linked n link) us [] orderly at refl refl
-    (sym (append-nil s.events)) refl refl refl refl refl)
+send_changes n s link octets quiet orderly at = search (arith, changes_put, open_is_linked n s link quiet at, append-nil s.events)
 
 pub close_changes : (n : ℕ) (s : State) (link : Standing) (reason : ℕ) → s.ended ≡ None → s.class ≡ Some Two → IsOrderly s →
     value_at n s.live ≡ Some (linked n link) → Changes n s (closed_with n reason s) (Some (closing n)) (leaving n reason ∷ []) []

@@ -36,15 +36,11 @@ under_way_is p later e = grind arith
 pub pair_before : (n : ℕ) (p : LinkPair) (later : List (List ℕ)) → p.right.ends.joining.whole ≡ [] →
     messages_after p.right.ends.joining.begun (addressed n p.rightward ++ uncut_units (p.left.ends.unsent ++ later)) ≡ map message
     (under_way_before p later)
-pair_before n p later e =
-    tsdu_messages n p.rightward p.right.ends.joining.begun (p.left.ends.unsent ++ later) ∙ ap (map message) (sym (under_way_is p later e))
+pair_before n p later e = search (arith, tsdu_messages, under_way_is)
 
 pub pair_messages : (n : ℕ) (p : LinkPair) → p.right.ends.joining.whole ≡ [] →
     messages_after p.right.ends.joining.begun (addressed n p.rightward ++ uncut_units p.left.ends.unsent) ≡ map message (under_way p)
-pair_messages n p e =
-    ap (λ (ts : List (List ℕ)). messages_after p.right.ends.joining.begun (addressed n p.rightward ++ uncut_units ts))
-    (sym (append-nil p.left.ends.unsent))
-    ∙ pair_before n p [] e
+pair_messages n p e = grind (arith, append-nil p.left.ends.unsent, pair_before n p [] e)
 
 -- a link with nothing to send, which has taken nothing
 abbrev pub bare : Standing
@@ -75,8 +71,7 @@ talking_takes n p unit rest a t =
 -- the prefix of what is in flight to a closing link, by kind
 pub kinds_of_tsdu : (us : List Value) (octets : List ℕ) →
     map kind_of (messages_after [] (us ++ data0 true octets ∷ [])) ≡ map kind_of (messages_after [] us ++ message octets ∷ [])
-kinds_of_tsdu us octets =
-    kinds_join us (data0 true octets ∷ []) [] ∙ sym (map-append kind_of (messages_after [] us) (message octets ∷ []))
+kinds_of_tsdu us octets = grind (arith, kinds_join, map-append)
 
 abbrev pub talking_sends : (n : ℕ) (p : LinkPair) (octets : List ℕ) → AreOpen true p →
     under_way p ++ octets ∷ [] ≡ under_way (after_send p octets) → under_way (swapped p) ≡ under_way (swapped (after_send p octets)) →
@@ -101,14 +96,11 @@ alone begun us = ap (messages_after begun) (append-nil us)
 -- a DR after units
 pub behind_leaving : (n : ℕ) (us : List Value) (reason : ℕ) (begun : List ℕ) → 0 < n →
     messages_after begun ((us ++ leaving n reason ∷ []) ++ uncut_units []) ≡ messages_after begun us ++ bye reason ∷ []
-behind_leaving n us reason begun some =
-    alone begun (us ++ leaving n reason ∷ [])
-    ∙ messages_behind us begun (leaving n reason ∷ []) (bye reason ∷ []) (λ b. ap (λ (m : Message). m ∷ []) (parting_is n reason some))
+behind_leaving n us reason begun some = grind (arith, alone, messages_behind, parting_is)
 
 pub behind_over : (n : ℕ) (us : List Value) (begun : List ℕ) →
     messages_after begun ((us ++ disconnected n n ∷ []) ++ uncut_units []) ≡ messages_after begun us ++ over ∷ []
-behind_over n us begun =
-    alone begun (us ++ disconnected n n ∷ []) ∙ messages_behind us begun (disconnected n n ∷ []) (over ∷ []) (λ b. refl)
+behind_over n us begun = grind (arith, alone, messages_behind)
 
 abbrev pub talking_closes : (n : ℕ) (p : LinkPair) (reason : ℕ) → 0 < n →
     Carries n (talking p) (left_here p p.leftward reason) [] (bye reason ∷ [])

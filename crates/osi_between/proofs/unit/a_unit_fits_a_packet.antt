@@ -22,13 +22,11 @@ no_octets : IsOctets []
 no_octets i = omega arith
 
 pub leaving_sendable : (n reason : ℕ) → n < 65536 → reason < 256 → IsSendable (leaving n reason)
-leaving_sendable n reason few small =
-    record { fits = record { in_range = (few, few, small, no_octets); counted = omega arith }; most = omega arith }
+leaving_sendable n reason few small = grind (arith, no_octets)
 
 -- a DR whose sender has no connection
 pub denying_sendable : (n reason : ℕ) → n < 65536 → reason < 256 → IsSendable (disconnect n 0 reason [])
-denying_sendable n reason few small =
-    record { fits = record { in_range = (few, omega arith, small, no_octets); counted = omega arith }; most = omega arith }
+denying_sendable n reason few small = grind (arith, no_octets)
 
 pub over_sendable : (n : ℕ) → n < 65536 → IsSendable (disconnected n n)
 over_sendable n few = record { fits = record { in_range = (few, few); counted = omega arith }; most = omega arith }
@@ -67,11 +65,7 @@ items_most p calling called alternative =
 
 pub request_sendable : (c : Connect) → IsConnect c → IfSome c.parameters.alternative (λ s. length s ≤ 1) → c.user ≡ [] →
     IsSendable (request c)
-request_sendable c h alternative none =
-    let items = items_most c.parameters h.parameters.calling h.parameters.called alternative in
-    let user = ap length none in
-    let joined = length-append (flat_map item_octets (written_items c.parameters)) c.user in
-    record { fits = record { in_range = h; counted = omega (arith, length-append {A = ℕ}) }; most = omega (arith, length-append {A = ℕ}) }
+request_sendable c h alternative none = grind (arith, items_most, length-append)
 
 pub confirm_sendable : (n : ℕ) (c : Connect) → n < 65536 → IsConnect c → IfSome c.parameters.alternative (λ s. length s ≤ 1) → c.user ≡ [] →
     IsSendable (confirm n c)

@@ -2,7 +2,7 @@
 -- For octets in flight, joined carriers, class 0 and the invariant.
 use Rattle.osi_between.proofs.Vocabulary.{◌≡◌, ◌≢◌, ℕ, zero, suc, ◌+◌, ◌==◌, Bool, true, List, [], ◌∷◌, ◌++◌, refl, sym, ap, ◌∙◌, arith}
 use Rattle.osi_between.proofs.Vocabulary.{if◌then◌else◌, eq-eqb, ne_eqb, flat_map-append, Value, reference_of, units_of, AreFor, asked_by}
-use Rattle.osi_between.proofs.Vocabulary.{requests, behind, live_behind, live_after, HasPlace, HasPlaces}
+use Rattle.osi_between.proofs.Vocabulary.{requests, behind, live_behind, live_after, HasPlaces}
 
 pub units_of_by : (n : ℕ) (u : Value) (us : List Value) (b : Bool) → (reference_of u == n) ≡ b →
     units_of n (u ∷ us) ≡ (if b then u ∷ units_of n us else units_of n us)
@@ -47,9 +47,7 @@ one_more g a = omega arith
 
 pub behind_join : (g a b : ℕ) → behind g (a + b) ≡ behind g a ++ behind (g + a) b
 behind_join g zero b = ap (λ (m : ℕ). behind g m) (zero_more b) ∙ ap (λ (m : ℕ). behind m b) (none_more g)
-behind_join g (suc a) b =
-    ap (λ (m : ℕ). behind g m) (suc_more a b)
-    ∙ ap (λ (l : List ℕ). (g + 1) ∷ l) (behind_join (g + 1) a b ∙ ap (λ (m : ℕ). behind (g + 1) a ++ behind m b) (one_more g a))
+behind_join g (suc a) b = search (arith, suc_more, one_more, behind_join (g + 1) a b)
 
 -- ---- places
 
@@ -64,10 +62,6 @@ pub places_rest : (refs : List ℕ) (us vs : List Value) → HasPlaces refs (us 
 places_rest refs [] vs h = h
 places_rest refs (u ∷ us) vs h = places_rest (live_behind refs u) us vs h.1
 
--- units of which none is a CR
-place_for : (refs : List ℕ) (u : Value) → asked_by u ≡ [] → HasPlace refs u
-place_for refs u e = grind arith
-
 pub front_none : {X : Type 0} (xs ys : List X) → xs ++ ys ≡ [] → xs ≡ []
 front_none [] ys e = refl
 front_none (x ∷ xs) ys e = cc
@@ -78,8 +72,4 @@ rest_none (x ∷ xs) ys e = cc
 
 pub places_for : (refs : List ℕ) (us : List Value) → requests us ≡ [] → HasPlaces refs us
 places_for refs [] e = tt
-places_for refs (u ∷ us) e = (
-  place_for refs u (front_none (asked_by u) (requests us) e),
-  places_for (live_behind refs u) us
-      (rest_none (asked_by u) (requests us) e),
-)
+places_for refs (u ∷ us) e = grind (arith, places_for (live_behind refs u) us (rest_none (asked_by u) (requests us) e))

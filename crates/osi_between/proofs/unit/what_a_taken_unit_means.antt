@@ -1,13 +1,11 @@
 -- What the units mean that an end takes.
 -- For connections of class 2, class 0 and the invariant.
-use Rattle.osi_between.proofs.Vocabulary.{◌≡◌, ℕ, Bool, true, List, [], ◌∷◌, ◌++◌, length, map, take, Option, Some, None, Result, Ok, Err}
-use Rattle.osi_between.proofs.Vocabulary.{refl, sym, ap, ◌∙◌, nat_lt, if◌then◌else◌, IfOk, arith, AllByRecursion, map-append, Value, data0}
-use Rattle.osi_between.proofs.Vocabulary.{data2, acknowledge, disconnect, Ends, Flow, Sender, Joining, with_part, Standing, Given, taken}
-use Rattle.osi_between.proofs.Vocabulary.{taken_by, unit_of, with_tsdu, with_joined, with_sender, LinkFault, TsduTooLong, drained_leaves}
-use Rattle.osi_between.proofs.Vocabulary.{choose_ok, at_ok, pumped, handed_out, Connection, linked, closing, Message, message, bye, over}
-use Rattle.osi_between.proofs.Vocabulary.{messages_after, begun_at, kind_of, AreLike, Progress, in_use, shutting, gone, may_arrive}
-use Rattle.osi_between.proofs.Vocabulary.{behind_arrivals, behind_puts, Brings}
-use Rattle.osi_between.proofs.unit.units_are_read_as_messages.{begun_after, messages_part, kinds_begun, kinds_join}
+use Rattle.osi_between.proofs.Vocabulary.{◌≡◌, ℕ, Bool, true, List, [], ◌∷◌, map, take, Option, Some, None, Ok, refl, sym, arith}
+use Rattle.osi_between.proofs.Vocabulary.{AllByRecursion, map-append, Value, disconnect, Standing, Given, taken, unit_of, with_tsdu}
+use Rattle.osi_between.proofs.Vocabulary.{drained_leaves, pumped, handed_out, Connection, linked, closing, Message, message, bye, over}
+use Rattle.osi_between.proofs.Vocabulary.{messages_after, begun_at, AreLike, Progress, in_use, shutting, gone, may_arrive, behind_arrivals}
+use Rattle.osi_between.proofs.Vocabulary.{behind_puts, Brings}
+use Rattle.osi_between.proofs.unit.units_are_read_as_messages.{begun_after, kinds_begun, kinds_join}
 
 pub same_like : (o : Option Connection) (some others : List Message) → some ≡ others → AreLike o some others
 same_like o some others e = grind (arith, map)
@@ -25,12 +23,7 @@ brings_sent n link octets = grind (arith, brings_none, drained_leaves)
 
 pub brings_shut : (n : ℕ) (link : Standing) (reason : ℕ) →
     Brings true in_use shutting (Some (linked n link)) (Some (closing n)) [] [] (bye reason ∷ [])
-brings_shut n link reason = record {
-  is = refl;
-  more = λ units. kinds_begun units link.ends.joining.begun [];
-  may = tt;
-  becomes = refl;
-}
+brings_shut n link reason = grind (arith, kinds_begun)
 
 -- ---- a unit of a link is taken
 
@@ -39,61 +32,10 @@ record HasBrought (first : List ℕ) (unit : Value) (s : Standing) : Type 0 wher
   begun : s.ends.joining.begun ≡ begun_after first (unit ∷ [])
   whole : map message (take 1 s.ends.joining.whole) ≡ messages_after first (unit ∷ [])
 
-part_zero : (e : Ends) (flow : Option Flow) (end : Bool) (octets : List ℕ) → e.joining.whole ≡ [] →
-    HasBrought e.joining.begun (data0 end octets) (record { ends = record e { joining = with_part e.joining end octets }; flow = flow })
-part_zero e flow end octets none = grind (arith, map, take)
-
-part_two : (e : Ends) (flow : Option Flow) (n number : ℕ) (end : Bool) (octets : List ℕ) → e.joining.whole ≡ [] →
-    HasBrought e.joining.begun (data2 n number end octets)
-    (record { ends = record e { joining = with_part e.joining end octets }; flow = flow })
-part_two e flow n number end octets none = grind (arith, map, take)
-
-joined_zero : (e : Ends) (flow : Option Flow) (end : Bool) (octets : List ℕ) (long : Bool) → e.joining.whole ≡ [] →
-    IfOk (with_joined e flow (if long then Err TsduTooLong else Ok (with_part e.joining end octets)))
-    (HasBrought e.joining.begun (data0 end octets))
-joined_zero e flow end octets long none = grind (arith, part_zero)
-
-joined_two : (e : Ends) (flow : Option Flow) (n number : ℕ) (end : Bool) (octets : List ℕ) (long : Bool) → e.joining.whole ≡ [] →
-    IfOk (with_joined e flow (if long then Err TsduTooLong else Ok (with_part e.joining end octets)))
-    (HasBrought e.joining.begun (data2 n number end octets))
-joined_two e flow n number end octets long none = grind (arith, part_two)
-
-sender_two : (e : Ends) (f : Flow) (credit n number : ℕ) (r : Result Sender LinkFault) → e.joining.whole ≡ [] →
-    IfOk (with_sender e f r) (HasBrought e.joining.begun (acknowledge credit n number))
-sender_two e f credit n number r none = grind (arith, map, take)
-
-brought_by : (e : Ends) (flow : Option Flow) (n : ℕ) (g : Given) → e.joining.whole ≡ [] →
-    IfOk (taken_by e flow (unit_of n g)) (HasBrought e.joining.begun (unit_of n g))
-brought_by e flow n g none = grind (arith, joined_zero, nat_lt, length, choose_ok, joined_two, sender_two)
-
-brought : (s t : Standing) (n : ℕ) (g : Given) → s.ends.joining.whole ≡ [] → taken s (unit_of n g) ≡ Ok t →
-    HasBrought s.ends.joining.begun (unit_of n g) t
-brought s t n g none e =
-    at_ok (HasBrought s.ends.joining.begun (unit_of n g)) (taken s (unit_of n g)) t (brought_by s.ends s.flow n g none) e
-
-tsdus_may : (ts : List (List ℕ)) → AllByRecursion (λ m. may_arrive in_use m ≡ true) (map message ts)
-tsdus_may [] = tt
-tsdus_may (t ∷ ts) = (refl, tsdus_may ts)
-
-tsdus_stay : (ts : List (List ℕ)) → in_use ≡ behind_arrivals true in_use (map message ts)
-tsdus_stay [] = refl
-tsdus_stay (t ∷ ts) = tsdus_stay ts
-
 pub brings_given : (n : ℕ) (g : Given) (link next : Standing) → link.ends.joining.whole ≡ [] → taken link (unit_of n g) ≡ Ok next →
     Brings true in_use in_use (Some (linked n link)) (Some (linked n (pumped (handed_out next)))) (unit_of n g ∷ [])
     (map message (take 1 next.ends.joining.whole)) []
-brings_given n g link next none e =
-    let h = brought link next n g none e in
-    let left : (pumped (handed_out next)).ends.joining.begun ≡ next.ends.joining.begun =
-    ap (λ (j : Joining). j.begun) (drained_leaves (handed_out next)).1 in
-    record {
-      is = h.whole;
-      more = λ units. messages_part (unit_of n g ∷ []) link.ends.joining.begun units
-          ∙ ap (λ (l : List Message). l ++ messages_after (begun_after link.ends.joining.begun (unit_of n g ∷ [])) units) (sym h.whole)
-          ∙ ap (λ (b : List ℕ). map message (take 1 next.ends.joining.whole) ++ messages_after b units) (sym (left ∙ h.begun));
-      may = tsdus_may (take 1 next.ends.joining.whole);
-      becomes = tsdus_stay (take 1 next.ends.joining.whole);
-    }
+brings_given n g link next none e = search (arith, drained_leaves)
 
 -- ---- a closing connection ignores it
 
@@ -105,13 +47,7 @@ ignored_stay n g = grind arith
 
 pub brings_ignored : (n : ℕ) (g : Given) →
     Brings true shutting shutting (Some (closing n)) (Some (closing n)) (unit_of n g ∷ []) (messages_after [] (unit_of n g ∷ [])) []
-brings_ignored n g = record {
-  is = refl;
-  more = λ units. kinds_join (unit_of n g ∷ []) units []
-      ∙ sym (map-append kind_of (messages_after [] (unit_of n g ∷ [])) (messages_after [] units));
-  may = ignored_may n g;
-  becomes = ignored_stay n g;
-}
+brings_ignored n g = search (arith, kinds_join, map-append, ignored_may, ignored_stay)
 
 -- ---- a DR or a DC is taken
 

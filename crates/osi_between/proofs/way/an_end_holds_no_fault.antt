@@ -1,12 +1,11 @@
 -- What an end of two carriers holds: packets of units, with no fault, whatever the memory is.
 -- For the laws.
-use Rattle.osi_tpdu.specs.Packet.{units_of}
 use Rattle.osi_carrier.specs.Packets.{Acts}
-use Rattle.osi_between.proofs.Vocabulary.{◌≡◌, ℕ, Bool, true, false, not, List, [], ◌∷◌, ◌++◌, None, Result, Ok, sym, ap, subst, ◌∙◌, ◌⊎◌}
-use Rattle.osi_between.proofs.Vocabulary.{inl, inr, append_assoc, arith, TpktFault, TpduFault, IsPacket, IsFaultOf, Value, AreComing}
-use Rattle.osi_between.proofs.Vocabulary.{after_packet, ActsBy, Starves, react, State, ends, NoMemory, all_behind, packet_reacts, unit_read}
-use Rattle.osi_between.proofs.Vocabulary.{alone_starved, starved_unit, fault_free, packets_join, Both, side, arriving, Between, units_from}
-use Rattle.osi_between.proofs.Vocabulary.{lost_from, IsOnTheWay, AreBetween, Terms}
+use Rattle.osi_between.proofs.Vocabulary.{◌≡◌, ℕ, Bool, true, false, not, List, [], ◌∷◌, ◌++◌, None, Ok, sym, ◌∙◌, ◌⊎◌, inl, inr}
+use Rattle.osi_between.proofs.Vocabulary.{append_assoc, arith, TpktFault, IsPacket, IsFaultOf, Value, AreComing, after_packet, ActsBy}
+use Rattle.osi_between.proofs.Vocabulary.{Starves, react, State, ends, NoMemory, all_behind, packet_reacts, unit_read, alone_starved}
+use Rattle.osi_between.proofs.Vocabulary.{starved_unit, fault_free, packets_join, Both, side, arriving, Between, units_from, lost_from}
+use Rattle.osi_between.proofs.Vocabulary.{IsOnTheWay, AreBetween, Terms}
 use Rattle.osi_between.proofs.way.octets_are_written_and_handed_over.{TakesFirst, way_takes}
 
 -- what is held and will arrive, and what a break took away, as packets of all units
@@ -26,16 +25,11 @@ all_coming terms end both b a alive =
 
 way_sound : (held arriving : List ℕ) (units lost : List Value) (at : ℕ) (f : TpktFault) → IsOnTheWay held arriving units lost →
     IsFaultOf at held f → ⊥
-way_sound held arriving units lost at f w bad =
-    let h = way_whole held arriving units lost w in
-    fault_free at held (arriving ++ h.never) f (units ++ lost) h.all bad
+way_sound held arriving units lost at f w bad = grind (arith, fault_free, way_whole held arriving units lost w)
 
 pub no_fault : (terms : Terms) (end : Bool) (both : Both) (b : Between) (at : ℕ) (f : TpktFault) → AreBetween terms both b →
     (side end both).state.ended ≡ None → IsFaultOf at (side end both).held f → ⊥
-no_fault terms true both b at f a alive bad =
-    way_sound both.caller.held (arriving false both) b.coming b.coming_lost at f (a.comes false alive) bad
-no_fault terms false both b at f a alive bad =
-    way_sound both.called.held (arriving true both) b.going b.going_lost at f (a.comes true alive) bad
+no_fault terms end both b at f a alive bad = grind (arith, way_sound)
 
 first_starved : (packet behind arriving : List ℕ) (units lost : List Value) (old new : State) →
     TakesFirst packet behind arriving units lost → Starves old packet new → new ≡ ends NoMemory old
@@ -58,9 +52,7 @@ one_acts old new packet unit does (inr r) = inr (alone_starved old new unit r.do
 
 first_acts : (packet behind arriving : List ℕ) (units lost : List Value) (old new : State) → TakesFirst packet behind arriving units lost →
     Acts old packet new → (new ≡ after_packet old packet) ⊎ (new ≡ ends NoMemory old)
-first_acts packet behind arriving units lost old new t h =
-    one_acts old new packet t.unit (ap (after_packet old) t.is ∙ packet_reacts old t.unit t.sendable)
-    (subst (λ (r : Result (List Value) TpduFault). ActsBy r old new) (ap units_of t.is ∙ unit_read t.unit t.sendable) h)
+first_acts packet behind arriving units lost old new t h = grind (arith, one_acts, packet_reacts, unit_read)
 
 pub acts_or_starves : (terms : Terms) (end : Bool) (both : Both) (b : Between) (packet octets behind : List ℕ) (new : State) →
     AreBetween terms both b → (side end both).state.ended ≡ None → IsPacket packet octets → (side end both).held ≡ octets ++ behind →

@@ -44,17 +44,12 @@ less_by k None = None
 less_by k (Some r) = Some (r - k)
 
 take_on : (k r : ℕ) (l : List ℕ) → k ≤ r → take k l ++ take (r - k) (drop k l) ≡ take r l
-take_on k r l le =
-    let same : k + (r - k) ≡ r = omega arith in
-    ap (λ (a : List ℕ). a ++ take (r - k) (drop k l)) (sym (take-take k r l le))
-    ∙ ap (λ (a : List ℕ). take k (take r l) ++ a) (sym (drop-take k (r - k) l) ∙ ap (λ (n : ℕ). drop k (take n l)) same)
-    ∙ take-append-drop k (take r l)
+take_on k r l le = grind (arith, take-take k r l le, drop-take k (r - k) l, take-append-drop k (take r l))
 
 pub way_over : (reach : Option ℕ) (k : ℕ) (held outgoing : List ℕ) (going lost : List Value) → k ≤ length (within_reach reach outgoing) →
     IfSome reach (λ r. r ≤ length outgoing) → IsOnTheWay held (within_reach reach outgoing) going lost →
     IsOnTheWay (held ++ take k outgoing) (within_reach (less_by k reach) (drop k outgoing)) going lost
-way_over None k held outgoing going lost less bound w = grind (arith, append_assoc, take, drop, take-append-drop)
-way_over (Some r) k held outgoing going lost less bound w = grind (arith, length-take-le, append_assoc, take, drop, take_on)
+way_over reach k held outgoing going lost less bound w = grind (arith, append_assoc, take-append-drop, length-take-le, take_on)
 
 pub bound_over : (reach : Option ℕ) (k : ℕ) (outgoing : List ℕ) → IfSome reach (λ r. r ≤ length outgoing) →
     IfSome (less_by k reach) (λ r. r ≤ length (drop k outgoing))
@@ -105,11 +100,7 @@ way_takes packet octets behind held arriving (v ∷ vs) lost p cut w =
 -- the first unit is taken
 pub way_unit : (u : Value) (rest : List Value) (behind held arriving : List ℕ) (units lost : List Value) → units ≡ u ∷ rest →
     held ≡ packet_of (written u) ++ behind → IsOnTheWay held arriving units lost → IsOnTheWay behind arriving rest lost
-way_unit u rest behind held arriving units lost first cut w =
-    let all : AllByRecursion IsSendable (u ∷ rest) = subst (λ (l : List Value). AllByRecursion IsSendable l) first w.sendable in
-    search (append_cancel_left (packet_of (written u)) (behind ++ arriving) (packets rest ++ w.front)
-    (sym (append_assoc (packet_of (written u)) behind arriving) ∙ ap (λ (l : List ℕ). l ++ arriving) (sym cut) ∙ w.octets
-    ∙ ap (λ (l : List Value). packets l ++ w.front) first ∙ append_assoc (packet_of (written u)) (packets rest) w.front))
+way_unit u rest behind held arriving units lost first cut w = search (arith, append_cancel_left, append_assoc)
 
 -- ---- the byte connection breaks
 
@@ -180,17 +171,7 @@ cut_by x y u us true all e test more =
 cut_by x y u us false all e test more = cut_first x y u us all e (leb-false (length (packet_of (written u))) (length x) test)
 
 pub cut_packets : (units : List Value) (x y : List ℕ) → AllByRecursion IsSendable units → x ++ y ≡ packets units → CutPackets x y units
-cut_packets [] x y all e = record {
-  done = [];
-  left = [];
-  front = [];
-  parts = refl;
-  octets = front_none x y e;
-  rest = rest_none x y e;
-  partial = empty_partial;
-  sendable = tt;
-  sendable_left = tt;
-}
+cut_packets [] x y all e = grind (arith, front_none, rest_none, empty_partial)
 cut_packets (u ∷ us) x y all e =
     cut_by x y u us (nat_le (length (packet_of (written u))) (length x)) all e refl (λ m is. cut_packets us m y all.1 is)
 

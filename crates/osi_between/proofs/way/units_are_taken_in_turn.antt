@@ -3,8 +3,8 @@
 use Rattle.osi_tpdu.specs.Packet.{units_of}
 use Rattle.osi_between.proofs.Vocabulary.{◌≡◌, ℕ, ◌+◌, ◌-◌, ◌≤◌, Bool, true, false, ◌||◌, is_some, List, [], ◌∷◌, ◌++◌, length, map, take}
 use Rattle.osi_between.proofs.Vocabulary.{drop, Option, None, Ok, refl, sym, ap, subst, ◌∙◌, inl, inr, arith, append_assoc, if◌then◌else◌}
-use Rattle.osi_between.proofs.Vocabulary.{ArePackets, offset_of, AllByRecursion, append-nil, length-take-le, take-take, packet_of, Value}
-use Rattle.osi_between.proofs.Vocabulary.{written, IsSendable, AreComing, TakesUnits, TakesSome, Fed, Carrying, Feeds, waits, is_spoilt}
+use Rattle.osi_between.proofs.Vocabulary.{ArePackets, AllByRecursion, append-nil, length-take-le, take-take, packet_of, Value, written}
+use Rattle.osi_between.proofs.Vocabulary.{IsSendable, AreComing, TakesUnits, TakesSome, Fed, Carrying, Feeds, waits, is_spoilt}
 use Rattle.osi_between.proofs.Vocabulary.{TakesPackets, RunsDry, StopsBehind, Refuses, Starves, FindsNoMemory, Goes, react, State, packets}
 use Rattle.osi_between.proofs.Vocabulary.{ends, EndReason, NoMemory, packets_join, all_behind, unit_packet, unit_read, packet_reacts}
 use Rattle.osi_between.proofs.Vocabulary.{Fronts, units_front, fault_free, starved_unit, reads_part}
@@ -15,10 +15,7 @@ units_taken [] s t all h = h
 units_taken (u ∷ us) s t all h =
     grind (
       arith,
-      map,
-      packet_reacts,
-      units_taken us (react u s) t all.1
-          (subst (λ (x : State). TakesPackets x (map written us) t) (packet_reacts s u all.0) h.1),
+      units_taken us (react u s) t all.1 (subst (λ (x : State). TakesPackets x (map written us) t) (packet_reacts s u all.0) h.1),
     )
 
 front_taken : (s t : State) (units : List (List ℕ)) (coming : List Value) (r behind : List ℕ) (f : Fronts units coming r behind) →
@@ -63,9 +60,7 @@ stops_behind old new outgoing coming k used less c h =
 refuses_none : (old new : Carrying) (outgoing : List ℕ) (coming : List Value) (k used : ℕ) → AreComing old.held.octets outgoing coming →
     Refuses old (take k outgoing) used new → ⊥
 refuses_none old new outgoing coming k used c h =
-    let f = reads_part old.held.octets outgoing coming k h.units h.cut.0 c h.cut.1 in
-    fault_free (offset_of (old.held.offset + (length (old.held.octets ++ take k outgoing) - length h.cut.0))) h.cut.0
-    (drop k outgoing) h.fault f.left f.rest h.cut.2
+    grind (arith, fault_free, reads_part old.held.octets outgoing coming k h.units h.cut.0 c h.cut.1)
 
 -- the packet that starved is a unit that comes
 starved_by : (old new : State) (packet : List ℕ) (coming : List Value) (r t : List ℕ) → Fronts (packet ∷ []) coming r t →

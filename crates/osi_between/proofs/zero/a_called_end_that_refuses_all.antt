@@ -3,12 +3,12 @@
 use Rattle.osi_between.specs.Refusing.{unasked, asking, from_end, Holds}
 use Rattle.osi_between.proofs.Vocabulary.{◌≡◌, ℕ, ◌+◌, ◌<◌, ◌==◌, Bool, true, false, List, [], ◌∷◌, ◌++◌, length, Option, Some, None, refl}
 use Rattle.osi_between.proofs.Vocabulary.{sym, ap, subst, ◌∙◌, arith, nat_lt, if◌then◌else◌, flat_map, eq-eqb, append-nil, IsOctets, Value}
-use Rattle.osi_between.proofs.Vocabulary.{Connect, request, disconnect, IsShortTsdu, Standing, Class, may_connect, class_error, asks, sent}
-use Rattle.osi_between.proofs.Vocabulary.{Place, never, was_given, place_at, connection_in, Happening, proposal, react, to_asked, denies}
-use Rattle.osi_between.proofs.Vocabulary.{Rows, value_at, without, Connection, asked, linked, State, packets, without_other, free_of}
-use Rattle.osi_between.proofs.Vocabulary.{react_quiet, has_room, reference_of, AreFor, answers_in, told_of, IsTsap, BringsTo, under_way_for}
-use Rattle.osi_between.proofs.Vocabulary.{Message, ask, deny, message, messages_to, not_yet, awaiting, Refusal, denied, rows_in, denying}
-use Rattle.osi_between.proofs.Vocabulary.{AreRefusing, refusing, IsProposed}
+use Rattle.osi_between.proofs.Vocabulary.{Connect, request, disconnect, IsShortTsdu, Standing, Class, may_connect, asks, sent, Place, never}
+use Rattle.osi_between.proofs.Vocabulary.{was_given, place_at, connection_in, Happening, proposal, react, to_asked, denies, Rows, value_at}
+use Rattle.osi_between.proofs.Vocabulary.{without, Connection, asked, linked, State, packets, without_other, free_of, react_quiet, has_room}
+use Rattle.osi_between.proofs.Vocabulary.{reference_of, AreFor, answers_in, told_of, IsTsap, BringsTo, under_way_for, Message, ask, deny}
+use Rattle.osi_between.proofs.Vocabulary.{message, messages_to, not_yet, awaiting, Refusal, denied, rows_in, denying, AreRefusing, refusing}
+use Rattle.osi_between.proofs.Vocabulary.{IsProposed}
 use Rattle.osi_between.proofs.between.an_acting_end_keeps_the_invariant.{JoinedAt, Does}
 use Rattle.osi_between.proofs.unit.the_units_of_one_connection.{units_same, none_left}
 use Rattle.osi_between.proofs.unit.what_a_taken_unit_means.{same_like, brings_none}
@@ -109,10 +109,8 @@ asks_by : (reason : ℕ) (s r : State) (going coming : List Value) (calling to :
     Does (refusing reason) true (s.given + 1) s r (asks calling to s) going coming coming [] (ask ∷ [])
 asks_by reason s r going coming calling to unasked j live none back may fits fits_to =
     asks_first reason s r going coming calling to j live none back (free_of s may).left fits fits_to
-asks_by reason s r going coming calling to (asking c) j live none back may fits fits_to =
-    let no : class_error None ((s.given, asked) ∷ []) ≡ None = asks_class_of s None ((s.given, asked) ∷ []) j.class live may in cc
-asks_by reason s r going coming calling to denied j live none back may fits fits_to =
-    let no : class_error None ((s.given, asked) ∷ []) ≡ None = asks_class_of s None ((s.given, asked) ∷ []) j.class live may in cc
+asks_by reason s r going coming calling to (asking c) j live none back may fits fits_to = grind (arith, asks_class_of)
+asks_by reason s r going coming calling to denied j live none back may fits fits_to = grind (arith, asks_class_of)
 
 -- ---- the called end refuses
 
@@ -285,10 +283,8 @@ takes_none : (reason : ℕ) (end : Bool) (this other : State) (going coming rest
     JoinedAt end (refusing reason) this other going coming → coming ≡ unit ∷ rest →
     Does (refusing reason) end (reference_of unit) this other (react unit this) going coming rest (unit ∷ [])
     (answers_in (refusing reason) (place_at (reference_of unit) this) unit)
-takes_none reason true this other going coming rest unit j cut =
-    caller_by reason this other going coming rest unit j.stage j j.live j.going j.coming j.holds cut
-takes_none reason false this other going coming rest unit j cut =
-    called_by reason other this coming going rest unit j.stage j j.live j.going j.coming j.holds cut
+takes_none reason true this other going coming rest unit j cut = search (arith, caller_by)
+takes_none reason false this other going coming rest unit j cut = search (arith, called_by)
 
 -- no connection is open
 none_open_by : (n q peer : ℕ) (link : Standing) (b : Bool) → (q == n) ≡ b → (if b then Some asked else None) ≡ Some (linked peer link) → ⊥

@@ -81,8 +81,7 @@ talking_takes : (end : Bool) (this other : State) (going coming rest : List Valu
     AreOpen false p → p.leftward ≡ gs → coming ≡ unit ∷ rest →
     Does by_zero end (reference_of unit) this other (react unit this) going coming rest (unit ∷ [])
     (answers_in by_zero (place_at (reference_of unit) this) unit)
-talking_takes end this other going coming rest unit p [] j one there is back a e cut =
-    absurd (none_left coming rest unit (back ∙ ap (addressed 1) e) cut)
+talking_takes end this other going coming rest unit p [] j one there is back a e cut = grind (arith, none_left)
 talking_takes end this other going coming rest unit p (g ∷ gs) j one there is back a e cut =
     let head : unit_of 1 g ≡ unit = (let x = sym (back ∙ ap (addressed 1) e) ∙ cut in cc) in
     finish end this other going coming rest (unit_of 1 g) unit [] head (one_of g)
@@ -126,10 +125,8 @@ takes_zero : (end : Bool) (this other : State) (going coming rest : List Value) 
     JoinedAt end by_zero this other going coming → coming ≡ unit ∷ rest →
     Does by_zero end (reference_of unit) this other (react unit this) going coming rest (unit ∷ [])
     (answers_in by_zero (place_at (reference_of unit) this) unit)
-takes_zero true this other going coming rest unit j cut =
-    caller_by this other going coming rest unit j.course j j.one j.one_called j.going j.coming j.holds cut
-takes_zero false this other going coming rest unit j cut =
-    called_by other this coming going rest unit j.course j j.one j.one_called j.going j.coming j.holds cut
+takes_zero true this other going coming rest unit j cut = search (arith, caller_by)
+takes_zero false this other going coming rest unit j cut = search (arith, called_by)
 
 -- ---- a TSDU is handed in
 
@@ -227,8 +224,7 @@ caller_sends : (s r : State) (going coming : List Value) (n peer : ℕ) (link : 
     AreJoinedZero s r going coming → HasOne s (at_end true g) → HasOne r (at_end false g) → going ≡ from_end true r.local g →
     coming ≡ from_end false r.local g → Holds s.local r.local g → value_at n s.live ≡ Some (linked peer link) → IsShortTsdu octets →
     IsOctets octets → Does by_zero true n s r (sent n octets s) going coming coming [] (message octets ∷ [])
-caller_sends s r going coming n peer link octets unasked j one other is back h at short are =
-    absurd (not_here s n (linked peer link) one at)
+caller_sends s r going coming n peer link octets unasked j one other is back h at short are = grind (arith, not_here)
 caller_sends s r going coming n peer link octets (talking p) j one other is back h at short are =
     subst (λ (m : ℕ). Does by_zero true m s r (sent m octets s) going coming coming [] (message octets ∷ []))
     (sym (at_one s n (linked 1 p.left) (linked peer link) one at).reference)
@@ -254,10 +250,8 @@ called_sends s r going coming n peer link octets g j one other is back h at shor
 sends_zero : (end : Bool) (this other : State) (going coming : List Value) (n peer : ℕ) (link : Standing) (octets : List ℕ) →
     JoinedAt end by_zero this other going coming → value_at n this.live ≡ Some (linked peer link) → IsShortTsdu octets → IsOctets octets →
     Does by_zero end n this other (sent n octets this) going coming coming [] (message octets ∷ [])
-sends_zero true this other going coming n peer link octets j at short are =
-    caller_sends this other going coming n peer link octets j.course j j.one j.one_called j.going j.coming j.holds at short are
-sends_zero false this other going coming n peer link octets j at short are =
-    called_sends other this coming going n peer link octets j.course j j.one j.one_called j.going j.coming j.holds at short are
+sends_zero true this other going coming n peer link octets j at short are = search (arith, caller_sends)
+sends_zero false this other going coming n peer link octets j at short are = search (arith, called_sends)
 
 -- ---- octets and events
 
@@ -269,12 +263,7 @@ queued_zero : (end : Bool) (this other : State) (o : List ℕ) (e : List Happeni
 queued_zero end this other o e going coming j = grind (arith, has_one_still)
 
 pub provides_zero : Provides by_zero
-provides_zero = record {
-  takes_one = takes_zero;
-  connects = λ this other going coming calling to j may fits fits_to. asks_zero this other going coming calling to j may fits fits_to;
-  hands_in = sends_zero;
-  queued = queued_zero;
-}
+provides_zero = search (arith, takes_zero, asks_zero, sends_zero, queued_zero)
 
 -- ---- a close ends the carrier
 
