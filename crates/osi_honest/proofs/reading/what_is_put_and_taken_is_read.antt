@@ -42,7 +42,8 @@ brings_read d met stage b at (u ∷ units) tsdus later r (octets, inl (p, rest))
     grind (
       arith,
       steps_part d (met at) stage b at u false octets r p,
-      brings_read d met (added stage at false octets) (b ++ octets) (at + packet_length u) units tsdus later (added_part stage b octets at r) rest,
+      brings_read d met (added stage at false octets) (b ++ octets) (at + packet_length u) units tsdus later
+          (added_part stage b octets at r) rest,
     )
 brings_read d met stage b at (u ∷ units) tsdus later r (octets, inr (p, (others, is, rest))) =
     let s = steps_part d (met at) stage b at u true octets r p in

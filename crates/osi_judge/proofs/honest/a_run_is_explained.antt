@@ -227,7 +227,8 @@ run_explained known us closed l taken told (running.connects _ _ now later p e) 
     grind (
       arith,
       not_opened,
-      run_explained known us _ _ taken later e (record { sound = input_sound l opened tt k.sound; open_now = still_open l opened k.open_now; over = λ g. absurd (cc) }),
+      run_explained known us _ _ taken later e
+          (record { sound = input_sound l opened tt k.sound; open_now = still_open l opened k.open_now; over = λ g. absurd (cc) }),
     )
 run_explained known us closed l taken told (running.misses _ _ reason _ w e) k = let open_now = k.open_now in absurd (cc)
 run_explained known us closed l taken told (running.loses _ _ _ e) k = grind (arith, none_explained, sends_no_more, ended_over, lost_ended)
